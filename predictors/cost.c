@@ -96,20 +96,20 @@ static void count_one(struct partition *part, const uint32_t *values, size_t len
     for (; k <= top; k++) part->sums[k] = k < width ? sum_of(values, length, k) : 0;
 }
 
-/* Counts 2^halvings partitions; the first lacks the warm-up samples. Above the parameter that is returned none is better. */
-static unsigned count_parts(size_t n, size_t order, unsigned halvings) {
-    size_t size = n >> halvings;
+/* Counts 2^partition_order partitions; the first lacks the warm-up samples. Above the parameter that is returned none is better. */
+static unsigned count_parts(size_t n, size_t order, unsigned partition_order) {
+    size_t size = n >> partition_order;
     uint32_t bits = 0;
     for (size_t i = order; i < n; i++) bits |= folds[i];
     unsigned top = (unsigned)least(width_of(bits), PARAMETERS - 1);
     count_one(parts, folds + order, size - order, top);
-    for (size_t j = 1; j < (size_t)1 << halvings; j++) count_one(parts + j, folds + j * size, size, top);
+    for (size_t j = 1; j < (size_t)1 << partition_order; j++) count_one(parts + j, folds + j * size, size, top);
     return top;
 }
 
 /* Makes one partition of each two. */
-static void merge(unsigned halvings, unsigned top) {
-    for (size_t j = 0; j < (size_t)1 << (halvings - 1); j++) {
+static void merge(unsigned partition_order, unsigned top) {
+    for (size_t j = 0; j < (size_t)1 << (partition_order - 1); j++) {
         const struct partition one = parts[2 * j], *two = parts + 2 * j + 1;
         for (unsigned k = 0; k <= top; k++) parts[j].sums[k] = one.sums[k] + two->sums[k];
         parts[j].length = one.length + two->length;
@@ -129,16 +129,16 @@ static void add_best(const struct partition *part, unsigned top, uint64_t *first
 
 /* What the residual of an order costs in its cheapest coding, with partition orders up to `most`. */
 static uint64_t residual_cost(size_t n, size_t order, unsigned most) {
-    unsigned halvings = 0;
+    unsigned partition_order = 0;
     uint64_t best = NONE;
-    while (halvings < most && (n >> halvings) % 2 == 0 && order < n >> (halvings + 1)) halvings++;
-    unsigned top = count_parts(n, order, halvings);
-    for (;; halvings--) {
+    while (partition_order < most && (n >> partition_order) % 2 == 0 && order < n >> (partition_order + 1)) partition_order++;
+    unsigned top = count_parts(n, order, partition_order);
+    for (;; partition_order--) {
         uint64_t first = 6, second = 6;
-        for (size_t j = 0; j < (size_t)1 << halvings; j++) add_best(parts + j, top, &first, &second);
+        for (size_t j = 0; j < (size_t)1 << partition_order; j++) add_best(parts + j, top, &first, &second);
         best = least(best, least(first, second));
-        if (halvings == 0) return best;
-        merge(halvings, top);
+        if (partition_order == 0) return best;
+        merge(partition_order, top);
     }
 }
 

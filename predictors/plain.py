@@ -27,21 +27,21 @@ def partition(values, parameter_bits):
     return number(parameter_bits, k) + "".join("0" * (one >> k) + "1" + number(k, one) for one in folds)
 
 
-def residual(values, order, parameter_bits, halvings):
+def residual(values, order, parameter_bits, partition_order):
     """A residual by one method and partition order."""
-    size = len(values) + order >> halvings
-    ends = [size * part - order for part in range(1, (1 << halvings) + 1)]
+    size = len(values) + order >> partition_order
+    ends = [size * part - order for part in range(1, (1 << partition_order) + 1)]
     parts = [values[start:end] for start, end in zip([0, *ends], ends)]
-    return number(2, parameter_bits - 4) + number(4, halvings) + "".join(partition(part, parameter_bits) for part in parts)
+    return number(2, parameter_bits - 4) + number(4, partition_order) + "".join(partition(part, parameter_bits) for part in parts)
 
 
 def residuals(values, order, most):
     """A residual by each method and each partition order, up to the greatest, that the block allows."""
     length = len(values) + order
-    for halvings in range(most + 1):
-        if length % (1 << halvings) == 0 and order < length >> halvings:
+    for partition_order in range(most + 1):
+        if length % (1 << partition_order) == 0 and order < length >> partition_order:
             for parameter_bits in (4, 5):
-                yield residual(values, order, parameter_bits, halvings)
+                yield residual(values, order, parameter_bits, partition_order)
 
 
 def predicted(samples, depth, coefficients, shift, fields, most):

@@ -1,5 +1,5 @@
 use flac_bits::{
-    BitReader, Counted, FailAt, Memory, Pieces, Source, Why, crc8, crc16, page_sum, read_bytes,
+    BitReader, Counted, FailAt, Memory, Pieces, Source, Why, crc8, crc16, crc32, read_bytes,
     read_little_32, read_little_64, read_number, read_unchecked,
 };
 use flac_vectors::bytes_of;
@@ -209,7 +209,7 @@ fn calls(rt: HostRuntime) -> Result<(), Fail> {
 
 /// The three checks of some bytes.
 fn checks_of(bytes: &[u8]) -> (u8, u16, u32) {
-    (crc8(bytes), crc16(bytes), page_sum(bytes))
+    (crc8(bytes), crc16(bytes), crc32(bytes))
 }
 
 #[test]

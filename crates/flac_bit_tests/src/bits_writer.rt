@@ -197,14 +197,16 @@ fn last_text<T>(alloc: Global, target: &Counted<T>) -> Result<String, Fail> {
     Ok(format!(in alloc; "{error}")?)
 }
 
-/// Writes a byte on a device without room: whether it is taken and then not sent, and the text of the error that is kept.
+/// Writes a byte on a device without room: whether it is taken and then not sent, and the text of the error that is
+/// kept.
 fn no_room(alloc: Global) -> (bool, Result<String, Fail>) {
     let mut writer = BitWriter::new(Counted::new(NoRoom));
     let failed = writer.put(8, 1).is_ok() && writer.finish() == Err(Why::Write);
     (failed, last_text(alloc, &writer.into_target()))
 }
 
-/// Sends a byte to a device that takes nothing: whether that fails, where no error was kept before, and the text of the one that is kept.
+/// Sends a byte to a device that takes nothing: whether that fails, where no error was kept before, and the text of the
+/// one that is kept.
 fn nothing_taken(alloc: Global) -> (bool, Result<String, Fail>) {
     let mut full = Counted::new(Full);
     let failed = full.last_error().is_none() && full.send(&[1]).is_err();

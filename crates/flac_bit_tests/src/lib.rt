@@ -1,5 +1,6 @@
-//! Tests of fields, coded numbers and checks, and of the pages and packets of Ogg, through the public calls of the libraries and by vectors from outside. They stand
-//! apart, so that a library is proved once and not again with its tests.
+//! Tests of fields, coded numbers and checks, and of the pages and packets of Ogg, through the public calls of the
+//! libraries and by vectors from outside. They are in a crate of their own, so that a library is proved once and not
+//! again with its tests.
 #![tactic(auto)]
 
 #[cfg(test)]

@@ -1,4 +1,5 @@
-//! Packets of known lengths: one that goes on behind what is read of it, that ends before, that is broken off, or that the last page leaves open.
+//! Packets of known lengths: one that goes on after what is read of it, that ends before, that is broken off, or that
+//! the last page leaves open.
 
 use crate::packets::{PACKETS, STREAM, WHOLE_SEGMENTS};
 use flac_bits::{BitWriter, Collected, Memory, Source, Why};
@@ -46,7 +47,8 @@ fn read_all<R: Source + Drop>(alloc: Global, source: R, lengths: &[usize]) -> Re
     Ok((count, outcome))
 }
 
-/// All packets of the stream and its end; a packet of other lengths than its own; and the last one without its last byte.
+/// All packets of the stream and its end; a packet of other lengths than its own; and the last one without its last
+/// byte.
 #[test]
 fn lengths(rt: HostRuntime) -> Result<(), Fail> {
     let wrong = Err((None, Why::PacketLength));

@@ -9,7 +9,8 @@ use flac_vectors::bytes_of;
 use std::alloc::Global;
 use std::test::Fail;
 
-/// What `flac --ogg --no-padding`, version 1.4.2, writes of the mono samples 0, 1, .., 15 at 44100 Hz: four pages of one packet each.
+/// What `flac --ogg --no-padding`, version 1.4.2, writes of the mono samples 0, 1, .., 15 at 44100 Hz: four pages of
+/// one packet each.
 pub(crate) const STREAM: [u8; 246] = [
     0x4F, 0x67, 0x67, 0x53, 0x00, 0x02, 0x00, 0x00, 0x00, 0x00, 0x00, 0x00, 0x00, 0x00, 0x01, 0x00,
     0x00, 0x00, 0x00, 0x00, 0x00, 0x00, 0x76, 0x18, 0x88, 0xE8, 0x01, 0x33, 0x7F, 0x46, 0x4C, 0x41,
@@ -250,7 +251,8 @@ fn writes_packets_of_whole_segments(rt: HostRuntime) -> Result<(), Fail> {
     Ok(())
 }
 
-/// Packets of whole segments of zeros, each the last of its stream: how many bytes it has, the number of the page after it, and its pages.
+/// Packets of whole segments of zeros, each the last of its stream: how many bytes it has, the number of the page after
+/// it, and its pages.
 const LAST_PACKETS: [(usize, u32, &str); 3] = [
     (
         255,
@@ -296,7 +298,8 @@ fn last_packets_of_whole_segments(rt: HostRuntime) -> Result<(), Fail> {
     Ok(())
 }
 
-/// Pages of a packet of 70000 zeros: of header packets each tells position 0, of frames the one on which it ends tells its samples.
+/// Pages of a packet of 70000 zeros: of header packets each has position 0, of frames the one on which it ends has its
+/// samples.
 const LONG_HEADER: &str = "4f676753000000000000000000000100000001000000dc77ac19ff ff*255 00*65025
 4f676753000100000000000000000100000002000000540b04a814 ff*19 82 00*4975";
 

@@ -1,4 +1,4 @@
--- Bits behind those held in a word.
+-- Bits after those held in a word.
 use Rattle.std.proofs.Common.{◌≡◌, ℕ, ◌+◌, ◌-◌, ◌*◌, ◌/◌, ◌%◌, ◌^◌, ◌<◌, ◌≤◌, ◌++◌, sym, ap, ◌∙◌, arith, append_assoc}
 use Rattle.std.proofs.lemmas.Nat.{pow_pos, pow-add, shl-shr, shr_split, shr_high, shr_below, mod-pow-add, mod_low, mod_below, mul-add-lt, mul-mod_first}
 use Rattle.flac_bits.specs.Bits.{unsigned}
@@ -56,7 +56,7 @@ fill_bits c f r n w v e pos sum lt =
     (ap (λ k. unsigned k (w * 2 ^ f % 2 ^ 64 + h) ++ unsigned r v) (sym e) ∙ ap (λ bs. bs ++ unsigned r v) (put_bits c f w h c e (omega arith) (high_fits f r n v sum lt))
     ∙ append_assoc (unsigned c w) (unsigned f h) (unsigned r v) ∙ ap (λ bs. unsigned c w ++ bs) (sym (split f r v) ∙ ap (λ k. unsigned k v) sum))
 
--- the first byte of so many bits
+-- the first byte of n bits
 pub first_byte : (c r w : ℕ) → 8 + r ≡ c → unsigned c w ≡ unsigned 8 (w / 2 ^ r % 2 ^ 8) ++ unsigned r w
 first_byte c r w e = ap (λ k. unsigned k w) (sym e) ∙ split 8 r w ∙ ap (λ bs. bs ++ unsigned r w) (sym (low_mod 8 8 (w / 2 ^ r) (omega arith)))
 

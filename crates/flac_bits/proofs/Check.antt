@@ -53,7 +53,7 @@ feed_is w g c true = go (nat_eq (bit_at c (w - 1)) 1)
     go false = refl
 feed_is w g c false = sym (xor_zero_r (shifted w g c))
 
--- so many shifts
+-- n shifts
 unfoldable pub times : ℕ → ℕ → ℕ → ℕ → ℕ
 times w g zero c = c
 times w g (suc n) c = times w g n (shifted w g c)

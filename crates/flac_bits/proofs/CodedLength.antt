@@ -19,7 +19,7 @@ in_long lead n v = omega (arith, length-append (unsigned 8 (lead + v / 64 ^ n)) 
 abbrev pub lead_bits : ℕ → ℕ
 lead_bits n = cond (nat_eq n 0) 0 (256 - 128 / 2 ^ n)
 
--- the form of a number, with n bytes behind the lead byte
+-- the form of a number, with n bytes after the lead byte
 pub record HasForm (v n : ℕ) : Type 0 where
   pub spelled : number_spelling v ≡ in_bytes (lead_bits n) n v
   pub fits : v < 2 ^ 36 → lead_bits n + v / 64 ^ n < 256

@@ -64,7 +64,7 @@ continued_tie (suc n) high m = tie (continued (suc n) high) m (λ v. v / 64 ^ su
           (some_tied (continued n (64 * high + byte % 64)) (past (unsigned 8 byte) m) (λ y. y / 64 ^ n ≡ 64 * high + byte % 64) (six_bits n) _ x (continued_tie n (64 * high + byte % 64) (past (unsigned 8 byte) m)) e (refl, refl)),
     ))
 
--- what follows a lead byte of so many bytes
+-- what follows a lead byte of n bytes
 abbrev pub behind_lead : ℕ × ℕ × ℕ → Layout ℕ
 behind_lead form = do
   value ← continued form.0 form.1

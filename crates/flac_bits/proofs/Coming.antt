@@ -72,11 +72,11 @@ came_is (Some room) n buf ys xs le is =
       reached = same_test (room - min n room) (length ys) room (length xs) (λ le. omega (arith, le, many)) (λ le. omega (arith, le, many));
     }
 
--- where no more came, all is as it was
+-- if no more came, all is as it was
 pub came_none : (room : Option ℕ) (ys xs : List ℕ) → xs ≡ ys → Came (record { room = room; hidden = [] }) xs [] (record { room = room; hidden = [] }) ys
 came_none room ys xs is = record { left = ap (allowed room) is; fenced = ap (forbidden room) is; reached = ap (reached room) (sym is) }
 
--- bytes are hidden only where no more may come
+-- bytes are hidden only if no more may come
 pub hidden_none : (room : Option ℕ) (end filled : ℕ) (bytes : List ℕ) → (room ≡ Some 0 → ⊥) → hides_late room end filled ≡ true → filled ≤ length bytes → drop end (take filled bytes) ≡ []
 hidden_none None end filled bytes more late le = drop_all end (take filled bytes) (omega (arith, length-take filled bytes, eqb-true end filled late))
 hidden_none (Some zero) end filled bytes more late le = absurd (more refl)
@@ -88,7 +88,7 @@ pub hides_none : (room : Option ℕ) (end filled : ℕ) (bytes : List ℕ) (fenc
 hides_none room end filled bytes fence is more late le =
     ap (λ xs. record { room = room; hidden = xs }) (sym (hidden_none room end filled bytes (λ e. more (sym (ap (λ (f : Fence). f.room) is) ∙ e)) late le)) ∙ is
 
--- where nothing is to come, nothing is before such a fence or past it, and the reason is that of the end
+-- if nothing is to come, nothing is before such a fence or past it, and the reason is that of the end
 pub none_allowed : (room : Option ℕ) (coming : List ℕ) → coming ≡ [] → allowed room coming ≡ []
 none_allowed None coming e = e
 none_allowed (Some zero) coming e = refl
@@ -118,7 +118,7 @@ lifted_list None end filled bytes coming late le = let none = hidden_none None e
 lifted_list (Some zero) end filled bytes coming late le = refl
 lifted_list (Some (suc n)) end filled bytes coming late le = let none = hidden_none (Some (suc n)) end filled bytes (λ e. absurd cc) late le in rw none (take-append-drop (suc n) coming)
 
--- n bytes that came leave the room behind them
+-- n bytes that came leave this room after them
 pub late_behind : (room : Option ℕ) (n : ℕ) → hides_late (room_behind room (seen room n)) (seen room n) n ≡ true
 late_behind None n = eq-eqb n n refl
 late_behind (Some room) n = elim (cases_lt room n) [

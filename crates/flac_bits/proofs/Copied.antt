@@ -32,7 +32,7 @@ bits_cut (suc n) left m lt = elim (number_reads 8 left m) [
   | inr short ↦ rw (short.1) refl
 ]
 
--- more bytes behind those that were taken
+-- more bytes after those that were taken
 pub consumes_more : (xs ys zs : List ℕ) (old now new : Cursor) → zs ≡ xs ++ ys → Consumes (bits_of xs) old now → Consumes (bits_of ys) now new → Consumes (bits_of zs) old new
 consumes_more xs ys zs old now new e a b = (
   a.0 ∙ ap (λ bs. bits_of xs ++ bs) (b.0) ∙ sym (append_assoc (bits_of xs) (bits_of ys) new.left) ∙ ap (λ bs. bs ++ new.left) (sym (bits_of-append xs ys) ∙ ap bits_of (sym e)),

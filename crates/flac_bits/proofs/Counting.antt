@@ -8,15 +8,15 @@ use Rattle.flac_bits.specs.inner.Reading.{Goes}
 use Rattle.flac_bits.specs.declared.why.Why.{Why}
 use Rattle.flac_bits.specs.declared.why.Why.TheVariants.{Read, Sink}
 
--- the clause Counts of a call that answered a value
+-- the clause Counts of a call that returned a value
 abbrev pub Answered : State → State → Type 0
 Answered old new = Counts {X = ⊤} old new (Ok tt)
 
--- and of one that answered a reason
+-- and of one that returned a reason
 abbrev pub Failed : Why → State → State → Type 0
 Failed e old new = Counts {X = ⊤} old new (Err e)
 
--- behind calls that kept a count
+-- after calls that kept a count
 pub rises_then : (old mid new : ℕ) → mid ≡ old → Rises mid new → Rises old new
 rises_then old mid new same r = rw (← same) r
 
@@ -40,7 +40,7 @@ failed_then old mid new a b =
 pub gone : {Y : Type 0} {old now : State} {rest whole : Result Y Reason} → Goes old now rest whole → Answered old now
 gone h = (h.known, h.errors, h.raised, h.behind, h.names)
 
--- the reasons that stand for an error of a source or of a sink
+-- the reasons of an error of a source or of a sink
 abbrev pub is_device : Why → Bool
 is_device Read = true
 is_device Sink = true
@@ -49,7 +49,7 @@ is_device _ = false
 other_than : {e d : Why} → is_device e ≡ false → is_device d ≡ true → e ≡ d → ⊥
 other_than other device q = let t : false ≡ true = sym other ∙ ap is_device q ∙ device in cc
 
--- a refusal by another reason behind a call that answered a value
+-- a refusal by another reason after a call that returned a value
 pub refused_then : {e : Why} (old new : State) → Answered old new → is_device e ≡ false → Failed e old new
 refused_then old new a other = (
   omega (arith, a.1),

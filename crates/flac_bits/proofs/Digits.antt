@@ -8,7 +8,7 @@ pub bits_of-snoc : (xs : List ℕ) (b : ℕ) → bits_of (xs ++ b ∷ []) ≡ bi
 bits_of-snoc [] b = append-nil (unsigned 8 b)
 bits_of-snoc (x ∷ xs) b = ap (λ bs. unsigned 8 x ++ bs) (bits_of-snoc xs b) ∙ sym (append_assoc (unsigned 8 x) (bits_of xs) (unsigned 8 b))
 
--- the bits of a number behind the first i
+-- the bits of a number after the first i
 pub number_rest : (n i value : ℕ) → i < n → unsigned (n - i) value ≡ nat_eq (bit_and (value / 2 ^ (n - 1 - i)) 1) 1 ∷ unsigned (n - (i + 1)) value
 number_rest n i value lt =
     let k : n - i ≡ suc (n - (i + 1)) = omega arith in

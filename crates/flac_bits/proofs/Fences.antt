@@ -1,4 +1,4 @@
--- What is read behind a fence is what the layout means, within the room.
+-- What is read with a fence is what the layout means, within the room.
 use Rattle.std.proofs.Common.{◌≡◌, ℕ, ◌+◌, ◌-◌, ◌*◌, ◌<◌, ◌≤◌, Bool, true, false, cond, nat_le, List, ◌++◌, length, take, drop, Option, Some, None, Result, Ok, Err, refl, sym, ap, subst, ◌∙◌, append_assoc, arith, inl, inr, ◌⊎◌}
 use Rattle.std.proofs.lemmas.List.{take-append-drop, length-take-le, take_all, length-append}
 use Rattle.std.proofs.lemmas.Bool.Decides.{nat_tests}
@@ -14,7 +14,7 @@ use Rattle.flac_bits.proofs.Laws.{at_}
 use Rattle.flac_bits.proofs.Fields.{past-with_short}
 use Rattle.flac_bits.proofs.Meaning.{read, failed_by, reading, again, shown, cut_short, is_ok_of, why_is, differ}
 
--- ---- a meaning does not depend on the reason where bits run short
+-- ---- a meaning does not depend on the reason if bits run short
 
 pub spells_short : {A : Type 0} (l : Layout A) (why : Why) (m : Mark) (text : List Bool) (x : A) → Spells l m text x → Spells l (with_short why m) text x
 spells_short (done x) why m text y s = s
@@ -82,7 +82,7 @@ take_short k left = elim (le_or (length left) k) [
     le_or : (a b : ℕ) → (a ≤ b) ⊎ (b < a)
     le_or a b = grind arith
 
--- what stands behind a part of what is seen
+-- what follows a part of what is seen
 split_seen : (k : ℕ) (left part rest : List Bool) → take k left ≡ part ++ rest → left ≡ part ++ (rest ++ drop k left)
 split_seen k left part rest e = sym (take-append-drop k left) ∙ ap (λ t. t ++ drop k left) e ∙ append_assoc part rest (drop k left)
 
@@ -187,7 +187,7 @@ refuses_in room l left m why e = elim (reading_in room l left m) [
   | inr (w, stops) ↦ subst (λ v. StopsIn room l m left v) (why_is w why (sym (stops_in room l m left w stops) ∙ e)) stops
 ]
 
--- ---- a call that reads behind a fence, which is lifted then
+-- ---- a call that reads with a fence, which is lifted then
 
 pub answers_in : {X Y : Type 0} (view : X → Y) (n : ℕ) (l : Layout Y) (c d e : Cursor) (result : Result X Why) → Answers view (run l (fenced n c)) d result → e ≡ unfenced n c d → Answers view (read_in (Some n) l c) e result
 answers_in view n l c d e (Ok x) answers is = rw (answers, is) refl

@@ -1,4 +1,4 @@
--- A fence in what a reader stands at.
+-- A fence in the state of a reader.
 use Rattle.std.proofs.Common.{◌≡◌, ℕ, zero, suc, ◌+◌, ◌-◌, ◌*◌, Bool, true, false, cond, List, [], ◌∷◌, ◌++◌, length, take, drop, Some, None, refl, sym, ap, ◌∙◌, arith, append_assoc}
 use Rattle.std.specs.Prelude.{nat_le}
 use Rattle.std.specs.Borrow.{GName}
@@ -28,7 +28,7 @@ reason_is true behind = refl
 reason_is false behind = refl
 
 module _ (known : Bool) (errors raised most : ℕ) (behind : Behind) (names : List GName) (coming : List ℕ) (old new : Store) (s : State) (is : state_of known errors raised most behind names coming old ≡ s) where
-  -- all bits to come, whatever fence stands
+  -- all bits to come, whatever fence is set
   all_is : allowed old.fence.room coming ++ (old.fence.hidden ++ forbidden old.fence.room coming) ≡ old.fence.hidden ++ coming
       → left_of old coming ++ fenced_of old coming ≡ (old.word ++ bits_of (old.bytes ++ old.fence.hidden)) ++ bits_of coming
   all_is law =

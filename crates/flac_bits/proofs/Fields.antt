@@ -11,11 +11,11 @@ use Rattle.flac_bits.specs.Layout.{next_bit, number_at, zeros_at, run}
 use Rattle.flac_bits.specs.Rice.{rice}
 use Rattle.flac_bits.proofs.Laws.{number_again, zeros_again, past-append}
 
--- what a store and the bits behind it stand at
+-- the state of a store and the bits after it
 abbrev pub cursor_of : Why → Store → List Bool → Cursor
 cursor_of why s rest = record { left = (s.word ++ bits_of s.bytes) ++ rest; mark = with_short why s.mark }
 
--- the reason where bits run short does not depend on the bits
+-- the reason if bits run short does not depend on the bits
 pub past-with_short : (bs : List Bool) (why : Why) (m : Mark) → past bs (with_short why m) ≡ with_short why (past bs m)
 past-with_short [] why m = refl
 past-with_short (b ∷ bs) why m = past-with_short bs why (step b m)

@@ -81,7 +81,7 @@ far_more g takes first state old now d sink mid new x far step took =
       took = TakesAll-append takes sink far.items mid x new far.took took;
     }
 
--- what a call that answered a value left of the source: the clause Counts at Ok
+-- what a call that returned a value left of the source: the clause Counts at Ok
 abbrev pub Went : State → State → Type 0
 Went old new = (old.known ≡ true → new.known ≡ true) × (new.errors ≡ old.errors) × (new.raised ≡ old.raised) × (old.known ≡ true → new.behind ≡ old.behind) × (new.names ≡ old.names)
 
@@ -113,7 +113,7 @@ some_is r q e = cc
 same_end : {P : Type 0} (at to : P) (v w : Why) → ends (Some (at, v)) ≡ Some (to, w) → (at ≡ to) × (v ≡ w)
 same_end {P} at to v w e = let pair = some_is (at, v) (to, w) e in (ap (λ (r : P × Why). r.0) pair, ap (λ (r : P × Why). r.1) pair)
 
--- the step refused, where the source answered no error in the call and memory was not wanting
+-- the step refused, if the source returned no error in the call and memory did not run out
 pub step_refused : {S I P K : Type 0} (g : Grammar S I P) (takes : K → I → K → Type 0) (errors : K → ℕ) (first state : S) (old now end : State) (sink taken : K) (at : P) (why : Why)
     → SoFar g takes errors first state old now sink taken → (now.known ≡ true → end.errors ≡ now.errors → end.raised ≡ now.raised → why ≢ Memory → step_at g state now.cursor ≡ refused at why) → old.known ≡ true
     → IsCalm old end → why ≢ Memory → (items : List I) × Refused g first old.cursor.mark items old.cursor.left at why × TakesAll takes sink items taken
@@ -132,12 +132,12 @@ step_refused g takes errors first state old now end sink taken at why so_far ste
       far.took,
     )
 
--- what holds where the source answered no error holds where a stronger condition says so
+-- what holds if the source returned no error holds if a stronger condition says so
 pub calmer : {I P K : Type 0} {r : Reading I P} {takes : K → I → K → Type 0} {errors : K → ℕ} (calm quiet : Type 0) {old new : K} {outcome : Option (P × Why)}
     → (quiet → calm) → Hands r takes errors calm old new outcome → Hands r takes errors quiet old new outcome
 calmer calm quiet f h = record { done = λ q. h.done (f q); refused = λ q. h.refused (f q); begun = h.begun; broken = h.broken; failed = h.failed }
 
--- ---- an input has one answer
+-- ---- an input has one outcome
 
 pub one_reading : {S I P : Type 0} (g : Grammar S I P) → NeedsBits g → OneReading g
 one_reading g needs s m text = record {
@@ -149,9 +149,9 @@ one_reading g needs s m text = record {
       (same.0, pair.0, pair.1);
 }
 
--- ---- and each input has an answer
+-- ---- and each input has an outcome
 
--- behind an item a reading of what is left is a reading of the whole
+-- after an item a reading of what is left is a reading of the whole
 read_on : {S I P : Type 0} (g : Grammar S I P) (s : S) (m : Mark) (x : I) (left front rest : List Bool) → left ≡ front ++ rest → Spells (g.layout s) (fresh m) front x → InRoom (g.room s) (fresh m) front
     → IsRead (by_grammar g (g.next s x) (past front (fresh m)) rest) → IsRead (by_grammar g s m left)
 read_on g s m x left front rest split spelled fits (inl (items, w)) = inl (x ∷ items, record { spelled = (front, rest, split, spelled, fits, w.spelled); ends = w.ends; kept = w.kept })

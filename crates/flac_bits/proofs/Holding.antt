@@ -18,7 +18,7 @@ pub bits_of-append : (xs ys : List ℕ) → bits_of (xs ++ ys) ≡ bits_of xs ++
 bits_of-append [] ys = refl
 bits_of-append (x ∷ xs) ys = ap (λ bs. unsigned 8 x ++ bs) (bits_of-append xs ys) ∙ sym (append_assoc (unsigned 8 x) (bits_of xs) (bits_of ys))
 
--- what stands before the word is what passed
+-- what is before the word is what passed
 pub passed_is : (xs : List ℕ) (front word : List Bool) → front ++ word ≡ bits_of xs → passed xs word ≡ front
 passed_is xs front word e =
     let long : length front ≡ 8 * length xs - length word = omega (arith, length-append front word, ap (λ (bs : List Bool). length bs) e, length-bits_of xs) in

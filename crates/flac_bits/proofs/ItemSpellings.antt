@@ -12,7 +12,7 @@ abbrev pub FitsRoom : Option ℕ → List Bool → Type 0
 FitsRoom None text = ⊤
 FitsRoom (Some n) text = length text ≤ 8 * n
 
--- each item is valid behind those before it, and its spelling fits its room
+-- each item is valid after those before it, and its spelling fits its room
 abbrev pub AllValid : {S I P : Type 0} → Grammar S I P → (S → I → Type 0) → (S → I → List Bool) → S → List I → Type 0
 AllValid g valid spelling s [] = ⊤
 AllValid g valid spelling s (x ∷ xs) = valid s x × FitsRoom (g.room s) (spelling s x) × AllValid g valid spelling (g.next s x) xs
@@ -22,7 +22,8 @@ abbrev pub all_spelled : {S I P : Type 0} → Grammar S I P → (S → I → Lis
 all_spelled g spelling s [] = []
 all_spelled g spelling s (x ∷ xs) = spelling s x ++ all_spelled g spelling (g.next s x) xs
 
--- at a whole byte where the checks begin, the layouts spell just the valid items, each in one way and in whole bytes
+-- at a whole byte at which the checks begin, the layouts spell exactly the valid items, each in one way and in whole
+-- bytes
 pub record TiesItems {S I P : Type 0} (g : Grammar S I P) (valid : S → I → Type 0) (spelling : S → I → List Bool) : Type 0 where
   pub ties : (s : S) (m : Mark) → m.unread ≡ 0 → m.check8 ≡ 0 → m.check16 ≡ 0 → Ties (g.layout s) m (valid s) (spelling s)
   pub whole : (s : S) (x : I) → valid s x → length (spelling s x) % 8 ≡ 0

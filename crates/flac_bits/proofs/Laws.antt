@@ -1,4 +1,4 @@
--- Reading a layout answers what the layout means.
+-- Reading a layout returns what the layout means.
 use Rattle.std.proofs.Common.{◌≡◌, ℕ, zero, suc, ◌+◌, ◌-◌, ◌*◌, ◌%◌, ◌^◌, ◌<◌, ◌≤◌, Bool, true, false, nat_eq, List, [], ◌∷◌, ◌++◌, length, replicate, Option, Some, None, Result, Ok, Err, refl, sym, ap, ◌∙◌, arith, inl, inr, ◌⊎◌}
 use Rattle.std.specs.Int.{bit_at}
 use Rattle.std.proofs.lemmas.Nat.Bits.{bit_at_cat_low, bit_at_cat_high, bit_at-lt}
@@ -9,7 +9,7 @@ use Rattle.flac_bits.specs.State.{Mark, Cursor, step, past}
 use Rattle.flac_bits.specs.Layout.{Reason, because, next_bit, number_from, number_at, zeros_from, zeros_at}
 use Rattle.flac_bits.specs.Meaning.{unary_bits, zeros_bits}
 
--- a field of n bits, and what stands behind it
+-- a field of n bits, and what follows it
 abbrev pub IsField : ℕ → List Bool → ℕ → List Bool → Type 0
 IsField n text v rest = (v < 2 ^ n) × (text ≡ unsigned n v ++ rest)
 
@@ -66,7 +66,7 @@ top_value value (suc (suc b)) n v h = absurd (omega arith)
 abbrev read : ℕ × Cursor → Result (ℕ × Cursor) Reason
 read x = Ok x
 
--- what is read of so many bits is their number
+-- what is read of n bits is their number
 number_takes : (n value : ℕ) (left : List Bool) (m : Mark) → ((v : ℕ) × (rest : List Bool) × IsField n left v rest × (number_from n value (at_ left m) ≡ Ok (value * 2 ^ n + v, at_ rest (past (unsigned n v) m)))) ⊎ ((length left < n) × (number_from n value (at_ left m) ≡ Err (because m.short)))
 unfolding number_from next_bit
 number_takes zero value left m = inl (0, left, (omega arith, refl), ap (λ v. read (v, at_ left m)) (omega arith))

@@ -17,7 +17,7 @@ number_more n i value c lt =
 abbrev read : ℕ × Cursor → Result (ℕ × Cursor) Reason
 read x = Ok x
 
--- what stands before a number counts by its place
+-- what precedes a number counts by its place
 behind_number : (b value : ℕ) (left : List Bool) (m : Mark) → number_from b value (at_ left m) ≡ and_then (number_from b 0 (at_ left m)) (λ low e. read (value * 2 ^ b + low, e))
 unfolding number_from next_bit
 behind_number zero value left m = ap (λ k. read (k, at_ left m)) (omega arith)

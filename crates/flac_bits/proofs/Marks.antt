@@ -1,4 +1,4 @@
--- What is known of the bits behind, after many.
+-- The mark after many bits.
 use Rattle.std.proofs.Common.{◌≡◌, ℕ, zero, suc, ◌+◌, ◌-◌, ◌*◌, ◌/◌, ◌%◌, ◌^◌, ◌<◌, ◌≤◌, Bool, false, List, [], ◌∷◌, ◌++◌, length, drop, take, min, cond, nat_eq, refl, sym, ap, ◌∙◌, arith}
 use Rattle.flac_bits.specs.Bits.{bits_of}
 use Rattle.flac_bits.specs.State.{Mark, past, step}
@@ -52,7 +52,7 @@ past_whole xs m z le =
     let b : (past bs m).bytes ≡ min (m.bytes + length xs) most = omega (arith, past-bytes bs 0 m.bytes m z (omega arith) refl le, long, z) in
     marks (past bs m) _ _ _ _ _ u b (past-check8 bs m) (past-check16 bs m) (past-short bs m)
 
--- where all bytes are taken, their checks and their count are carried on
+-- if all bytes are taken, their checks and their count are carried on
 pub pulled_mark : (bytes : List ℕ) (from place end before c8 c16 b k8 k16 : ℕ) (word : List Bool) (m : Mark) → from ≤ place → place ≤ end → end ≤ length bytes
     → word ≡ [] → drop place (take end bytes) ≡ []
     → k8 ≡ fed 8 7 c8 (bits_of (slice_range bytes from end)) → k16 ≡ fed 16 32773 c16 (bits_of (slice_range bytes from end)) → b ≡ min (before + end) most

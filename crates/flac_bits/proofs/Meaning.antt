@@ -17,7 +17,7 @@ read x = Ok x
 abbrev pub failed_by : {A : Type 0} → Reason → Result (A × Cursor) Reason
 failed_by r = Err r
 
--- each input spells a value at its front, or shows a fault there, or ends inside; and reading tells which
+-- each input spells a value at its front, or shows a fault there, or ends inside; and reading returns which
 abbrev pub Reading : {A : Type 0} → Layout A → List Bool → Mark → Type 0
 Reading {A = A} l left m =
     ((x : A) × (text : List Bool) × (rest : List Bool) × (left ≡ text ++ rest) × Spells l m text x × (run l (at_ left m) ≡ Ok (x, at_ rest (past text m))))
@@ -46,7 +46,7 @@ unless_first [] r why first = absurd first
 unless_first (rule ∷ rules) r why (inl (e, is)) = rw (e, is) refl
 unless_first (rule ∷ rules) r why (inr (e, first)) = rw e (unless_first rules r why first)
 
--- what stands behind a good part
+-- what follows a valid part
 behind : (part text after rest left : List Bool) → left ≡ part ++ rest → rest ≡ text ++ after → left ≡ (part ++ text) ++ after
 behind part text after rest left p q = p ∙ ap (λ r. part ++ r) q ∙ sym (append_assoc part text after)
 
@@ -107,7 +107,7 @@ again (judge rules) m text rest y s = unless_kept rules (read (tt, at_ (text ++ 
 again (refuse why) m text rest y s = absurd s
 again mark m text rest v s = rw (s.0, s.1) refl
 
--- a shown fault is answered, whatever follows
+-- a shown fault is returned, whatever follows
 pub shown : {A : Type 0} (l : Layout A) (m : Mark) (front rest : List Bool) (why : Why) → Shows l m front why → run l (at_ (front ++ rest) m) ≡ Err (because why)
 shown (done x) m front rest why s = absurd s
 shown (bind l f) m front rest why (inl s) = rw (shown l m front rest why s) refl
@@ -235,7 +235,7 @@ decodes view l old new (Err why) answers = record {
   cut = λ s. why_is why old.mark.short (sym answers ∙ cut_short l old.left old.mark s);
 }
 
--- a call that reads a layout answers what it means
+-- a call that reads a layout returns what it means
 pub means : {X Y : Type 0} (view : X → Y) (l : Layout Y) (old new : State) (result : Result X Why) → Reads view l old new result → Means view l old new result
 means view l old new result reads known same = decodes view l old.cursor new.cursor result (reads known same)
 
@@ -248,6 +248,6 @@ answers view l old new (Err why) d = elim d.fault [
   | inr (short, s) ↦ cut_short l old.left old.mark s ∙ ap (λ w. failed_by (because w)) (sym short)
 ]
 
--- and one that answers what a layout means reads it
+-- and one that returns what a layout means reads it
 pub reads : {X Y : Type 0} (view : X → Y) (l : Layout Y) (old new : State) (result : Result X Why) → Means view l old new result → Reads view l old new result
 reads view l old new result means known same = answers view l old.cursor new.cursor result (means known same)

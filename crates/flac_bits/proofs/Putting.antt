@@ -1,4 +1,4 @@
--- Bits behind those that are held, and bytes that are sent.
+-- Bits after those that are held, and bytes that are sent.
 use Rattle.std.proofs.Common.{◌≡◌, ℕ, zero, suc, ◌+◌, ◌-◌, ◌*◌, ◌/◌, ◌%◌, ◌^◌, ◌≤◌, Bool, List, [], ◌∷◌, ◌++◌, length, take, drop, min, refl, sym, ap, ◌∙◌, arith, append_assoc}
 use Rattle.std.specs.Int.{bytes_high_first, byte_at}
 use Rattle.std.specs.List.{slice_range}
@@ -43,7 +43,7 @@ core : (xs more : List ℕ) (rest rest' text : List Bool) → bits_of more ++ re
 core xs more rest rest' text tie =
     ap (λ bs. bs ++ rest') (bits_of-append xs more) ∙ append_assoc (bits_of xs) (bits_of more) rest' ∙ ap (λ bs. bits_of xs ++ bs) tie ∙ sym (append_assoc (bits_of xs) rest text)
 
--- some bytes more, and other bits behind them
+-- some bytes more, and other bits after them
 pub putting : (xs ys more : List ℕ) (from : ℕ) (rest rest' text : List Bool) (start : Mark) (u : Unsent)
     → record { bytes = xs; rest = rest; mark = past (bits_of (drop from xs) ++ rest) start } ≡ u → ys ≡ xs ++ more → from ≤ length xs → bits_of more ++ rest' ≡ rest ++ text
     → (bits_of ys ++ rest' ≡ (bits_of u.bytes ++ u.rest) ++ text) × (past (bits_of (drop from ys) ++ rest') start ≡ past text u.mark)
@@ -92,7 +92,7 @@ pub checked_is : (w g c : ℕ) (bytes : List ℕ) (from end : ℕ) (rest : List 
 checked_is w g c bytes from end rest le inside =
     ap (λ xs. fed w g (fed w g c (bits_of xs)) rest) (slice_is bytes from end le inside) ∙ sym (fed-append w g c (bits_of (drop from (take end bytes))) rest)
 
--- where all bytes are sent, their checks and their count are carried on
+-- if all bytes are sent, their checks and their count are carried on
 pub sent_mark : (bytes : List ℕ) (from end before c8 c16 b k8 k16 : ℕ) (rest : List Bool) (m : Mark) → from ≤ end → end ≤ length bytes
     → k8 ≡ fed 8 7 c8 (bits_of (slice_range bytes from end)) → k16 ≡ fed 16 32773 c16 (bits_of (slice_range bytes from end)) → b ≡ min (before + end) most
     → past (bits_of (drop from (take end bytes)) ++ rest) (record { unread = 0; bytes = min (before + from) most; check8 = c8; check16 = c16; short = Truncated }) ≡ m
@@ -105,7 +105,7 @@ sent_mark bytes from end before c8 c16 b k8 k16 rest m le inside e8 e16 eb is =
     let whole = past_whole xs start refl (omega arith) in
     rw (count, e8, e16, slice_is bytes from end le inside) (ap (past rest) (sym whole)) ∙ sym (past-append (bits_of xs) rest start) ∙ is
 
--- the bits behind the whole bytes and those still to come make up whole bytes
+-- the bits after the whole bytes and those still to come make up whole bytes
 pub rest_unread : (bytes : List ℕ) (from end : ℕ) (rest : List Bool) (m : Mark) → from ≤ end → end ≤ length bytes → m.unread ≡ 0 → (length rest + (past (bits_of (drop from (take end bytes)) ++ rest) m).unread) % 8 ≡ 0
 rest_unread bytes from end rest m le inside z =
     omega (arith, past-unread (bits_of (drop from (take end bytes)) ++ rest) 0 m z (omega arith), held_long bytes from end rest le inside)
@@ -117,7 +117,7 @@ none_of (x ∷ xs) e = absurd (omega (arith, e))
 anew : (m : Mark) (n : ℕ) → m.unread ≡ 0 → m.bytes ≡ n → m.short ≡ Truncated → record { unread = 0; bytes = n; check8 = 0; check16 = 0; short = Truncated } ≡ record m { check8 = 0; check16 = 0 }
 anew m n a b c = rw (a, b, c) refl
 
--- the checks begin anew behind whole bytes
+-- the checks begin anew after whole bytes
 pub restarted : (bytes : List ℕ) (from end before c8 c16 : ℕ) (rest : List Bool) (u : Unsent) → from ≤ end → end ≤ length bytes → u.rest ≡ []
     → record { bytes = take end bytes; rest = rest; mark = past (bits_of (drop from (take end bytes)) ++ rest) (record { unread = 0; bytes = min (before + from) most; check8 = c8; check16 = c16; short = Truncated }) } ≡ u
     → record { bytes = take end bytes; rest = rest; mark = past (bits_of (drop end (take end bytes)) ++ rest) (record { unread = 0; bytes = min (before + end) most; check8 = 0; check16 = 0; short = Truncated }) }

@@ -134,14 +134,14 @@ unfolding run_of
 run_long f s zero = refl
 run_long f s (suc n) = omega (arith, run_long f (s + 1) n)
 
--- the remainder of a byte with j bytes behind it
+-- the remainder of a byte with j bytes after it
 abbrev pub entry : ℕ → ℕ → ℕ → ℕ → ℕ
 entry w g j i = times w g (8 * j) (remainder w g (unsigned 8 i))
 
 unfoldable pub entries : ℕ → ℕ → List ℕ
 entries w g = run_of (λ i. remainder w g (unsigned 8 i)) 0 256
 
--- with a byte more behind them
+-- with one more byte after them
 unfoldable pub moved : ℕ → ℕ → List ℕ → List ℕ
 moved w g [] = []
 moved w g (x ∷ xs) = times w g 8 x ∷ moved w g xs

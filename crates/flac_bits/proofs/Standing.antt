@@ -1,4 +1,4 @@
--- What a reader stands at, by what it holds and the source behind it.
+-- The state of a reader, by what it holds and the source that fills it.
 use Rattle.std.proofs.Common.{◌≡◌, ℕ, ℤ, take, zero, suc, ◌+◌, ◌-◌, ◌*◌, ◌^◌, ◌<◌, ◌≤◌, Bool, false, List, [], ◌∷◌, ◌++◌, length, Option, Some, None, Ok, IfSome, refl, sym, ap, ◌∙◌, arith}
 use Rattle.std.specs.Borrow.{GName}
 use Rattle.std.proofs.Math.Dec.{leb-zero}
@@ -76,7 +76,7 @@ same_most old new same = rw (same.0, same.2) refl
 pub came_most : (old new : Store) (m n : ℕ) → old.word ≡ [] → old.bytes ≡ [] → new.word ≡ [] → n + length new.bytes + length new.fence.hidden ≤ m + length old.fence.hidden → 8 * n + most_of new ≤ 8 * m + most_of old
 came_most old new m n empty out none le = rw (empty, out, none) (omega (arith, le, length-bits_of new.bytes))
 
--- the reason where no bit is left
+-- the reason if no bit is left
 pub short_is : (room : Option ℕ) (coming : List ℕ) (behind : Behind) (why : Why) → (room ≡ Some 0 → why ≡ FrameTooLong) → ((room ≡ Some 0 → ⊥) → why ≡ Truncated) → allowed room coming ≡ []
     → (reason_of (reached room coming) behind ≡ Read → ⊥) → why ≡ reason_of (reached room coming) behind
 short_is None coming behind why fence end none other = end (λ e. absurd cc) ∙ ended behind.fails other

@@ -1,4 +1,4 @@
--- Where a writer stands behind what it sent and put.
+-- The state of a writer after what it sent and put.
 use Rattle.std.proofs.Common.{◌≡◌, true, Bool, List, [], ◌++◌, Result, Ok, Err, IfErr, OnOk, refl, sym, ap, ◌∙◌, append_assoc}
 use Rattle.std.proofs.lemmas.List.{append-nil}
 use Rattle.flac_bits.specs.Bits.{bits_of}
@@ -42,7 +42,7 @@ module _ {S : Type 0} (g : target.Ghosts S) where
         ∙ sym (append_assoc (bits_of (g.sent old)) (bits_of b.0) (bits_of b.1 ++ held.rest)) ∙ ap (λ bs. bs ++ (bits_of b.1 ++ held.rest)) (sym (ap bits_of b.3 ∙ bits_of-append (g.sent old) b.0)));
   }
 
-  -- bits were put behind those held
+  -- bits were put after those held
   pub put_writes : (t : S) (text : List Bool) (held held' : Unsent) → Puts text held held' → Adds text (standing g t held) (standing g t held')
   put_writes t text held held' p = record {
     known = λ known. known;

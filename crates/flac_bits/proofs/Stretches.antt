@@ -1,4 +1,4 @@
--- Values off a word and the bytes behind it.
+-- Values off a word and the bytes after it.
 use Rattle.std.proofs.Common.{◌≡◌, ℕ, ℤ, ◌+◌, ◌-◌, ◌*◌, ◌/◌, ◌^◌, ◌<◌, ◌≤◌, Bool, List, [], ◌∷◌, ◌++◌, length, take, drop, Some, Ok, refl, sym, ap, ◌∙◌, arith, append_assoc, set}
 use Rattle.std.proofs.lemmas.List.{length-take, length-drop, take-append-drop, take-take, take_all, drop-take}
 use Rattle.std.proofs.lemmas.Grind.{take-set_at}
@@ -93,7 +93,7 @@ came_taken bytes used n x first word filled last text more few room is tie put t
     ap (λ xs. first ++ bits_of xs) (take-add used n bytes) ∙ ap (λ bs. first ++ bs) (bits_of-append (take used bytes) ys) ∙ sym (append_assoc first (bits_of (take used bytes)) (bits_of ys))
     ∙ ap (λ bs. bs ++ bits_of ys) tie ∙ append_assoc text word (bits_of ys) ∙ ap (λ bs. text ++ bs) (ap (λ bs. word ++ bs) (sym bits) ∙ sym put ∙ taken) ∙ sym (append_assoc text more last)
 
--- the same, where the bytes stand in an array from a place on
+-- the same, if the bytes are in an array from an index on
 module _ (bytes : List ℕ) (from place end used : ℕ) (word text new : List Bool) (le : from ≤ place) (le' : place + used ≤ end) (inside : end ≤ length bytes) (is : word ++ bits_of (take used (slice_range bytes place end)) ≡ text ++ new)
     (tie : passed (drop from (take place bytes)) word ++ word ≡ bits_of (drop from (take place bytes))) where
   abbrev ys : List ℕ
@@ -122,7 +122,7 @@ module _ (bytes : List ℕ) (from place end used : ℕ) (word text new : List Bo
       let parts : drop place (take end bytes) ≡ ys ++ more = begun_more bytes place (place + used) end (omega arith) le' inside ∙ ap (λ zs. zs ++ more) between in
       ap (λ xs. word ++ bits_of xs) parts ∙ ap (λ bs. word ++ bs) (bits_of-append ys more) ∙ sym (append_assoc word (bits_of ys) (bits_of more)) ∙ ap (λ bs. bs ++ bits_of more) is ∙ append_assoc text new (bits_of more)
 
--- what a store and the bits behind it are read as
+-- what a store and the bits after it are read as
 pub stretch_read : (k : ℕ) (text : List Bool) (us vs : List ℤ) (i j : ℕ) (why : Why) (old new : Store) (rest : List Bool) → Passes text old new → IsRead k text us i vs j
     → and_then (run (list_of (length us - i) (rice_value k)) (cursor_of why old rest)) (behind (take i us)) ≡ and_then (run (list_of (length us - j) (rice_value k)) (cursor_of why new rest)) (behind (take j vs))
 stretch_read k text us vs i j why old new rest passes read =

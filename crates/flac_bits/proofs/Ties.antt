@@ -1,4 +1,4 @@
--- What ties a layout to the spelling of its forms: the field values in a row, one after another.
+-- What ties a layout to the spelling of its forms: the values of fields, one after another.
 use Rattle.std.proofs.Common.{◌≡◌, ℕ, zero, suc, ◌<◌, ◌^◌, Bool, true, false, List, [], ◌∷◌, ◌++◌, Option, refl, sym, ap, subst, arith}
 use Rattle.std.proofs.lemmas.List.{append-nil}
 use Rattle.flac_bits.specs.Bits.{unsigned, bits_of}
@@ -73,7 +73,7 @@ some_part (judge rules) m P text tt s h = (s.1, subst (λ t. P t tt) s.0 h)
 some_part (refuse why) m P text y s h = absurd s
 some_part mark m P text v s h = subst (λ z. P [] z) (sym s.1) (subst (λ t. P t v) s.0 h)
 
--- the form is spelled so, where this is what its fields' values give
+-- the form is spelled so, if the values of its fields give it
 pub spelled_as : {A : Type 0} (l : Layout A) (m : Mark) (text : List Bool) (x : A) → ForSome l m (λ t y. (t ≡ text) × (y ≡ x)) → Spells l m text x
 spelled_as l m text x h =
     let found = for_some l m (λ t y. (t ≡ text) × (y ≡ x)) h in

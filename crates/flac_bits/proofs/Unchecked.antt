@@ -39,7 +39,7 @@ strip_past (b ∷ bs) m k e = strip_past bs (step b m) (step b k) (strip_step b 
 pub fresh_same : (m k : Mark) → strip m ≡ strip k → m.unread ≡ 0 → fresh m ≡ fresh k
 fresh_same m k e z = let z' : k.unread ≡ 0 = sym (ap (λ (n : Mark). n.unread) e) ∙ z in fresh_strip m z ∙ e ∙ sym (fresh_strip k z')
 
--- where such bytes end, as if their checks were computed
+-- the position after such bytes, as if their checks were computed
 pub behind_bytes : List ℕ → Cursor → Cursor → Cursor
 behind_bytes xs old new = at_ new.left (past (bits_of xs) old.mark)
 

@@ -32,7 +32,7 @@ split (suc n) m x =
 pub unsigned-mod : (m x : ℕ) → unsigned m (x % 2 ^ m) ≡ unsigned m x
 unsigned-mod m x = sym (unsigned_low m (x / 2 ^ m) m (x % 2 ^ m) (omega arith)) ∙ ap (unsigned m) (shr_split x m)
 
--- what stands at the top after a shift to the left
+-- what is at the top after a shift to the left
 shifted_top : (w n m s : ℕ) → n + m + s ≡ 64 → w * 2 ^ n % 2 ^ 64 / 2 ^ (s + n) ≡ w / 2 ^ s % 2 ^ m
 shifted_top w n m s e =
     let whole : 64 ≡ m + (s + n) = omega arith in
@@ -155,7 +155,7 @@ one_bits (suc z) =
     let top : bit_at 1 (suc z) ≡ 0 = bit_at-suc 1 z ∙ bit_at-zero z in
     rw top (ap (λ bs. false ∷ bs) (one_bits z))
 
--- what stands above the first one is zeros
+-- what is above the first one is zeros
 top_one : (w z c : ℕ) → w < 2 ^ 64 → c ≤ 63 → z ≡ leading_zeros w64 (bit_or w 1) → z < c → w / 2 ^ 1 / 2 ^ (63 - (z + 1)) ≡ 1
 top_one w z c wide le is lt =
     let a = bit_or w 1 in
@@ -176,7 +176,7 @@ top_one w z c wide le is lt =
     let s : 1 + (63 - (z + 1)) ≡ j = omega arith in
     shr-shr w 1 (63 - (z + 1)) ∙ ap (λ k. w / 2 ^ k) s ∙ sym same ∙ one
 
--- where fewer zeros are found than there are places, another one at the end changes nothing
+-- if fewer zeros are found than there are places, another one at the end changes nothing
 pub top_same : (w k c : ℕ) → w < 2 ^ 64 → c ≤ 63 → leading_zeros w64 w + 1 + k ≤ c → leading_zeros w64 w ≡ leading_zeros w64 (bit_or w 1)
 top_same w k c wide le fits =
     let some : w ≡ 0 → ⊥ = λ e. let all : leading_zeros w64 w ≡ 64 = rw e (leading_of_zero 64) in omega (arith, all, fits, le) in
@@ -226,7 +226,7 @@ module _ (w z k c : ℕ) (wide : w < 2 ^ 64) (le : c ≤ 63) (is : z ≡ leading
   pub both_is : both ≡ 2 ^ k + both % 2 ^ k
   both_is = sym (shr_split both k) ∙ ap (λ q. q * 2 ^ k + both % 2 ^ k) one ∙ omega arith
 
-  -- the same, where the zeros were shifted out before
+  -- the same, if the zeros were shifted out before
   pub ahead_is : w * 2 ^ z % 2 ^ 64 / 2 ^ (63 - k) ≡ both
   ahead_is =
       let s = 64 - (z + 1 + k) in

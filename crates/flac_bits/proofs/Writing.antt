@@ -27,7 +27,7 @@ begins_more (true ∷ front) (false ∷ whole) more e = absurd cc
 begins_more (false ∷ front) (true ∷ whole) more e = absurd cc
 begins_more (false ∷ front) (false ∷ whole) more e = begins_more front whole more e
 
--- a beginning is followed by some bits
+-- a prefix is followed by some bits
 pub begins_is : (front whole : List Bool) → begins front whole ≡ true → (rest : List Bool) × (whole ≡ front ++ rest)
 unfolding begins
 begins_is [] whole e = (whole, refl)

@@ -22,6 +22,7 @@ unfoldable pub fed : ℕ → ℕ → ℕ → List Bool → ℕ
 fed w g c [] = c
 fed w g c (b ∷ bs) = fed w g (feed w g c b) bs
 
--- what a mark tells of the bits since the checks began is their remainder (RFC 9639, sections 9.1.8 and 9.3)
+-- if both checks of a mark are 0, those after these bits are the remainders of the bits (RFC 9639, sections 9.1.8 and
+-- 9.3)
 abbrev pub ChecksAreRemainders : Type 0
 ChecksAreRemainders = (bits : List Bool) (m : Mark) → m.check8 ≡ 0 → m.check16 ≡ 0 → ((past bits m).check8 ≡ remainder 8 7 bits) × ((past bits m).check16 ≡ remainder 16 32773 bits)

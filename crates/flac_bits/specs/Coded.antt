@@ -6,12 +6,12 @@ use Rattle.flac_bits.specs.Layout.{run}
 use Rattle.flac_bits.specs.Meaning.{Spells}
 use Rattle.flac_bits.specs.Number.{number}
 
--- six bits in each of the bytes behind the lead byte, under the bits 10
+-- the n bytes after the lead byte: the bits 10, and six bits of the number
 unfoldable pub six_bits : ℕ → ℕ → List Bool
 six_bits zero v = []
 six_bits (suc n) v = unsigned 8 (128 + v / 64 ^ n % 64) ++ six_bits n v
 
--- the lead byte, which says how many bytes follow and has the highest bits, and these
+-- the lead byte, which says how many bytes follow and has the highest bits, and these bytes
 abbrev pub in_bytes : ℕ → ℕ → ℕ → List Bool
 in_bytes lead n v = unsigned 8 (lead + v / 64 ^ n) ++ six_bits n v
 
@@ -24,11 +24,11 @@ number_spelling v =
     (cond (nat_lt v (2 ^ 26)) (in_bytes 0xF8 4 v)
     (cond (nat_lt v (2 ^ 31)) (in_bytes 0xFC 5 v) (in_bytes 0xFE 6 v))))))
 
--- at most 31 bits, or 36 where these are allowed
+-- a number of at most 31 bits, or of at most 36 if max_bits allows them
 abbrev pub IsNumber : ℕ → ℕ → Type 0
 IsNumber max_bits v = v < cond (nat_lt 31 max_bits) (2 ^ 36) (2 ^ 31)
 
--- bits spell just the numbers of so many bits, each in one way
+-- exactly the numbers within max_bits are spelled, each in one way
 abbrev pub NumbersAreSpelled : Type 0
 NumbersAreSpelled = (max_bits v : ℕ) (m : Mark) (text : List Bool) → Spells (number max_bits) m text v ↔ (IsNumber max_bits v × (text ≡ number_spelling v))
 

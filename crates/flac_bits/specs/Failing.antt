@@ -1,6 +1,6 @@
--- How often a call failed of which one does.
+-- The failures of calls of which one fails.
 use Rattle.std.specs.Prelude.{ℕ, cond, nat_lt}
 
--- so many failures, once there were more calls than before the one that fails
+-- how many failed of the first `calls` calls, of which the one at index `at` fails
 abbrev pub failed : ℕ → ℕ → ℕ
 failed at calls = cond (nat_lt at calls) 1 0

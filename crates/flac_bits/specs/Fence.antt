@@ -1,4 +1,5 @@
--- A fence: an item may have so many bytes at most, and no bit past them is read. (Of a frame STREAMINFO tells the size in 24 bits: RFC 9639, section 8.2.)
+-- A fence: an item has at most n bytes, and no bit past them is read. (STREAMINFO has the largest frame size in bytes:
+-- RFC 9639, section 8.2.)
 use Rattle.std.specs.Prelude.{◌≡◌, ℕ, ◌+◌, ◌*◌, ◌<◌, ◌≤◌, Bool, cond, nat_le, List, ◌++◌, length, take, drop, Option, Some, None, Result, Ok, ◌⊎◌, ⊤}
 use Rattle.flac_bits.specs.State.{Mark, Cursor, with_short}
 use Rattle.flac_bits.specs.Layout.{Layout, Reason, run, and_then}
@@ -13,7 +14,7 @@ abbrev pub InRoom : Option ℕ → Mark → List Bool → Type 0
 InRoom None m front = ⊤
 InRoom (Some n) m front = length front ≤ m.unread + 8 * n
 
--- what is left is less than the item may have
+-- fewer bits are left than the item may have
 abbrev pub LeavesRoom : Option ℕ → Mark → List Bool → Type 0
 LeavesRoom None m left = ⊤
 LeavesRoom (Some n) m left = length left < m.unread + 8 * n
@@ -23,7 +24,8 @@ abbrev pub FillsRoom : {A : Type 0} → Option ℕ → Layout A → Mark → Lis
 FillsRoom None l m left = ⊥
 FillsRoom (Some n) l m left = (front : List Bool) × (rest : List Bool) × (left ≡ front ++ rest) × (length front ≡ m.unread + 8 * n) × IsCut l m front
 
--- no item is there: within the room a front shows this reason; or the input ends inside; or the item fills its room and does not end there
+-- there is no item: a prefix within the room shows this reason, or the input ends inside the item, or the item does not
+-- end within its room
 abbrev pub StopsIn : {A : Type 0} → Option ℕ → Layout A → Mark → List Bool → Why → Type 0
 StopsIn room l m left why =
     ((front : List Bool) × (rest : List Bool) × (left ≡ front ++ rest) × Shows l m front why × InRoom room m front)
@@ -32,14 +34,15 @@ StopsIn room l m left why =
 
 -- ---- and how it is read
 
--- only the next n bytes are seen, beyond the byte that was begun; where all of them are there, a field that needs more has the frame too long
+-- only the rest of the byte that was begun and the next n bytes are seen; if all of them are there, a field that needs
+-- more bits makes the frame too long
 abbrev pub fenced : ℕ → Cursor → Cursor
 fenced n c = record {
   left = take (c.mark.unread + 8 * n) c.left;
   mark = with_short (cond (nat_le (c.mark.unread + 8 * n) (length c.left)) FrameTooLong c.mark.short) c.mark;
 }
 
--- where d stands once the fence that was set at c is lifted
+-- the position d after the fence that was set at c is lifted
 abbrev pub unfenced : ℕ → Cursor → Cursor → Cursor
 unfenced n c d = record {
   left = d.left ++ drop (c.mark.unread + 8 * n) c.left;

@@ -11,6 +11,6 @@ all_left s = s.cursor.left ++ s.behind.fenced
 abbrev pub lifted : State → State
 lifted s = record s { behind = without_fence s.behind; cursor = record { left = all_left s; mark = with_short (short_of s.behind.fails) s.cursor.mark } }
 
--- with a fence behind the next n bytes, beyond the byte that was begun: the bits past it are not read
+-- with a fence after the byte that was begun and n more bytes: the bits past it are not read
 abbrev pub fence_at : ℕ → State → State
 fence_at n s = record s { behind = record s.behind { fenced = drop (s.cursor.mark.unread + 8 * n) (all_left s) }; cursor = fenced n (lifted s).cursor }

@@ -1,4 +1,4 @@
--- The spelling of a form, and what ties it to a layout.
+-- Parts of a spelling, and lists of bytes.
 use Rattle.std.specs.Prelude.{◌≡◌, ℕ, ◌<◌, ◌^◌, Bool, List, [], ◌∷◌, ◌++◌, length}
 
 -- parts, one after another
@@ -11,7 +11,7 @@ abbrev pub AreBytes : List ℕ → Type 0
 AreBytes [] = Unit {0}
 AreBytes (x ∷ xs) = (x < 2 ^ 8) × AreBytes xs
 
--- so many bytes
+-- n bytes
 pub record IsBytes (n : ℕ) (xs : List ℕ) : Type 0 where
   pub many : length xs ≡ n
   pub small : AreBytes xs

@@ -1,4 +1,4 @@
--- What a call hands to a receiver, which reads a stream item by item.
+-- What a call that reads a stream item by item passes to a receiver.
 use Rattle.std.specs.Prelude.{◌≡◌, ◌≢◌, ◌<◌, ℕ, Bool, List, [], ◌∷◌, ◌++◌, Option, Some, None, Result, Ok, Err, ◌⊎◌}
 use Rattle.flac_bits.specs.State.{Mark}
 use Rattle.flac_bits.specs.Items.{Grammar, after, Joined, Stream, Refused}
@@ -7,19 +7,19 @@ use Rattle.flac_bits.specs.declared.why.Why.TheVariants.{Memory, Read, Sink}
 
 -- ---- one step
 
--- nothing, or where and why a call refused, as told tells it of its error
+-- None, or the place and the reason of the error, by `told`
 abbrev pub outcome_of : {X E P : Type 0} → (E → P × Why) → Result X E → Option (P × Why)
 outcome_of told (Ok x) = None
 outcome_of told (Err e) = Some (told e)
 
--- the same without the place
+-- the result with the reason alone
 abbrev pub reason_of : {X E P : Type 0} → (E → P × Why) → Result X E → Result X Why
 reason_of told (Ok x) = Ok x
 reason_of told (Err e) = Err (told e).1
 
 -- ---- a whole reading
 
--- a receiver that takes these items, one after another, goes on from old to new
+-- a receiver that takes these items, one after another, gets from old to new
 abbrev pub TakesAll : {K I : Type 0} → (K → I → K → Type 0) → K → List I → K → Type 0
 TakesAll takes old [] new = old ≡ new
 TakesAll {K} takes old (x ∷ xs) new = (mid : K) × takes old x mid × TakesAll takes mid xs new
@@ -28,8 +28,9 @@ TakesAll {K} takes old (x ∷ xs) new = (mid : K) × takes old x mid × TakesAll
 abbrev pub IsOutside : Why → Type 0
 IsOutside why = (why ≡ Read) ⊎ (why ≡ Memory)
 
--- How an input is read: which lists are all its items, behind which items it is refused, where and why, with which items it begins, where the item
--- behind these stands, and at which places it is told that a call was broken off there for this reason.
+-- How an input is read. `whole`: these are all its items. `refused`: after these items it is refused, at this place and
+-- for this reason. `begins`: it begins with these items. `place`: the place of the item after these. `breaks`: a call
+-- that ends early after these items, for this reason, may report this place.
 pub record Reading (I P : Type 0) : Type 1 where
   pub whole : List I → Type 0
   pub refused : List I → P → Why → Type 0
@@ -47,26 +48,30 @@ by_grammar g s mark text = record {
   breaks = λ items at why. at ≡ g.place (after g s items);
 }
 
--- what was answered, and what the receiver took; errors counts those that it answered, and calm says that the source answered none
+-- What was returned, and what the receiver took. `errors` counts the errors that the receiver returned, and `calm` says
+-- that the source returned none.
 pub record Hands {I P K : Type 0} (r : Reading I P) (takes : K → I → K → Type 0) (errors : K → ℕ) (calm : Type 0) (old new : K) (outcome : Option (P × Why)) : Type 0 where
-  -- over only where the input is a stream, of which the receiver took just the items
+  -- over only if the input is a stream, and the receiver took exactly its items
   pub done : calm → outcome ≡ None → (items : List I) × r.whole items × TakesAll takes old items new
-  -- refused only as the input is, behind just the items that the receiver took
+  -- refused only as the input is, after exactly the items that the receiver took
   pub refused : calm → (at : P) (why : Why) → outcome ≡ Some (at, why) → why ≢ Memory → errors new ≡ errors old → (items : List I) × r.refused items at why × TakesAll takes old items new
-  -- whatever ended it: the receiver took items that are spelled whole, one after another, from the start, and where it did not fail it stands behind them
+  -- in each case: the receiver took items with which the input begins, and if it did not fail, it is in the state after
+  -- them
   pub begun : (items : List I) × (mid : K) × r.begins items × TakesAll takes old items mid × (errors new ≡ errors old → mid ≡ new)
-  -- where the source failed or memory ran out, that is told at its place of the item behind just those that the receiver took
+  -- if the source failed or memory ran out, this is reported at the place of the item after exactly those that the
+  -- receiver took
   pub broken : (at : P) (why : Why) → outcome ≡ Some (at, why) → IsOutside why → (items : List I) × r.begins items × r.breaks items at why × TakesAll takes old items new
-  -- where the receiver failed, that is told at the place of the item that it did not take, and it had taken just the items before
+  -- if the receiver failed, this is reported at the place of the item that it did not take, and it had taken exactly
+  -- the items before
   pub failed : errors old < errors new → (at : P) × (outcome ≡ Some (at, Sink)) × ((items : List I) × (mid : K) × r.begins items × (at ≡ r.place items) × TakesAll takes old items mid)
 
--- and which answer an input has
+-- which outcome an input has
 pub record Decides {I P : Type 0} (r : Reading I P) (outcome : Option (P × Why)) : Type 0 where
-  -- a stream is not refused, but for want of memory
+  -- a stream is not refused, unless memory runs out
   pub accepted : (items : List I) → r.whole items → (at : P) (why : Why) → outcome ≡ Some (at, why) → why ≢ Memory → ⊥
   -- an input that is to be refused is refused
   pub is_refused : (items : List I) (at : P) (why : Why) → r.refused items at why → outcome ≢ None
-  -- at just its place and for just its reason
+  -- at exactly its place and for exactly its reason
   pub shown : (items : List I) (at : P) (why : Why) → r.refused items at why → (to : P) (w : Why) → outcome ≡ Some (to, w) → w ≢ Memory → (to ≡ at) × (w ≡ why)
 
 -- no input has two readings: it is one stream, or is refused in one way

@@ -1,4 +1,4 @@
--- Items one after another, each spelled by its layout in the state that the items before it left.
+-- Items one after another, each spelled by its layout in the state after the items before it.
 use Rattle.std.specs.Prelude.{◌≡◌, ◌&&◌, ℕ, Bool, true, false, List, [], ◌∷◌, ◌++◌, Option, ◌⊎◌}
 use Rattle.flac_bits.specs.Bits.{is_nil}
 use Rattle.flac_bits.specs.State.{Mark, Cursor, past, fresh}
@@ -7,7 +7,8 @@ use Rattle.flac_bits.specs.Meaning.{Spells, AllKept, BreaksFirst}
 use Rattle.flac_bits.specs.Fence.{InRoom, StopsIn}
 use Rattle.flac_bits.specs.declared.why.Why.{Why}
 
--- which layout the next item has, how many bytes it may have at most (None: there is no bound), what it leaves, where the input may end, and which rules are judged there
+-- In each state: the layout of the next item, its largest number of bytes (None: there is no bound), the state after
+-- it, whether the input may end, the rules of the end, and the place of the next item; and the place of the end.
 pub record Grammar (S I P : Type 0) : Type 1 where
   pub layout : S → Layout I
   pub room : S → Option ℕ
@@ -17,7 +18,7 @@ pub record Grammar (S I P : Type 0) : Type 1 where
   pub place : S → P
   pub end_place : P
 
--- the state behind these items
+-- the state after these items
 abbrev pub after : {S I P : Type 0} → Grammar S I P → S → List I → S
 after g s [] = s
 after g s (x ∷ xs) = after g (g.next s x) xs
@@ -28,24 +29,24 @@ Joined g s m [] text = text ≡ []
 Joined g s m (x ∷ xs) text =
     (front : List Bool) × (rest : List Bool) × (text ≡ front ++ rest) × Spells (g.layout s) (fresh m) front x × InRoom (g.room s) (fresh m) front × Joined g (g.next s x) (past front (fresh m)) xs rest
 
--- what is known of the bits behind these items
+-- the mark after these items
 abbrev pub mark_behind : {S I P : Type 0} (g : Grammar S I P) (s : S) (m : Mark) (items : List I) (text : List Bool) → Joined g s m items text → Mark
 mark_behind g s m [] text j = m
 mark_behind g s m (x ∷ xs) text j = mark_behind g (g.next s x) (past j.0 (fresh m)) xs j.1 j.5
 
--- the whole input is these items, may end behind them, and keeps the rules that are judged there
+-- the whole input is these items, may end after them, and keeps the rules of the end
 pub record Stream {S I P : Type 0} (g : Grammar S I P) (s : S) (m : Mark) (items : List I) (text : List Bool) : Type 0 where
   pub spelled : Joined g s m items text
   pub ends : g.may_end (after g s items) ≡ true
   pub kept : AllKept (g.at_end (after g s items))
 
--- no further item is there: it is not spelled within its room; or the input is over, and a rule of the end is broken
+-- there is no next item: it is not spelled within its room; or the input is over, and a rule of the end is broken
 abbrev pub StopsAt : {S I P : Type 0} → Grammar S I P → S → Mark → List Bool → P → Why → Type 0
 StopsAt g s m left at why =
     (((g.may_end s && is_nil left) ≡ false) × (at ≡ g.place s) × StopsIn (g.room s) (g.layout s) (fresh m) left why)
     ⊎ (((g.may_end s && is_nil left) ≡ true) × (at ≡ g.end_place) × BreaksFirst (g.at_end s) why)
 
--- behind these good items the input is refused, at this place and for this reason
+-- after these valid items the input is refused, at this place and for this reason
 pub record Refused {S I P : Type 0} (g : Grammar S I P) (s : S) (m : Mark) (items : List I) (text : List Bool) (at : P) (why : Why) : Type 0 where
   pub front : List Bool
   pub left : List Bool

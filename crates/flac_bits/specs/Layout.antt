@@ -5,7 +5,7 @@ use Rattle.flac_bits.specs.State.{Mark, Cursor, step, with_short}
 use Rattle.flac_bits.specs.declared.why.Why.{Why}
 use Rattle.flac_bits.specs.declared.why.Why.TheVariants.{Truncated}
 
--- why a read fails. The reason stands in a record, so that a proof that splits a result into its cases leaves it whole.
+-- Why a read fails. It is a record, so that a proof that splits a result into its cases does not split the reason.
 pub record Reason : Type 0 where
   pub why : Why
 
@@ -20,17 +20,18 @@ pub record Rule : Type 0 where
 pub data Layout : Type 0 → Type 1 where
   -- nothing more: the value
   done : {A : Type 0} → A → Layout A
-  -- one layout behind another, which its value may choose
+  -- a layout after another, which may depend on the value of the first
   bind : {A B : Type 0} → Layout A → (A → Layout B) → Layout B
-  -- a number of so many bits
+  -- a number of n bits
   bits : ℕ → Layout ℕ
-  -- zeros and a one, and how many zeros; nothing where one passes the limit, which is then the last that was read
+  -- the number of zeros before a one; None if there is one zero more than the limit, which is then the last bit that
+  -- was read
   unary : ℕ → Layout (Option ℕ)
-  -- rules that are judged at the end of the field before: the first that is broken is refused
+  -- rules at the end of the field before; the first that is broken gives the reason
   judge : List Rule → Layout ⊤
-  -- the reason stands at the end of the field before
+  -- refused at the end of the field before
   refuse : {A : Type 0} → Why → Layout A
-  -- what is known of the bits behind, as the remainder since the checks began; not why bits run short
+  -- what is known of the bits that were read, such as the remainder since the checks began, but not why bits run short
   mark : Layout Mark
 
 infixl 10 ◌>>=◌
@@ -50,7 +51,7 @@ abbrev pub choose : {A : Type 0} → Bool → Layout A → Layout A → Layout A
 choose true l r = l
 choose false l r = r
 
--- ---- what reading a layout gives: the value and where it ends, or the reason
+-- ---- what reading a layout gives: the value and the position after it, or the reason
 
 unfoldable pub next_bit : Cursor → Result (Bool × Cursor) Reason
 next_bit c = elim c.left [ [] ↦ Err (because c.mark.short) | b ∷ rest ↦ Ok (b, record { left = rest; mark = step b c.mark }) ]
@@ -59,7 +60,7 @@ abbrev pub and_then : {A B : Type 0} → Result (A × Cursor) Reason → (A → 
 and_then (Ok x) f = f x.0 x.1
 and_then (Err e) f = Err e
 
--- n more bits behind those of the number that was read so far
+-- n more bits, after those of the number that was read so far
 unfoldable pub number_from : ℕ → ℕ → Cursor → Result (ℕ × Cursor) Reason
 number_from zero value c = Ok (value, c)
 number_from (suc n) value c = and_then (next_bit c) (λ b d. number_from n (2 * value + bit_value b) d)
@@ -68,16 +69,16 @@ number_from (suc n) value c = and_then (next_bit c) (λ b d. number_from n (2 * 
 unfoldable pub number_at : ℕ → Cursor → Result (ℕ × Cursor) Reason
 number_at n c = number_from n 0 c
 
--- room for so many more zeros
+-- the zeros before the next one, with `count` that were read before; None if more than `room` follow
 unfoldable pub zeros_from : ℕ → ℕ → Cursor → Result (Option ℕ × Cursor) Reason
 zeros_from zero count c = and_then (next_bit c) (λ b d. cond b (Ok (Some count, d)) (Ok (None, d)))
 zeros_from (suc room) count c = and_then (next_bit c) (λ b d. cond b (Ok (Some count, d)) (zeros_from room (count + 1) d))
 
--- the zeros before the next one, at most so many
+-- the zeros before the next one; None if they are more than the limit
 unfoldable pub zeros_at : ℕ → Cursor → Result (Option ℕ × Cursor) Reason
 zeros_at limit c = zeros_from limit 0 c
 
--- the reason of the first broken rule, or what comes behind the rules
+-- the reason of the first broken rule, or the result if no rule is broken
 abbrev pub unless_broken : {X : Type 0} → List Rule → Result X Reason → Result X Reason
 unless_broken [] read = read
 unless_broken (rule ∷ rules) read = cond rule.broken (Err (because rule.why)) (unless_broken rules read)

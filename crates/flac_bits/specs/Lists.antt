@@ -1,4 +1,4 @@
--- So many of one layout, one after another.
+-- n values of one layout, one after another.
 use Rattle.std.specs.Prelude.{ℕ, zero, suc, List, [], ◌∷◌, ◌++◌, Result, Ok}
 use Rattle.flac_bits.specs.State.{Cursor}
 use Rattle.flac_bits.specs.Layout.{Layout, done, ◌>>=◌, Reason}
@@ -10,6 +10,6 @@ list_of (suc n) l = do
   xs ← list_of n l
   done (x ∷ xs)
 
--- what was read, behind what was read before
+-- the values, after those that were read before
 unfoldable pub behind : {A : Type 0} → List A → List A → Cursor → Result (List A × Cursor) Reason
 behind front xs c = Ok (front ++ xs, c)

@@ -1,4 +1,4 @@
--- What a layout means, apart from any reading: which bits spell a value, and which fronts show a fault.
+-- What a layout means, apart from any reading: which bits spell a value, and which bits show a fault.
 use Rattle.std.specs.Prelude.{◌≡◌, ℕ, suc, ◌^◌, ◌<◌, ◌≤◌, Bool, true, false, List, [], ◌∷◌, ◌++◌, length, replicate, Option, Some, None, ◌⊎◌, ⊤}
 use Rattle.flac_bits.specs.Bits.{unsigned}
 use Rattle.flac_bits.specs.State.{Mark, past, with_short}
@@ -29,7 +29,7 @@ abbrev pub IsWithin : ℕ → Option ℕ → Type 0
 IsWithin limit None = ⊤
 IsWithin limit (Some q) = q ≤ limit
 
--- these bits, behind a mark, spell the value
+-- these bits, after a mark, spell the value
 abbrev pub Spells : {A : Type 0} → Layout A → Mark → List Bool → A → Type 0
 Spells (done x) m text y = (text ≡ []) × (x ≡ y)
 Spells (bind {A = A} l f) m text y = (x : A) × (front : List Bool) × (rest : List Bool) × (text ≡ front ++ rest) × Spells l m front x × Spells (f x) (past front m) rest y
@@ -39,7 +39,7 @@ Spells (judge rules) m text y = (text ≡ []) × AllKept rules
 Spells (refuse why) m text y = ⊥
 Spells mark m text v = (text ≡ []) × (with_short Truncated m ≡ v)
 
--- this front is good fields, at whose end a rule is broken that gives this reason, and no rule before it
+-- these bits are valid fields, at whose end the first rule that is broken has this reason
 abbrev pub Shows : {A : Type 0} → Layout A → Mark → List Bool → Why → Type 0
 Shows (done x) m front why = ⊥
 Shows (bind {A = A} l f) m front why = Shows l m front why ⊎ ((x : A) × (part : List Bool) × (rest : List Bool) × (front ≡ part ++ rest) × Spells l m part x × Shows (f x) (past part m) rest why)
@@ -49,7 +49,7 @@ Shows (judge rules) m front why = (front ≡ []) × BreaksFirst rules why
 Shows (refuse w) m front why = (front ≡ []) × (w ≡ why)
 Shows mark m front why = ⊥
 
--- this front is good fields, and less than the next field
+-- these bits are valid fields, and end inside the next field
 abbrev pub IsCut : {A : Type 0} → Layout A → Mark → List Bool → Type 0
 IsCut (done x) m front = ⊥
 IsCut (bind {A = A} l f) m front = IsCut l m front ⊎ ((x : A) × (part : List Bool) × (rest : List Bool) × (front ≡ part ++ rest) × Spells l m part x × IsCut (f x) (past part m) rest)

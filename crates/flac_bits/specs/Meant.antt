@@ -1,5 +1,5 @@
--- What the calls that read a field answer, in the words of the meaning of layouts: a value is the one that the front of the
--- input spells, a reason is one that a front of the input shows, or the input ends inside.
+-- What the calls that read a field return, by the meaning of layouts: a value is the one that a prefix of the input
+-- spells, and a reason is one that a prefix of the input shows, or the input ends inside.
 use Rattle.std.specs.Prelude.{ℕ, ℤ, Bool, List, length, Option, Result, ⊤}
 use Rattle.flac_bits.specs.State.{State}
 use Rattle.flac_bits.specs.Layout.{bits, unary, align}

@@ -1,9 +1,10 @@
--- The coded number: a lead byte, which says how many bytes follow, and six bits in each of these.
+-- The coded number (RFC 9639, section 9.1.5): a lead byte, which says how many bytes follow, and six bits in each of
+-- these.
 use Rattle.std.specs.Prelude.{ℕ, zero, suc, ◌+◌, ◌-◌, ◌*◌, ◌/◌, ◌%◌, ◌^◌, ◌&&◌, Option, Some, None, nat_lt, nat_eq, cond}
 use Rattle.flac_bits.specs.Layout.{Layout, done, bits, refuse, ◌>>=◌, choose}
 use Rattle.flac_bits.specs.declared.why.Why.TheVariants.{BadNumber}
 
--- how many bytes follow the lead byte, its own bits of the number, and the least number that needs so many bytes
+-- how many bytes follow the lead byte, its own bits of the number, and the smallest number that needs these bytes
 unfoldable pub lead_form : ℕ → ℕ → Option (ℕ × ℕ × ℕ)
 lead_form max_bits lead =
     cond (nat_lt lead 192) None
@@ -14,7 +15,7 @@ lead_form max_bits lead =
     (cond (nat_lt lead 254) (Some (5, lead - 252, 2 ^ 26))
     (cond (nat_eq lead 254 && nat_lt 31 max_bits) (Some (6, 0, 2 ^ 31)) None))))))
 
--- so many bytes of six bits behind what was read of the number
+-- n bytes of six bits each, after the bits of the number that were read before
 unfoldable pub continued : ℕ → ℕ → Layout ℕ
 continued zero value = done value
 continued (suc n) value = do

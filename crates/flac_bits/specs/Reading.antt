@@ -7,7 +7,8 @@ use Rattle.flac_bits.specs.declared.why.Why.{Why}
 use Rattle.flac_bits.specs.declared.why.Why.TheVariants.{Memory, Read, Sink}
 
 -- Errors of the source are counted: a call that returns a value met none, and one that returns Read met one.
--- No reading call returns Sink. What comes after the bytes still to come stays, and so do the references that the source goes through.
+-- No reading call returns Sink. What comes after the bytes still to come stays, and so do the references that the
+-- source goes through.
 abbrev pub Counts : {X : Type 0} → State → State → Result X Why → Type 0
 Counts old new (Ok x) = (old.known ≡ true → new.known ≡ true) × (new.errors ≡ old.errors) × (new.raised ≡ old.raised) × (old.known ≡ true → new.behind ≡ old.behind) × (new.names ≡ old.names)
 Counts old new (Err e) = (old.errors ≤ new.errors) × (old.known ≡ true → new.errors ≡ old.errors → new.behind ≡ old.behind) × (old.known ≡ true → e ≡ Read → old.raised < new.raised) × (new.names ≡ old.names) × (e ≡ Read → Rises old.raised new.raised) × (e ≡ Sink → ⊥)
@@ -28,8 +29,9 @@ Reads view layout old new result = Gives view (run layout old.cursor) old new re
 abbrev pub ReadsInRoom : {X Y : Type 0} → (X → Y) → Layout Y → State → State → Result X Why → Type 0
 ReadsInRoom view layout old new result = (result ≡ Err Memory → ⊥) → Reads view layout old new result
 
--- What each call that reads a layout promises: a value takes at least this number of the bits that can still come, errors of the source are counted, and the
--- call's own promise holds of the reader before and after it and of the result, such as Reads of a layout.
+-- What each call that reads a layout promises: a value takes at least this number of the bits that can still come,
+-- errors of the source are counted, and the call's own promise holds of the reader before and after it and of the
+-- result, such as Reads of a layout.
 pub record Call {X : Type 0} (least : ℕ) (says : State → State → Result X Why → Type 0) (old new : State) (result : Result X Why) : Type 0 where
   pub spends : OnOk result (new.most + least ≤ old.most)
   pub counts : Counts old new result
@@ -42,8 +44,9 @@ pub record CallInPlace {X : Type 0} (least : ℕ) (says : State → State → Re
   pub memory : IfErr result (λ e. e ≢ Memory)
   pub reads : says old new result
 
--- What was returned follows from the meaning of the layout alone: a value is the one that a prefix of the input spells, and the reader is after exactly these
--- bits; a reason is one that a prefix of the input shows, or the input ends inside.
+-- What was returned follows from the meaning of the layout alone: a value is the one that a prefix of the input spells,
+-- and the reader is after exactly these bits; a reason is one that a prefix of the input shows, or the input ends
+-- inside.
 pub record Decodes {X Y : Type 0} (view : X → Y) (layout : Layout Y) (old new : Cursor) (result : Result X Why) : Type 0 where
   pub found : IfOk result (λ x. (text : List Bool) × Consumes text old new × Spells layout old.mark text (view x))
   pub only : (text rest : List Bool) (y : Y) → old.left ≡ text ++ rest → Spells layout old.mark text y → IsOkAnd result (λ x. (view x ≡ y) × (new.left ≡ rest))

@@ -7,7 +7,7 @@ abbrev pub within : Option ℕ → Layout ℕ
 within (Some q) = done q
 within None = refuse ResidualRange
 
--- zeros and a one, and the lowest k bits
+-- a Rice code: the quotient as zeros and a one, and the lowest k bits
 unfoldable pub rice : ℕ → ℕ → Layout ℕ
 rice k limit = do
   zeros ← unary limit
@@ -15,7 +15,7 @@ rice k limit = do
   low ← bits k
   done (quotient * 2 ^ k + low)
 
--- the number that was folded: 2r stands for r, and 2r + 1 for -r - 1
+-- the signed number of a folded one: r of 2r, and -r - 1 of 2r + 1
 abbrev pub unfolded : ℕ → ℤ
 unfolded f = cond (nat_eq (f % 2) 0) (pos (f / 2)) (negsuc (f / 2))
 

@@ -3,8 +3,8 @@ use Rattle.std.specs.Prelude.{◌≡◌, ◌<◌, ◌≤◌, ℕ, List, ◌++◌
 use Rattle.flac_bits.specs.State.{Rises}
 use Rattle.flac_bits.specs.declared.target.Target as target
 
--- A call that was to send these bytes sent all of them where it answered Ok, and else a beginning of them; then the target
--- answered an error.
+-- A call that was to send these bytes sent all of them if it returned Ok, and else a prefix of them, after which the
+-- target returned an error.
 pub record Sends {S X E : Type 0} (g : target.Ghosts S) (bytes : List ℕ) (old new : S) (result : Result X E) : Type 0 where
   pub known : OnOk result (g.known old ≡ true → g.known new ≡ true)
   pub sent : OnOk result (g.known old ≡ true → g.sent new ≡ g.sent old ++ bytes)

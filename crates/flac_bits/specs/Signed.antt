@@ -12,7 +12,7 @@ modulo n (negsuc a) = 2 ^ n - 1 - a % 2 ^ n
 abbrev pub signed : ℕ → ℤ → List Bool
 signed n z = unsigned n (modulo n z)
 
--- the signed number that the n bits of a number spell: negative where the first bit is set
+-- the signed number that the n bits of a number spell: negative if the first bit is set
 abbrev pub to_signed : ℕ → ℕ → ℤ
 to_signed n v = cond (nat_lt v (2 ^ (n - 1))) (pos v) (negsuc (2 ^ n - 1 - v))
 

@@ -1,4 +1,4 @@
--- Where a bit writer stands, by its target and by what it holds.
+-- The state of a bit writer, by its target and by the bits that it holds.
 use Rattle.std.specs.Prelude.{◌++◌}
 use Rattle.flac_bits.specs.Bits.{bits_of}
 use Rattle.flac_bits.specs.Unsent.{Unsent}

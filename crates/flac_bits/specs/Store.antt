@@ -6,12 +6,13 @@ use Rattle.flac_bits.specs.State.{Mark, State, Behind, with_short, short_of}
 use Rattle.flac_bits.specs.declared.why.Why.{Why}
 use Rattle.flac_bits.specs.declared.why.Why.TheVariants.{FrameTooLong}
 
--- a fence: how many bytes may still be pulled and read (no number: there is no fence), and the bytes past it that were pulled
+-- a fence: how many bytes may still be pulled and read (no number: there is no fence), and the bytes past it that were
+-- pulled
 pub record Fence : Type 0 where
   pub room : Option ℕ
   pub hidden : List ℕ
 
--- the bits of the word, the bytes behind it, the mark before it, and the fence
+-- the bits of the word, the bytes after it, the mark before it, and the fence
 pub record Store : Type 0 where
   pub word : List Bool
   pub bytes : List ℕ
@@ -39,13 +40,13 @@ abbrev pub reached : Option ℕ → List ℕ → Bool
 reached None coming = false
 reached (Some n) coming = nat_le n (length coming)
 
--- no byte that was pulled stands past it, unless no more may be pulled
+-- no byte that was pulled is past it, unless no more may be pulled
 abbrev pub hides_late : Option ℕ → ℕ → ℕ → Bool
 hides_late None end filled = nat_eq end filled
 hides_late (Some zero) end filled = true
 hides_late (Some (suc n)) end filled = nat_eq end filled
 
--- ---- what a store and the source behind it stand at
+-- ---- the state of a store and of the source that fills it
 
 abbrev pub left_of : Store → List ℕ → List Bool
 left_of s coming = (s.word ++ bits_of s.bytes) ++ bits_of (allowed s.fence.room coming)

@@ -3,13 +3,13 @@ use Rattle.std.specs.Prelude.{◌≡◌, ℕ, Bool, List, ◌++◌}
 use Rattle.flac_bits.specs.Bits.{bits_of}
 use Rattle.flac_bits.specs.State.{Mark, past}
 
--- whole bytes, the bits behind them, and the mark behind these
+-- whole bytes, the bits after them, and the mark after all of these
 pub record Unsent : Type 0 where
   pub bytes : List ℕ
   pub rest : List Bool
   pub mark : Mark
 
--- these bits were put behind those that are held
+-- these bits were put after those that were held
 abbrev pub Puts : List Bool → Unsent → Unsent → Type 0
 Puts text old new = (bits_of new.bytes ++ new.rest ≡ (bits_of old.bytes ++ old.rest) ++ text) × (new.mark ≡ past text old.mark)
 

@@ -7,9 +7,9 @@ use Rattle.flac_bits.specs.declared.why.Why.{Why}
 use Rattle.flac_bits.specs.declared.why.Why.TheVariants.{Write}
 
 pub record Written : Type 0 where
-  -- the target tells its bytes
+  -- whether the bytes of the target are known
   pub known : Bool
-  -- errors that it answered
+  -- the number of errors that it returned
   pub errors : ℕ
   -- the references that it goes through
   pub names : List GName
@@ -20,14 +20,14 @@ pub record Written : Type 0 where
   -- what is known of the bits written, as of those that a reader has read
   pub mark : Mark
 
--- the first bits are a beginning of the second
+-- the first bits are a prefix of the second
 unfoldable pub begins : List Bool → List Bool → Bool
 begins [] whole = true
 begins (b ∷ front) [] = false
 begins (true ∷ front) (c ∷ whole) = cond c (begins front whole) false
 begins (false ∷ front) (c ∷ whole) = cond c false (begins front whole)
 
--- The target failed: its count rose, if it could, and what it was sent is a beginning of these bits.
+-- The target failed: its count rose, if it could, and what it was sent is a prefix of these bits.
 pub record Fails (bits : List Bool) (old new : Written) (e : Why) : Type 0 where
   pub reason : e ≡ Write
   pub kept : old.errors ≤ new.errors
@@ -36,7 +36,7 @@ pub record Fails (bits : List Bool) (old new : Written) (e : Why) : Type 0 where
   pub begun : old.known ≡ true → begins (bits_of new.sent) bits ≡ true
   pub risen : Rises old.errors new.errors
 
--- these bits were written behind those before
+-- these bits were written after those before
 pub record Adds (text : List Bool) (old new : Written) : Type 0 where
   pub known : old.known ≡ true → new.known ≡ true
   pub errors : new.errors ≡ old.errors
@@ -48,7 +48,7 @@ abbrev pub Writes : {X : Type 0} → List Bool → Written → Written → Resul
 Writes text old new (Ok x) = Adds text old new
 Writes text old new (Err e) = Fails (old.bits ++ text) old new e
 
--- the checks began anew, where the bits written are whole bytes
+-- the checks began anew, if the bits written are whole bytes
 pub record Restarts (old new : Written) : Type 0 where
   pub known : old.known ≡ true → new.known ≡ true
   pub errors : new.errors ≡ old.errors

@@ -425,8 +425,8 @@ impl<R: Source> BitReader<R> {
         self.take_pieces(out, true)
     }
 
-    /// What [`BitReader::take_bytes`] does, if the checks go on over these bytes (`checked`). If not, the checks restart
-    /// after each piece, so that none is computed of these bytes.
+    /// What [`BitReader::take_bytes`] does, if the checks go on over these bytes (`checked`). If not, the checks
+    /// restart after each piece, so that none is computed of these bytes.
     pub(crate) fn take_pieces(&mut self, out: &mut [u8], checked: bool) -> Result<usize, Why>
         requires { self.old.cursor.mark.unread ≡ 0 }
         ensures bound { IfOk result (λ n. n ≤ length out.new) }

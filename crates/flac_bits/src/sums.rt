@@ -149,17 +149,17 @@ pub(crate) fn checked16(check: u16, bytes: &[u8]) -> u16
     both_checked(0, check, bytes).1
 }
 
-/// The page checksum after one more byte.
+/// The CRC-32 after one more byte.
 #[inline(always)]
-fn byte_checked32(check: u32, byte: u8) -> u32
+fn crc32_after_byte(check: u32, byte: u8) -> u32
     ensures { result ≡ fed 32 79764919 check (unsigned 8 byte) }
 {
     (check << 8) ^ remainders32::BEHIND_0[((check >> 24) as u8 ^ byte) as usize]
 }
 
-/// The page checksum after eight more bytes, by a table for each place.
+/// The CRC-32 after eight more bytes, by a table for each place.
 #[inline(always)]
-fn eight_checked32(check: u32, bytes: &[u8]) -> u32
+fn crc32_after_eight(check: u32, bytes: &[u8]) -> u32
     requires { length bytes.now ≡ 8 }
     ensures { result ≡ fed 32 79764919 check (bits_of bytes.now) }
 {
@@ -173,31 +173,30 @@ fn eight_checked32(check: u32, bytes: &[u8]) -> u32
                                 ^ remainders32::BEHIND_0[bytes[7] as usize]))))))
 }
 
-/// The page checksum after more bytes, byte by byte.
+/// The CRC-32 after more bytes, byte by byte.
 #[tactic(auto, unfolding(crate::specs::Check::fed))]
-fn each_checked32(check: u32, bytes: &[u8]) -> u32
+fn crc32_byte_by_byte(check: u32, bytes: &[u8]) -> u32
     ensures { result ≡ fed 32 79764919 check (bits_of bytes.now) }
 {
     let mut check = check;
     for i in 0..bytes.len() {
-        check = byte_checked32(check, bytes[i]);
+        check = crc32_after_byte(check, bytes[i]);
     }
     check
 }
 
-/// Continues the checksum of an Ogg page, `check` so far, over more bytes (RFC 3533, section 6): generator 04C11DB7, no
-/// reflection. It starts from 0. It is for a page whose parts are in several places; [`page_sum`] takes one in one
-/// place.
+/// The CRC-32 after more bytes, as [`crc32`] has it, from the CRC-32 `check` of the bytes before. It is for a page
+/// whose parts are in several places.
 #[tactic(auto, unfolding(crate::specs::Check::fed))]
-pub fn crc32_sum(check: u32, bytes: &[u8]) -> u32
+pub fn crc32_after(check: u32, bytes: &[u8]) -> u32
     ensures { result ≡ fed 32 79764919 check (bits_of bytes.now) }
 {
     let eights = bytes.len() / 8;
     let mut check = check;
     for i in 0..eights {
-        check = eight_checked32(check, &bytes[8 * i..8 * i + 8]);
+        check = crc32_after_eight(check, &bytes[8 * i..8 * i + 8]);
     }
-    each_checked32(check, &bytes[8 * eights..])
+    crc32_byte_by_byte(check, &bytes[8 * eights..])
 }
 
 /// The CRC-8 of bytes, as a frame header has it (RFC 9639, section 9.1.8): generator x^8 + x^2 + x + 1, from 0. It is
@@ -218,13 +217,13 @@ pub fn crc16(bytes: &[u8]) -> u16
     checked16(0, bytes)
 }
 
-/// The checksum of the bytes of an Ogg page, whose own field for it is zero in them (RFC 3533, section 6): generator
-/// 04C11DB7, from 0, no reflection.
+/// The CRC-32 of bytes, as an Ogg page has it (RFC 3533, section 6): generator 04C11DB7, from 0, no reflection. The
+/// checksum's own field counts as zero. It is for bytes that are in memory, as [`crc8`] is.
 #[tactic(auto, using(crate::proofs::Check::fed_from_zero))]
-pub fn page_sum(bytes: &[u8]) -> u32
+pub fn crc32(bytes: &[u8]) -> u32
     ensures { result ≡ remainder 32 79764919 (bits_of bytes.now) }
 {
-    crc32_sum(0, bytes)
+    crc32_after(0, bytes)
 }
 
 /// Law: the checks that a reader or a writer reports are the remainders of the bits since the checks began.

@@ -1,11 +1,13 @@
 -- What a sink has collected that collects samples.
-use Rattle.std.proofs.Common.{◌≡◌, ℕ, ℤ, pos, ◌+◌, ◌<◌, List, [], ◌∷◌, ◌++◌, length, take, slice_index_or, refl, ap, sym, ◌∙◌, append_assoc, append-nil, arith}
+use Rattle.std.proofs.Common.{◌≡◌, ◌≤◌, ◌+◌, ◌-◌, ℕ, ℤ, List, [], ◌∷◌, ◌++◌, length, take, drop, cond, is_ok, Result, Ok, ap, sym, ◌∙◌, append_assoc, append-nil, length-append, arith}
+use Rattle.std.proofs.lemmas.List.{length-take-le, take-append-le, take_at}
+use Rattle.std.proofs.lemmas.Slice.{take-put_mid}
+use borrow.Rule.Slice.PartMut.{put_mid}
 use Rattle.flac_bits.specs.Handing.{TakesAll}
 use Rattle.flac_native.specs.Stream.{Piece, marked, block, framed}
 use Rattle.flac_native.specs.Item.{Item}
 use Rattle.flac_native.specs.Decoding.{taken}
-use Rattle.flac_frame.specs.Interleaved.{interleaved, row, rows}
-use Rattle.flac_frame.proofs.Interleaved.{row_more, rows_more}
+use Rattle.flac_frame.specs.Interleaved.{interleaved}
 use Rattle.flac_c.specs.Sampled.{numbers_from}
 use Rattle.flac_c.specs.inner.Sampled.{numbers_in}
 
@@ -35,34 +37,19 @@ module _ {S : Type 0} (got : S → List ℤ) where
 
 -- ---- the numbers of a frame
 
--- One more channel's sample at an index.
-pub channel_added : (channels : List (List ℤ)) (i k : ℕ) (whole before later : List ℤ) (y z : ℤ) → k < length channels
-    → before ≡ whole ++ row (take k channels) i
-    → y ≡ z → z ≡ slice_index_or (slice_index_or channels k []) i (pos 0)
-    → later ≡ before ++ y ∷ []
-    → later ≡ whole ++ row (take (k + 1) channels) i
-channel_added channels i k whole before later y z lt was same is more =
-    more
-    ∙ (ap (λ l. l ++ y ∷ []) was
-    ∙ (append_assoc whole (row (take k channels) i) (y ∷ [])
-    ∙ ap (λ l. whole ++ l) (ap (λ x. row (take k channels) i ++ x ∷ []) (same ∙ is) ∙ sym (row_more channels i k lt))))
+-- A list that was made longer is what it was, and zeros.
+pub grown : {X T E : Type 0} (old now front rest : List X) (r : Result T E) (x : T) → r ≡ Ok x → now ≡ cond (is_ok r) (front ++ rest) old → front ≡ old → now ≡ old ++ rest
+grown old now front rest r x is e same = e ∙ ap (λ k. cond (is_ok k) (front ++ rest) old) is ∙ ap (λ l. l ++ rest) same
 
-pub row_none : (i : ℕ) → row [] i ≡ []
-unfolding row
-row_none i = refl
-
--- One more index.
-pub row_added : (channels : List (List ℤ)) (k : ℕ) (whole before later : List ℤ)
-    → before ≡ whole ++ rows channels k 0
-    → later ≡ before ++ row channels k
-    → later ≡ whole ++ rows channels (k + 1) 0
-row_added channels k whole before later was more =
-    let e : 0 + k ≡ k = omega arith in
-    more
-    ∙ (ap (λ l. l ++ row channels k) was
-    ∙ (append_assoc whole (rows channels k 0) (row channels k)
-    ∙ ap (λ l. whole ++ l) (ap (λ j. rows channels k 0 ++ row channels j) (sym e) ∙ sym (rows_more channels k 0))))
-
-pub none_yet : (channels : List (List ℤ)) → rows channels 0 0 ≡ []
-unfolding rows
-none_yet channels = refl
+-- Its new places were then written.
+pub places_behind : (n front : ℕ) (old rest places items ys : List ℤ) → front ≡ length old → items ≡ old ++ rest → places ≡ items → n ≡ front + length ys → length ys ≡ length places - front
+    → take n (put_mid front (length places - front) places ys ++ drop (length (put_mid front (length places - front) places ys)) items) ≡ old ++ ys
+places_behind n front old rest places items ys many sized same all long =
+    let is : places ≡ old ++ rest = same ∙ sized in
+    let within : front ≤ length places = omega (arith, ap length is, length-append old rest, many) in
+    let k : ℕ = length places - front in
+    let put = put_mid front k places ys in
+    let post : List ℤ = drop k (drop front places) in
+    let few : n ≤ length put = (let a = length-append (take front places) (ys ++ post) in let b = length-append ys post in let t = length-take-le front places within in omega (arith, a, b, t, all)) in
+    take-append-le n put (drop (length put) items) few ∙ take-put_mid front k places ys n all within
+    ∙ ap (λ l. l ++ ys) (ap (take front) is ∙ take_at old rest front (sym many))

@@ -1,8 +1,8 @@
 -- The samples of a frame that are handed over.
-use Rattle.std.proofs.Common.{◌≡◌, ℕ, zero, suc, ◌+◌, ◌*◌, ◌/◌, ◌^◌, ◌<◌, ◌≤◌, min, ℤ, List, [], ◌∷◌, ◌++◌, length, take, drop, refl, sym, ap, ◌∙◌, length-append, arith}
+use Rattle.std.proofs.Common.{◌≡◌, ℕ, zero, suc, ◌+◌, ◌*◌, ◌/◌, ◌<◌, ◌≤◌, min, ℤ, List, [], ◌∷◌, ◌++◌, length, take, drop, refl, sym, ap, ◌∙◌, length-append, arith}
 use Rattle.std.proofs.Math.Nat.{le-div_iff_mul-le, mul_comm}
 use Rattle.std.proofs.lemmas.Nat.{mul-le}
-use Rattle.std.proofs.lemmas.List.{take-append-drop}
+use Rattle.std.proofs.lemmas.List.{take-append-drop, take_all}
 use Rattle.flac_frame.specs.Frame.{Frame}
 use Rattle.flac_frame.specs.Interleaved.{row, rows, interleaved}
 use Rattle.flac_frame.specs.View.{chunks}
@@ -44,17 +44,29 @@ rows_fit channels size room (suc m) is le =
 whole_copied : (list out written : List ℤ) → length list ≤ length out → take (length list) written ≡ list → drop (length list) written ≡ drop (length list) out → written ≡ copied list out
 whole_copied list out written le front rest =
     let k : min (length list) (length out) ≡ length list = omega (arith, le) in
-    let all : take (length list) list ≡ list = take_all list in
+    let all : take (length list) list ≡ list = take_all (length list) list (omega arith) in
     sym (take-append-drop (length list) written) ∙ ap (λ l. l ++ drop (length list) written) front ∙ ap (λ l. list ++ l) rest
     ∙ sym (ap (λ n. take n list ++ drop n out) k ∙ ap (λ l. l ++ drop (length list) out) all)
-  where
-    take_all : (l : List ℤ) → take (length l) l ≡ l
-    take_all [] = refl
-    take_all (x ∷ xs) = ap (λ l. x ∷ l) (take_all xs)
 
-module _ (f : Frame) (end : ℕ) (old : FlacProvedCursor) (out : List ℤ) (ch size : ℕ) (channels : ch ≡ length f.channels) (each : size ≡ f.size) where
+module _ (f : Frame) (out : List ℤ) (ch size : ℕ) (channels : ch ≡ length f.channels) (each : size ≡ f.size) where
   many_is : ch * size ≡ length (interleaved f)
   many_is = ap (λ n. n * size) channels ∙ ap (λ n. length f.channels * n) each ∙ mul_comm (length f.channels) f.size ∙ sym (length-rows f.channels f.size 0)
+
+  -- a buffer with room for just these samples has them
+  pub filled : (written : List ℤ) (w : ℕ) → length out ≡ ch * size → length written ≡ length out
+      → w ≡ length f.channels * min f.size (length out / length f.channels)
+      → take w written ≡ rows f.channels (min f.size (length out / length f.channels)) 0
+      → written ≡ interleaved f
+  filled written w room long count front =
+      let k : ℕ = min f.size (length out / length f.channels) in
+      let fits : f.size * length f.channels ≤ length out = omega (arith, room, many_is, length-rows f.channels f.size 0) in
+      let same : rows f.channels k 0 ≡ interleaved f = rows_fit f.channels f.size (length out) (length f.channels) refl fits in
+      let w_is : w ≡ length (interleaved f) = count ∙ mul_comm (length f.channels) k ∙ sym (length-rows f.channels k 0) ∙ ap (λ (l : List ℤ). length l) same in
+      sym (take_all w written (omega (arith, w_is, many_is, room, long))) ∙ front ∙ same
+
+module _ (f : Frame) (end : ℕ) (old : FlacProvedCursor) (out : List ℤ) (ch size : ℕ) (channels : ch ≡ length f.channels) (each : size ≡ f.size) where
+  all_many : ch * size ≡ length (interleaved f)
+  all_many = many_is f out ch size channels each
 
   pub handed : (new : FlacProvedCursor) (written : List ℤ) (w : ℕ) → ch * size ≤ length out
       → w ≡ length f.channels * min f.size (length out / length f.channels)
@@ -62,23 +74,23 @@ module _ (f : Frame) (end : ℕ) (old : FlacProvedCursor) (out : List ℤ) (ch s
       → drop w written ≡ drop w out → new ≡ passed old f end → HandsOver f end old new out written (ch * size)
   handed new written w le count front rest moved =
       let k : ℕ = min f.size (length out / length f.channels) in
-      let fits : f.size * length f.channels ≤ length out = omega (arith, le, many_is, length-rows f.channels f.size 0) in
+      let fits : f.size * length f.channels ≤ length out = omega (arith, le, all_many, length-rows f.channels f.size 0) in
       let same : rows f.channels k 0 ≡ interleaved f = rows_fit f.channels f.size (length out) (length f.channels) refl fits in
       let w_is : w ≡ length (interleaved f) = count ∙ mul_comm (length f.channels) k ∙ sym (length-rows f.channels k 0) ∙ ap (λ (l : List ℤ). length l) same in
-      let short : length (interleaved f) ≤ length out = omega (arith, le, many_is) in
+      let short : length (interleaved f) ≤ length out = omega (arith, le, all_many) in
       let head : take (length (interleaved f)) written ≡ interleaved f = ap (λ n. take n written) (sym w_is) ∙ front ∙ same in
       let tail : drop (length (interleaved f)) written ≡ drop (length (interleaved f)) out = ap (λ n. drop n written) (sym w_is) ∙ rest ∙ ap (λ n. drop n out) w_is in
       record {
-        many = many_is;
+        many = all_many;
         given = λ _. (whole_copied (interleaved f) out written short head tail, moved);
         kept = λ lt. absurd (omega (arith, lt, le));
       }
 
   pub not_handed : length out < ch * size → HandsOver f end old old out out (ch * size)
-  not_handed lt = record { many = many_is; given = λ le. absurd (omega (arith, lt, le)); kept = λ _. (refl, refl) }
+  not_handed lt = record { many = all_many; given = λ le. absurd (omega (arith, lt, le)); kept = λ _. (refl, refl) }
 
 -- a frame has at most 8 channels, of at most 65535 samples each
-pub few_samples : (ch size n block : ℕ) (samples : List ℤ) → ch ≡ length (chunks n block samples) → size ≡ block → n ≤ 8 → block ≤ 65535 → ch * size < 2 ^ 64
+pub few_samples : (ch size n block : ℕ) (samples : List ℤ) → ch ≡ length (chunks n block samples) → size ≡ block → n ≤ 8 → block ≤ 65535 → ch * size ≤ 524280
 few_samples ch size n block samples is each few short =
     let c : ch ≤ 8 = omega (arith, is, length-chunks n block samples, few) in
     let s : size ≤ 65535 = omega (arith, each, short) in

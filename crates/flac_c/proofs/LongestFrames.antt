@@ -18,7 +18,8 @@ use Rattle.flac_frame.specs.Frame.{limits_at}
 use Rattle.flac_frame.specs.Spelling.{FrameForm, frame_spelling, subframes_spelling, HaveSamples}
 use Rattle.flac_frame.proofs.Encoded.{is_block}
 use Rattle.flac_frame.proofs.Family.{coded_as, kept_same}
-use Rattle.flac_frame.proofs.Short.{header_few, whole_long}
+use Rattle.flac_header.proofs.Lengths.{header_few}
+use Rattle.flac_frame.proofs.Short.{whole_long}
 use Rattle.flac_frame.proofs.Sounds.{depth_small}
 use Rattle.flac_frame.proofs.Wholes.{texts_are, subframes_are, samples_are, as_many, not_joined, all_fit_in}
 use Rattle.flac_native.specs.Given.{Cut, blocks_in, size_of, frame_of}

@@ -1,4 +1,4 @@
--- What a call answers in C: a number, and where a stream was refused.
+-- What a call returns in C: a number, and the place of a refusal.
 use Rattle.std.specs.Prelude.{◌≡◌, ℕ, min, List, [], ◌++◌, length, take, drop, slice_index_or, ◌∷◌, Option, Some, None}
 use Rattle.flac_bits.specs.declared.why.Why.{Why}
 use Rattle.flac_bits.specs.Reasons.{number_of}
@@ -23,7 +23,7 @@ index_of (Frame index) = index
 index_of (Page index) = index
 index_of End = 0
 
--- where and why a call refused; all are 0 if it did not
+-- the place and the reason of a call's error; all are 0 if there is none
 abbrev pub in_c : Option (Place × Why) → FlacProvedFault
 in_c None = record { number = 0; place = 0; index = 0 }
 in_c (Some f) = record { number = number_of f.1; place = kind_of f.0; index = index_of f.0 }

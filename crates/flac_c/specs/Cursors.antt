@@ -1,4 +1,4 @@
--- Where a native stream is read, frame by frame (RFC 9639, sections 8.2, 8.5 and 9).
+-- Reading a native stream frame by frame (RFC 9639, sections 8.2, 8.5 and 9).
 use Rattle.std.specs.Prelude.{◌≡◌, ◌⊎◌, ℕ, ◌+◌, ◌<◌, ◌≤◌, min, Bool, true, ℤ, List, [], ◌∷◌, ◌++◌, length, take, drop, replicate, Option, Some, None}
 use Rattle.flac_bits.specs.Bits.{bits_of}
 use Rattle.flac_bits.specs.Items.{Joined, Stream, after}
@@ -21,7 +21,7 @@ use Rattle.flac_c.specs.declared.cursor.FlacProvedCursor.{FlacProvedCursor}
 
 -- ---- a cursor
 
--- STREAMINFO by which frames are read from a cursor on: it states neither the number of samples nor their digest
+-- STREAMINFO by which frames are read from a cursor on: the number of samples and their digest are unknown
 abbrev pub info_from_c : FlacProvedInfo → Info
 info_from_c i = record {
   least_block = i.least_block;
@@ -54,12 +54,12 @@ pub record IsFrameAt (i : Info) (bytes : List ℕ) (f : Frame) (n : ℕ) : Type 
   pub spelled : Spells (frame Subset i None) (beginning Truncated) text f
   pub room : InRoom (Some 16777215) (beginning Truncated) text
 
--- no frame of these bytes is there, for this reason
+-- there is no frame of these bytes, for this reason
 abbrev pub NoFrameAt : Info → List ℕ → Why → Type 0
 NoFrameAt i bytes why = StopsIn (Some 16777215) (frame Subset i None) (beginning Truncated) (bits_of bytes) why
 
--- `len` is the number of its samples. If there is room for all of them, they are at the front of the buffer, and the cursor is after the frame, which ends at this
--- offset; otherwise both are unchanged.
+-- `len` is the number of its samples. If there is room for all of them, they are at the front of the buffer, and the
+-- cursor is after the frame, which ends at this offset; otherwise both are unchanged.
 pub record HandsOver (f : Frame) (end : ℕ) (old new : FlacProvedCursor) (out written : List ℤ) (len : ℕ) : Type 0 where
   pub many : len ≡ length (interleaved f)
   pub given : len ≤ length out → (written ≡ copied (interleaved f) out) × (new ≡ passed old f end)
@@ -73,7 +73,7 @@ GivesNext bytes old new out written len =
     ((old.offset ≡ length bytes) × (new ≡ old) × (written ≡ out) × (len ≡ 0))
     ⊎ ((f : Frame) × (n : ℕ) × IsFrameAt (info_from_c old.info) (drop old.offset bytes) f n × HandsOver f (old.offset + n) old new out written len)
 
--- No frame is there: memory ran out, or the cursor has no STREAMINFO, or this is why.
+-- There is no frame: memory ran out, or the cursor has no STREAMINFO, or this is why.
 abbrev pub RefusesNext : List ℕ → FlacProvedCursor → Option (Place × Why) → Type 0
 RefusesNext bytes c outcome =
     (why : Why) × (outcome ≡ Some (place.Frame c.frames, why))
@@ -81,7 +81,8 @@ RefusesNext bytes c outcome =
 
 -- ---- in a stream
 
--- The bytes are a native stream of these parts. Those in front end at the cursor, which has their STREAMINFO; the others are still to come.
+-- The bytes are a native stream of these parts. Those in front end at the cursor, which has their STREAMINFO; the
+-- others are still to come.
 pub record StandsIn (bytes : List ℕ) (c : FlacProvedCursor) (front more : List Piece) : Type 0 where
   pub stream : Stream grammar (opening Subset) (beginning Truncated) (front ++ more) (bits_of bytes)
   pub before : c.offset ≤ length bytes

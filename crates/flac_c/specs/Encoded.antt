@@ -43,13 +43,14 @@ blocks_of t = VorbisComment (comments_of t) ∷ []
 
 -- ---- why it is not encoded
 
--- Why these are no samples of 1 to 8 channels: not the same number of each, or what no stream of the streamable subset has.
+-- Why these are no samples of 1 to 8 channels: not the same number of each, or not of the streamable subset.
 unfoldable pub samples_fault : FlacProvedSettings → List ℤ → Option SetupFault
 samples_fault s samples =
     cond (nat_eq s.channels 0 || nat_lt 8 s.channels) (Some BadChannels)
     (cond (nat_eq (length samples % s.channels) 0) (audio_fault Subset s.rate s.bits (sound_of s samples).channels) (Some LengthsDiffer))
 
--- The number of the first reason why samples are not encoded so: how they are cut into blocks, the comments, or the container.
+-- The number of the first reason why samples are not encoded: how they are cut into blocks, the comments, or the
+-- container.
 unfoldable pub stream_fault : FlacProvedSettings → FlacProvedTags → Sound → Option ℕ
 stream_fault s t a =
     option_or (option_map setup.number_of (plan_fault (plan_of s a)))
@@ -63,7 +64,7 @@ pub record CanBeEncoded (s : FlacProvedSettings) (samples : List ℤ) : Type 0 w
   pub whole : length samples % s.channels ≡ 0
   pub sound : IsSound (sound_of s samples)
 
--- the bytes are a stream of just these samples and comments, native or Ogg
+-- the bytes are a stream of exactly these samples and comments, native or Ogg
 pub record IsEncoded (s : FlacProvedSettings) (samples : List ℤ) (t : FlacProvedTags) (stream : List ℕ) : Type 0 where
   pub can : CanBeEncoded s samples
   pub none : stream_fault s t (sound_of s samples) ≡ None

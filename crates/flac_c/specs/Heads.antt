@@ -47,11 +47,12 @@ abbrev pub EndsBy : List ℕ → Option Info → Option Comments → Type 0
 EndsBy bytes info comments =
     (items : List Piece) × ((bytes_reading Subset bytes).whole items ⊎ ((at : Place) × (why : Why) × (bytes_reading Subset bytes).refused items at why)) × (info ≡ info_from None items) × (comments ≡ comments_from None items)
 
--- All blocks before the first frame have this STREAMINFO and these comments; or, if no frame comes, all blocks that are there.
+-- All blocks before the first frame have this STREAMINFO and these comments; or, if no frame comes, all blocks of the
+-- stream.
 abbrev pub Begins : List ℕ → Option Info → Option Comments → Type 0
 Begins bytes info comments = ((n : ℕ) × BeginsBy (take n bytes) true info comments) ⊎ EndsBy bytes info comments
 
--- the bytes are refused so, or they are a stream without STREAMINFO, which none is
+-- the bytes are refused in this way, or they are a stream without STREAMINFO, which none is
 abbrev pub Lacks : List ℕ → Option (Place × Why) → Type 0
 Lacks bytes outcome = Verifies Subset bytes outcome ⊎ ((outcome ≡ Some (place.Marker, NotStreamInfoFirst)) × ((items : List Piece) × (bytes_reading Subset bytes).whole items × (info_from None items ≡ None)))
 
@@ -60,12 +61,12 @@ abbrev pub count_of : Option Comments → ℕ
 count_of None = 0
 count_of (Some c) = length c.list
 
--- a comment, empty where there is none of this index
+-- a comment, empty if there is none of this index
 abbrev pub comment_of : Option Comments → ℕ → List ℕ
 comment_of None index = []
 comment_of (Some c) index = slice_index_or c.list index []
 
--- the name of the program that wrote the stream, empty where there are no comments
+-- the name of the program that wrote the stream, empty if there are no comments
 abbrev pub vendor_of : Option Comments → List ℕ
 vendor_of None = []
 vendor_of (Some c) = c.vendor

@@ -1,4 +1,5 @@
--- Where the frames of a native stream begin, and where its seek table says that one begins (RFC 9639, sections 6, 8 and 8.5).
+-- The offsets of the frames of a native stream, the first one and one by the seek table (RFC 9639, sections 6, 8 and
+-- 8.5).
 use Rattle.std.specs.Prelude.{◌≡◌, ◌≢◌, ◌⊎◌, ℕ, ◌+◌, ◌≤◌, min, Bool, true, false, List, [], ◌∷◌, length, take, Option, Some, None}
 use Rattle.std.specs.Option.{option_or}
 use Rattle.flac_bits.specs.Bits.{bits_of}
@@ -64,13 +65,15 @@ at_point (Some p) c = record c { offset = min (c.offset + p.offset) 184467440737
 abbrev pub StandsFirst : List ℕ → FlacProvedCursor → Type 0
 StandsFirst bytes c = (parts : List Piece) × (n : ℕ) × (i : Info) × IsHead bytes n parts × ((after grammar (opening Subset) parts).stand.info ≡ Some i) × (c ≡ first_frame i (comments_from None parts) n)
 
--- the cursor is where the seek table says that the frame of the last point at or before a sample is; at the first frame if there is no such point
+-- the cursor is at the offset that the seek table has for the frame of the last point at or before a sample; at the
+-- first frame if there is no such point
 abbrev pub StandsBefore : List ℕ → ℕ → FlacProvedCursor → Type 0
 StandsBefore bytes sample c =
     (parts : List Piece) × (n : ℕ) × (i : Info) × IsHead bytes n parts × ((after grammar (opening Subset) parts).stand.info ≡ Some i)
     × (c ≡ at_point (point_from sample None parts) (first_frame i (comments_from None parts) n))
 
--- The marker or a block is refused there, as the stream is; or, at the marker, there are blocks without STREAMINFO, which no stream has; unless memory ran out.
+-- The marker or a block is refused there, as the stream is; or, at the marker, there are blocks without STREAMINFO,
+-- which no stream has; unless memory ran out.
 abbrev pub RefusesHead : List ℕ → Option (Place × Why) → Type 0
 RefusesHead bytes outcome =
     (at : Place) × (why : Why) × (outcome ≡ Some (at, why))

@@ -3,7 +3,7 @@
 ghost use Rattle.std.specs.Prelude.{◌≡◌, ◌≢◌, OnErr};
 ghost use Rattle.flac_bits.specs.Handing.{outcome_of};
 ghost use Rattle.flac_native.specs.Item.{told};
-ghost use Rattle.flac_c.specs.Answers.{kind_of, index_of, in_c};
+ghost use Rattle.flac_c.specs.Answers.{kind_of, index_of, in_c, place_text};
 
 use flac_native::{Fault, Place};
 
@@ -30,6 +30,27 @@ fn kind_of(place: Place) -> u32
         Place::Page(_) => 4,
         Place::End => 5,
     }
+}
+
+/// A place of each kind.
+const PLACES: [Place; 5] = [
+    Place::Marker,
+    Place::Block(0),
+    Place::Frame(0),
+    Place::Page(0),
+    Place::End,
+];
+
+/// The name of the kind of place with this number; empty if there is none.
+pub(crate) fn kind_name(kind: u32) -> &'static str
+    ensures { result.now ≡ place_text kind }
+{
+    for place in PLACES {
+        if kind_of(place) == kind {
+            return place.kind_name();
+        }
+    }
+    ""
 }
 
 /// The index of a place.

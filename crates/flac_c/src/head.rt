@@ -41,7 +41,7 @@ impl Head {
             info: None,
             comments: None,
             is_over: false,
-            failures: Failures { count: 0 },
+            failures: Failures::new(),
         }
     }
 }
@@ -108,7 +108,7 @@ fn read_front(alloc: Global, bytes: &[u8], most: usize, head: &mut Head) -> bool
     }
     *head = Head::new();
     let _outcome = decode_head(alloc, &bytes[..most], head);
-    head.failures.count == 0 && head.is_over && head.info.is_some()
+    head.failures.count() == 0 && head.is_over && head.info.is_some()
 }
 
 /// Reads the head of all bytes.
@@ -122,7 +122,7 @@ fn read_all(alloc: Global, bytes: &[u8], head: &mut Head) -> Result<(), Fault>
 {
     *head = Head::new();
     let outcome = decode_head(alloc, bytes, head);
-    if head.failures.count != 0 {
+    if head.failures.count() != 0 {
         return Err(Fault {
             at: Place::Marker,
             why: Why::Memory,

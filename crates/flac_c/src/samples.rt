@@ -1,9 +1,9 @@
 //! Decodes a stream to numbers.
 
-ghost use Rattle.std.specs.Prelude.{◌≡◌, ◌≢◌, ◌<◌, ◌++◌, [], nat_lt, List, OnOk, None};
+ghost use Rattle.std.specs.Prelude.{◌≡◌, ◌≢◌, ◌++◌, [], nat_lt, List, OnOk, None};
 ghost use Rattle.flac_native.specs.Stream.{Piece};
 ghost use Rattle.flac_frame.specs.Lent.{frame_of};
-ghost use Rattle.flac_frame.specs.Interleaved.{interleaved, row};
+ghost use Rattle.flac_frame.specs.Interleaved.{interleaved};
 ghost use Rattle.flac_ogg.specs.Verifying.{Verifies, bytes_reading};
 ghost use Rattle.flac_c.specs.Answers.{IsAnswered, IsCopied, in_c};
 ghost use Rattle.flac_c.specs.Sampled.{numbers_from};
@@ -24,24 +24,14 @@ struct Numbers {
     failures: Failures,
 }
 
-/// Adds the samples of all channels at an index.
-fn push_row(frame: &FrameView<'_>, i: usize, list: &mut Vec<i32>) -> Result<(), AllocError>
-    requires { i < (frame_of frame.now).size }
-    ensures { OnOk result (list.new.items ≡ list.old.items ++ row (frame_of frame.now).channels i) }
-{
-    for channel in 0..frame.channels() {
-        list.push(frame.sample(channel, i))?;
-    }
-    Ok(())
-}
-
 /// Adds the samples of a frame.
 fn push_frame(frame: &FrameView<'_>, list: &mut Vec<i32>) -> Result<(), AllocError>
     ensures { OnOk result (list.new.items ≡ list.old.items ++ interleaved (frame_of frame.now)) }
 {
-    for i in 0..frame.len() {
-        push_row(frame, i, list)?;
-    }
+    let front = list.len();
+    let count = frame.channels() * frame.len();
+    list.resize(front + count, 0)?;
+    let _all = frame.interleave(&mut list[front..]);
     Ok(())
 }
 
@@ -88,7 +78,7 @@ pub extern "C" fn flac_proved_samples(
 {
     let mut sink = Numbers {
         list: Vec::new(alloc),
-        failures: Failures { count: 0 },
+        failures: Failures::new(),
     };
     if let Err(told) = collect(alloc, bytes, &mut sink) {
         *fault = in_c(Err(told));

@@ -230,71 +230,51 @@ fn encoded_in_ogg(rt: HostRuntime) -> Result<(), Fail> {
     Ok(())
 }
 
+/// Whether two samples are refused by this number, and nothing is written.
+fn is_refused(alloc: Global, settings: &FlacProvedSettings, due: u32) -> bool {
+    let (number, len, stream) = encode(alloc, settings, &[25588, 10416]);
+    (number, len) == (due, 99) && stream == [9; 200]
+}
+
 #[test]
-fn not_encoded(rt: HostRuntime) -> Result<(), Fail> {
-    let rows = [
-        (
-            FlacProvedSettings {
-                rate: 0,
-                ..SETTINGS
-            },
-            40,
-        ),
-        (
-            FlacProvedSettings {
-                bits: 17,
-                ..SETTINGS
-            },
-            41,
-        ),
-        (
-            FlacProvedSettings {
-                channels: 0,
-                ..SETTINGS
-            },
-            42,
-        ),
-        (
-            FlacProvedSettings {
-                channels: 9,
-                ..SETTINGS
-            },
-            42,
-        ),
-        (
-            FlacProvedSettings {
-                channels: 3,
-                ..SETTINGS
-            },
-            43,
-        ),
-        (
-            FlacProvedSettings {
-                bits: 8,
-                ..SETTINGS
-            },
-            44,
-        ),
-        (
-            FlacProvedSettings {
-                block_size: 15,
-                ..SETTINGS
-            },
-            46,
-        ),
-        (
-            FlacProvedSettings {
-                seek_every: 1,
-                ogg: 1,
-                ..SETTINGS
-            },
-            37,
-        ),
-    ];
-    for (settings, due) in rows {
-        let (number, len, stream) = encode(rt.alloc(), &settings, &[25588, 10416]);
-        assert!(rt; (number, len) == (due, 99));
-        assert!(rt; stream == [9; 200]);
+fn formats_not_encoded(rt: HostRuntime) -> Result<(), Fail> {
+    let no_rate = FlacProvedSettings {
+        rate: 0,
+        ..SETTINGS
+    };
+    assert!(rt; is_refused(rt.alloc(), &no_rate, 40));
+    let odd_bits = FlacProvedSettings {
+        bits: 17,
+        ..SETTINGS
+    };
+    assert!(rt; is_refused(rt.alloc(), &odd_bits, 41));
+    let few_bits = FlacProvedSettings {
+        bits: 8,
+        ..SETTINGS
+    };
+    assert!(rt; is_refused(rt.alloc(), &few_bits, 44));
+    let short_blocks = FlacProvedSettings {
+        block_size: 15,
+        ..SETTINGS
+    };
+    assert!(rt; is_refused(rt.alloc(), &short_blocks, 46));
+    let sought_ogg = FlacProvedSettings {
+        seek_every: 1,
+        ogg: 1,
+        ..SETTINGS
+    };
+    assert!(rt; is_refused(rt.alloc(), &sought_ogg, 37));
+    Ok(())
+}
+
+#[test]
+fn channels_not_encoded(rt: HostRuntime) -> Result<(), Fail> {
+    for (channels, due) in [(0, 42), (9, 42), (3, 43)] {
+        let settings = FlacProvedSettings {
+            channels,
+            ..SETTINGS
+        };
+        assert!(rt; is_refused(rt.alloc(), &settings, due));
     }
     Ok(())
 }
@@ -309,50 +289,36 @@ fn nowhere() -> FlacProvedCursor {
     }
 }
 
+/// What the call for the frame at a cursor returns, and the length that it reports.
+fn next(
+    alloc: Global,
+    stream: &[u8],
+    cursor: &mut FlacProvedCursor,
+    out: &mut [i32],
+) -> (u32, usize) {
+    let (mut len, mut fault) = (99, unset());
+    let number = flac_proved_next(alloc, stream, cursor, out, &mut len, &mut fault);
+    (number, len)
+}
+
 #[test]
 fn frame_by_frame(rt: HostRuntime) -> Result<(), Fail> {
     let (mut cursor, mut fault) = (nowhere(), unset());
     let number = flac_proved_start(rt.alloc(), &TAGGED, &mut cursor, &mut fault);
     assert!(rt; (number, fault.number) == (0, 0));
     assert!(rt; (cursor.offset, cursor.frames, cursor.sample) == (73, 0, 0));
-    assert!(rt;
-        (
-            cursor.info.total,
-            cursor.info.comments,
-            cursor.info.channels
-        ) == (1, 2, 2)
-    );
-    let (mut samples, mut len) = ([9i32; 3], 99);
-    let number = flac_proved_next(
-        rt.alloc(),
-        &TAGGED,
-        &mut cursor,
-        &mut samples[..1],
-        &mut len,
-        &mut fault,
-    );
-    assert!(rt; (number, len, cursor.offset) == (0, 2, 73));
+    let info = &cursor.info;
+    assert!(rt; (info.total, info.comments, info.channels) == (1, 2, 2));
+    let mut samples = [9i32; 3];
+    let told = next(rt.alloc(), &TAGGED, &mut cursor, &mut samples[..1]);
+    assert!(rt; told == (0, 2) && cursor.offset == 73);
     assert!(rt; samples == [9, 9, 9]);
-    let number = flac_proved_next(
-        rt.alloc(),
-        &TAGGED,
-        &mut cursor,
-        &mut samples,
-        &mut len,
-        &mut fault,
-    );
-    assert!(rt; (number, len) == (0, 2));
+    let told = next(rt.alloc(), &TAGGED, &mut cursor, &mut samples);
+    assert!(rt; told == (0, 2));
     assert!(rt; samples == [25588, 10416, 9]);
     assert!(rt; (cursor.offset, cursor.frames, cursor.sample) == (88, 1, 1));
-    let number = flac_proved_next(
-        rt.alloc(),
-        &TAGGED,
-        &mut cursor,
-        &mut samples,
-        &mut len,
-        &mut fault,
-    );
-    assert!(rt; (number, len, cursor.offset) == (0, 0, 88));
+    let told = next(rt.alloc(), &TAGGED, &mut cursor, &mut samples);
+    assert!(rt; told == (0, 0) && cursor.offset == 88);
     Ok(())
 }
 

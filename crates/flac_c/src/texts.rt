@@ -5,9 +5,9 @@ ghost use Rattle.flac_bits.specs.Reasons.{number_of, text_of};
 ghost use Rattle.flac_frame.specs.Setup.{number_of as setup_number, text_of as setup_text};
 ghost use Rattle.flac_c.specs.Answers.{copied, place_text, IsCopied};
 
+use crate::fault::kind_name;
 use flac_bits::Why;
 use flac_frame::SetupFault;
-use flac_native::Place;
 
 /// Copies bytes or samples to the front of a buffer, as far as there is room, and returns how many there are.
 pub(crate) fn copy<T: Copy>(items: &[T], out: &mut [T]) -> usize
@@ -122,20 +122,5 @@ pub extern "C" fn flac_proved_strerror(number: u32, out: &mut [u8]) -> usize
 pub extern "C" fn flac_proved_place(kind: u32, out: &mut [u8]) -> usize
     ensures { IsCopied (place_text kind) out.old out.new result }
 {
-    if kind == 1 {
-        return copy(Place::Marker.kind_name().as_bytes(), out);
-    }
-    if kind == 2 {
-        return copy(Place::Block(0).kind_name().as_bytes(), out);
-    }
-    if kind == 3 {
-        return copy(Place::Frame(0).kind_name().as_bytes(), out);
-    }
-    if kind == 4 {
-        return copy(Place::Page(0).kind_name().as_bytes(), out);
-    }
-    if kind == 5 {
-        return copy(Place::End.kind_name().as_bytes(), out);
-    }
-    copy(&[], out)
+    copy(kind_name(kind).as_bytes(), out)
 }

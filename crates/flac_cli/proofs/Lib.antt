@@ -5,6 +5,7 @@ pub mod Lined
 pub mod Listed
 pub mod Outcomes
 pub mod Planning
+pub mod Printed
 pub mod Refused
 pub mod Reported
 pub mod Rows

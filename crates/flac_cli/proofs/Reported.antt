@@ -91,13 +91,15 @@ module _ (profile : Profile) (bytes : List ℕ) (behind : Behind) {K : Type 0} (
       as_placed (Err f) at w e = ap as_outcome e
 
 -- What an answer is that may not have been listed.
-pub listed_fits : (profile : Profile) (bytes : List ℕ) (behind : Behind) (errors : ℕ) (outcome : Outcome) → (errors ≡ 0 → Fits IsOutOfMemory (Reads profile bytes behind) outcome)
-    → (0 < errors → (at : Place) × (outcome ≡ Some (Some at, why.Sink))) → Fits IsUnlisted (Reads profile bytes behind) outcome
-listed_fits profile bytes behind errors outcome fits failed = elim (cases_lt 0 errors) [
-  | inl rose ↦ record {
-    right = inl (inr (failed rose));
-    each = λ other w. inl (inr (failed rose));
-  }
+pub listed_fits : (printed : Type 0) (profile : Profile) (bytes : List ℕ) (behind : Behind) (errors : ℕ) (outcome : Outcome) → (errors ≡ 0 → Fits IsOutOfMemory (Reads profile bytes behind) outcome)
+    → (0 < errors → (at : Place) × (outcome ≡ Some (Some at, why.Sink))) → (printed → errors ≡ 0) → Fits (IsUnlisted printed) (Reads profile bytes behind) outcome
+listed_fits printed profile bytes behind errors outcome fits failed calm = elim (cases_lt 0 errors) [
+  | inl rose ↦
+      let out : IsUnlisted printed outcome = inr (λ p. absurd (omega (arith, rose, calm p)), failed rose) in
+      record {
+        right = inl out;
+        each = λ other w. inl out;
+      }
   | inr few ↦
       let f = fits (omega (arith, few)) in
       record {

@@ -5,7 +5,8 @@ use Rattle.flac_jobs.specs.declared.formats.RawFormat.{RawFormat}
 use Rattle.flac_jobs.specs.declared.formats.ContainerKind.{ContainerKind}
 use Rattle.flac_cli.specs.declared.encoding.Encoding.{Encoding}
 
--- The profile of the stream, the format of the raw samples, the container, the words that are its comments, and the text of a list of predictors.
+-- The profile of the stream, the format of the raw samples, the container, the words that are its comments, and the
+-- text of a list of predictors.
 pub record Asked : Type 0 where
   pub profile : Profile
   pub format : RawFormat

@@ -43,9 +43,10 @@ parts_in (container.Ogg serial) p list a before after e = closing (StreamInfo (i
 abbrev pub cut_as : Asked → Sound → List LinearPredictor → Cut
 cut_as asked a ps = with_predictors (cut_of asked.format.block a asked.format.seek_every) ps
 
--- After the bits that were there, a stream was written as it is asked for, native or Ogg: of the samples that these bytes are, each frame a shortest one over the fixed
--- predictors and those of the list too, with the words as comments, and in a native one after them the seek table. The samples of its frames are these bytes again, so
--- decoding it gives them back.
+-- After the bits that were there, a stream was written as it is asked for, native or Ogg: of the samples that these
+-- bytes are, each frame a shortest one over the fixed predictors and those of the list too, with the words as comments,
+-- and in a native one after them the seek table. The samples of its frames are these bytes again, so decoding it gives
+-- them back.
 pub record EncodesRaw (asked : Asked) (bytes : List ℕ) (before after : List Bool) : Type 0 where
   pub audio : Sound
   pub predictors : List LinearPredictor
@@ -63,7 +64,7 @@ asked_for other list = None
 abbrev pub asked_by : Task → Option Asked
 asked_by task = asked_for task.job.now task.list.now
 
--- so it is if the job is an encoding
+-- this holds if the job is an encoding
 abbrev pub HasEncoded : Option Asked → (bytes : List ℕ) → (before after : List Bool) → Type 0
 HasEncoded (Some asked) bytes before after = EncodesRaw asked bytes before after
 HasEncoded None bytes before after = Unit {0}

@@ -47,8 +47,8 @@ abbrev pub Reads : Profile → List ℕ → Behind → Outcome → Type 0
 Reads profile bytes behind None = (items : List Piece) × (input_reading profile bytes behind).whole items
 Reads profile bytes behind (Some f) = (at : Place) × (f.0 ≡ Some at) × ((items : List Piece) × (input_reading profile bytes behind).refused items at f.1)
 
--- These words are too long for a block of comments, or else the input begins with a marker and blocks, or its marker or a block is refused at this place
--- and for this reason.
+-- These words are too long for a block of comments, or else the input begins with a marker and blocks, or its marker or
+-- a block is refused at this place and for this reason.
 abbrev pub IsRetagged : (words : List (List ℕ)) → List ℕ → Behind → Outcome → Type 0
 IsRetagged words bytes behind None = (comments_length (comments_of words) ≤ 16777215) × HasHead (beginning (short_of behind.fails)) (bits_of bytes)
 IsRetagged words bytes behind (Some f) =
@@ -65,13 +65,14 @@ IsOutOfMemory outcome = (at : Place) × (outcome ≡ Some (Some at, why.Memory))
 abbrev pub IsRetagOutOfMemory : Outcome → Type 0
 IsRetagOutOfMemory outcome = (at : Option Place) × (outcome ≡ Some (at, why.Memory))
 
--- memory ran out, or a block could not be listed
-abbrev pub IsUnlisted : Outcome → Type 0
-IsUnlisted outcome = IsOutOfMemory outcome ⊎ ((at : Place) × (outcome ≡ Some (Some at, why.Sink)))
+-- memory ran out, or a block could not be listed, since standard output failed, of which `printed` says that it did not
+abbrev pub IsUnlisted : (printed : Type 0) → Outcome → Type 0
+IsUnlisted printed outcome = IsOutOfMemory outcome ⊎ ((printed → ⊥) × ((at : Place) × (outcome ≡ Some (Some at, why.Sink))))
 
 -- ---- both ways
 
--- What was reported is what the input is, and what the input is was reported, unless the outcome is one that no input shows.
+-- What was reported is what the input is, and what the input is was reported, unless the outcome is one that no input
+-- shows.
 pub record Fits (outside is : Outcome → Type 0) (outcome : Outcome) : Type 0 where
   pub right : outside outcome ⊎ is outcome
   pub each : (other : Outcome) → is other → outside outcome ⊎ (outcome ≡ other)
@@ -82,12 +83,13 @@ pub record Reports (outside is : Outcome → Type 0) (path : List ℕ) (status :
   pub answer : IsAnswer outcome path status before after
   pub fits : Fits outside is outcome
 
--- So it is for each job that reads a stream. Decoding and retagging write to the target, of which `served` says that it did not fail, and a test prints to
--- standard output, of which `printed` says so. Listing prints too, and of its text nothing is claimed.
+-- This holds for each job that reads a stream. Decoding and retagging write to the target, of which `served` says that
+-- it did not fail, and a test prints to standard output, of which `printed` says so. Listing prints too, and of its
+-- text nothing is claimed.
 abbrev pub ReportsInput : Job → (bytes : List ℕ) → Behind → (served printed : Type 0) → (status : ℕ) → (before after : List ℕ) → Type 0
 ReportsInput (job.Test input lax) bytes behind served printed status before after = printed → Reports IsOutOfMemory (Reads (profile_of lax) bytes behind) input.now status before after
 ReportsInput (job.Decode input output lax) bytes behind served printed status before after = served → Reports IsOutOfMemory (Reads (profile_of lax) bytes behind) input.now status before after
-ReportsInput (job.List input lax) bytes behind served printed status before after = Reports IsUnlisted (Reads (profile_of lax) bytes behind) input.now status before after
+ReportsInput (job.List input lax) bytes behind served printed status before after = Reports (IsUnlisted printed) (Reads (profile_of lax) bytes behind) input.now status before after
 ReportsInput (job.Encode input output format c comments lax predictors) bytes behind served printed status before after = Unit {0}
 ReportsInput (job.Retag input output comments) bytes behind served printed status before after =
     served → Reports IsRetagOutOfMemory (IsRetagged (map (λ c. c.now) comments.items) bytes behind) input.now status before after

@@ -1,5 +1,5 @@
--- The text of a list of linear predictors: in each line one, PRECISION SHIFT C1 C2 .., or none. They are the fields of a subframe with a
--- linear predictor, the coefficient for the nearest sample first (RFC 9639, section 9.2.6).
+-- The text of a list of linear predictors: in each line one, PRECISION SHIFT C1 C2 .., or none. They are the fields of
+-- a subframe with a linear predictor, the coefficient for the nearest sample first (RFC 9639, section 9.2.6).
 use Rattle.std.specs.Prelude.{◌+◌, ◌-◌, ◌*◌, ◌^◌, ◌==◌, ◌||◌, ◌&&◌, ℕ, Bool, cond, nat_lt, ℤ, ◌≡◌, pos, negsuc, neg_ℤ, List, [], ◌∷◌, ◌++◌, length, map, drop, Option, Some, None, option_map, option_and_then, Result, Ok, Err}
 use Rattle.std.specs.List.{filter, list_all, slice_split, before_first}
 use Rattle.std.specs.Str.Parse.{starts_with_minus}
@@ -69,7 +69,8 @@ line_of (y ∷ z ∷ coefficients) = option_and_then (λ precision. option_and_t
 unfoldable pub line_in : (line : List ℕ) → Option (List Chooses)
 line_in line = option_and_then line_of (numbers_after [] (words_of line))
 
--- these predictors, and then those of the lines, of which the first has this number; or the number of the first wrong line
+-- these predictors, and then those of the lines, of which the first has this number; or the number of the first wrong
+-- line
 unfoldable pub lines_after : (number : ℕ) → List Chooses → (lines : List (List ℕ)) → Result (List Chooses) ℕ
 lines_after number found [] = Ok found
 lines_after number found (line ∷ more) = elim (line_in line) [ None ↦ Err number | Some new ↦ lines_after (number + 1) (found ++ new) more ]
@@ -78,6 +79,6 @@ lines_after number found (line ∷ more) = elim (line_in line) [ None ↦ Err nu
 abbrev pub predictors_in : (text : List ℕ) → Result (List Chooses) ℕ
 predictors_in text = lines_after 1 [] (slice_split (λ byte. byte == 10) text)
 
--- the text is a list of just these predictors
+-- the text is a list of exactly these predictors
 abbrev pub AreListed : (text : List ℕ) → List LinearPredictor → Type 0
 AreListed text ps = predictors_in text ≡ Ok (map predictor_of ps)

@@ -1,5 +1,5 @@
--- Raw samples: interleaved channel by channel, signed little-endian, each sign-extended to whole bytes. They are the bytes
--- whose MD5 STREAMINFO states (RFC 9639, section 8.2).
+-- Raw samples: interleaved channel by channel, signed little-endian, each sign-extended to whole bytes. They are the
+-- bytes whose MD5 STREAMINFO states (RFC 9639, section 8.2).
 use Rattle.std.specs.Prelude.{◌≡◌, ◌+◌, ◌*◌, ◌/◌, ℕ, zero, suc, ℤ, List, [], ◌∷◌, ◌++◌, length, take, drop}
 use Rattle.byteorder.specs.Endian.{twos_complement, little_number}
 use Rattle.flac_header.specs.declared.subset.Profile.{Profile}
@@ -14,7 +14,8 @@ use Rattle.flac_jobs.specs.declared.formats.RawFormat.{RawFormat}
 abbrev pub number_of : List ℕ → ℤ
 number_of bytes = twos_complement (length bytes) (little_number (length bytes) bytes)
 
--- the first n samples of one channel, which has the `width` bytes from `start` on of each inter-channel sample of `row` bytes
+-- the first n samples of one channel, which has the `width` bytes from `start` on of each inter-channel sample of `row`
+-- bytes
 unfoldable pub samples_at : (bytes : List ℕ) (row start width n : ℕ) → List ℤ
 samples_at bytes row start width zero = []
 samples_at bytes row start width (suc n) = samples_at bytes row start width n ++ number_of (take width (drop (n * row + start) bytes)) ∷ []
@@ -34,7 +35,7 @@ raw_sound profile format bytes = record { profile = profile; rate = format.rate;
 
 -- ---- what holds of them
 
--- these bytes are just these samples, which have this profile and format and fit its bits
+-- these bytes are exactly these samples, which have this profile and format and fit its bits
 pub record IsRaw (profile : Profile) (format : RawFormat) (bytes : List ℕ) (a : Sound) : Type 0 where
   pub profiled : a.profile ≡ profile
   pub rate : a.rate ≡ format.rate

@@ -41,13 +41,14 @@ raw_fault profile format bytes =
     (option_map Setup (audio_fault profile format.rate format.bits (raw_channels format.channels (sample_width format.bits) bytes)))
     (Some RawLength))
 
--- Why the calls that write a stream refuse these blocks: a native one has one seek table at most (section 8), and one in Ogg none.
+-- Why the calls that write a stream refuse these blocks: a native one has one seek table at most (section 8), and one
+-- in Ogg none.
 abbrev pub stream_fault : ContainerKind → Cut → List Block → Option EncodeFault
 stream_fault container.Native p list = cond (repeats_table p list) (Some encode.RepeatedBlock) None
 stream_fault (container.Ogg serial) p list = cond (may_be_ogg p list) None (Some encode.BadMapping)
 
--- The first reason for which these bytes cannot be encoded as asked for with these predictors, if there is one: the samples; how they are cut into blocks; the
--- predictors; the words as comments; the container.
+-- The first reason for which these bytes cannot be encoded as asked for with these predictors, if there is one: the
+-- samples; how they are cut into blocks; the predictors; the words as comments; the container.
 unfoldable pub refusal : Asked → List LinearPredictor → (bytes : List ℕ) → Option Refusal
 refusal asked ps bytes =
     option_or (raw_fault asked.profile asked.format bytes)
@@ -55,7 +56,8 @@ refusal asked ps bytes =
     (option_or (option_map Input (list_fault info_seen (comment_list asked.words)))
     (option_map Output (stream_fault asked.container (cut_as asked (raw_sound asked.profile asked.format bytes) ps) (comment_list asked.words)))))
 
--- This is the first reason, if there is one: the first line of the list that is no predictor; else what holds of the list's predictors.
+-- This is the first reason, if there is one: the first line of the list that is no predictor; else what holds of the
+-- list's predictors.
 abbrev pub IsReason : Asked → (bytes : List ℕ) → Option Refusal → Type 0
 IsReason asked bytes reason =
     ((number : ℕ) × (predictors_in asked.list ≡ Err number) × (reason ≡ Some (Line number)))

@@ -22,7 +22,8 @@ pub record Files : Type 0 where
   pub output : List ℕ
   pub list : List ℕ
 
--- the path of the file at fault: the list for what its predictors are, the output if it could not be written, and else the input
+-- the path of the file at fault: the list for what its predictors are, the output if it could not be written, and else
+-- the input
 abbrev pub path_of : Files → Refusal → List ℕ
 path_of files (Line number) = files.list
 path_of files (Setup setup.PredictorOrder) = files.list
@@ -39,12 +40,14 @@ line_text other = text_of other
 abbrev pub Serves : {T : Type 0} (g : target.Ghosts T) (old new : T) → Type 0
 Serves g old new = (g.known old ≡ true) × (g.errors new ≡ g.errors old)
 
--- The status, and what was added to standard error: 0 and nothing if there is no reason, else 1 and the line of the reason.
+-- The status, and what was added to standard error: 0 and nothing if there is no reason, else 1 and the line of the
+-- reason.
 abbrev pub IsAnswer : Option Refusal → Files → (status : ℕ) → (before after : List ℕ) → Type 0
 IsAnswer None files status before after = (status ≡ 0) × (after ≡ before)
 IsAnswer (Some e) files status before after = (status ≡ 1) × (after ≡ before ++ fault_line (path_of files e) (line_text e))
 
--- So it is for the first reason for which these bytes cannot be encoded, or memory ran out: then the status is 1, and the line says that.
+-- This is the report of the first reason for which these bytes cannot be encoded; or memory ran out: then the status is
+-- 1, and the line says that.
 abbrev pub IsReport : Asked → (bytes : List ℕ) → Files → (status : ℕ) → (before after : List ℕ) → Type 0
 IsReport asked bytes files status before after =
     ((reason : Option Refusal) × IsReason asked bytes reason × IsAnswer reason files status before after)
@@ -54,7 +57,7 @@ IsReport asked bytes files status before after =
 abbrev pub files_of : Job → Files
 files_of j = record { input = input_of j; output = unwrap_or (output_of j) (input_of j); list = unwrap_or (list_of j) (input_of j) }
 
--- so it is if the job is an encoding
+-- this holds if the job is an encoding
 abbrev pub Reports : Option Asked → (bytes : List ℕ) → Files → (status : ℕ) → (before after : List ℕ) → Type 0
 Reports (Some asked) bytes files status before after = IsReport asked bytes files status before after
 Reports None bytes files status before after = Unit {0}

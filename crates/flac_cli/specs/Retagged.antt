@@ -8,11 +8,12 @@ use Rattle.flac_cli.specs.Encoded.{comments_of}
 use Rattle.flac_jobs.specs.declared.jobs.Job.{Job}
 use Rattle.flac_jobs.specs.declared.jobs.Job.TheVariants as job
 
--- After the bits that were there, the stream was written with the program's name and these words in place of its comments.
+-- After the bits that were there, the stream was written with the program's name and these words in place of its
+-- comments.
 abbrev pub RetagsWith : (words : List (List ℕ)) → (bytes : List ℕ) → Behind → (before after : List Bool) → Type 0
 RetagsWith words bytes behind before after = Retags (beginning (short_of behind.fails)) (bits_of bytes) (comments_of words) before after
 
--- so it is if the job asks for that
+-- this holds if the job asks for other comments
 abbrev pub HasRetagged : Job → (bytes : List ℕ) → Behind → (before after : List Bool) → Type 0
 HasRetagged (job.Retag input output comments) bytes behind before after = RetagsWith (map (λ c. c.now) comments.items) bytes behind before after
 HasRetagged other bytes behind before after = Unit {0}

@@ -7,11 +7,11 @@ mod encoding;
 mod lines;
 mod list;
 mod listing;
+mod parts;
 mod predictors;
 mod raw;
 mod retagging;
 mod runs;
-mod texts;
 
 pub use flac_jobs::{ContainerKind, Job, LineFault, RawFormat};
 pub use runs::{Task, run};

@@ -9,7 +9,6 @@ ghost use Rattle.flac_cli.specs.Reports.{fault_line};
 
 use flac_bits::{Target, Why, send_all};
 use flac_native::Place;
-use std::fmt;
 
 /// How many bytes are held before they are sent.
 const ROOM: usize = 1024;
@@ -66,6 +65,18 @@ impl<W: Target> Lines<W> {
         }
     }
 
+    /// Returns the target. What is held is lost.
+    pub(crate) fn into_target(self) -> W
+        ensures { result ≡ self.target }
+    {
+        let Lines {
+            target,
+            bytes: _,
+            held: _,
+        } = self;
+        target
+    }
+
     /// Sends what is held.
     ///
     /// # Errors
@@ -99,7 +110,7 @@ impl<W: Target> Lines<W> {
     ///
     /// # Errors
     /// [`Why::Write`] if the target fails.
-    fn put_bytes(&mut self, text: &[u8]) -> Result<(), Why>
+    pub(crate) fn put_bytes(&mut self, text: &[u8]) -> Result<(), Why>
         ensures { Adds W.Target text.now self.old.target self.new.target (take self.old.held self.old.bytes) (take self.new.held self.new.bytes) result }
     {
         if text.len() <= ROOM - self.held {
@@ -128,7 +139,7 @@ impl<W: Target> Lines<W> {
     ///
     /// # Errors
     /// [`Why::Write`] if the target fails.
-    fn put_number(&mut self, number: u64) -> Result<(), Why>
+    pub(crate) fn put_number(&mut self, number: u64) -> Result<(), Why>
         ensures { Adds W.Target (decimal number) self.old.target self.new.target (take self.old.held self.old.bytes) (take self.new.held self.new.bytes) result }
     {
         let digit = last_digit(number);
@@ -202,21 +213,6 @@ impl<W: Target> Lines<W> {
             At::Whole => self.put(text),
             At::Place(place) => self.put_placed(place, text),
             At::Line(number) => self.put_numbered(number, text),
-        }
-    }
-}
-
-impl<W: Target> fmt::Write for Lines<W> {
-    ghost write_str_gives = { λ old text new. record {
-      names : W.names new.target ≡ W.names old.target;
-      known : W.known old.target ≡ true → W.known new.target ≡ true;
-      text : W.known old.target ≡ true → W.sent new.target ++ take new.held new.bytes ≡ (W.sent old.target ++ take old.held old.bytes) ++ text;
-    } };
-
-    fn write_str(&mut self, text: &str) -> fmt::Result {
-        match self.put(text) {
-            Ok(()) => Ok(()),
-            Err(_) => Err(fmt::Error),
         }
     }
 }

@@ -1,91 +1,139 @@
 //! The lines of `flac list`: each metadata block, and its fields.
 
-use crate::texts::{Digits, Escaped};
-use flac_meta::{Block, Comments, CueSheet, CueTrack, Picture, SeekTable, StreamInfo};
-use std::fmt;
-use std::fmt::Write;
+ghost use Rattle.flac_cli.specs.inner.Lined.{Prints};
 
-/// The name of a block's type.
-#[derive(Clone, Copy)]
-struct TypeName<'a>(&'a Block);
+use crate::lines::Lines;
+use crate::parts::Part;
+use flac_bits::{Target, Why};
+use flac_meta::{Block, Comments, CueSheet, CueTrack, Picture, SeekPoint, SeekTable, StreamInfo};
 
-impl fmt::Display for TypeName<'_> {
-    fn fmt<W: fmt::Write>(&self, f: &mut fmt::Formatter<W>) -> fmt::Result {
-        match self.0 {
-            Block::StreamInfo(_) => f.write_str("STREAMINFO"),
-            Block::Padding(_) => f.write_str("PADDING"),
-            Block::Application { .. } => f.write_str("APPLICATION"),
-            Block::SeekTable(_) => f.write_str("SEEKTABLE"),
-            Block::VorbisComment(_) => f.write_str("VORBIS_COMMENT"),
-            Block::CueSheet(_) => f.write_str("CUESHEET"),
-            Block::Picture(_) => f.write_str("PICTURE"),
-            Block::Other { kind, .. } => write!(f, "TYPE_{kind}"),
+/// Writes the name of a block's type.
+fn write_name<W: Target>(lines: &mut Lines<W>, block: &Block) -> Result<(), Why>
+    ensures { Prints W.Target lines.old.target lines.new.target result }
+{
+    match block {
+        Block::StreamInfo(_) => lines.put_parts(&[Part::Text("STREAMINFO")]),
+        Block::Padding(_) => lines.put_parts(&[Part::Text("PADDING")]),
+        Block::Application { .. } => lines.put_parts(&[Part::Text("APPLICATION")]),
+        Block::SeekTable(_) => lines.put_parts(&[Part::Text("SEEKTABLE")]),
+        Block::VorbisComment(_) => lines.put_parts(&[Part::Text("VORBIS_COMMENT")]),
+        Block::CueSheet(_) => lines.put_parts(&[Part::Text("CUESHEET")]),
+        Block::Picture(_) => lines.put_parts(&[Part::Text("PICTURE")]),
+        Block::Other { kind, .. } => {
+            let kind = Part::Number(u64::from(*kind));
+            lines.put_parts(&[Part::Text("TYPE_"), kind])
         }
     }
 }
 
-/// Writes the lines of a block: `block I NAME LENGTH`, with its index and the length of its content in bytes, and then
-/// its fields, each line with two leading spaces.
-///
-/// # Errors
-/// That of the writer.
-pub(crate) fn write_block<W: Write>(lines: &mut W, index: u64, block: &Block) -> fmt::Result {
-    let name = TypeName(block);
-    let length = block.length();
-    writeln!(lines, "block {index} {name} {length}")?;
+/// Writes the first line of a block.
+fn write_head<W: Target>(lines: &mut Lines<W>, index: u64, block: &Block) -> Result<(), Why>
+    ensures { Prints W.Target lines.old.target lines.new.target result }
+{
+    lines.put_parts(&[Part::Text("block "), Part::Number(index), Part::Text(" ")])?;
+    write_name(lines, block)?;
+    let length = Part::Number(block.length());
+    lines.put_parts(&[Part::Text(" "), length, Part::Text("\n")])
+}
+
+/// Writes the fields of a block.
+fn write_fields<W: Target>(lines: &mut Lines<W>, block: &Block) -> Result<(), Why>
+    ensures { Prints W.Target lines.old.target lines.new.target result }
+{
     match block {
         Block::StreamInfo(info) => write_info(lines, info),
         Block::Application { id, .. } => {
-            let id = Digits(id);
-            writeln!(lines, "  id {id}")
+            lines.put_parts(&[Part::Text("  id "), Part::Hex(id), Part::Text("\n")])
         }
         Block::SeekTable(table) => write_points(lines, table),
         Block::VorbisComment(comments) => write_comments(lines, comments),
         Block::CueSheet(sheet) => write_sheet(lines, sheet),
         Block::Picture(picture) => write_picture(lines, picture),
-        Block::Padding(_) | Block::Other { .. } => Ok(()),
+        Block::Padding(_) | Block::Other { .. } => lines.put_parts(&[]),
     }
 }
 
+/// Sends the lines of a block: `block I NAME LENGTH`, with its index and the length of its content in bytes, and then
+/// its fields, each line with two leading spaces.
+///
+/// # Errors
+/// [`Why::Write`] if the target fails.
+pub(crate) fn send_block<W: Target>(
+    lines: &mut Lines<W>,
+    index: u64,
+    block: &Block,
+) -> Result<(), Why>
+    ensures { Prints W.Target lines.old.target lines.new.target result }
+{
+    write_head(lines, index, block)?;
+    write_fields(lines, block)?;
+    lines.send()
+}
+
 /// Writes the fields of a STREAMINFO.
-fn write_info<W: Write>(lines: &mut W, info: &StreamInfo) -> fmt::Result {
-    let (least_block, greatest_block) = (info.least_block(), info.greatest_block());
-    let (least_frame, greatest_frame) = (info.least_frame(), info.greatest_frame());
-    write!(
-        lines,
-        "  blocks {least_block} {greatest_block} frames {least_frame} {greatest_frame}"
-    )?;
-    let (rate, channels) = (info.rate(), info.channels());
-    let (depth, total) = (info.depth(), info.total());
-    writeln!(
-        lines,
-        " rate {rate} channels {channels} depth {depth} samples {total}"
-    )?;
-    let digest = info.digest();
-    let digest = Digits(&digest);
-    writeln!(lines, "  md5 {digest}")
+fn write_info<W: Target>(lines: &mut Lines<W>, info: &StreamInfo) -> Result<(), Why>
+    ensures { Prints W.Target lines.old.target lines.new.target result }
+{
+    lines.put_parts(&[
+        Part::Text("  blocks "),
+        Part::Number(u64::from(info.least_block())),
+        Part::Text(" "),
+        Part::Number(u64::from(info.greatest_block())),
+        Part::Text(" frames "),
+        Part::Number(u64::from(info.least_frame())),
+        Part::Text(" "),
+        Part::Number(u64::from(info.greatest_frame())),
+        Part::Text(" rate "),
+        Part::Number(u64::from(info.rate())),
+        Part::Text(" channels "),
+        Part::Number(u64::from(info.channels())),
+        Part::Text(" depth "),
+        Part::Number(u64::from(info.depth())),
+        Part::Text(" samples "),
+        Part::Number(info.total()),
+        Part::Text("\n  md5 "),
+        Part::Hex(&info.digest()),
+        Part::Text("\n"),
+    ])
+}
+
+/// Writes the line of a seek point.
+fn write_point<W: Target>(lines: &mut Lines<W>, point: &SeekPoint) -> Result<(), Why>
+    ensures { Prints W.Target lines.old.target lines.new.target result }
+{
+    if point.is_placeholder() {
+        return lines.put_parts(&[Part::Text("  placeholder\n")]);
+    }
+    lines.put_parts(&[
+        Part::Text("  point "),
+        Part::Number(point.sample),
+        Part::Text(" "),
+        Part::Number(point.offset),
+        Part::Text(" "),
+        Part::Number(u64::from(point.length)),
+        Part::Text("\n"),
+    ])
 }
 
 /// Writes a line for each seek point.
-fn write_points<W: Write>(lines: &mut W, table: &SeekTable) -> fmt::Result {
+fn write_points<W: Target>(lines: &mut Lines<W>, table: &SeekTable) -> Result<(), Why>
+    ensures { Prints W.Target lines.old.target lines.new.target result }
+{
     for point in table.points() {
-        if point.is_placeholder() {
-            writeln!(lines, "  placeholder")?;
-        } else {
-            let (sample, offset, length) = (point.sample, point.offset, point.length);
-            writeln!(lines, "  point {sample} {offset} {length}")?;
-        }
+        write_point(lines, point)?;
     }
     Ok(())
 }
 
 /// Writes the vendor and a line for each comment.
-fn write_comments<W: Write>(lines: &mut W, comments: &Comments) -> fmt::Result {
-    let vendor = Escaped(comments.vendor());
-    writeln!(lines, "  vendor {vendor}")?;
+fn write_comments<W: Target>(lines: &mut Lines<W>, comments: &Comments) -> Result<(), Why>
+    ensures { Prints W.Target lines.old.target lines.new.target result }
+{
+    let vendor = Part::Escaped(comments.vendor());
+    lines.put_parts(&[Part::Text("  vendor "), vendor, Part::Text("\n")])?;
     for comment in comments.list.as_slice() {
-        let comment = Escaped(comment.as_slice());
-        writeln!(lines, "  comment {comment}")?;
+        let comment = Part::Escaped(comment.as_slice());
+        lines.put_parts(&[Part::Text("  comment "), comment, Part::Text("\n")])?;
     }
     Ok(())
 }
@@ -100,43 +148,81 @@ fn without_zeros(bytes: &[u8]) -> &[u8] {
 }
 
 /// Writes the fields of a cue sheet and its tracks.
-fn write_sheet<W: Write>(lines: &mut W, sheet: &CueSheet) -> fmt::Result {
-    let catalogue = Escaped(without_zeros(&sheet.catalogue));
-    let (lead_in, cd) = (sheet.lead_in, u8::from(sheet.cd));
-    writeln!(lines, "  catalogue {catalogue} lead_in {lead_in} cd {cd}")?;
+fn write_sheet<W: Target>(lines: &mut Lines<W>, sheet: &CueSheet) -> Result<(), Why>
+    ensures { Prints W.Target lines.old.target lines.new.target result }
+{
+    lines.put_parts(&[
+        Part::Text("  catalogue "),
+        Part::Escaped(without_zeros(&sheet.catalogue)),
+        Part::Text(" lead_in "),
+        Part::Number(sheet.lead_in),
+        Part::Text(" cd "),
+        Part::Number(u64::from(sheet.cd)),
+        Part::Text("\n"),
+    ])?;
     for track in sheet.tracks.as_slice() {
         write_track(lines, track)?;
     }
     Ok(())
 }
 
-/// Writes the fields of a track and its index points.
-fn write_track<W: Write>(lines: &mut W, track: &CueTrack) -> fmt::Result {
-    let (number, offset) = (track.number, track.offset);
-    let isrc = Escaped(without_zeros(&track.isrc));
-    let kind = if track.audio { "audio" } else { "data" };
-    let pre_emphasis = u8::from(track.pre_emphasis);
-    writeln!(
-        lines,
-        "  track {number} offset {offset} isrc {isrc} type {kind} pre {pre_emphasis}"
-    )?;
+/// Writes the line of a track.
+fn write_track_line<W: Target>(lines: &mut Lines<W>, track: &CueTrack) -> Result<(), Why>
+    ensures { Prints W.Target lines.old.target lines.new.target result }
+{
+    lines.put_parts(&[
+        Part::Text("  track "),
+        Part::Number(u64::from(track.number)),
+        Part::Text(" offset "),
+        Part::Number(track.offset),
+        Part::Text(" isrc "),
+        Part::Escaped(without_zeros(&track.isrc)),
+        Part::Text(" type "),
+        Part::Text(if track.audio { "audio" } else { "data" }),
+        Part::Text(" pre "),
+        Part::Number(u64::from(track.pre_emphasis)),
+        Part::Text("\n"),
+    ])
+}
+
+/// Writes the line of a track, and one for each of its index points.
+fn write_track<W: Target>(lines: &mut Lines<W>, track: &CueTrack) -> Result<(), Why>
+    ensures { Prints W.Target lines.old.target lines.new.target result }
+{
+    write_track_line(lines, track)?;
     for index in track.indices.as_slice() {
-        let (number, offset) = (index.number, index.offset);
-        writeln!(lines, "  index {number} offset {offset}")?;
+        lines.put_parts(&[
+            Part::Text("  index "),
+            Part::Number(u64::from(index.number)),
+            Part::Text(" offset "),
+            Part::Number(index.offset),
+            Part::Text("\n"),
+        ])?;
     }
     Ok(())
 }
 
 /// Writes the fields of a picture, but not its data.
-fn write_picture<W: Write>(lines: &mut W, picture: &Picture) -> fmt::Result {
-    let kind = picture.kind;
-    let media = Escaped(picture.media.as_slice());
-    let text = Escaped(picture.text.as_slice());
-    write!(lines, "  type {kind} media {media} text {text}")?;
-    let (width, height, depth) = (picture.width, picture.height, picture.depth);
-    let (colours, length) = (picture.colours, picture.bytes.as_slice().len());
-    writeln!(
-        lines,
-        " size {width}x{height} depth {depth} colours {colours} data {length}"
-    )
+fn write_picture<W: Target>(lines: &mut Lines<W>, picture: &Picture) -> Result<(), Why>
+    ensures { Prints W.Target lines.old.target lines.new.target result }
+{
+    lines.put_parts(&[
+        Part::Text("  type "),
+        Part::Number(u64::from(picture.kind)),
+        Part::Text(" media "),
+        Part::Escaped(picture.media.as_slice()),
+        Part::Text(" text "),
+        Part::Escaped(picture.text.as_slice()),
+        Part::Text(" size "),
+        Part::Number(u64::from(picture.width)),
+        Part::Text("x"),
+        Part::Number(u64::from(picture.height)),
+        Part::Text(" depth "),
+        Part::Number(u64::from(picture.depth)),
+        Part::Text(" colours "),
+        Part::Number(u64::from(picture.colours)),
+        Part::Text(" data "),
+        Part::Number(picture.bytes.as_slice().len() as u64),
+        Part::Text("\n"),
+    ])
 }

@@ -52,28 +52,31 @@ fn sample(bytes: &[u8]) -> i32
     LittleEndian::read_int(bytes, bytes.len()) as i32
 }
 
-/// Fills places with the samples of one channel. The piece has as many inter-channel samples of `row` bytes each, in
+/// Fills places with the samples of one channel. The piece has as many inter-channel samples of `stride` bytes each, in
 /// which the channel's sample begins at byte `start` and has `width` bytes.
 #[inline(always)]
-fn put_samples(piece: &[u8], row: usize, start: usize, width: usize, places: &mut [i32])
-    requires whole { length piece.now ≡ length places.old * row }
+fn put_samples(piece: &[u8], stride: usize, start: usize, width: usize, places: &mut [i32])
+    requires whole { length piece.now ≡ length places.old * stride }
     requires width { (1 ≤ width) × (width ≤ 4) }
-    requires within { start + width ≤ row }
-    ensures { IsPart row start width piece.now (length places.old) places.new }
+    requires within { start + width ≤ stride }
+    ensures { IsPart stride start width piece.now (length places.old) places.new }
 {
     for i in 0..places.len() {
-        let at = i * row + start;
+        let at = i * stride + start;
         places[i] = sample(&piece[at..at + width]);
     }
 }
 
-/// Where the samples of one channel are in a piece of `rows` inter-channel samples of `row` bytes each: in each of
-/// these the channel's sample begins at byte `start`, and has `width` bytes.
+/// Where the samples of one channel are in a piece.
 #[derive(Clone, Copy)]
 struct Column {
-    rows: usize,
-    row: usize,
+    /// How many inter-channel samples the piece has.
+    count: usize,
+    /// How many bytes each of them has.
+    stride: usize,
+    /// At which of these bytes the channel's sample begins.
     start: usize,
+    /// How many bytes the channel's sample has.
     width: usize,
 }
 
@@ -86,17 +89,17 @@ fn push_samples_of(
     width: usize,
     samples: &mut Vec<i32>,
 ) -> Result<(), Why>
-    requires whole { length piece.now ≡ column.rows * column.row }
+    requires whole { length piece.now ≡ column.count * column.stride }
     requires width { (1 ≤ width) × (width ≤ 4) }
-    requires within { column.start + width ≤ column.row }
-    ensures more { OnOk result (IsMore (IsPart column.row column.start width) piece.now column.row column.rows samples.old.items samples.new.items) }
+    requires within { column.start + width ≤ column.stride }
+    ensures more { OnOk result (IsMore (IsPart column.stride column.start width) piece.now column.stride column.count samples.old.items samples.new.items) }
     ensures memory { IfErr result (λ e. e ≡ Why.Memory) }
 {
     let front = samples.len();
-    samples.resize(front + column.rows, 0)?;
+    samples.resize(front + column.count, 0)?;
     put_samples(
         piece,
-        column.row,
+        column.stride,
         column.start,
         width,
         &mut samples[front..],
@@ -106,10 +109,10 @@ fn push_samples_of(
 
 /// Adds the samples of one channel of a piece to `samples`.
 fn push_samples(piece: &[u8], column: Column, samples: &mut Vec<i32>) -> Result<(), Why>
-    requires whole { length piece.now ≡ column.rows * column.row }
+    requires whole { length piece.now ≡ column.count * column.stride }
     requires width { (1 ≤ column.width) × (column.width ≤ 4) }
-    requires within { column.start + column.width ≤ column.row }
-    ensures more { OnOk result (IsMore (IsPart column.row column.start column.width) piece.now column.row column.rows samples.old.items samples.new.items) }
+    requires within { column.start + column.width ≤ column.stride }
+    ensures more { OnOk result (IsMore (IsPart column.stride column.start column.width) piece.now column.stride column.count samples.old.items samples.new.items) }
     ensures memory { IfErr result (λ e. e ≡ Why.Memory) }
 {
     match column.width {
@@ -120,20 +123,20 @@ fn push_samples(piece: &[u8], column: Column, samples: &mut Vec<i32>) -> Result<
     }
 }
 
-/// Adds the samples of `rows` inter-channel samples to those of their channels.
-fn push_rows(piece: &[u8], rows: usize, width: usize, lists: &mut [Vec<i32>]) -> Result<(), Why>
+/// Adds the samples of `count` inter-channel samples to those of their channels.
+fn push_piece(piece: &[u8], count: usize, width: usize, lists: &mut [Vec<i32>]) -> Result<(), Why>
     requires channels { (1 ≤ length lists.old) × (length lists.old ≤ 8) }
     requires width { (1 ≤ width) × (width ≤ 4) }
-    requires whole { length piece.now ≡ rows * (length lists.old * width) }
-    ensures more { OnOk result (IsMore (AreParts (length lists.old) width) piece.now (length lists.old * width) rows (map (λ c. c.items) lists.old) (map (λ c. c.items) lists.new)) }
+    requires whole { length piece.now ≡ count * (length lists.old * width) }
+    ensures more { OnOk result (IsMore (AreParts (length lists.old) width) piece.now (length lists.old * width) count (map (λ c. c.items) lists.old) (map (λ c. c.items) lists.new)) }
     ensures memory { IfErr result (λ e. e ≡ Why.Memory) }
 {
     let channels = lists.len();
-    let row = channels * width;
+    let stride = channels * width;
     for channel in 0..channels {
         let column = Column {
-            rows,
-            row,
+            count,
+            stride,
             start: channel * width,
             width,
         };
@@ -175,16 +178,16 @@ pub(crate) fn read_channels<R: Source>(
     ensures part { IfOk result (λ o. o ≡ None → R.known source.old ≡ true → length (R.coming source.old) % (channels * width) ≢ 0) }
     ensures memory { IfErr result (λ e. R.known source.old ≡ true → R.raised source.new ≡ R.raised source.old → e ≡ Why.Memory) }
 {
-    let row = channels * width;
-    let size = PIECE / row * row;
+    let stride = channels * width;
+    let size = PIECE / stride * stride;
     let mut lists = no_samples(alloc, channels)?;
     let mut piece = [0u8; PIECE];
     'pieces: loop {
         let count = fill(source, &mut piece, size)?;
-        if count % row != 0 {
+        if count % stride != 0 {
             return Ok(None);
         }
-        push_rows(&piece[..count], count / row, width, &mut lists)?;
+        push_piece(&piece[..count], count / stride, width, &mut lists)?;
         if count < size {
             return Ok(Some(lists));
         }

@@ -88,6 +88,26 @@ fn count<R: Source>(alloc: Global, source: &mut R, profile: Profile) -> Result<C
     }
 }
 
+/// Decodes a stream into a listing of its metadata.
+fn list_into<R: Source, W: Target>(
+    alloc: Global,
+    source: &mut R,
+    profile: Profile,
+    sink: &mut Listing<W>,
+) -> Result<(), Fault>
+    requires none { sink.old.failures.count ≡ 0 }
+    requires began { sink.old.began.value ≡ sink.old.lines.target }
+    ensures stream { Tells R.Source source.old source.new → OnOk result ((parts : List Piece) × IsStream profile parts (R.coming source.old) (R.behind source.old)) }
+    ensures outcome { Tells R.Source source.old source.new →
+        Fits (IsUnlisted (Serves W.Target sink.old.lines.target sink.new.lines.target)) (Reads profile (R.coming source.old) (R.behind source.old)) (outcome_of at_place result) }
+    ensures names { W.names sink.new.lines.target ≡ W.names sink.old.lines.target }
+{
+    let outcome = decode_stream(alloc, source, profile, sink);
+    // Asked only for the proof, which then knows that each failure is an error of the target.
+    let _failures = sink.failures();
+    outcome
+}
+
 /// Decodes a stream, and lists its metadata.
 fn list<R: Source, O: Target>(
     alloc: Global,
@@ -97,10 +117,13 @@ fn list<R: Source, O: Target>(
 ) -> Result<(), Fault>
     ensures stream { Tells R.Source source.old source.new → OnOk result ((parts : List Piece) × IsStream profile parts (R.coming source.old) (R.behind source.old)) }
     ensures outcome { Tells R.Source source.old source.new →
-        Fits IsUnlisted (Reads profile (R.coming source.old) (R.behind source.old)) (outcome_of at_place result) }
+        Fits (IsUnlisted (Serves O.Target out.old out.new)) (Reads profile (R.coming source.old) (R.behind source.old)) (outcome_of at_place result) }
 {
-    let mut listing = Listing::new(out);
-    decode_stream(alloc, source, profile, &mut listing)
+    let mut sink = Listing::new(out);
+    let outcome = list_into(alloc, source, profile, &mut sink);
+    // Given back only for the proof: the clauses are about the target.
+    let _out = sink.into_target();
+    outcome
 }
 
 /// Writes the line of counts through a buffer.
@@ -257,7 +280,7 @@ fn run_list<R: Source, O: Target, E: Target>(
     ensures status { result ≤ 1 }
     ensures stream { result ≡ 0 → Tells R.Source source.old source.new → (parts : List Piece) × IsStream profile parts (R.coming source.old) (R.behind source.old) }
     ensures reported { Tells R.Source source.old source.new → Serves E.Target err.old err.new →
-        ReportsOf IsUnlisted (Reads profile (R.coming source.old) (R.behind source.old)) input.now result (E.sent err.old) (E.sent err.new) }
+        ReportsOf (IsUnlisted (Serves O.Target out.old out.new)) (Reads profile (R.coming source.old) (R.behind source.old)) input.now result (E.sent err.old) (E.sent err.new) }
 {
     match list(alloc, source, profile, out) {
         Ok(()) => 0,
@@ -339,8 +362,8 @@ pub fn run<R: Source, W: Target, O: Target, E: Target>(
     ensures status { result ≤ 1 }
     // If no device that the job uses fails: if the input is a stream, test, decode and list return 0 and add nothing to
     // standard error; if it is refused, they return 1 and add exactly the line of its place and reason. So does retag
-    // for the marker, the blocks and comments that are too long. Or memory ran out, or a block could not be listed:
-    // then the line says that.
+    // for the marker, the blocks and comments that are too long. Or memory ran out, or standard output failed while
+    // blocks were listed: then the line says that.
     ensures reported { Tells R.Source source.old source.new → Serves E.Target err.old err.new →
         ReportsInput task.now.job.now (R.coming source.old) (R.behind source.old) (Serves W.Target target.old target.new) (Serves O.Target out.old out.new) result (E.sent err.old) (E.sent err.new) }
 {

@@ -1,14 +1,33 @@
 -- Samples that fit a depth.
-use Rattle.std.proofs.Common.{◌&&◌, ◌≡◌, ℕ, ◌+◌, ◌-◌, ◌^◌, ◌<◌, ◌≤◌, ℤ, pos, negsuc, Bool, true, false, cond, List, [], ◌∷◌, ◌++◌, length, take, get_or, set, nat_eq, FitsSigned, w32, refl, sym, ap, ◌∙◌, arith}
-use Rattle.std.proofs.lemmas.Bool.{ltb-true}
+use Rattle.std.proofs.Common.{◌&&◌, ◌≡◌, ◌↔◌, ℕ, ◌+◌, ◌-◌, ◌*◌, ◌/◌, ◌^◌, ◌<◌, ◌≤◌, ℤ, pos, negsuc, Bool, true, false, cond, List, [], ◌∷◌, ◌++◌, length, take, get_or, set, nat_eq, FitsSigned, w32, refl, sym, ap, ◌∙◌, arith}
+use Rattle.std.proofs.lemmas.Bool.{ltb-true, lt-ltb}
 use Rattle.std.proofs.lemmas.Int.{ints}
 use Rattle.std.specs.Prelude.{bit_or}
 use Rattle.std.specs.List.{list_all}
 use Rattle.std.proofs.lemmas.Bool.Decides.{nat_tests}
-use Rattle.std.proofs.lemmas.Nat.{le_or_l, le_or_r}
+use Rattle.std.proofs.lemmas.Nat.{le_or_l, le_or_r, pow_pos}
 use Rattle.std.proofs.lemmas.List.{take_all, take_more, take_more_set}
-use Rattle.std.proofs.Math.Nat.{pow-le-pow_right}
+use Rattle.std.proofs.Math.Nat.{pow-le-pow_right, div-eq_of_lt, lt-div-mul-add}
+use Rattle.flac_bits.specs.Signed.{FitsBits}
 use Rattle.flac_subframe.specs.Numbers.{fits, all_fit}
+
+-- the test, and what it says
+pub fits-to : (n : ℕ) (z : ℤ) → fits n z ≡ true → FitsBits n z
+fits-to n (pos a) h = let lt : a < 2 ^ (n - 1) = ltb-true a (2 ^ (n - 1)) h in record { low = omega (arith, ints); high = omega (arith, ints, lt) }
+fits-to n (negsuc a) h = let lt : a < 2 ^ (n - 1) = ltb-true a (2 ^ (n - 1)) h in record { low = omega (arith, ints, lt); high = omega (arith, ints) }
+
+fits-from : (n : ℕ) (z : ℤ) → FitsBits n z → fits n z ≡ true
+fits-from n (pos a) f = lt-ltb a (2 ^ (n - 1)) (omega (arith, ints, f.high))
+fits-from n (negsuc a) f = lt-ltb a (2 ^ (n - 1)) (omega (arith, ints, f.low))
+
+-- what is left of a number in offset binary, without its lowest bits
+pub none_over : (n a : ℕ) (z : ℤ) → (a < 2 ^ n) ↔ FitsBits n z → a / 2 ^ n ≡ 0 → fits n z ≡ true
+none_over n a z is e =
+    let lt : a < 0 * 2 ^ n + 2 ^ n = rw e at (lt-div-mul-add {a = a} {b = 2 ^ n} (pow_pos n)) in
+    fits-from n z (is.0 (omega (arith, lt)))
+
+pub over_none : (n a : ℕ) (z : ℤ) → (a < 2 ^ n) ↔ FitsBits n z → fits n z ≡ true → a / 2 ^ n ≡ 0
+over_none n a z is h = div-eq_of_lt (is.1 (fits-to n z h))
 
 up : (n : ℕ) → n ≤ 32 → 2 ^ (n - 1) ≤ 2 ^ 31
 up n few = pow-le-pow_right {n = 2} (omega arith) {i = n - 1} {j = 31} (omega arith)

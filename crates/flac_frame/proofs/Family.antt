@@ -13,7 +13,8 @@ use Rattle.flac_frame.specs.Encoding.{partition_limit, IsEncoding, EachStands, I
 use Rattle.flac_frame.specs.inner.Encoding.{AreLeast}
 use Rattle.flac_frame.specs.Spelling.{FrameForm, frame_spelling, subframes_spelling}
 use Rattle.flac_frame.specs.Stereo.{kept_as}
-use Rattle.flac_frame.proofs.Short.{header_long, whole_long}
+use Rattle.flac_header.proofs.Lengths.{header_long}
+use Rattle.flac_frame.proofs.Short.{whole_long}
 use Rattle.flac_frame.proofs.Wholes.{texts_are, codes_are}
 
 -- ---- headers that differ by their channel code alone

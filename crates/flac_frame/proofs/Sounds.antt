@@ -1,5 +1,5 @@
 -- Samples that can be encoded.
-use Rattle.std.proofs.Common.{◌≡◌, ℕ, ◌<◌, ◌≤◌, ◌^◌, Bool, true, false, cond, ◌||◌, nat_eq, nat_lt, nat_le, ℤ, List, [], ◌∷◌, map, length, take, set, ◌+◌, ◌++◌, get_or, Option, Some, None, is_some, is_none, ◌-◌, pos, negsuc, not, All, ◌&&◌, refl, sym, ap, ◌∙◌, arith}
+use Rattle.std.proofs.Common.{◌≡◌, ℕ, ◌<◌, ◌≤◌, ◌^◌, Bool, true, false, cond, ◌||◌, nat_eq, nat_lt, nat_le, ℤ, List, [], ◌∷◌, map, length, take, set, ◌+◌, ◌++◌, get_or, Option, Some, None, is_some, is_none, ◌-◌, not, All, ◌&&◌, refl, sym, ap, ◌∙◌, arith}
 use Rattle.std.specs.List.{list_all}
 use Rattle.std.proofs.lemmas.List.{take_more, take_more_set, map-append}
 use Rattle.std.proofs.lemmas.List.Folds.{list_all-map}
@@ -9,8 +9,6 @@ use Rattle.flac_frame.specs.Setup.{format_fault}
 use Rattle.flac_frame.specs.Audio.{samples_each, as_long, each_small, samples_fault, channels_fault, audio_fault, IsSound}
 use Rattle.flac_frame.specs.declared.setup.SetupFault.{SetupFault}
 use Rattle.flac_frame.specs.declared.setup.SetupFault.TheVariants.{BadRate, BadDepth, BadChannels, LengthsDiffer, SampleTooLarge, TooLong}
-use Rattle.std.proofs.lemmas.Int.{ints}
-use Rattle.std.proofs.lemmas.Bool.{ltb-true}
 use Rattle.std.proofs.lemmas.List.Elements.{All-nil, All-cons}
 use Rattle.flac_bits.specs.Signed.{FitsBits}
 use Rattle.std.proofs.lemmas.Bool.Decides.{nat_tests}
@@ -19,16 +17,17 @@ use Rattle.flac_header.specs.declared.subset.Profile.{Profile}
 use Rattle.flac_header.specs.declared.subset.Profile.TheVariants.{Subset, Lax}
 use Rattle.flac_frame.specs.Frame.{limits_at}
 use Rattle.flac_frame.specs.Encoding.{most_in}
+use Rattle.flac_frame.proofs.Depths.{fits-to}
 
 pub samples_in_first : {X : Type 0} (f : X → List ℤ) (xs : List X) (d : X) → 0 < length xs → length (get_or (map f xs) 0 []) ≡ length (f (get_or xs 0 d))
 samples_in_first f [] d h = absurd (omega (arith, h))
 samples_in_first f (x ∷ xs) d h = refl
 
 -- the tests on the lists that vectors hold
-pub long_of : {X : Type 0} (f : X → List ℤ) (xs : List X) (n : ℕ) (b : Bool) → b ≡ list_all (λ c. nat_eq (length (f c)) n) xs → n ≡ samples_each (map f xs) → b ≡ as_long (map f xs)
+long_of : {X : Type 0} (f : X → List ℤ) (xs : List X) (n : ℕ) (b : Bool) → b ≡ list_all (λ c. nat_eq (length (f c)) n) xs → n ≡ samples_each (map f xs) → b ≡ as_long (map f xs)
 long_of f xs n b e is = e ∙ sym (list_all-map (λ c. nat_eq (length c) n) f xs) ∙ ap (λ k. list_all (λ c. nat_eq (length c) k) (map f xs)) is
 
-pub small_of : {X : Type 0} (f : X → List ℤ) (xs : List X) (bits : ℕ) (b : Bool) → b ≡ list_all (λ c. list_all (fits bits) (f c)) xs → b ≡ each_small bits (map f xs)
+small_of : {X : Type 0} (f : X → List ℤ) (xs : List X) (bits : ℕ) (b : Bool) → b ≡ list_all (λ c. list_all (fits bits) (f c)) xs → b ≡ each_small bits (map f xs)
 small_of f xs bits b e = e ∙ sym (list_all-map (λ c. list_all (fits bits) c) f xs)
 
 -- what is refused, and what is not
@@ -128,10 +127,6 @@ limit_same Lax rate = refl
 
 -- ---- what holds of samples that can be encoded
 
-fits_is : (n : ℕ) (z : ℤ) → fits n z ≡ true → FitsBits n z
-fits_is n (pos a) h = let lt : a < 2 ^ (n - 1) = ltb-true a (2 ^ (n - 1)) h in record { low = omega (arith, ints); high = omega (arith, ints, lt) }
-fits_is n (negsuc a) h = let lt : a < 2 ^ (n - 1) = ltb-true a (2 ^ (n - 1)) h in record { low = omega (arith, ints, lt); high = omega (arith, ints) }
-
 both : (a b : Bool) → (a && b) ≡ true → (a ≡ true) × (b ≡ true)
 both true true e = (refl, refl)
 both true false e = absurd cc
@@ -178,6 +173,6 @@ sound_is profile rate bits cs e =
       some = n.0;
       few = n.1;
       long = all_of (λ c. length c ≡ samples_each cs) (λ c. nat_eq (length c) (samples_each cs)) (same_length (samples_each cs)) cs (kept_true (as_long cs) d.0);
-      small = all_of (λ c. All (FitsBits bits) c) (λ c. list_all (fits bits) c) (λ c h. all_of (FitsBits bits) (fits bits) (fits_is bits) c h) cs (kept_true (each_small bits cs) f.0);
+      small = all_of (λ c. All (FitsBits bits) c) (λ c. list_all (fits bits) c) (λ c h. all_of (FitsBits bits) (fits bits) (fits-to bits) c h) cs (kept_true (each_small bits cs) f.0);
       short = not_over (samples_each cs) g.0;
     }

@@ -8,30 +8,32 @@ use Rattle.flac_subframe.specs.Numbers.{fits}
 use Rattle.flac_frame.specs.declared.setup.SetupFault.{SetupFault}
 use Rattle.flac_frame.specs.declared.setup.SetupFault.TheVariants.{BadRate, BadDepth, BadChannels, LengthsDiffer, SampleTooLarge, TooLong}
 
--- The profile of the streams that the samples may be in, the rate in Hz, the bits of a sample, and the samples of each channel.
+-- The profile of the streams that the samples may be in, the sample rate in Hz, the bits per sample, and the samples of
+-- each channel.
 pub record Sound : Type 0 where
   pub profile : Profile
   pub rate : ℕ
   pub bits : ℕ
   pub channels : List (List ℤ)
 
--- how many samples each channel has, where all have as many
+-- how many samples each channel has, if all have as many
 abbrev pub samples_each : List (List ℤ) → ℕ
 samples_each channels = length (slice_index_or channels 0 [])
 
 abbrev pub as_long : List (List ℤ) → Bool
 as_long channels = list_all (λ c. nat_eq (length c) (samples_each channels)) channels
 
--- each sample is a number of so many bits
+-- each sample is a number of `bits` bits
 abbrev pub each_small : ℕ → List (List ℤ) → Bool
 each_small bits channels = list_all (λ c. list_all (fits bits) c) channels
 
--- Why the samples of channels cannot be encoded, if so: the channels differ in length, or a sample does not fit its bits.
+-- Why the samples of channels cannot be encoded, if so: the channels differ in length, or a sample does not fit its
+-- bits.
 unfoldable pub samples_fault : (bits : ℕ) → List (List ℤ) → Option SetupFault
 samples_fault bits channels = cond (not (as_long channels)) (Some LengthsDiffer) (cond (not (each_small bits channels)) (Some SampleTooLarge) None)
 
--- Why channels cannot be encoded, if so: there are 1 to 8 (RFC 9639, section 9.1.3), of one length; a sample does not fit its bits; or STREAMINFO
--- cannot tell how many samples they have (section 8.2).
+-- Why channels cannot be encoded, if so: there are 1 to 8 (RFC 9639, section 9.1.3), of one length; a sample does not
+-- fit its bits; or they have more samples than STREAMINFO can count (section 8.2).
 unfoldable pub channels_fault : (bits : ℕ) → List (List ℤ) → Option SetupFault
 channels_fault bits channels =
     cond (nat_eq (length channels) 0 || nat_lt 8 (length channels)) (Some BadChannels)
@@ -39,13 +41,13 @@ channels_fault bits channels =
     (cond (not (each_small bits channels)) (Some SampleTooLarge)
     (cond (nat_le (2 ^ 36) (samples_each channels)) (Some TooLong) None)))
 
--- Why samples cannot be encoded, if so: under the profile no frame header has a code for the rate or for the depth (sections 7, 9.1.2 and 9.1.4), or the
--- channels cannot be.
+-- Why samples cannot be encoded, if so: under the profile no frame header has a code for the rate or for the depth
+-- (sections 7, 9.1.2 and 9.1.4), or the channels cannot be encoded.
 unfoldable pub audio_fault : Profile → (rate bits : ℕ) → List (List ℤ) → Option SetupFault
 audio_fault profile rate bits channels =
     cond (is_none (rate_choice_in profile rate)) (Some BadRate) (cond (is_none (depth_choice_in profile bits)) (Some BadDepth) (channels_fault bits channels))
 
--- what holds of samples that can be encoded
+-- the properties of samples that can be encoded
 pub record IsSound (a : Sound) : Type 0 where
   pub rate : is_some (rate_choice_in a.profile a.rate) ≡ true
   pub bits : is_some (depth_choice_in a.profile a.bits) ≡ true

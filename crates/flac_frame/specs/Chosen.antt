@@ -1,4 +1,4 @@
--- How a block is written as a frame, as it is chosen before anything of it is written.
+-- How a block is written as a frame, chosen before anything of it is written.
 use Rattle.std.specs.Prelude.{◌≡◌, ◌≤◌, ◌^◌, ℕ, ℤ, List, [], ◌∷◌, length, Some, All, vec_len, ⊤}
 use Rattle.flac_header.specs.Choice.{chosen_header}
 use Rattle.flac_subframe.specs.declared.wide.WideChoice.{WideChoice}
@@ -11,20 +11,22 @@ use Rattle.flac_frame.specs.Spelling.{FrameForm}
 use Rattle.flac_frame.specs.Stereo.{kept_as}
 use Rattle.flac_frame.specs.declared.frame_choice.FrameChoice.{FrameChoice}
 
--- the forms that choices stand for, with the linear predictors that were handed in, of the samples of a channel each; there may be more choices than channels
+-- the forms of choices for the samples of each channel, with the linear predictors of the list; there may be more
+-- choices than channels
 abbrev pub forms_of : List LinearPredictor → List WideChoice → List (List ℤ) → List Form
 forms_of ps choices [] = []
 forms_of ps [] (s ∷ ss) = []
 forms_of ps (c ∷ cs) (s ∷ ss) = form_in ps c s ∷ forms_of ps cs ss
 
--- the choices were made of the samples of a channel each
+-- each choice was made for the samples of its channel
 abbrev pub AreMade : List LinearPredictor → List WideChoice → List (List ℤ) → Type 0
 AreMade ps choices [] = ⊤
 AreMade ps [] (s ∷ ss) = ⊥
 AreMade ps (c ∷ cs) (s ∷ ss) = IsMadeIn ps c s × AreMade ps cs ss
 
--- What was chosen of a block makes its least frame, under the header of its number: the subframes are chosen of what the channel code keeps of the block. The
--- frame is short, and the bits are those of its subframes.
+-- What was chosen for a block makes its shortest frame, under the header of its number: the subframes are chosen for
+-- the channels that the channel code stores. The frame has at most 16777215 bytes, and `bits` are those of its
+-- subframes.
 pub record IsChoiceWith (ps : List LinearPredictor) (sound : Sound) (size number : ℕ) (block : List (List ℤ)) (c : FrameChoice) : Type 0 where
   pub form : FrameForm
   pub header : chosen_header sound.profile size sound.rate c.code sound.bits number ≡ Some form.header
@@ -35,11 +37,11 @@ pub record IsChoiceWith (ps : List LinearPredictor) (sound : Sound) (size number
   pub short : IsShort sound.bits form
   pub cost : c.bits ≡ subframes_cost sound.bits form
 
--- each place has room for partition orders up to a greatest
+-- each array is long enough for partition orders up to `most`
 abbrev pub AllWide : (most : ℕ) → List WideChoice → Type 0
 AllWide most choices = All (λ c. 2 ^ most ≤ vec_len c.codings) choices
 
--- there is a place for the subframe of each channel, with partition orders up to a greatest
+-- there is a choice for the subframe of each channel, with arrays for partition orders up to `most`
 pub record HasPlaces (channels most : ℕ) (c : FrameChoice) : Type 0 where
   pub many : channels ≤ length c.subframes.items
   pub wide : AllWide most c.subframes.items

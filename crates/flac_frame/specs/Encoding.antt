@@ -24,19 +24,19 @@ use Rattle.flac_frame.specs.Stereo.{kept_as}
 use Rattle.flac_frame.specs.Spelling.{FrameForm, frame_spelling, subframes_spelling, AreSubframes, IsFrame, FrameSamples}
 use Rattle.flac_frame.specs.declared.before.Before.{Before}
 
--- a form that stands for samples of a depth may be spelled in a block of as many, and has these samples
+-- a form that encodes samples of a depth may be spelled in a block of as many, and has these samples
 abbrev pub FormsStand : Type 0
 FormsStand = (depth : ℕ) (limits : Limits) (f : Form) (s : List ℤ) → 1 ≤ depth → 0 < length s → 8 ≤ limits.partition → All (FitsBits depth) s → Stands 8 (fixed_below 5) f s
     → IsSubframe depth (length s) limits f × (samples_of depth (length s) f ≡ Some s)
 
 -- ---- a frame
 
--- the samples of a block: so many of each channel, from one on
+-- the samples of a block: `size` samples of each channel, from `start` on
 abbrev pub block_of : (start size : ℕ) → List (List ℤ) → List (List ℤ)
 block_of start size channels = map (λ c. take size (drop start c)) channels
 
--- A frame of a block of samples: the header has fixed blocking, the frame's number and the codes for the block size, the rate and the depth (the channel code
--- is free); the subframes may be spelled, and the channels are the block's.
+-- A frame of a block of samples: the header has fixed blocking, the frame's number and the codes for the block size,
+-- the rate and the depth (the channel code is free); the subframes may be spelled, and the channels are the block's.
 pub record IsEncoding (sound : Sound) (size number : ℕ) (block : List (List ℤ)) (f : FrameForm) : Type 0 where
   pub code : ℕ
   pub header : chosen_header sound.profile size sound.rate code sound.bits number ≡ Some f.header
@@ -46,11 +46,12 @@ pub record IsEncoding (sound : Sound) (size number : ℕ) (block : List (List �
   pub subframes : AreSubframes sound.bits code size (limits_at sound.profile sound.rate) 0 f.subframes
   pub samples : FrameSamples sound.bits f block
 
--- the greatest partition order of a profile's subframes: 8 in the subset, 15 otherwise, whatever the rate (sections 7 and 9.2.7)
+-- the largest partition order of a profile's subframes: 8 in the subset, 15 otherwise, whatever the rate (sections 7
+-- and 9.2.7)
 abbrev pub most_in : Profile → ℕ
 most_in profile = (limits_at profile 0).partition
 
--- the greatest partition order of the samples' subframes
+-- the largest partition order of the samples' subframes
 abbrev pub partition_limit : Sound → ℕ
 partition_limit sound = (limits_at sound.profile sound.rate).partition
 
@@ -58,15 +59,15 @@ partition_limit sound = (limits_at sound.profile sound.rate).partition
 abbrev pub IsShort : ℕ → FrameForm → Type 0
 IsShort depth f = length (frame_spelling depth f) ≤ 8 * 16777215
 
--- each form stands for one of the channels, in the family above
+-- each form encodes one of the channels, in the family above
 abbrev pub EachStands : (most : ℕ) → List LinearPredictor → List Form → List (List ℤ) → Type 0
 EachStands most ps [] [] = ⊤
 EachStands most ps [] (s ∷ ss) = ⊥
 EachStands most ps (f ∷ fs) [] = ⊥
 EachStands most ps (f ∷ fs) (s ∷ ss) = Stands most (offered ps) f s × EachStands most ps fs ss
 
--- The frames of a block among which the least is chosen: under any channel code for as many channels, the subframes are forms of the family for what the code
--- keeps of the block. Linear predictors that are handed in widen it by just their forms.
+-- The frames of a block of which the shortest is chosen: under any channel code for as many channels, the subframes are
+-- forms of the family for the channels that the code stores. The linear predictors of the list add exactly their forms.
 pub record IsOfWidened (ps : List LinearPredictor) (sound : Sound) (size number : ℕ) (block : List (List ℤ)) (f : FrameForm) : Type 0 where
   pub encoding : IsEncoding sound size number block f
   pub stand : EachStands (partition_limit sound) ps f.subframes (kept_as f.header.channel_code block)
@@ -74,21 +75,23 @@ pub record IsOfWidened (ps : List LinearPredictor) (sound : Sound) (size number 
 abbrev pub IsOfFamily : Sound → (size number : ℕ) → List (List ℤ) → FrameForm → Type 0
 IsOfFamily sound size number block f = IsOfWidened [] sound size number block f
 
--- the subframes are of the family, each for its samples: constant, verbatim or by a fixed predictor, and without all the bits that these lack
+-- the subframes are of the family, each for its samples: constant, verbatim or by a fixed predictor, with all wasted
+-- bits left out
 abbrev pub EachInFamily : List Form → List (List ℤ) → Type 0
 EachInFamily [] [] = ⊤
 EachInFamily [] (s ∷ ss) = ⊥
 EachInFamily (f ∷ fs) [] = ⊥
 EachInFamily (f ∷ fs) (s ∷ ss) = InFamily f s × EachInFamily fs ss
 
--- the same where linear predictors are handed in: also by just one of these
+-- the same with linear predictors: also by one of the list
 abbrev pub EachInWidened : List LinearPredictor → List Form → List (List ℤ) → Type 0
 EachInWidened ps [] [] = ⊤
 EachInWidened ps [] (s ∷ ss) = ⊥
 EachInWidened ps (f ∷ fs) [] = ⊥
 EachInWidened ps (f ∷ fs) (s ∷ ss) = InWidened ps f s × EachInWidened ps fs ss
 
--- these frames are just the encodings of a block, under any channel code, whose subframes are of the family, each for the samples that it has
+-- these frames are exactly the encodings of a block, under any channel code, whose subframes are of the family, each
+-- for its samples
 abbrev pub FrameFamilyIsPlain : Type 0
 FrameFamilyIsPlain = (sound : Sound) (size number : ℕ) (block : List (List ℤ)) (f : FrameForm)
     → IsOfFamily sound size number block f ↔ ((e : IsEncoding sound size number block f) × EachInFamily f.subframes e.samples.kept)
@@ -101,21 +104,23 @@ FrameWidenedIsPlain = (ps : List LinearPredictor) (sound : Sound) (size number :
 abbrev pub subframes_cost : ℕ → FrameForm → ℕ
 subframes_cost depth f = length (subframes_spelling depth f.header.channel_code 0 f.subframes)
 
--- No frame of the family is shorter; none takes fewer bits for its subframes, which the zeros up to a whole byte may hide; and where the channel code is lower, they take more.
+-- No frame of the family is shorter; none takes fewer bits for its subframes, which the padding to a whole byte may
+-- hide; and with a smaller channel code, they take more.
 pub record IsLeastWith (ps : List LinearPredictor) (sound : Sound) (size number : ℕ) (block : List (List ℤ)) (f : FrameForm) : Type 0 where
   pub least : IsLeast (IsOfWidened ps sound size number block) (λ g. length (frame_spelling sound.bits g)) f
   pub fewest : (g : FrameForm) → IsOfWidened ps sound size number block g → subframes_cost sound.bits f ≤ subframes_cost sound.bits g
   pub first : (g : FrameForm) → IsOfWidened ps sound size number block g → g.header.channel_code < f.header.channel_code → subframes_cost sound.bits f < subframes_cost sound.bits g
 
--- at a whole byte, where the checks begin, the spelling of such a frame was written, the least of the family, and short
+-- at a whole byte, at which the checks begin, the spelling of such a frame was written, the shortest of the family, of
+-- at most 16777215 bytes
 abbrev pub WritesFrameWith : {X : Type 0} → List LinearPredictor → Sound → (size number : ℕ) → List (List ℤ) → Written → Written → Result X Why → Type 0
 WritesFrameWith ps sound size number block old new result = (f : FrameForm) × IsEncoding sound size number block f × (IsLeastWith ps sound size number block f × IsShort sound.bits f) × Writes (frame_spelling sound.bits f) (restarted old) new result
 
 abbrev pub WritesFrame : {X : Type 0} → Sound → (size number : ℕ) → List (List ℤ) → Written → Written → Result X Why → Type 0
 WritesFrame sound size number block old new result = WritesFrameWith [] sound size number block old new result
 
--- What is encoded of samples of the format that STREAMINFO tells has a header of that format, which their profile allows where the block is not too long for its
--- rate; and where the header keeps the rules behind what the frames before leave, it is a frame of the block.
+-- A frame of samples in the format of STREAMINFO has a header of that format, which the profile allows if the block is
+-- not too long for the rate; and if the header keeps the rules after the frames before, it is a frame of the block.
 pub record IsFrameOf (profile : Profile) (info : Info) (size number : ℕ) (block : List (List ℤ)) (f : FrameForm) : Type 0 where
   pub fixed : f.header.variable ≡ false
   pub numbered : f.header.number ≡ number

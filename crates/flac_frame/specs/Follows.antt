@@ -1,4 +1,4 @@
--- How the frames of a stream follow one another, said of the list of all their headers.
+-- How the frames of a stream follow one another, as a property of the list of all their headers.
 use Rattle.std.specs.Prelude.{◌≡◌, ℕ, ◌+◌, ◌≤◌, Bool, true, false, cond, List, [], ◌∷◌, ◌++◌, Option, Some, None, All, ⊤, ◌↔◌}
 use Rattle.flac_bits.specs.State.{Mark, past, fresh}
 use Rattle.flac_bits.specs.Meaning.{Spells, AllKept}
@@ -10,7 +10,7 @@ use Rattle.flac_header.specs.declared.subset.Profile.{Profile}
 use Rattle.flac_frame.specs.Frame.{Frame, frame, frame_body, header_rules, rate_in, depth_in, left_by, after}
 use Rattle.flac_frame.specs.declared.before.Before.{Before}
 
--- of every two headers, one behind the other
+-- of every two headers, one after the other
 abbrev pub EachTwo : (Header → Header → Type 0) → List Header → Type 0
 EachTwo P [] = ⊤
 EachTwo P (g ∷ []) = ⊤
@@ -22,7 +22,8 @@ ButLast P [] = ⊤
 ButLast P (g ∷ []) = ⊤
 ButLast P (g ∷ h ∷ hs) = P g × ButLast P (h ∷ hs)
 
--- the number is the one before plus 1, or plus that block's size where first samples are numbered (RFC 9639, section 9.1.5)
+-- the number is the one before plus 1, or plus that block's size if first samples are numbered (RFC 9639,
+-- section 9.1.5)
 abbrev pub NumberFollows : Header → Header → Type 0
 NumberFollows g h = h.number ≡ g.number + cond g.variable g.size 1
 
@@ -32,9 +33,10 @@ pub record HasFormat (profile : Profile) (info : Info) (h : Header) : Type 0 whe
   pub channels : channels_of h.channel_code ≡ info.channels
   pub depth : depth_in profile info h ≡ info.depth
 
--- The headers of all frames of a stream. Each is allowed by the profile and has the format of STREAMINFO; the blocking strategy is one
--- (section 9.1), and the numbers follow on; no block is above the greatest size, and each but the last has at least the least (section 8.2);
--- with fixed blocking each but the last has the same size, and the last is no larger (section 9.1).
+-- The headers of all frames of a stream. Each is allowed by the profile and has the format of STREAMINFO; the blocking
+-- strategy is one (section 9.1), and the numbers follow on; no block is above the largest size, and each but the last
+-- has at least the smallest (section 8.2); with fixed blocking each but the last has the same size, and the last is no
+-- larger (section 9.1).
 pub record Follows (profile : Profile) (info : Info) (headers : List Header) : Type 0 where
   pub variable : Bool
   pub size : ℕ
@@ -47,9 +49,9 @@ pub record Follows (profile : Profile) (info : Info) (headers : List Header) : T
   pub same : variable ≡ false → ButLast (λ h. h.size ≡ size) headers
   pub no_larger : variable ≡ false → All (λ h. h.size ≤ size) headers
 
--- ---- what a reader judges
+-- ---- what a reader checks
 
--- no rule at the end of a header is broken, of each behind what those before it leave
+-- no rule at the end of a header is broken, each after the frames before it
 abbrev pub AreAccepted : Profile → Info → Option Before → List Header → Type 0
 AreAccepted profile info before [] = ⊤
 AreAccepted profile info before (h ∷ hs) = AllKept (header_rules profile info before h) × AreAccepted profile info (Some (left_by before h.variable h.number h.size)) hs
@@ -60,7 +62,7 @@ AcceptedFollow = (profile : Profile) (info : Info) (headers : List Header) → A
 
 -- ---- frames
 
--- frames alone, as a reader takes them: each behind what those before it leave
+-- frames alone, as a reader takes them: each in the state after those before it
 abbrev pub frames : Profile → Info → Option ℕ → Grammar (Option Before) Frame ⊤
 frames profile info room = record {
   layout = frame profile info;

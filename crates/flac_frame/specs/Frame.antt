@@ -13,18 +13,19 @@ use Rattle.flac_subframe.specs.Subframe.{subframe_samples}
 use Rattle.flac_frame.specs.Stereo.{joined}
 use Rattle.flac_frame.specs.declared.before.Before.{Before}
 
--- A frame: whether its number is that of its first sample, the number, the samples a channel, and those of each channel.
+-- A frame: whether its number is that of its first sample, the number, the block size, and the samples of each channel.
 pub record Frame : Type 0 where
   pub variable : Bool
   pub number : ℕ
   pub size : ℕ
   pub channels : List (List ℤ)
 
--- the number of a frame's first sample, by its header: coded there, or as many blocks before it as the number of the frame (section 9.1.5)
+-- the number of a frame's first sample, by its header: coded there, or as many blocks before it as the number of the
+-- frame (section 9.1.5)
 abbrev pub first_sample : (block_size : ℕ) → Frame → ℕ
 first_sample block_size f = cond f.variable f.number (f.number * block_size)
 
--- what a frame leaves for those behind it: frames are counted, or numbered by their first samples (section 9.1.5)
+-- the state after a frame: frames are counted, or numbered by their first samples (section 9.1.5)
 abbrev pub left_by : Option Before → (variable : Bool) → (number size : ℕ) → Before
 left_by None variable number size = record { first_size = size; variable = variable; next = number + cond variable size 1; size = size }
 left_by (Some b) variable number size = record { first_size = b.first_size; variable = variable; next = number + cond variable size 1; size = size }
@@ -32,7 +33,7 @@ left_by (Some b) variable number size = record { first_size = b.first_size; vari
 abbrev pub after : Option Before → Frame → Before
 after before f = left_by before f.variable f.number f.size
 
--- ---- what the end of a frame's header is judged by
+-- ---- the rules at the end of a frame's header
 
 -- a code of 0 leaves the rate, or the depth, to STREAMINFO (sections 9.1.2 and 9.1.4), which the subset does not allow
 abbrev pub leaves_out : Profile → (code : ℕ) → Bool
@@ -46,7 +47,7 @@ rate_in profile info h = cond (leaves_out profile h.rate_code) info.rate h.rate
 abbrev pub depth_in : Profile → Info → Header → ℕ
 depth_in profile info h = cond (leaves_out profile h.depth_code) info.depth (depth_of h.depth_code)
 
--- rate, channel count or depth is not what STREAMINFO says
+-- rate, channel count or depth is not that of STREAMINFO
 abbrev pub differs : Profile → Info → Header → Bool
 differs profile info h = not (nat_eq (rate_in profile info h) info.rate && nat_eq (channels_of h.channel_code) info.channels && nat_eq (depth_in profile info h) info.depth)
 
@@ -61,7 +62,7 @@ abbrev pub breaks_size : Info → Option Before → Header → Bool
 breaks_size info None h = nat_lt info.greatest_block h.size
 breaks_size info (Some b) h = nat_lt info.greatest_block h.size || nat_lt b.size info.least_block || (not h.variable && (not (nat_eq b.size b.first_size) || nat_lt b.first_size h.size))
 
--- what the end of a header is judged by, in the order of rank
+-- the rules at the end of a header, in the order of rank
 abbrev pub header_rules : Profile → Info → Option Before → Header → List Rule
 header_rules profile info before h =
     record { broken = not (allowed profile h); why = NotSubset } ∷
@@ -78,7 +79,7 @@ stream_header profile info before = do
 
 -- ---- the subframes
 
--- what a profile allows of a subframe: the subset (section 7), or all that the fields can say (sections 9.2.1 and 9.2.7)
+-- what a profile allows of a subframe: the subset (section 7), or all values of the fields (sections 9.2.1 and 9.2.7)
 abbrev pub limits_at : Profile → (rate : ℕ) → Limits
 limits_at Subset rate = record { partition = 8; linear = cond (nat_le rate 48000) 12 32 }
 limits_at Lax rate = record { partition = 15; linear = 32 }
@@ -90,13 +91,13 @@ limits_of profile info = limits_at profile info.rate
 unfoldable pub side_bit : ℕ → ℕ → ℕ
 side_bit code channel = cond (nat_eq code 9) (cond (nat_eq channel 0) 1 0) (cond (nat_lt 7 code && nat_eq channel 1) 1 0)
 
--- the samples of one more channel, where those of all channels fit
+-- the samples of one more channel, if those of all channels fit
 abbrev pub with_channel : Option (List (List ℤ)) → Option (List ℤ) → Option (List (List ℤ))
 with_channel (Some channels) (Some channel) = Some (channels ++ channel ∷ [])
 with_channel (Some channels) None = None
 with_channel None channel = None
 
--- The subframes of n channels from one on, behind those that were read.
+-- The subframes of n channels from one on, after those that were read.
 unfoldable pub subframes : (depth code block : ℕ) → Limits → Option (List (List ℤ)) → (channel n : ℕ) → Layout (Option (List (List ℤ)))
 subframes depth code block limits got channel zero = done got
 subframes depth code block limits got channel (suc n) = do
@@ -123,12 +124,12 @@ abbrev pub each_fits : ℕ → List (List ℤ) → Bool
 each_fits depth [] = true
 each_fits depth (channel ∷ channels) = cond (all_fit depth channel) (each_fits depth channels) false
 
--- the samples of all channels, where each fits the depth
+-- the samples of all channels, if each fits the depth
 abbrev pub in_range : (depth code : ℕ) → Option (List (List ℤ)) → Option (List (List ℤ))
 in_range depth code None = None
 in_range depth code (Some channels) = cond (each_fits depth (joined code channels)) (Some (joined code channels)) None
 
--- what there is, or the reason
+-- the value, or the reason if there is none
 abbrev pub some_or : {A : Type 0} → Why → Option A → Layout A
 some_or why (Some x) = done x
 some_or why None = refuse why
@@ -141,7 +142,7 @@ frame_body profile info h = do
   channels ← some_or SampleRange (in_range info.depth h.channel_code samples)
   done (record { variable = h.variable; number = h.number; size = h.size; channels = channels })
 
--- a frame behind those before it
+-- a frame after those before it
 unfoldable pub frame : Profile → Info → Option Before → Layout Frame
 frame profile info before = do
   h ← stream_header profile info before

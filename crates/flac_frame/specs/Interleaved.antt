@@ -1,5 +1,5 @@
--- The samples of all channels in one list: those at the first index, channel by channel, then those at the next, and so on, as STREAMINFO's digest takes them
--- (RFC 9639, section 8.2).
+-- The samples of all channels in one list: those at the first index, channel by channel, then those at the next, and so
+-- on. This is the order of the MD5 input (RFC 9639, section 8.2).
 use Rattle.std.specs.Prelude.{ℕ, zero, suc, ◌+◌, ℤ, pos, List, [], ◌∷◌, ◌++◌, slice_index_or}
 use Rattle.flac_frame.specs.Frame.{Frame}
 

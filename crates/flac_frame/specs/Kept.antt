@@ -4,7 +4,8 @@ use Rattle.flac_bits.specs.declared.why.Why.{Why}
 use Rattle.flac_frame.specs.declared.before.Before.{Before}
 use Rattle.flac_frame.specs.Frame.{Frame, after}
 
--- How many channels and how many samples of each the arrays have room for, what the frames before leave, and the frame that was read last.
+-- How many channels and how many samples of each the arrays have room for, the state after the frames before, and the
+-- frame that was read last.
 pub record Kept : Type 0 where
   pub channels : ℕ
   pub max_block : ℕ
@@ -15,7 +16,7 @@ pub record Kept : Type 0 where
 abbrev pub nothing : Frame
 nothing = record { variable = false; number = 0; size = 0; channels = [] }
 
--- the buffers behind a frame that was lent, or that was refused
+-- the buffers after a frame that was returned, or that was refused
 abbrev pub LeavesIn : {X : Type 0} → Kept → Kept → (X → Frame) → Result X Why → Type 0
 LeavesIn old last shown (Ok x) = (last.before ≡ Some (after old.before (shown x))) × (last.held ≡ shown x)
 LeavesIn old last shown (Err e) = (last.before ≡ old.before) × (last.held ≡ nothing)

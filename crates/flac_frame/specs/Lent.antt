@@ -1,4 +1,4 @@
--- The frame that is lent.
+-- The frame of a view.
 use Rattle.flac_frame.specs.declared.view.FrameView.{FrameView}
 use Rattle.flac_header.specs.Strategy.{is_variable}
 use Rattle.flac_frame.specs.Frame.{Frame}

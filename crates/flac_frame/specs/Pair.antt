@@ -1,8 +1,8 @@
--- The places for the choices of two channels.
+-- The arrays for the choices of two channels.
 use Rattle.std.specs.Prelude.{ℕ, ◌≤◌, ◌^◌, vec_len}
 use Rattle.flac_frame.specs.declared.pair_choices.PairChoices.{PairChoices}
 
--- each place has room for partition orders up to a greatest
+-- each array is long enough for partition orders up to `most`
 pub record AreWide (most : ℕ) (c : PairChoices) : Type 0 where
   pub left : 2 ^ most ≤ vec_len c.left.codings
   pub right : 2 ^ most ≤ vec_len c.right.codings

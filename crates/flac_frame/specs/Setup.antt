@@ -1,4 +1,5 @@
--- The reasons why samples or a plan are refused: their numbers, the texts that are printed of them, and those of a format.
+-- The reasons why samples or a plan are refused: their numbers, the texts that are printed of them, and those of a
+-- format.
 use Rattle.std.specs.Prelude.{ℕ, ◌||◌, cond, nat_eq, nat_lt, List, codes, Option, Some, None, is_none}
 use Rattle.flac_header.specs.Choice.{rate_choice_in, depth_choice_in}
 use Rattle.flac_header.specs.declared.subset.Profile.{Profile}
@@ -30,8 +31,8 @@ text_of TooManyPoints = codes "47 TooManyPoints"
 text_of PredictorOrder = codes "51 PredictorOrder"
 text_of TooManyPredictors = codes "52 TooManyPredictors"
 
--- Why no samples of a format can be encoded, if so: under the profile no frame header has a code for the rate or for the depth (RFC 9639, sections 7, 9.1.2 and
--- 9.1.4), or there are not 1 to 8 channels (section 9.1.3).
+-- Why no samples of a format can be encoded, if so: under the profile no frame header has a code for the rate or for
+-- the depth (RFC 9639, sections 7, 9.1.2 and 9.1.4), or there are not 1 to 8 channels (section 9.1.3).
 unfoldable pub format_fault : Profile → (rate bits channels : ℕ) → Option SetupFault
 format_fault profile rate bits channels =
     cond (is_none (rate_choice_in profile rate)) (Some BadRate)

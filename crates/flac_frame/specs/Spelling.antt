@@ -1,4 +1,4 @@
--- How a frame is spelled, which forms may be, and which samples they have (RFC 9639, section 9).
+-- How a frame is spelled, which forms are valid, and which samples they have (RFC 9639, section 9).
 use Rattle.std.specs.Prelude.{◌≡◌, ℕ, ◌+◌, ◌-◌, ◌%◌, Bool, true, List, [], ◌∷◌, ◌++◌, length, ℤ, Option, Some, Ok, ◌↔◌, ⊤}
 use Rattle.flac_bits.specs.Bits.{unsigned}
 use Rattle.flac_bits.specs.State.{Mark, past}
@@ -16,7 +16,7 @@ use Rattle.flac_frame.specs.Frame.{Frame, frame, header_rules, side_bit, limits_
 use Rattle.flac_frame.specs.Stereo.{joined}
 use Rattle.flac_frame.specs.declared.before.Before.{Before}
 
--- What the spelling of a frame chose: its header, and a form of each channel's subframe.
+-- What a frame is spelled from: its header, and a form of each channel's subframe.
 pub record FrameForm : Type 0 where
   pub header : Header
   pub subframes : List Form
@@ -28,11 +28,11 @@ unfoldable pub subframes_spelling : (depth code channel : ℕ) → List Form →
 subframes_spelling depth code channel [] = []
 subframes_spelling depth code channel (f ∷ fs) = subframe_spelling (depth + side_bit code channel) f ++ subframes_spelling depth code (channel + 1) fs
 
--- Zeros behind, up to a whole byte (section 9.3).
+-- Zeros at the end, up to a whole byte (section 9.3).
 abbrev pub filled : List Bool → List Bool
 filled text = text ++ unsigned ((8 - length text % 8) % 8) 0
 
--- CRC-16 behind: the remainder by x^16 + x^15 + x^2 + 1 (section 9.3).
+-- CRC-16 at the end: the remainder by x^16 + x^15 + x^2 + 1 (section 9.3).
 abbrev pub checked : List Bool → List Bool
 checked text = text ++ unsigned 16 (remainder 16 32773 text)
 
@@ -40,14 +40,14 @@ checked text = text ++ unsigned 16 (remainder 16 32773 text)
 unfoldable pub frame_spelling : (depth : ℕ) → FrameForm → List Bool
 frame_spelling depth f = checked (filled (header_spelling f.header ++ subframes_spelling depth f.header.channel_code 0 f.subframes))
 
--- ---- which forms may be
+-- ---- which forms are valid
 
 -- a subframe for each of the channels from one on, at its depth
 abbrev pub AreSubframes : (depth code block : ℕ) → Limits → (channel : ℕ) → List Form → Type 0
 AreSubframes depth code block limits channel [] = ⊤
 AreSubframes depth code block limits channel (f ∷ fs) = IsSubframe (depth + side_bit code channel) block limits f × AreSubframes depth code block limits (channel + 1) fs
 
--- A frame in a stream, behind what the frames before leave.
+-- A frame in a stream, after the frames before it.
 pub record IsFrame (profile : Profile) (info : Info) (before : Option Before) (f : FrameForm) : Type 0 where
   pub header : IsHeader f.header
   pub follows : AllKept (header_rules profile info before f.header)
@@ -63,7 +63,7 @@ HaveSamples depth code block channel [] (s ∷ ss) = ⊥
 HaveSamples depth code block channel (f ∷ fs) [] = ⊥
 HaveSamples depth code block channel (f ∷ fs) (s ∷ ss) = (samples_of (depth + side_bit code channel) block f ≡ Some s) × HaveSamples depth code block (channel + 1) fs ss
 
--- The channels of a frame: those that its subframes keep, joined, all of whose samples fit the depth.
+-- The channels of a frame: restored from those that its subframes store, and all samples fit the depth.
 pub record FrameSamples (depth : ℕ) (f : FrameForm) (channels : List (List ℤ)) : Type 0 where
   pub kept : List (List ℤ)
   pub subframes : HaveSamples depth f.header.channel_code f.header.size 0 f.subframes kept
@@ -76,7 +76,7 @@ frame_with h channels = record { variable = h.variable; number = h.number; size 
 
 -- ---- the laws
 
--- a frame, and a form of it that is spelled so
+-- a frame, and a form of it with this spelling
 pub record IsSpelled (profile : Profile) (info : Info) (before : Option Before) (x : Frame) (text : List Bool) : Type 0 where
   pub form : FrameForm
   pub valid : IsFrame profile info before form
@@ -84,7 +84,7 @@ pub record IsSpelled (profile : Profile) (info : Info) (before : Option Before) 
   pub frame : x ≡ frame_with form.header x.channels
   pub samples : FrameSamples info.depth form x.channels
 
--- At a whole byte where the checks begin, bits spell just the frames of which they are the spelling of a form.
+-- At a whole byte at which the checks begin, bits spell exactly the frames that have a form with this spelling.
 abbrev pub FramesAreSpelled : Type 0
 FramesAreSpelled = (profile : Profile) (info : Info) (before : Option Before) (m : Mark) (text : List Bool) (x : Frame) → KeepsRules info → m.unread ≡ 0 → m.check8 ≡ 0 → m.check16 ≡ 0
     → Spells (frame profile info before) m text x ↔ IsSpelled profile info before x text

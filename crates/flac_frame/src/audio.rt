@@ -161,8 +161,8 @@ impl Audio {
         self.channels.as_slice()
     }
 
-    /// The `size` samples of a channel from index `start` on. Both are counted from 0: the channel is below the number of
-    /// channels, and `start + size` is at most [`Audio::len`].
+    /// The `size` samples of a channel from index `start` on. Both are counted from 0: the channel is below the number
+    /// of channels, and `start + size` is at most [`Audio::len`].
     ///
     /// ```
     /// let block = audio.part(0, 4096, 4096); // samples 4096 to 8191 of the first channel

@@ -217,17 +217,7 @@ fn write_first<W: Target>(
     ensures wrote { WritesFrameWith subject.now.predictors.now subject.now.audio.now subject.now.size subject.now.number (block_of subject.now.start subject.now.size subject.now.audio.now.channels) writer.old writer.new result }
     ensures room { workspace.new ≡ workspace.old }
 {
-    let audio = subject.audio;
-    let Some(header) = FrameHeader::chosen_in(
-        audio.profile(),
-        subject.size as u32,
-        audio.rate(),
-        choice.code,
-        audio.bits(),
-        subject.number,
-    ) else {
-        return Err(Why::Write);
-    };
+    let header = choice.header(subject.audio, subject.size, subject.number);
     write_header(&header, writer)?;
     write_subframes(subject, choice, places, workspace, writer)?;
     write_end(writer)
@@ -245,8 +235,8 @@ fn write_first<W: Target>(
 /// The range is within the samples, not empty, and no longer than the buffers' blocks; the number is below 2^31. The
 /// order of each predictor is at most [`crate::greatest_order`]: [`LinearPredictor::are_within`] tests it.
 ///
-/// The buffers are made for the profile of the samples, or for [`flac_header::Profile::Lax`]; the choice is made for the
-/// profile of the buffers, and has a place for each channel. Nothing is allocated.
+/// The buffers are made for the profile of the samples, or for [`flac_header::Profile::Lax`]; the choice is made for
+/// the profile of the buffers, and has a place for each channel. Nothing is allocated.
 pub fn choose_frame(
     audio: &Audio,
     range: Range<usize>,

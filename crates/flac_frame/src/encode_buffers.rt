@@ -58,7 +58,7 @@ impl EncodeBuffers {
     }
 
     /// Allocates arrays for frames of a profile, of at most `max_block` samples of each channel, at most 65535. In
-    /// [`Profile::Lax`] they take 1.8 MB beside those for the samples.
+    /// [`Profile::Lax`] they take 2.1 MB beside those for the samples.
     ///
     /// # Errors
     /// [`Why::Memory`] if an allocation fails.

@@ -1,9 +1,9 @@
 //! How a block of samples is written as a frame.
 
-ghost use Rattle.std.specs.Prelude.{◌≡◌, ◌≤◌, ◌*◌, ℕ, List, ℤ, length, IfOk, IfErr, IfSome};
+ghost use Rattle.std.specs.Prelude.{◌≡◌, ◌≤◌, ◌*◌, ℕ, List, ℤ, length, IfOk, IfErr, Some};
 ghost use Rattle.flac_header.specs.Assignment.{code_of, IsAssignment};
-ghost use Rattle.flac_header.specs.Choice.{size_choice, rate_choice_in, stated_rate};
-ghost use Rattle.flac_header.specs.Spelling.{size_spelling, rate_spelling};
+ghost use Rattle.flac_header.specs.Choice.{chosen_header};
+ghost use Rattle.flac_header.specs.Header.{Header};
 ghost use Rattle.flac_subframe.specs.declared.linear.LinearPredictor.{LinearPredictor};
 ghost use Rattle.flac_frame.specs.Audio.{Sound};
 ghost use Rattle.flac_frame.specs.Chosen.{IsChoiceWith, HasPlaces};
@@ -13,8 +13,8 @@ ghost use Rattle.flac_frame.specs.inner.Pair.{IsPairCode};
 
 use crate::audio::Audio;
 use crate::limits::limits_at;
-use flac_bits::{Why, number_len};
-use flac_header::{ChannelAssignment, Profile, rate_code_in};
+use flac_bits::Why;
+use flac_header::{ChannelAssignment, FrameHeader, Profile};
 use flac_subframe::WideChoice;
 use std::alloc::Global;
 
@@ -27,51 +27,6 @@ pub struct FrameChoice {
     pub(crate) code: u8,
     pub(crate) bits: u64,
     pub(crate) subframes: Vec<WideChoice>,
-}
-
-/// How many bytes a block size takes in a header: none if a code names it (RFC 9639, section 9.1.6).
-fn size_bytes(size: u32) -> u64
-    ensures long { IfSome (size_choice size) (λ code. length (size_spelling code size) ≡ 8 * result) }
-    ensures few { result ≤ 2 }
-{
-    match size {
-        192 => 0,
-        576 => 0,
-        1152 => 0,
-        2304 => 0,
-        4608 => 0,
-        256 => 0,
-        512 => 0,
-        1024 => 0,
-        2048 => 0,
-        4096 => 0,
-        8192 => 0,
-        16384 => 0,
-        32768 => 0,
-        0..=256 => 1,
-        _ => 2,
-    }
-}
-
-/// How many bytes a sample rate takes in a header under a profile: none if a code names it, or leaves it to STREAMINFO
-/// (RFC 9639, section 9.1.7).
-fn rate_bytes(profile: Profile, rate: u32) -> u64
-    ensures long { IfSome (rate_choice_in profile rate) (λ code. length (rate_spelling code (stated_rate code rate)) ≡ 8 * result) }
-    ensures few { result ≤ 2 }
-{
-    let Some(code) = rate_code_in(profile, rate) else {
-        return 0;
-    };
-    if code == 12 {
-        return 1;
-    }
-    if code == 13 {
-        return 2;
-    }
-    if code == 14 {
-        return 2;
-    }
-    0
 }
 
 impl FrameChoice {
@@ -97,8 +52,8 @@ impl FrameChoice {
         })
     }
 
-    /// Copies the choice into as little memory as it needs: one byte for each partition of its residuals. The copy can be
-    /// written, and is no place for another choice.
+    /// Copies the choice into as little memory as it needs: one byte for each partition of its residuals. The copy can
+    /// be written, and is no place for another choice.
     ///
     /// # Errors
     /// [`Why::Memory`] if an allocation fails.
@@ -131,6 +86,26 @@ impl FrameChoice {
         assignment
     }
 
+    /// The header of the frame that was chosen for a block of `size` samples of each channel and this number.
+    pub(crate) fn header(&self, audio: &Audio, size: usize, number: u64) -> FrameHeader
+        requires few { size ≤ 65535 }
+        requires chosen { (header : Header) × chosen_header audio.now.profile size audio.now.rate self.now.code audio.now.bits number ≡ Some header }
+        ensures { chosen_header audio.now.profile size audio.now.rate self.now.code audio.now.bits number ≡ Some result }
+    {
+        let header = FrameHeader::chosen_in(
+            audio.profile(),
+            size as u32,
+            audio.rate(),
+            self.code,
+            audio.bits(),
+            number,
+        );
+        let Some(header) = header else {
+            unreachable!();
+        };
+        header
+    }
+
     /// How many bytes the frame has that was chosen for a block of `size` samples of each channel and this number, 1 to
     /// 16777215. Nothing is written.
     pub fn frame_bytes(&self, audio: &Audio, size: usize, number: u64) -> u64
@@ -139,10 +114,7 @@ impl FrameChoice {
         ensures bytes { (ps : List LinearPredictor) (block : List (List ℤ)) (is : IsChoiceWith ps audio.now size number block self.now) → length (frame_spelling audio.now.bits is.form) ≡ 8 * result }
         ensures few { (1 ≤ result) × (result ≤ 16777215) }
     {
-        let coded = number_len(number) as u64;
-        let sized = size_bytes(size as u32);
-        let rated = rate_bytes(audio.profile(), audio.rate());
-        let header = 5 + coded + sized + rated;
-        header + (self.bits + 7) / 8 + 2
+        let header = self.header(audio, size, number);
+        header.bytes() + (self.bits + 7) / 8 + 2
     }
 }

@@ -7,6 +7,7 @@ ghost use Rattle.flac_subframe.specs.Numbers.{fits, all_fit};
 ghost use Rattle.flac_frame.specs.Audio.{samples_each, samples_fault};
 
 use crate::setup::SetupFault;
+use flac_subframe::offset_binary;
 
 /// A number that is 0 exactly if a sample fits the depth.
 #[inline(always)]
@@ -15,7 +16,7 @@ pub(crate) fn excess(sample: i64, depth: u32) -> u64
     ensures none { result ≡ 0 → fits depth sample ≡ true }
     ensures some { fits depth sample ≡ true → result ≡ 0 }
 {
-    sample.cast_unsigned().wrapping_add(1 << (depth - 1)) >> depth
+    offset_binary(sample, depth) >> depth
 }
 
 /// The lowest 32 bits of a sample, which are the sample if it fits them.
@@ -69,8 +70,8 @@ fn each_small(channels: &[&[i32]], bits: u32) -> bool
 }
 
 /// Why the samples of channels cannot be encoded in `bits` bits, 1 to 32: [`SetupFault::LengthsDiffer`] if the channels
-/// differ in length, or [`SetupFault::SampleTooLarge`] if a sample does not fit its bits, the first that applies; `None`
-/// if they can. How many channels there are, and how many samples these have, is not judged.
+/// differ in length, or [`SetupFault::SampleTooLarge`] if a sample does not fit its bits, the first that applies;
+/// `None` if they can. How many channels there are, and how many samples these have, is not judged.
 ///
 /// ```
 /// let fault = samples_fault(&[left.as_slice(), right.as_slice()], 16);

@@ -85,8 +85,8 @@ impl fmt::Display for SetupFault {
     }
 }
 
-/// Why no samples can be encoded that have this rate in Hz, bits per sample and number of channels, or `None` if some can:
-/// `BadRate`, `BadDepth` or `BadChannels`, the first that applies (RFC 9639, sections 7 and 9.1.2 to 9.1.4).
+/// Why no samples can be encoded that have this rate in Hz, bits per sample and number of channels, or `None` if some
+/// can: `BadRate`, `BadDepth` or `BadChannels`, the first that applies (RFC 9639, sections 7 and 9.1.2 to 9.1.4).
 ///
 /// ```
 /// let fault = format_fault(Profile::Subset, 44100, 16, 2); // None

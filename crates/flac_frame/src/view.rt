@@ -69,16 +69,16 @@ impl<'a> FrameView<'a> {
         strategy.is_variable()
     }
 
-    /// The number of the frame or of its first sample, by [`FrameView::blocking_strategy`], counted from 0. It is below 2^36
-    /// (section 9.1.5).
+    /// The number of the frame or of its first sample, by [`FrameView::blocking_strategy`], counted from 0. It is below
+    /// 2^36 (section 9.1.5).
     pub fn number(&self) -> u64
         ensures { result ≡ (frame_of self.now).number }
     {
         self.number
     }
 
-    /// The number of the frame's first sample, counted from 0 in each channel (section 9.1.5). If the blocking strategy is
-    /// fixed, that is [`FrameView::number`] times the block size of the stream, the largest one of STREAMINFO.
+    /// The number of the frame's first sample, counted from 0 in each channel (section 9.1.5). If the blocking strategy
+    /// is fixed, that is [`FrameView::number`] times the block size of the stream, the largest one of STREAMINFO.
     pub fn first_sample(&self, block_size: u16) -> u64
         ensures first { result ≡ first_sample block_size (frame_of self.now) }
         ensures small { result < 2 ^ 52 }

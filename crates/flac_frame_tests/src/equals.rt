@@ -1,13 +1,14 @@
-//! Of forms of a subframe that take as many bits the first is written: constant, verbatim, fixed predictors by their order, then by method, by partition order and
-//! by the parameter of each partition, rising, and an escape last. Both costs were worked out apart from this project, by a model that prices every form.
+//! Of forms of a subframe that take as many bits the first is written: constant, verbatim, fixed predictors by their
+//! order, then by method, by partition order and by the parameter of each partition, rising, and an escape last. Both
+//! costs were worked out apart from this project, by a model that prices every form.
 
 use crate::subframes::is_written;
 use std::test::Fail;
 
-/// The bit depth and the number of bits; the samples; and the bytes, with zeros up to a whole byte. Before each row stand the bits of the form that is written and of
-/// the only other that takes as few, each summed up: the header with its wasted bits, the first samples, 6 for the method and the partition order, and each partition
-/// with its parameter.
-const EQUALS: &str = "# Constant before a fixed predictor, an escape of no bits.
+/// The bit depth and the number of bits; the samples; and the bytes, with zeros up to a whole byte. Before each row
+/// stand the bits of the form that is written and of the only other that takes as few, each summed up: the header with
+/// its wasted bits, the first samples, 6 for the method and the partition order, and each partition with its parameter.
+pub(crate) const EQUALS: &str = "# Constant before a fixed predictor, an escape of no bits.
 # 8 + 15 = 8 + 6 + 9
 15 23 | 0 0 0 0 0 0 0 0 0 0 0 0 0 0 0 0 | 000000
 # Verbatim before a fixed predictor of order 0, 1 and 2.

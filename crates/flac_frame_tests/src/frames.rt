@@ -16,8 +16,9 @@ use std::mem::drop;
 use std::process::Abort;
 use std::test::Fail;
 
-/// Frames: the bit depth and the largest block; their bytes; and the number, whether block sizes vary, the blocking strategy, the number of the first sample in
-/// blocks of 4096, the samples a channel and these, or why they are refused.
+/// Frames: the bit depth and the largest block; their bytes; and the number, whether block sizes vary, the blocking
+/// strategy, the number of the first sample in blocks of 4096, the samples a channel and these, or why they are
+/// refused.
 const FRAMES: &str = "# Of the standard.
 16 4096 | fff869180000bf0358fd03128baa9a | 0 false Fixed 0 1 [25588] [10416]
 # Left and side.
@@ -57,7 +58,12 @@ fn told(alloc: Global, read: Result<FrameView<'_>, Why>) -> Result<String, Fail>
 }
 
 /// What reading a frame of two channels returns, in text.
-fn read_frame(alloc: Global, block: u16, depth: u8, bytes: &[u8]) -> Result<String, Fail> {
+pub(crate) fn read_frame(
+    alloc: Global,
+    block: u16,
+    depth: u8,
+    bytes: &[u8],
+) -> Result<String, Fail> {
     let info = stereo_info(block, depth)?;
     let mut buffers = FrameBuffers::new(alloc, 2, block as u32)?;
     let mut bits = BitReader::new(Memory::new(bytes));
@@ -276,15 +282,19 @@ fn audio_outside_the_subset(rt: HostRuntime) -> Result<(), Fail> {
     Ok(())
 }
 
-/// Writes all samples, 16 at most, as frame 0, and returns how many bytes it has.
-fn write_all<W: Target>(alloc: Global, audio: &Audio, writer: &mut BitWriter<W>) -> Result<u64, Why>
+/// Writes all samples, 33 at most, as frame 0, and returns how many bytes it has.
+pub(crate) fn write_all<W: Target>(
+    alloc: Global,
+    audio: &Audio,
+    writer: &mut BitWriter<W>,
+) -> Result<u64, Why>
     requires { writer.old.mark.unread ≡ 0 }
 {
     let len = audio.len();
-    if len == 0 || len > 16 {
+    if len == 0 || len > 33 {
         return Err(Why::BlockSize);
     }
-    let mut buffers = EncodeBuffers::new_in(alloc, audio.profile(), 16)?;
+    let mut buffers = EncodeBuffers::new_in(alloc, audio.profile(), 33)?;
     let bytes = encode_frame(audio, 0..len, 0, &mut buffers, writer);
     drop(buffers);
     let bytes = bytes?;
@@ -292,8 +302,8 @@ fn write_all<W: Target>(alloc: Global, audio: &Audio, writer: &mut BitWriter<W>)
     Ok(bytes)
 }
 
-/// The same in two steps, with buffers that are made for frames of either profile: chooses the frame, keeps that choice,
-/// counts its bytes, and then writes it.
+/// The same in two steps, with buffers that are made for frames of either profile: chooses the frame, keeps that
+/// choice, counts its bytes, and then writes it.
 fn write_chosen<W: Target>(
     alloc: Global,
     audio: &Audio,

@@ -109,8 +109,8 @@ fn writes(alloc: Global, predictors: &[LinearPredictor], wanted: &[u8]) -> Resul
     Ok(first.as_slice() == wanted && second.as_slice() == wanted)
 }
 
-/// 8 bits of the header, 16 of a warm-up sample, 10 of the predictor and 15 of a residual of zeros, against 8 bits of the header and 183
-/// of a residual of 16 numbers of 11 bits.
+/// 8 bits of the header, 16 of a warm-up sample, 10 of the predictor and 15 of a residual of zeros, against 8 bits of
+/// the header and 183 of a residual of 16 numbers of 11 bits.
 #[test]
 fn writes_by_a_predictor(rt: HostRuntime) -> Result<(), Fail> {
     widened_family_is_plain();
@@ -134,7 +134,8 @@ fn writes_by_a_predictor(rt: HostRuntime) -> Result<(), Fail> {
     Ok(())
 }
 
-/// A predictor of as many coefficients as the block has samples is not in the family. One of two takes 17 bits more than one of one.
+/// A predictor of as many coefficients as the block has samples is not in the family. One of two takes 17 bits more
+/// than one of one.
 #[test]
 fn asks_for_more_samples(rt: HostRuntime) {
     let mut coefficients = [0; 16];
@@ -177,9 +178,9 @@ fn first_byte(
     Ok(bytes.as_slice().first().copied().unwrap_or(255))
 }
 
-/// Of equals the verbatim and the fixed forms come first. Of two samples in 21 bits the linear form takes 21 bits for the warm-up sample
-/// and 21 beside it, as many as the verbatim one does without its header. Of sixteen in 22 bits it takes 22 and 25, the fixed one 6, 9 for
-/// an escape, and 2 for each.
+/// Of equals the verbatim and the fixed forms come first. Of two samples in 21 bits the linear form takes 21 bits for
+/// the warm-up sample and 21 beside it, as many as the verbatim one does without its header. Of sixteen in 22 bits it
+/// takes 22 and 25, the fixed one 6, 9 for an escape, and 2 for each.
 #[test]
 fn takes_the_plain_one_of_equals(rt: HostRuntime) -> Result<(), Fail> {
     let alloc = rt.alloc();
@@ -197,7 +198,8 @@ fn takes_the_plain_one_of_equals(rt: HostRuntime) -> Result<(), Fail> {
     Ok(())
 }
 
-/// Of predictors that take as many bits the first of the list comes first: a coefficient of -1, and one of -2 with a shift of 1.
+/// Of predictors that take as many bits the first of the list comes first: a coefficient of -1, and one of -2 with a
+/// shift of 1.
 #[test]
 fn takes_the_first_of_equals(rt: HostRuntime) -> Result<(), Fail> {
     let alloc = rt.alloc();
@@ -284,8 +286,8 @@ fn code_byte(alloc: Global, predictors: &[LinearPredictor]) -> Result<u8, Fail> 
     Ok(frame.get(3).copied().unwrap_or(255))
 }
 
-/// A frame of the wave, which a predictor foretells. Without it the residual is written as it is: 9 bytes around 199 bits. Two channels that are the same are left and
-/// side, whose side is constant in 8 + 17 bits.
+/// A frame of the wave, which a predictor foretells. Without it the residual is written as it is: 9 bytes around 199
+/// bits. Two channels that are the same are left and side, whose side is constant in 8 + 17 bits.
 #[test]
 fn writes_a_frame(rt: HostRuntime) -> Result<(), Fail> {
     frame_widened_is_plain();

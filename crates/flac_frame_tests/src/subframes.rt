@@ -5,17 +5,17 @@ ghost use Rattle.flac_bits.specs.Signed.{FitsBits};
 
 use flac_bits::{BitReader, BitWriter, Collected, Memory, Target, Why};
 use flac_subframe::{
-    Limits, WideChoice, Workspace, choose, choose_in, predict_fixed, predict_linear, read_subframe,
-    samples_are_restored, subframes_are_read_again, subframes_are_spelled, write_subframe,
-    write_subframe_in,
+    Limits, WideChoice, Workspace, choose, choose_in, offset_binary, predict_fixed, predict_linear,
+    read_subframe, samples_are_restored, subframes_are_read_again, subframes_are_spelled,
+    write_subframe, write_subframe_in,
 };
 use flac_vectors::{fields_of, pair_of, samples_of};
 use std::alloc::Global;
 use std::process::Abort;
 use std::test::Fail;
 
-/// Subframes: their bytes; the bit depth, the largest order of a linear predictor and the number of samples; and what reading returns, with some samples by
-/// their places.
+/// Subframes: their bytes; the bit depth, the largest order of a linear predictor and the number of samples; and what
+/// reading returns, with some samples by their places.
 const SUBFRAMES: &str = "# Plain samples.
 0358fd | 16 12 1 | true 0:25588
 010003 | 16 12 1 | true 0:-32768
@@ -57,7 +57,8 @@ fn read(bytes: &[u8], depth: u32, linear: u32, samples: &mut [i64]) -> Result<bo
     read_subframe(&mut bits, depth, samples.len() as u32, &limits, samples)
 }
 
-/// Reads a subframe of at most 16 samples, whose bit depth, largest order of a linear predictor and number of samples are given in words.
+/// Reads a subframe of at most 16 samples, whose bit depth, largest order of a linear predictor and number of samples
+/// are given in words.
 fn read_shaped(
     shape: &str,
     bytes: &[u8],
@@ -122,6 +123,16 @@ fn predicts(rt: HostRuntime) {
     assert!(rt; predict_fixed(2, &[0, 1]) == 2);
 }
 
+/// Offset binary by hand: the range of 8 bits begins at 0 and ends at 255, and what it does not hold is outside these.
+#[test]
+fn offsets(rt: HostRuntime) {
+    assert!(rt; offset_binary(-128, 8) == 0);
+    assert!(rt; offset_binary(127, 8) == 255);
+    assert!(rt; offset_binary(128, 8) == 256);
+    assert!(rt; offset_binary(-129, 8) == u64::MAX);
+    assert!(rt; offset_binary(-1, 33) == 0xFFFF_FFFF);
+}
+
 #[test]
 fn reads_subframes(rt: HostRuntime) -> Result<(), Fail> {
     for row in SUBFRAMES.lines() {
@@ -167,8 +178,9 @@ fn write_least<W: Target>(
     Ok(choice.bits())
 }
 
-/// The shortest subframes: the bit depth and the number of bits; the samples; and the bytes, with zeros up to a whole byte.
-const WRITTEN: &str = "# Predicted, equal, and a single sample: constant before verbatim.
+/// The shortest subframes: the bit depth and the number of bits; the samples; and the bytes, with zeros up to a whole
+/// byte.
+pub(crate) const WRITTEN: &str = "# Predicted, equal, and a single sample: constant before verbatim.
 16 55 | 0 1 2 3 4 5 6 7 8 9 10 11 12 13 14 15 | 140000000103c0
 16 23 | 0 0 0 0 0 0 0 0 0 0 0 0 0 0 0 0 | 1003c0
 8 16 | 0 0 0 0 0 0 0 0 0 0 0 0 0 0 0 0 | 0000
@@ -217,7 +229,7 @@ pub(crate) fn is_written(alloc: Global, row: &str) -> Result<bool, Fail> {
 }
 
 /// The samples of some words, of 64 bits.
-fn wide_of(alloc: Global, words: &str) -> Result<Vec<i64>, Fail> {
+pub(crate) fn wide_of(alloc: Global, words: &str) -> Result<Vec<i64>, Fail> {
     let mut samples = Vec::new(alloc);
     for sample in samples_of(alloc, words)?.as_slice() {
         samples.push(*sample as i64)?;
@@ -303,4 +315,12 @@ fn compares_choices(rt: HostRuntime) {
     let choice = choose(&[0, 1, 2, 3, 4, 5, 6, 7], 16);
     assert!(rt; choice == choose(&[1, 2, 3, 4, 5, 6, 7, 8], 16));
     assert!(rt; !(choice == choose(&[0; 8], 16)));
+}
+
+/// Twenty equal samples are written as a single one is, though more of them are priced.
+#[test]
+fn equal_choices_of_more_work(rt: HostRuntime) {
+    let one = choose(&[25587], 16);
+    let twenty = choose(&[7; 20], 16);
+    assert!(rt; one == twenty && one.priced() < twenty.priced());
 }

@@ -1,4 +1,5 @@
-//! Subframes with partition orders up to 15, which streams outside the streamable subset may have (RFC 9639, section 9.2.7).
+//! Subframes with partition orders up to 15, which streams outside the streamable subset may have (RFC 9639, section
+//! 9.2.7).
 
 ghost use Rattle.std.specs.Prelude.{◌≡◌};
 
@@ -26,8 +27,8 @@ fn limits(partition: u32) -> Limits
     }
 }
 
-/// Chooses the shortest subframe of some samples in a place and arrays that were made for them, writes it with zeros up to a whole byte,
-/// and returns how many bits it takes.
+/// Chooses the shortest subframe of some samples in a place and arrays that were made for them, writes it with zeros up
+/// to a whole byte, and returns how many bits it takes.
 fn write_in<W: Target>(
     alloc: Global,
     samples: &[i64],
@@ -86,8 +87,8 @@ fn alternating(alloc: Global, len: usize) -> Result<Vec<i64>, Fail> {
     Ok(samples)
 }
 
-/// Their subframe by the standard: type 8, method 1 and the partition order; then parameter 0 with a 1 for the sample 0, and parameter 20
-/// with two zeros, a 1 and the 20 lowest bits of 2^21 + 2 for the other.
+/// Their subframe by the standard: type 8, method 1 and the partition order; then parameter 0 with a 1 for the sample
+/// 0, and parameter 20 with two zeros, a 1 and the 20 lowest bits of 2^21 + 2 for the other.
 fn put_alternating<W: Target>(order: u32, writer: &mut BitWriter<W>) -> Result<(), Why> {
     writer.put(8, 0x10)?;
     writer.put(2, 1)?;
@@ -127,7 +128,8 @@ fn a_partition_for_each_sample(rt: HostRuntime) -> Result<(), Fail> {
     Ok(())
 }
 
-/// What reading the subframe of such samples returns, with partition orders up to the greatest, and whether it has these samples.
+/// What reading the subframe of such samples returns, with partition orders up to the greatest, and whether it has
+/// these samples.
 fn read_back(alloc: Global, order: u32, partition: u32) -> Result<Result<bool, Why>, Fail> {
     let samples = alternating(alloc, 1 << (order % 16))?;
     let bytes = alternating_bytes(alloc, order)?;
@@ -164,7 +166,7 @@ fn folded(value: i64) -> u64 {
 }
 
 /// What values take under a Rice parameter.
-fn rice_bits(values: &[i64], parameter: u32) -> u64 {
+pub(crate) fn rice_bits(values: &[i64], parameter: u32) -> u64 {
     let mut bits = 0u64;
     for value in values {
         let length = (folded(*value) >> (parameter % 32)).wrapping_add(u64::from(parameter) + 1);
@@ -207,9 +209,9 @@ fn partitions_bits(values: &[i64], order: usize, size: usize, parameter_bits: u3
 fn residual_bits(values: &[i64], order: usize, partition: u32) -> u64 {
     let block = values.len().wrapping_add(order);
     let mut best = u64::MAX;
-    for halvings in 0..partition.min(15) + 1 {
-        let size = block >> halvings;
-        if size << halvings == block && size > order {
+    for partition_order in 0..partition.min(15) + 1 {
+        let size = block >> partition_order;
+        if size << partition_order == block && size > order {
             best = best.min(partitions_bits(values, order, size, 4));
             best = best.min(partitions_bits(values, order, size, 5));
         }
@@ -239,7 +241,8 @@ fn plain_bits(alloc: Global, samples: &[i64], partition: u32) -> Result<u64, Fai
     Ok(best.wrapping_add(8))
 }
 
-/// Whether a block takes as many bits as the least of all forms with partition orders up to 15, and more if they are up to 8.
+/// Whether a block takes as many bits as the least of all forms with partition orders up to 15, and more if they are up
+/// to 8.
 fn is_least(alloc: Global, len: usize, run: usize) -> Result<bool, Fail> {
     let samples = bursts(alloc, len, run)?;
     let (wide, _) = written_in(alloc, &samples, DEPTH, 15, &[])?;
@@ -259,7 +262,8 @@ fn no_form_is_shorter(rt: HostRuntime) -> Result<(), Fail> {
 
 // ---- with a linear predictor, and with the orders of the subset
 
-/// Samples of which each is the one before with the other sign, and 4097 more at two places of four; and what that predictor leaves.
+/// Samples of which each is the one before with the other sign, and 4097 more at two places of four; and what that
+/// predictor leaves.
 fn turning(alloc: Global, len: usize) -> Result<(Vec<i64>, Vec<i64>), Fail> {
     let mut samples = vec![in alloc; 4_000_001i64; len]?;
     let mut left = vec![in alloc; 0i64; len]?;

@@ -1,12 +1,12 @@
 -- The fields that the codes of a frame header ask for spell sizes and rates.
-use Rattle.std.proofs.Common.{◌≡◌, ℕ, zero, suc, ◌+◌, ◌-◌, ◌*◌, ◌/◌, ◌%◌, ◌<◌, ◌≤◌, ◌^◌, cond, Bool, true, false, not, nat_eq, nat_lt, List, [], ◌∷◌, ◌++◌, refl, sym, ap, ◌∙◌, arith}
+use Rattle.std.proofs.Common.{◌≡◌, ℕ, ◌+◌, ◌-◌, ◌*◌, ◌/◌, ◌%◌, ◌<◌, ◌≤◌, ◌^◌, Bool, true, false, nat_eq, nat_lt, [], ◌++◌, refl, sym, ◌∙◌, arith}
 use Rattle.std.proofs.lemmas.List.{append-nil}
 use Rattle.std.proofs.lemmas.Bool.Decides.{nat_tests}
 use Rattle.flac_bits.specs.Bits.{unsigned}
 use Rattle.flac_bits.specs.State.{Mark}
 use Rattle.flac_bits.specs.inner.Forms.{Ties}
 use Rattle.flac_bits.proofs.Ties.{tie, choose_each, choose_true, choose_false}
-use Rattle.flac_header.specs.Header.{size_field, rate_field, IsSize, IsRate, size_of_code, least_size, greatest_size, rate_of_code, least_rate, greatest_rate, rate_unit}
+use Rattle.flac_header.specs.Header.{size_field, rate_field, IsSize, IsRate, size_of_code, rate_of_code}
 use Rattle.flac_header.specs.Spelling.{size_spelling, rate_spelling}
 
 by_test : {R : Type 0} (b : Bool) → (b ≡ true → R) → (b ≡ false → R) → R

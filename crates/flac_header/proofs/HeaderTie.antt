@@ -1,8 +1,8 @@
 -- The layout of a frame header spells headers, and each of them in one way.
-use Rattle.std.proofs.Common.{◌≡◌, ℕ, zero, suc, ◌<◌, ◌≤◌, ◌^◌, Bool, true, false, not, cond, nat_eq, nat_lt, List, [], ◌∷◌, ◌++◌, Ok, ◌↔◌, refl, sym, ap, subst, ◌∙◌, arith}
+use Rattle.std.proofs.Common.{◌≡◌, ℕ, zero, suc, ◌<◌, ◌≤◌, Bool, true, false, not, nat_eq, nat_lt, List, [], ◌∷◌, ◌++◌, refl, sym, ap, subst, ◌∙◌, arith}
 use Rattle.std.proofs.lemmas.Bool.Decides.{nat_tests}
 use Rattle.flac_bits.specs.Bits.{unsigned, bit_value}
-use Rattle.flac_bits.specs.State.{Mark, past}
+use Rattle.flac_bits.specs.State.{Mark}
 use Rattle.flac_bits.specs.Check.{remainder}
 use Rattle.flac_bits.specs.Number.{number}
 use Rattle.flac_bits.specs.Coded.{number_spelling, IsNumber}

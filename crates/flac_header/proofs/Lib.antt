@@ -3,3 +3,4 @@ pub mod Fields
 pub mod HeaderTie
 pub mod Writes
 pub mod Judged
+pub mod Lengths

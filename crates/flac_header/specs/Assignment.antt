@@ -4,7 +4,7 @@ use Rattle.flac_header.specs.Header.{channels_of}
 use Rattle.flac_header.specs.declared.channel_assignment.ChannelAssignment.{ChannelAssignment}
 use Rattle.flac_header.specs.declared.channel_assignment.ChannelAssignment.TheVariants.{Independent, LeftSide, SideRight, MidSide}
 
--- what a code says
+-- the channel assignment of a code
 abbrev pub assignment_of : ℕ → ChannelAssignment
 assignment_of code = cond (nat_lt code 8) (Independent (channels_of code)) (cond (nat_eq code 8) LeftSide (cond (nat_eq code 9) SideRight MidSide))
 

@@ -8,8 +8,8 @@ use Rattle.flac_bits.specs.declared.why.Why.TheVariants.{BadSync, ReservedCode, 
 use Rattle.flac_header.specs.declared.subset.Profile.{Profile}
 use Rattle.flac_header.specs.declared.subset.Profile.TheVariants.{Subset, Lax}
 
--- Whether the frames are numbered by their first samples, the codes that were chosen, and what they say: the block size in
--- samples a channel, and the rate in Hz, 0 where STREAMINFO tells it.
+-- Whether a frame has the number of its first sample, the codes, and what they name: the block size in samples, and the
+-- sample rate in Hz, 0 if the code leaves it to STREAMINFO.
 pub record Header : Type 0 where
   pub variable : Bool
   pub size_code : ℕ
@@ -56,11 +56,11 @@ rate_field code =
       v ← bits 16
       done (v * 10))))
 
--- how many channels a code says (section 9.1.3): codes 8 to 10 are two channels that were joined
+-- the number of channels of a code (section 9.1.3): codes 8 to 10 are decorrelated stereo channels
 abbrev pub channels_of : ℕ → ℕ
 channels_of code = cond (nat_lt code 8) (code + 1) 2
 
--- the bits of a sample that a code says, 0 where STREAMINFO tells them (section 9.1.4)
+-- the bits per sample of a code, 0 if it leaves them to STREAMINFO (section 9.1.4)
 abbrev pub depth_of : ℕ → ℕ
 depth_of code =
     cond (nat_eq code 1) 8 (cond (nat_eq code 2) 12 (cond (nat_eq code 4) 16 (cond (nat_eq code 5) 20
@@ -98,14 +98,14 @@ header = do
 abbrev pub size_of_code : ℕ → ℕ
 size_of_code code = cond (nat_eq code 1) 192 (cond (nat_lt code 6) (144 * 2 ^ code) (2 ^ code))
 
--- the least and the greatest block size that a code may stand for
+-- the smallest and the largest block size of a code
 abbrev pub least_size : ℕ → ℕ
 least_size code = cond (nat_eq code 6) 1 (cond (nat_eq code 7) 1 (size_of_code code))
 
 abbrev pub greatest_size : ℕ → ℕ
 greatest_size code = cond (nat_eq code 6) 256 (cond (nat_eq code 7) 65535 (size_of_code code))
 
--- the least and the greatest rate that a code may stand for, and what the field that it asks for counts in
+-- the smallest and the largest rate of a code, and the unit of the field that it asks for
 abbrev pub least_rate : ℕ → ℕ
 least_rate code = cond (nat_lt code 12) (rate_of_code code) 0
 
@@ -124,7 +124,7 @@ pub record IsRate (code rate : ℕ) : Type 0 where
   pub greatest : rate ≤ greatest_rate code
   pub whole : rate % rate_unit code ≡ 0
 
--- no code is reserved, and size, rate and number are what the codes may stand for
+-- no code is reserved, and size, rate and number are in the ranges of their codes
 pub record IsHeader (h : Header) : Type 0 where
   pub some_size : 1 ≤ h.size_code
   pub size_code : h.size_code < 16
@@ -140,12 +140,14 @@ pub record IsHeader (h : Header) : Type 0 where
 abbrev pub greatest_block : ℕ → ℕ
 greatest_block rate = cond (nat_le rate 48000) 4608 16384
 
--- the longest block that a profile allows at a rate: without the subset's rules as long as a header can say (section 9.1.1)
+-- the longest block that a profile allows at a rate: outside the subset the longest that a header can name
+-- (section 9.1.1)
 abbrev pub greatest_in : Profile → ℕ → ℕ
 greatest_in Subset rate = greatest_block rate
 greatest_in Lax rate = 65535
 
--- The streamable subset (section 7): rate and depth stand in the header, and blocks are not too long for their rate. Without its rules each header is allowed.
+-- The streamable subset (section 7): the header names rate and depth, and blocks are not too long for their rate.
+-- Outside it each header is allowed.
 unfoldable pub allowed : Profile → Header → Bool
 allowed Subset h = not (nat_eq h.rate_code 0) && not (nat_eq h.depth_code 0) && nat_le h.size (greatest_block h.rate)
 allowed Lax h = true

@@ -10,11 +10,11 @@ use Rattle.flac_bits.specs.Coded.{number_spelling}
 use Rattle.flac_bits.specs.Forms.{joined}
 use Rattle.flac_header.specs.Header.{Header, header, IsHeader}
 
--- the block size, where the code asks for it: one less, in 8 or 16 bits (section 9.1.6)
+-- the block size, if the code asks for it: one less, in 8 or 16 bits (section 9.1.6)
 unfoldable pub size_spelling : ℕ → ℕ → List Bool
 size_spelling code size = cond (nat_eq code 6) (unsigned 8 (size - 1)) (cond (nat_eq code 7) (unsigned 16 (size - 1)) [])
 
--- the rate, where the code asks for it: thousands in 8 bits, or units or tens in 16 (section 9.1.7)
+-- the rate, if the code asks for it: thousands in 8 bits, or units or tens in 16 (section 9.1.7)
 unfoldable pub rate_spelling : ℕ → ℕ → List Bool
 rate_spelling code rate =
     cond (nat_eq code 12) (unsigned 8 (rate / 1000)) (cond (nat_eq code 13) (unsigned 16 rate) (cond (nat_eq code 14) (unsigned 16 (rate / 10)) []))
@@ -29,7 +29,7 @@ header_parts h =
     unsigned 15 0x7FFC ∷ unsigned 1 (bit_value h.variable) ∷ unsigned 4 h.size_code ∷ unsigned 4 h.rate_code ∷ unsigned 4 h.channel_code ∷ unsigned 3 h.depth_code ∷ unsigned 1 0 ∷
     number_spelling h.number ∷ size_spelling h.size_code h.size ∷ rate_spelling h.rate_code h.rate ∷ []
 
--- what the check is of
+-- the part that the check is computed of
 abbrev pub header_front : Header → List Bool
 header_front h = joined (header_parts h)
 
@@ -41,7 +41,7 @@ header_spelling h = header_front h ++ unsigned 8 (remainder 8 7 (header_front h)
 abbrev pub restarted : Written → Written
 restarted w = record w { mark = fresh w.mark }
 
--- where the checks begin, bits spell just the headers, each of them in one way
+-- if the checks begin here, bits spell exactly the headers, each of them in one way
 abbrev pub HeadersAreSpelled : Type 0
 HeadersAreSpelled = (h : Header) (m : Mark) (text : List Bool) → m.check8 ≡ 0 → Spells header m text h ↔ (IsHeader h × (text ≡ header_spelling h))
 

@@ -5,8 +5,8 @@ ghost use Rattle.flac_bits.specs.Bits.{bit_value};
 ghost use Rattle.flac_header.specs.Header.{number_bits};
 ghost use Rattle.flac_header.specs.Strategy.{is_variable};
 
-/// The blocking strategy of a stream: whether its blocks may differ in size, and so what a frame header numbers (RFC 9639,
-/// sections 9.1 and 9.1.5).
+/// The blocking strategy of a stream: whether its blocks may differ in size, and so what a frame header numbers (RFC
+/// 9639, sections 9.1 and 9.1.5).
 #[derive(Clone, Copy, Debug, PartialEq, Eq)]
 pub enum BlockingStrategy {
     /// All blocks but the last have one size. A header has the number of its frame.

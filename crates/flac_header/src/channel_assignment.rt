@@ -36,8 +36,8 @@ pub(crate) fn assignment_of(code: u8) -> ChannelAssignment
 }
 
 impl ChannelAssignment {
-    /// The channel assignment of a code of the format: 0 to 7 are one to eight independent channels, 8 is left and side,
-    /// 9 side and right, 10 mid and side. `None` for the reserved codes.
+    /// The channel assignment of a code of the format: 0 to 7 are one to eight independent channels, 8 is left and
+    /// side, 9 side and right, 10 mid and side. `None` for the reserved codes.
     pub fn from_code(code: u8) -> Option<ChannelAssignment>
         ensures assignment { result ≡ cond (nat_lt 10 code) None (Some (assignment_of code)) }
         ensures code { IfSome result (λ a. code_of a ≡ code) }

@@ -91,8 +91,8 @@ fn stated_rate(code: u8, rate: u32) -> u32
 }
 
 /// The code of a sample rate in Hz under a profile: one that names the rate, or else 12 for multiples of 1000 up to
-/// 255000, 13 up to 65535, and 14 for multiples of 10 up to 655350; in [`Profile::Lax`] else 0, which leaves a rate of 1
-/// to 1048575 Hz to STREAMINFO (RFC 9639, sections 8.2 and 9.1.2). `None` if there is none, and for 0 Hz.
+/// 255000, 13 up to 65535, and 14 for multiples of 10 up to 655350; in [`Profile::Lax`] else 0, which leaves a rate of
+/// 1 to 1048575 Hz to STREAMINFO (RFC 9639, sections 8.2 and 9.1.2). `None` if there is none, and for 0 Hz.
 #[tactic(auto, unfolding(crate::specs::Choice::rate_choice_in))]
 pub fn rate_code_in(profile: Profile, rate: u32) -> Option<u8>
     ensures code { result ≡ rate_choice_in profile rate }
@@ -111,8 +111,9 @@ pub fn rate_code_in(profile: Profile, rate: u32) -> Option<u8>
     }
 }
 
-/// The code of a number of bits per sample under a profile: that of 8, 12, 16, 20, 24 or 32, and in [`Profile::Lax`] else
-/// 0, which leaves a depth of 4 to 32 bits to STREAMINFO (RFC 9639, sections 8.2 and 9.1.4). `None` if there is none.
+/// The code of a number of bits per sample under a profile: that of 8, 12, 16, 20, 24 or 32, and in [`Profile::Lax`]
+/// else 0, which leaves a depth of 4 to 32 bits to STREAMINFO (RFC 9639, sections 8.2 and 9.1.4). `None` if there is
+/// none.
 #[tactic(auto, unfolding(crate::specs::Choice::depth_choice_in))]
 pub fn depth_code_in(profile: Profile, depth: u32) -> Option<u8>
     ensures code { result ≡ depth_choice_in profile depth }

@@ -72,8 +72,8 @@ impl FrameHeader {
         self.rate
     }
 
-    /// Whether the header states the sample rate. If not, its rate code is 0, and the rate is that of STREAMINFO (section
-    /// 9.1.2).
+    /// Whether the header states the sample rate. If not, its rate code is 0, and the rate is that of STREAMINFO
+    /// (section 9.1.2).
     pub fn states_rate(&self) -> bool
         ensures { result ≡ not (nat_eq self.now.rate_code 0) }
     {

@@ -1,13 +1,13 @@
 //! Writing of frame headers.
 
-ghost use Rattle.std.specs.Prelude.{◌≡◌};
+ghost use Rattle.std.specs.Prelude.{◌≡◌, ◌≤◌, ◌*◌, ℕ, length};
 ghost use Rattle.flac_bits.specs.Written.{Writes};
 ghost use Rattle.flac_bits.specs.inner.Written.{WritesParts};
 ghost use Rattle.flac_header.specs.Header.{IsSize, IsRate};
 ghost use Rattle.flac_header.specs.Spelling.{size_spelling, rate_spelling, code_parts, header_parts, header_spelling, restarted};
 
 use crate::frame_header::FrameHeader;
-use flac_bits::{BitWriter, Target, Why, write_number};
+use flac_bits::{BitWriter, Target, Why, number_len, write_number};
 
 /// Writes the block size, if the code asks for a field (RFC 9639, section 9.1.6).
 #[tactic(auto, unfolding(crate::specs::Spelling::size_spelling))]
@@ -74,4 +74,47 @@ pub fn write_header<W: Target>(header: &FrameHeader, writer: &mut BitWriter<W>) 
     put_fields(writer, header)?;
     let check = writer.check8();
     writer.put(8, check as u64)
+}
+
+/// How many bytes the block size takes under a code: none if the code names it (RFC 9639, section 9.1.6).
+#[tactic(auto, unfolding(crate::specs::Spelling::size_spelling))]
+fn size_bytes(code: u8) -> u64
+    ensures long { (size : ℕ) → length (size_spelling code size) ≡ 8 * result }
+    ensures few { result ≤ 2 }
+{
+    match code {
+        6 => 1,
+        7 => 2,
+        _ => 0,
+    }
+}
+
+/// How many bytes the rate takes under a code: none if the code names it, or leaves it to STREAMINFO (RFC 9639, section
+/// 9.1.7).
+#[tactic(auto, unfolding(crate::specs::Spelling::rate_spelling))]
+fn rate_bytes(code: u8) -> u64
+    ensures long { (rate : ℕ) → length (rate_spelling code rate) ≡ 8 * result }
+    ensures few { result ≤ 2 }
+{
+    match code {
+        12 => 1,
+        13 => 2,
+        14 => 2,
+        _ => 0,
+    }
+}
+
+impl FrameHeader {
+    /// How many bytes the header has, with its CRC-8: 6 to 16 (RFC 9639, section 9.1). [`write_header`] writes as many.
+    ///
+    /// ```
+    /// let bytes = header.bytes(); // 6, if codes name the block size and the rate, and the number is below 128
+    /// ```
+    pub fn bytes(&self) -> u64
+        ensures bytes { length (header_spelling self.now) ≡ 8 * result }
+        ensures few { (6 ≤ result) × (result ≤ 16) }
+    {
+        let coded = number_len(self.number) as u64;
+        5 + coded + size_bytes(self.size_code) + rate_bytes(self.rate_code)
+    }
 }

@@ -172,14 +172,14 @@ fn chosen_in(profile: Profile, words: &str) -> Option<FrameHeader> {
     )
 }
 
-/// Whether these bytes are that header; none if there is no such header.
+/// Whether these bytes are that header, and as many as it says; none if there is no such header.
 fn is_chosen_in(alloc: Global, profile: Profile, words: &str, wanted: &str) -> Result<bool, Fail> {
     let wanted = hex::decode(alloc, wanted)?;
     let Some(header) = chosen_in(profile, words) else {
         return Ok(wanted.is_empty());
     };
     let found = written(alloc, &header)?;
-    Ok(found.as_slice() == wanted.as_slice())
+    Ok(found.as_slice() == wanted.as_slice() && header.bytes() == wanted.len() as u64)
 }
 
 /// Whether the headers of a row are chosen.
@@ -252,4 +252,19 @@ fn greatest_blocks(rt: HostRuntime) {
     assert!(rt; Profile::Subset.greatest_block(48000) == 4608);
     assert!(rt; Profile::Subset.greatest_block(48001) == 16384);
     assert!(rt; Profile::Lax.greatest_block(48000) == 65535);
+}
+
+/// The largest block size of the profile at a rate is allowed, and 16; the next ones are not.
+fn ends_at(profile: Profile, rate: u32, greatest: u32) -> bool {
+    profile.allows_block(16, rate)
+        && !profile.allows_block(15, rate)
+        && profile.allows_block(greatest, rate)
+        && !profile.allows_block(greatest + 1, rate)
+}
+
+#[test]
+fn block_sizes_allowed(rt: HostRuntime) {
+    assert!(rt; ends_at(Profile::Subset, 48000, 4608));
+    assert!(rt; ends_at(Profile::Subset, 48001, 16384));
+    assert!(rt; ends_at(Profile::Lax, 48000, 65535));
 }

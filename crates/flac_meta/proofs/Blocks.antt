@@ -184,7 +184,7 @@ other_only k n le lt m text b h =
     let w = wrapped (list_of n (bits 8)) (λ bytes. block_of.Other k bytes) m (IsBytes n) bits_of (bytes_tie n m) text b h in
     made k n (block_of.Other k w.0) b text (record { is = refl; length = w.1.many; kept = reserved_kind k le lt; order = refl; sheet = refl; fits = w.1.small; spelled = w.2 }) w.3
 
--- what each kind announces, and what is left where it is none of the kinds before
+-- what each kind announces, and what is left if it is none of the kinds before
 abbrev kind_0 : Layout Block
 kind_0 = bind stream_info (λ info. done (block_of.StreamInfo info))
 

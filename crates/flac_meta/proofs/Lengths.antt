@@ -14,7 +14,7 @@ pub texts_many : (texts : List (List ℕ)) → 4 * length texts ≤ texts_length
 texts_many [] = omega arith
 texts_many (text ∷ texts) = let h = texts_many texts in omega (arith, h)
 
--- the text at a place and those behind it
+-- the text at an index and those after it
 pub texts_step : (texts : List (List ℕ)) (i : ℕ) (text : List ℕ) → i < length texts → text ≡ get_or texts i text → texts_length (drop i texts) ≡ 4 + length text + texts_length (drop (i + 1) texts)
 texts_step texts i text lt is = at_drop_more texts_length texts i text lt ∙ ap (λ t. 4 + length t + texts_length (drop (i + 1) texts)) (sym is)
 
@@ -25,7 +25,7 @@ or_false false b h = (refl, h)
 few_enough : (n : ℕ) → nat_lt 255 n ≡ false → n ≤ 255
 few_enough n h = grind (arith, nat_tests)
 
--- no track has too many places, neither that at a place nor one behind it
+-- no track has too many index points, neither that at an index nor one after it
 pub tracks_step : (tracks : List CueTrack) (i : ℕ) (track : CueTrack) → i < length tracks → track ≡ get_or tracks i track → overflows (drop i tracks) ≡ false
     → (length track.indices ≤ 255) × (overflows (drop (i + 1) tracks) ≡ false)
 tracks_step tracks i track lt is h =

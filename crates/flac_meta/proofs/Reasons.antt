@@ -42,7 +42,7 @@ not_shown w (judge rules) m front a s = none_breaks w rules a s.1
 not_shown w (refuse v) m front a s = a s.1
 not_shown w mark m front a s = s
 
--- so it is given only where the input runs short for it
+-- this reason is given only if the input runs short for it
 pub only_short : {A : Type 0} (w : Why) (l : Layout A) (c : Cursor) → Avoids w l → run l c ≡ Err (because w) → c.mark.short ≡ w
 only_short w l c a is = elim (refuses l c.left c.mark w is) [
   | inl (front, rest, split, s) ↦ absurd (not_shown w l c.mark front a s)

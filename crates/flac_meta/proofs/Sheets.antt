@@ -108,7 +108,7 @@ track_is : (t : CueTrack) → front_spelling (front_of t) ++ joined (unsigned 8 
 unfolding front_spelling s.track_spelling
 track_is t = joined_append (front_parts (front_of t)) (unsigned 8 (length t.indices) ∷ s.each_spelled s.index_spelling t.indices ∷ [])
 
--- what stands behind the front
+-- what follows the front
 behind_front : (t : CueTrack) (n : ℕ) → length t.indices ≡ n → front_spelling (front_of t) ++ joined (unsigned 8 n ∷ s.each_spelled s.index_spelling t.indices ∷ []) ≡ s.track_spelling t
 behind_front t n e = ap (λ k. front_spelling (front_of t) ++ joined (unsigned 8 k ∷ s.each_spelled s.index_spelling t.indices ∷ [])) (sym e) ∙ track_is t
 

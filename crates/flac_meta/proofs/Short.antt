@@ -89,7 +89,7 @@ pub gives_part : {X Y : Type 0} (view : X → Y) (size left : ℕ) (fields : Lay
     → Gives view (run fields old.cursor) old new result → Gives view (run (part size left fields) old.cursor) old new result
 gives_part view size left fields old new result le q = λ known same. answers_same view new.cursor result (part_long size left fields old.cursor le) (q known same)
 
--- ---- bytes behind their number
+-- ---- bytes after their number
 
 short_then : {A X Y : Type 0} (r : Result (X × Cursor) Reason) (more : A → Cursor → Result (Y × Cursor) Reason) → and_then r (λ _ d. failed {A = Y} (because BlockLength)) ≡ and_then (and_then r (λ _ d. failed {A = A} (because BlockLength))) more
 short_then (Ok x) more = refl

@@ -6,7 +6,7 @@ use Rattle.flac_bits.specs.State.{Cursor}
 use Rattle.flac_bits.specs.Layout.{run, and_then, next_bit, number_from, number_at, Reason}
 use Rattle.flac_meta.specs.Padding.{skipped}
 
--- the bits behind a begun number, whatever it is so far
+-- the bits after a begun number, whatever it is so far
 unfoldable pub skip_from : ℕ → ℕ → Cursor → Result (⊤ × Cursor) Reason
 skip_from n value c = and_then (number_from n value c) (λ _ d. Ok (tt, d))
 
@@ -27,7 +27,7 @@ any_value (suc n) v w c =
     ∙ same_then (next_bit c) _ _ (λ b d. any_value n (2 * v + bit_value b) (2 * w + bit_value b) d)
     ∙ sym (nested (next_bit c) (λ b d. number_from n (2 * w + bit_value b) d) (λ _ d. Ok (tt, d)))
 
--- so many bits, and then so many more
+-- m bits, and then n more
 two_parts : (m n v : ℕ) (c : Cursor) → skip_from (m + n) v c ≡ and_then (number_from m v c) (λ _ d. skip_from n 0 d)
 unfolding skip_from number_from
 two_parts zero n v c = let k : 0 + n ≡ n = omega arith in rw k (any_value n v 0 c)
@@ -51,7 +51,7 @@ skip_more length i c lt =
     let k : 8 * length - 64 * i ≡ 64 + (8 * length - 64 * (i + 1)) = omega arith in
     rw k (parts 64 (8 * length - 64 * (i + 1)) c)
 
--- the bits behind the last word
+-- the bits after the last word
 pub skip_last : (length i : ℕ) (c : Cursor) → length / 8 ≤ i → i ≤ length / 8 → run (skipped (8 * length - 64 * i)) c ≡ and_then (number_at (8 * (length % 8)) c) (λ _ d. Ok (tt, d))
 unfolding skipped
 skip_last length i c le ge =

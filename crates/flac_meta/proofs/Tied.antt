@@ -73,7 +73,7 @@ little_tie m = tie little_32 m (λ v. v < 2 ^ 32) little_bits
     (λ v h.
     (v % 256, omega arith, (v / 256 % 256, omega arith, (v / 65536 % 256, omega arith, (v / 16777216 % 256, omega arith, (refl, omega arith))))))
 
--- ---- bytes behind their number
+-- ---- bytes after their number
 
 pub record IsText (left : ℕ) (t : List ℕ) : Type 0 where
   pub fits : 4 + length t ≤ left
@@ -116,7 +116,7 @@ reserved_tie n m = tie (reserved n) m (λ _. Unit {0}) (λ _. zero_bits n)
     pow : (k : ℕ) → 0 < 2 ^ k
     pow k = pow_pos k
 
--- ---- nothing behind the last item
+-- ---- nothing after the last item
 
 pub nothing_tie : (left : ℕ) (m : Mark) → Ties (nothing_left left) m (λ _. left ≡ 0) (λ _. [])
 nothing_tie left m = tie (nothing_left left) m (λ _. left ≡ 0) (λ _. [])

@@ -39,7 +39,7 @@ turn_more item next last n i s c front lt =
     rw k (nested (run (item s) c) (λ x d. and_then (run (in_turn item next last (n - (i + 1)) (next s x)) d) (λ xs d'. Ok (x ∷ xs, d'))) (behind front)
     ∙ same_then (run (item s) c) _ _ (λ x d. and_then_behind (run (in_turn item next last (n - (i + 1)) (next s x)) d) front x))
 
--- behind the last item
+-- after the last item
 turn_end : {S A : Type 0} (item : S → Layout A) (next : S → A → S) (last : S → Layout ⊤) (n i : ℕ) (s : S) (c : Cursor) (front : List A) → n ≤ i
     → and_then (run (in_turn item next last (n - i) s) c) (behind front) ≡ and_then (run (last s) c) (λ _ d. Ok (front, d))
 unfolding in_turn behind

@@ -6,7 +6,7 @@ use Rattle.flac_bits.specs.State.{Cursor}
 use Rattle.flac_bits.specs.Layout.{run, and_then, next_bit, number_from, number_at, Reason}
 use Rattle.flac_meta.specs.Fields.{zeros}
 
--- so many more bits behind bits that were all zeros, or were not
+-- n more bits after bits that were all zeros, or were not
 unfoldable pub zeros_then : ℕ → Bool → Cursor → Result (Bool × Cursor) Reason
 zeros_then n clear c = and_then (number_from n (cond clear 0 1) c) (λ v d. Ok (nat_eq v 0, d))
 
@@ -24,7 +24,7 @@ odd k = grind (arith, nat_tests)
 even : (k : ℕ) → nat_eq (2 * k + 0) 0 ≡ nat_eq k 0
 even k = grind (arith, nat_tests)
 
--- a number is zero where its parts are
+-- a number is zero if its parts are
 bit_more : (clear b : Bool) (v u : ℕ) → nat_eq v 0 ≡ (clear && nat_eq u 0) → nat_eq (2 * v + bit_value b) 0 ≡ (clear && nat_eq (2 * u + bit_value b) 0)
 bit_more true true v u h = odd v ∙ sym (odd u)
 bit_more false true v u h = odd v
@@ -58,7 +58,7 @@ front_is : (clear : Bool) → nat_eq (cond clear 0 1) 0 ≡ (clear && true)
 front_is true = refl
 front_is false = refl
 
--- so many bits, and then so many more
+-- m bits, and then n more
 zeros_parts : (m n : ℕ) (clear : Bool) (c : Cursor) → zeros_then (m + n) clear c ≡ and_then (number_at m c) (λ w d. zeros_then n (clear && nat_eq w 0) d)
 unfolding zeros_then number_at
 zeros_parts m n clear c =

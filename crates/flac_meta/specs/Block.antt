@@ -55,14 +55,14 @@ block seen = do
   body ← content header.kind header.length
   done (header.last, body)
 
--- which kinds came, behind one more block
+-- which kinds came, after one more block
 abbrev pub seen_after : Seen → Block → Seen
 seen_after seen (block_of.StreamInfo info) = record seen { stream_info = true }
 seen_after seen (block_of.SeekTable points) = record seen { seek_table = true }
 seen_after seen (block_of.VorbisComment found) = record seen { comments = true }
 seen_after seen found = seen
 
--- Memory is asked for only where a good header announces a kind that holds some: neither STREAMINFO nor padding.
+-- Memory runs out only after a valid header of a kind that needs some: neither STREAMINFO nor padding.
 abbrev pub MemoryAsked : {X : Type 0} → Seen → State → State → Result X Why → Type 0
 MemoryAsked seen old new result = result ≡ Err Memory → old.known ≡ true → new.errors ≡ old.errors → (old.cursor.mark.short ≡ Memory → ⊥)
     → (header : BlockHeader) × (behind : Cursor) × (run (block_header seen) old.cursor ≡ Ok (header, behind)) × (1 < header.kind)

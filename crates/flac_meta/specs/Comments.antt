@@ -5,7 +5,7 @@ use Rattle.flac_bits.specs.LittleEndian.{little_32}
 use Rattle.flac_meta.specs.Fields.{part, needs, nothing_left, sized, in_turn}
 use Rattle.flac_meta.specs.declared.comments.Comments.{Comments}
 
--- so many texts, behind which the content ends
+-- n texts, after which the content ends
 unfoldable pub texts : ℕ → ℕ → Layout (List (List ℕ))
 texts = in_turn (sized little_32) (λ left text. left - (4 + length text)) nothing_left
 

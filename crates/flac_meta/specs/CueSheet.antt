@@ -8,7 +8,7 @@ use Rattle.flac_meta.specs.declared.cue_sheet.CueIndex.{CueIndex}
 use Rattle.flac_meta.specs.declared.cue_sheet.CueTrack.{CueTrack}
 use Rattle.flac_meta.specs.declared.cue_sheet.CueSheet.{CueSheet}
 
--- a place in a track, of 12 bytes (section 8.7.1.1)
+-- an index point of a track, of 12 bytes (section 8.7.1.1)
 unfoldable pub cue_index : Layout CueIndex
 cue_index = do
   offset ← bits 64
@@ -16,7 +16,7 @@ cue_index = do
   _ ← reserved (8 * 3)
   done (record { offset = offset; number = number })
 
--- the number of tracks, or of the places of a track, in one byte
+-- the number of tracks, or of the index points of a track, in one byte
 unfoldable pub cue_count : ℕ → Layout ℕ
 cue_count left = part 1 left (bits 8)
 
@@ -31,7 +31,7 @@ track_front = do
   _ ← reserved (6 + 8 * 13)
   done (offset, number, isrc, nat_eq kind 0, nat_eq pre_emphasis 1)
 
--- a track: its front, the number of its places and these (section 8.7.1)
+-- a track: its front, the number of its index points and these (section 8.7.1)
 unfoldable pub cue_track : ℕ → Layout CueTrack
 cue_track left = part 35 left (do
   front ← track_front
@@ -40,7 +40,7 @@ cue_track left = part 35 left (do
   indices ← list_of count cue_index
   done (record { offset = front.0; number = front.1; isrc = front.2; audio = front.3; pre_emphasis = front.4; indices = indices }))
 
--- so many tracks, behind which the content ends
+-- n tracks, after which the content ends
 unfoldable pub cue_tracks : ℕ → ℕ → Layout (List CueTrack)
 cue_tracks = in_turn cue_track (λ left track. left - (36 + 12 * length track.indices)) nothing_left
 

@@ -1,4 +1,4 @@
--- Fields inside a block, of whose content so many bytes are left.
+-- Fields of a block, by the number of bytes that are left of its content.
 use Rattle.std.specs.Prelude.{ℕ, zero, suc, ◌-◌, ◌*◌, Bool, not, List, [], ◌∷◌, nat_eq, nat_lt, ⊤}
 use Rattle.flac_bits.specs.Layout.{Layout, done, judge, refuse, ◌>>=◌, bits, choose}
 use Rattle.flac_bits.specs.Lists.{list_of}
@@ -9,19 +9,19 @@ use Rattle.flac_meta.specs.Padding.{skipped}
 abbrev pub ends_short : {A : Type 0} → ℕ → Layout A
 ends_short left = skipped (8 * left) >>= λ _. refuse BlockLength
 
--- Fields that begin with so many bytes of fixed size. Where the content has fewer left, it is refused at its last byte.
+-- Fields that begin with `size` bytes of fixed size. If the content has fewer left, it is refused at its last byte.
 abbrev pub part : {A : Type 0} → ℕ → ℕ → Layout A → Layout A
 part size left fields = choose (nat_lt left size) (ends_short left) fields
 
--- at the end of a length or a count: what it announces needs so many bytes
+-- at the end of a length or a count: what it announces needs `size` bytes
 abbrev pub needs : ℕ → ℕ → Layout ⊤
 needs size left = judge (record { broken = nat_lt left size; why = BlockLength } ∷ [])
 
--- behind the last field nothing is left
+-- after the last field nothing is left
 abbrev pub nothing_left : ℕ → Layout ⊤
 nothing_left left = judge (record { broken = not (nat_eq left 0); why = BlockLength } ∷ [])
 
--- bytes behind their number
+-- bytes after their number
 unfoldable pub sized : Layout ℕ → ℕ → Layout (List ℕ)
 sized number left = part 4 left (do
   size ← number
@@ -32,7 +32,7 @@ sized number left = part 4 left (do
 unfoldable pub number_32 : ℕ → Layout ℕ
 number_32 left = part 4 left (bits 32)
 
--- so many items one after another, each in the state that those before it leave, and what is judged behind the last
+-- n items one after another, each in the state after those before it, and what is checked after the last
 unfoldable pub in_turn : {S A : Type 0} → (S → Layout A) → (S → A → S) → (S → Layout ⊤) → ℕ → S → Layout (List A)
 in_turn item next behind_last zero s = do
   _ ← behind_last s
@@ -42,7 +42,7 @@ in_turn item next behind_last (suc n) s = do
   xs ← in_turn item next behind_last n (next s x)
   done (x ∷ xs)
 
--- whether so many bits are zeros
+-- whether n bits are zeros
 unfoldable pub zeros : ℕ → Layout Bool
 zeros n = do
   v ← bits n

@@ -1,11 +1,11 @@
--- STREAMINFO: what a stream says of itself (RFC 9639, section 8.2).
+-- STREAMINFO: properties of the whole stream (RFC 9639, section 8.2).
 use Rattle.std.specs.Prelude.{ℕ, ◌+◌, ◌<◌, ◌≤◌, ◌^◌, Bool, ◌||◌, List, [], ◌∷◌, nat_eq, nat_lt, replicate}
 use Rattle.flac_bits.specs.Layout.{Layout, done, judge, ◌>>=◌, bits}
 use Rattle.flac_bits.specs.Lists.{list_of}
 use Rattle.flac_bits.specs.declared.why.Why.TheVariants.{BadStreamInfo}
 
--- Least and greatest block size in samples; least and greatest frame size in bytes, 0 where it is unknown; rate in Hz;
--- channels; bits a sample; samples of each channel, 0 where they are unknown; the MD5 of all samples, zeros where it is unknown.
+-- Smallest and largest block size in samples; smallest and largest frame size in bytes, 0 if unknown; sample rate in
+-- Hz; channels; bits per sample; samples of each channel, 0 if unknown; the MD5 of all samples, zeros if unknown.
 pub record Info : Type 0 where
   pub least_block : ℕ
   pub greatest_block : ℕ
@@ -32,7 +32,8 @@ pub record KeepsRules (i : Info) : Type 0 where
   pub depth : i.depth ≤ 32
   pub total : i.total < 2 ^ 36
 
--- STREAMINFO of a format, in blocks of one size: the sizes of the frames, the number of samples and their MD5 are unknown
+-- STREAMINFO of a format, in blocks of one size: the sizes of the frames, the number of samples and their MD5 are
+-- unknown
 abbrev pub info_of_format : (block_size rate channels depth : ℕ) → Info
 info_of_format block_size rate channels depth = record {
   least_block = block_size;
@@ -54,7 +55,7 @@ without_totals i = record i { total = 0; digest = replicate 16 0 }
 abbrev pub is_bad : Info → Bool
 is_bad i = nat_lt i.least_block 16 || nat_lt i.greatest_block i.least_block || nat_eq i.rate 0 || nat_lt i.depth 4
 
--- least and greatest block size, least and greatest frame size
+-- smallest and largest block size, smallest and largest frame size
 unfoldable pub info_sizes : Layout (ℕ × ℕ × ℕ × ℕ)
 info_sizes = do
   least_block ← bits 16
@@ -63,7 +64,7 @@ info_sizes = do
   greatest_frame ← bits 24
   done (least_block, greatest_block, least_frame, greatest_frame)
 
--- rate, channels, bits a sample, samples of each channel; channels and bits a sample are stored less one
+-- rate, channels, bits per sample, samples of each channel; channels and bits per sample are stored less one
 unfoldable pub info_format : Layout (ℕ × ℕ × ℕ × ℕ)
 info_format = do
   rate ← bits 20

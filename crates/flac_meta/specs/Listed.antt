@@ -1,4 +1,4 @@
--- Which blocks may be written, and which may stand behind STREAMINFO in one list (RFC 9639, section 8.1).
+-- Which blocks may be written, and which may follow STREAMINFO in one list (RFC 9639, section 8.1).
 use Rattle.std.specs.Prelude.{Bool, true, false, not, ◌||◌, cond, List, [], ◌∷◌, length, nat_eq, nat_lt, Option, Some, None}
 use Rattle.flac_bits.specs.Layout.{Rule}
 use Rattle.flac_bits.specs.declared.why.Why.{Why}
@@ -26,12 +26,12 @@ abbrev pub is_out_of_order : Block → Bool
 is_out_of_order (block_of.SeekTable points) = not (in_order None points)
 is_out_of_order b = false
 
--- some track has more places than one byte can count
+-- some track has more index points than one byte can count
 abbrev pub overflows : List CueTrack → Bool
 overflows [] = false
 overflows (track ∷ tracks) = nat_lt 255 (length track.indices) || overflows tracks
 
--- no track, or more tracks or places than one byte can count
+-- no track, or more tracks or index points than one byte can count
 abbrev pub is_bad_sheet : CueSheet → Bool
 is_bad_sheet sheet = nat_eq (length sheet.tracks) 0 || nat_lt 255 (length sheet.tracks) || overflows sheet.tracks
 
@@ -54,7 +54,7 @@ came seen (block_of.SeekTable points) = seen.seek_table
 came seen (block_of.VorbisComment found) = seen.comments
 came seen b = false
 
--- why it may not stand behind these blocks
+-- why it may not follow these blocks
 abbrev pub fault_behind : Seen → Block → Option Why
 fault_behind seen b = cond (came seen b) (Some why.RepeatedBlock) (block_fault b)
 

@@ -3,7 +3,7 @@ use Rattle.std.specs.Prelude.{◌≡◌, ℕ, nat_eq, Bool, cond, List, [], ◌�
 use Rattle.std.specs.Char.{to_ascii_lowercase}
 use Rattle.std.specs.Str.{bytes_eq}
 
--- what stands before the first `=`, whose code is 61, and behind it
+-- the text before the first `=`, whose code is 61, and the text after it, if there is one
 abbrev pub name_in : List ℕ → List ℕ
 name_in [] = []
 name_in (b ∷ bs) = cond (nat_eq b 61) [] (b ∷ name_in bs)

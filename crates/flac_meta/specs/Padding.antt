@@ -2,7 +2,7 @@
 use Rattle.std.specs.Prelude.{ℕ, ⊤}
 use Rattle.flac_bits.specs.Layout.{Layout, done, ◌>>=◌, bits}
 
--- so many bits of any value
+-- n bits of any value
 unfoldable pub skipped : ℕ → Layout ⊤
 skipped n = do
   _ ← bits n

@@ -4,7 +4,7 @@ use Rattle.flac_bits.specs.Layout.{Layout, done, ◌>>=◌, bits}
 use Rattle.flac_meta.specs.Fields.{number_32, nothing_left, sized}
 use Rattle.flac_meta.specs.declared.picture.Picture.{Picture}
 
--- width, height, bits a pixel and colours used
+-- width, height, bits per pixel and colours used
 unfoldable pub sizes : ℕ → Layout (ℕ × ℕ × ℕ × ℕ)
 sizes left = do
   width ← number_32 left
@@ -13,7 +13,7 @@ sizes left = do
   colours ← number_32 (left - 12)
   done (width, height, depth, colours)
 
--- kind; media type and description, each behind its length
+-- kind; media type and description, each after its length
 unfoldable pub picture_front : ℕ → Layout (ℕ × List ℕ × List ℕ)
 picture_front left = do
   kind ← number_32 left
@@ -21,7 +21,7 @@ picture_front left = do
   text ← sized (bits 32) (left - (8 + length media))
   done (kind, media, text)
 
--- kind, media type and description; sizes; data behind its length, where the content ends
+-- kind, media type and description; sizes; the data after its length, at whose end the content ends
 unfoldable pub picture : ℕ → Layout Picture
 picture left = do
   front ← picture_front left

@@ -10,7 +10,7 @@ use Rattle.flac_meta.specs.declared.seek_table.SeekPoint.{SeekPoint}
 abbrev pub placeholder : ℕ
 placeholder = 18446744073709551615
 
--- Behind a point of this sample number, if there was one: sample numbers rise, and behind a placeholder are placeholders.
+-- After a point of this sample number, if there was one: sample numbers rise, and after a placeholder are placeholders.
 abbrev pub follows : Option ℕ → ℕ → Bool
 follows None sample = true
 follows (Some before) sample = nat_lt before sample || nat_eq sample placeholder
@@ -20,7 +20,7 @@ abbrev pub in_order : Option ℕ → List SeekPoint → Bool
 in_order before [] = true
 in_order before (point ∷ points) = follows before point.sample && in_order (Some point.sample) points
 
--- a point, refused behind its last field where it does not follow (section 8.5.1)
+-- a point, refused after its last field if it does not follow (section 8.5.1)
 unfoldable pub seek_point : Option ℕ → Layout SeekPoint
 seek_point before = do
   sample ← bits 64
@@ -29,7 +29,7 @@ seek_point before = do
   _ ← judge (record { broken = not (follows before sample); why = SeekOrder } ∷ [])
   done (record { sample = sample; offset = offset; length = size })
 
--- so many points, behind a point of this sample number
+-- n points, after a point of this sample number
 unfoldable pub seek_points : ℕ → Option ℕ → Layout (List SeekPoint)
 seek_points = in_turn seek_point (λ before point. Some point.sample) (λ before. done tt)
 

@@ -13,11 +13,11 @@ use Rattle.flac_meta.specs.declared.picture.Picture.{Picture}
 use Rattle.flac_meta.specs.declared.block.Block.{Block}
 use Rattle.flac_meta.specs.declared.block.Block.TheVariants as block_of
 
--- so many zeros
+-- n zeros
 unfoldable pub zero_bits : ℕ → List Bool
 zero_bits n = replicate n false
 
--- bytes behind their number, whose lowest byte comes first, or whose highest does
+-- bytes after their number, which is little-endian here, and big-endian in `sized_bits`
 unfoldable pub little_sized : List ℕ → List Bool
 little_sized text = joined (little_bits (length text) ∷ bits_of text ∷ [])
 
@@ -43,7 +43,7 @@ point_spelling p = joined (unsigned 64 p.sample ∷ unsigned 64 p.offset ∷ uns
 unfoldable pub comments_spelling : Comments → List Bool
 comments_spelling c = joined (little_sized c.vendor ∷ little_bits (length c.list) ∷ each_spelled little_sized c.list ∷ [])
 
--- a place in a track (section 8.7.1.1)
+-- an index point of a track (section 8.7.1.1)
 unfoldable pub index_spelling : CueIndex → List Bool
 index_spelling i = joined (unsigned 64 i.offset ∷ unsigned 8 i.number ∷ zero_bits (8 * 3) ∷ [])
 
@@ -95,7 +95,7 @@ texts_length (text ∷ texts) = 4 + length text + texts_length texts
 abbrev pub comments_length : Comments → ℕ
 comments_length c = 8 + length c.vendor + texts_length c.list
 
--- how many bytes the tracks have with their places
+-- how many bytes the tracks have with their index points
 abbrev pub tracks_length : List CueTrack → ℕ
 tracks_length [] = 0
 tracks_length (track ∷ tracks) = 36 + 12 * length track.indices + tracks_length tracks

@@ -19,12 +19,12 @@ use Rattle.flac_meta.specs.declared.picture.Picture.{Picture}
 use Rattle.flac_meta.specs.declared.block.Block.{Block}
 use Rattle.flac_meta.specs.declared.block.Block.TheVariants as block_of
 
--- so it is of each item
+-- each item has this property
 abbrev pub AllAre : {A : Type 0} → (A → Type 0) → List A → Type 0
 AllAre P [] = Unit {0}
 AllAre P (x ∷ xs) = P x × AllAre P xs
 
--- ---- each number fits its field, and each field of bytes has its length: so it is of every value, by its type
+-- ---- each number fits its field, and each field of bytes has its length: every value has this by its type
 
 pub record IsInfo (i : Info) : Type 0 where
   pub rules : KeepsRules i
@@ -74,8 +74,8 @@ FitsFields (block_of.CueSheet sheet) = IsSheet sheet
 FitsFields (block_of.Picture found) = IsPicture found
 FitsFields (block_of.Other kind bytes) = AreBytes bytes
 
--- A block that may stand where these kinds came: STREAMINFO stands first and once, a seek table and a Vorbis comment once,
--- and it is a block that may be written.
+-- A block that may follow these kinds: STREAMINFO is the first block and no other one, a seek table and a Vorbis
+-- comment occur once at most, and the block may be written.
 pub record IsBlock (seen : Seen) (b : Block) : Type 0 where
   pub first : seen.stream_info ≡ false → kind_of b ≡ 0
   pub once : came seen b ≡ false
@@ -90,7 +90,7 @@ ContentSpelled b text = text ≡ content_spelling b
 abbrev pub BlockSpelled : Bool → Block → List Bool → Type 0
 BlockSpelled last b text = (content : List Bool) × ContentSpelled b content × (text ≡ joined (header_spelling last (kind_of b) (length_of b) ∷ content ∷ []))
 
--- bits spell just the blocks that may stand there
+-- bits spell exactly the blocks that may follow these kinds
 abbrev pub BlocksAreSpelled : Type 0
 BlocksAreSpelled = (seen : Seen) (m : Mark) (text : List Bool) (last : Bool) (b : Block) → Spells (block seen) m text (last, b) ↔ (IsBlock seen b × BlockSpelled last b text)
 

@@ -9,7 +9,7 @@ ghost use Rattle.flac_bits.specs.Reading.{ReadsInRoom, Call};
 ghost use Rattle.flac_meta.specs.Comments.{texts, comments};
 ghost use Rattle.flac_bits.specs.Written.{Writes};
 
-use crate::fields::{capped, read_sized_little, skip_bytes};
+use crate::fields::{capped, read_sized_little, too_short};
 use crate::lists::{Bytes, Texts};
 use crate::put::put_little_sized;
 use flac_bits::{BitReader, BitWriter, Source, Target, Why, put_little_32, read_little_32};
@@ -258,8 +258,7 @@ pub(crate) fn read_comments<R: Source>(
     let vendor = read_sized_little(alloc, bits, left)?;
     let rest = left - (4 + vendor.len() as u32);
     if rest < 4 {
-        skip_bytes(bits, rest)?;
-        return Err(Why::BlockLength);
+        return Err(too_short(bits, rest));
     }
     let count = read_little_32(bits)?;
     if count > (rest - 4) / 4 {

@@ -146,12 +146,20 @@ fn read_indices<R: Source>(
     Ok(CueIndices::from_vec(items))
 }
 
+/// The fields of a track before its index points.
+#[derive(Clone, Copy)]
+struct TrackFront {
+    offset: u64,
+    number: u8,
+    isrc: [u8; 12],
+    audio: bool,
+    pre_emphasis: bool,
+}
+
 /// Reads the fields of a track before its index points.
 #[tactic(auto, unfolding(crate::specs::CueSheet::track_front, crate::specs::Fields::reserved))]
-fn read_track_front<R: Source>(
-    bits: &mut BitReader<R>,
-) -> Result<(u64, u8, [u8; 12], bool, bool), Why>
-    ensures reading { Call 0 (Reads (λ f. f) track_front) bits.old bits.new result }
+fn read_track_front<R: Source>(bits: &mut BitReader<R>) -> Result<TrackFront, Why>
+    ensures reading { Call 0 (Reads (λ f. (f.offset, f.number, f.isrc, f.audio, f.pre_emphasis)) track_front) bits.old bits.new result }
 {
     let offset = bits.take(64)?;
     let number = bits.take(8)? as u8;
@@ -162,7 +170,13 @@ fn read_track_front<R: Source>(
     if !read_zeros(bits, 6 + 8 * 13)? {
         return Err(Why::CueSheet);
     }
-    Ok((offset, number, isrc, audio, pre_emphasis))
+    Ok(TrackFront {
+        offset,
+        number,
+        isrc,
+        audio,
+        pre_emphasis,
+    })
 }
 
 /// Reads a track, of a content of which `left` bytes are left (RFC 9639, section 8.7.1).
@@ -175,7 +189,13 @@ fn read_track<R: Source>(alloc: Global, bits: &mut BitReader<R>, left: u32) -> R
     if left < 35 {
         return Err(too_short(bits, left));
     }
-    let (offset, number, isrc, audio, pre_emphasis) = read_track_front(bits)?;
+    let TrackFront {
+        offset,
+        number,
+        isrc,
+        audio,
+        pre_emphasis,
+    } = read_track_front(bits)?;
     let count = read_count(bits, left - 35)?;
     if left - 36 < 12 * count as u32 {
         return Err(Why::BlockLength);

@@ -50,8 +50,8 @@ impl<'a, T> IntoIterator for &'a Entries<T> {
 }
 
 impl<T: Clone> Entries<T> {
-    /// Copies the items. `Clone` is written for each type of list, since its contract says that the copy equals the list,
-    /// and not of each item what the item's own `clone` says.
+    /// Copies the items. `Clone` is written for each type of list, since its contract says that the copy equals the
+    /// list, and not of each item what the item's own `clone` says.
     pub(crate) fn copied(&self) -> Result<Entries<T>, AllocError>
         ensures { IfOk result (AllZip T.is_clone self.now) }
     {

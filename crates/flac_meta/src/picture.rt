@@ -33,18 +33,32 @@ pub struct Picture {
     pub bytes: Bytes,
 }
 
-/// Reads width, height, bits per pixel and number of colours of a picture.
+/// Width, height, bits per pixel and number of colours of a picture.
+#[derive(Clone, Copy)]
+struct Sizes {
+    width: u32,
+    height: u32,
+    depth: u32,
+    colours: u32,
+}
+
+/// Reads the sizes of a picture, of a content of which `left` bytes are left.
 #[tactic(auto, unfolding(crate::specs::Picture::sizes))]
-fn read_sizes<R: Source>(bits: &mut BitReader<R>, left: u32) -> Result<(u32, u32, u32, u32), Why>
+fn read_sizes<R: Source>(bits: &mut BitReader<R>, left: u32) -> Result<Sizes, Why>
     requires { left < 2 ^ 24 }
     ensures fits { OnOk result (16 ≤ left) }
-    ensures reading { Call 0 (Reads (λ s. s) (sizes left)) bits.old bits.new result }
+    ensures reading { Call 0 (Reads (λ s. (s.width, s.height, s.depth, s.colours)) (sizes left)) bits.old bits.new result }
 {
     let width = read_number_32(bits, left)?;
     let height = read_number_32(bits, left - 4)?;
     let depth = read_number_32(bits, left - 8)?;
     let colours = read_number_32(bits, left - 12)?;
-    Ok((width, height, depth, colours))
+    Ok(Sizes {
+        width,
+        height,
+        depth,
+        colours,
+    })
 }
 
 /// Reads kind, media type and description of a picture, of a content of which `left` bytes are left.
@@ -76,7 +90,7 @@ pub(crate) fn read_picture<R: Source>(
 {
     let (kind, media, text) = read_picture_front(alloc, bits, left)?;
     let rest = left - (12 + media.len() as u32 + text.len() as u32);
-    let (width, height, depth, colours) = read_sizes(bits, rest)?;
+    let sizes = read_sizes(bits, rest)?;
     let bytes = read_sized(alloc, bits, rest - 16)?;
     if rest - (20 + bytes.len() as u32) != 0 {
         return Err(Why::BlockLength);
@@ -85,10 +99,10 @@ pub(crate) fn read_picture<R: Source>(
         kind,
         media,
         text,
-        width,
-        height,
-        depth,
-        colours,
+        width: sizes.width,
+        height: sizes.height,
+        depth: sizes.depth,
+        colours: sizes.colours,
         bytes,
     })
 }

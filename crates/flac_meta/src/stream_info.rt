@@ -256,29 +256,57 @@ fn is_out_of_range(least_block: u16, greatest_block: u16, rate: u32, depth: u8) 
 }
 
 /// Smallest and largest block size in samples, smallest and largest frame size in bytes.
+#[derive(Clone, Copy)]
+struct Sizes {
+    least_block: u16,
+    greatest_block: u16,
+    least_frame: u32,
+    greatest_frame: u32,
+}
+
+/// Reads the sizes of blocks and frames.
 #[tactic(auto, unfolding(crate::specs::Info::info_sizes))]
-fn read_sizes<R: Source>(bits: &mut BitReader<R>) -> Result<(u16, u16, u32, u32), Why>
-    ensures fit { IfOk result (λ s. (s.2 < 2 ^ 24) × (s.3 < 2 ^ 24)) }
-    ensures reading { Call 0 (Reads (λ s. s) info_sizes) bits.old bits.new result }
+fn read_sizes<R: Source>(bits: &mut BitReader<R>) -> Result<Sizes, Why>
+    ensures fit { IfOk result (λ s. (s.least_frame < 2 ^ 24) × (s.greatest_frame < 2 ^ 24)) }
+    ensures reading { Call 0 (Reads (λ s. (s.least_block, s.greatest_block, s.least_frame, s.greatest_frame)) info_sizes) bits.old bits.new result }
 {
     let least_block = bits.take(16)? as u16;
     let greatest_block = bits.take(16)? as u16;
     let least_frame = bits.take(24)? as u32;
     let greatest_frame = bits.take(24)? as u32;
-    Ok((least_block, greatest_block, least_frame, greatest_frame))
+    Ok(Sizes {
+        least_block,
+        greatest_block,
+        least_frame,
+        greatest_frame,
+    })
 }
 
 /// Sample rate in Hz, channels, bits per sample, samples of each channel.
+#[derive(Clone, Copy)]
+struct Format {
+    rate: u32,
+    channels: u8,
+    depth: u8,
+    total: u64,
+}
+
+/// Reads the format and the number of samples.
 #[tactic(auto, unfolding(crate::specs::Info::info_format))]
-fn read_format<R: Source>(bits: &mut BitReader<R>) -> Result<(u32, u8, u8, u64), Why>
-    ensures fit { IfOk result (λ f. (f.0 < 2 ^ 20) × (1 ≤ f.1) × (f.1 ≤ 8) × (f.2 ≤ 32) × (f.3 < 2 ^ 36)) }
-    ensures reading { Call 0 (Reads (λ f. f) info_format) bits.old bits.new result }
+fn read_format<R: Source>(bits: &mut BitReader<R>) -> Result<Format, Why>
+    ensures fit { IfOk result (λ f. (f.rate < 2 ^ 20) × (1 ≤ f.channels) × (f.channels ≤ 8) × (f.depth ≤ 32) × (f.total < 2 ^ 36)) }
+    ensures reading { Call 0 (Reads (λ f. (f.rate, f.channels, f.depth, f.total)) info_format) bits.old bits.new result }
 {
     let rate = bits.take(20)? as u32;
     let channels = bits.take(3)? as u8 + 1;
     let depth = bits.take(5)? as u8 + 1;
     let total = bits.take(36)?;
-    Ok((rate, channels, depth, total))
+    Ok(Format {
+        rate,
+        channels,
+        depth,
+        total,
+    })
 }
 
 /// Reads the content of a STREAMINFO block (RFC 9639, section 8.2).
@@ -286,22 +314,27 @@ fn read_format<R: Source>(bits: &mut BitReader<R>) -> Result<(u32, u8, u8, u64),
 pub(crate) fn read_stream_info<R: Source>(bits: &mut BitReader<R>) -> Result<StreamInfo, Why>
     ensures reading { Call 0 (Reads (λ i. i) stream_info) bits.old bits.new result }
 {
-    let (least_block, greatest_block, least_frame, greatest_frame) = read_sizes(bits)?;
-    let (rate, channels, depth, total) = read_format(bits)?;
+    let sizes = read_sizes(bits)?;
+    let format = read_format(bits)?;
     let mut digest = [0u8; 16];
     read_bytes(bits, &mut digest)?;
-    if is_out_of_range(least_block, greatest_block, rate, depth) {
+    if is_out_of_range(
+        sizes.least_block,
+        sizes.greatest_block,
+        format.rate,
+        format.depth,
+    ) {
         return Err(Why::BadStreamInfo);
     }
     Ok(StreamInfo {
-        least_block,
-        greatest_block,
-        least_frame,
-        greatest_frame,
-        rate,
-        channels,
-        depth,
-        total,
+        least_block: sizes.least_block,
+        greatest_block: sizes.greatest_block,
+        least_frame: sizes.least_frame,
+        greatest_frame: sizes.greatest_frame,
+        rate: format.rate,
+        channels: format.channels,
+        depth: format.depth,
+        total: format.total,
         digest,
     })
 }

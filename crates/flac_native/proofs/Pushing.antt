@@ -27,19 +27,16 @@ use Rattle.flac_subframe.specs.declared.linear.LinearPredictor.{LinearPredictor}
 use Rattle.flac_bits.specs.declared.why.Why.{Why}
 use Rattle.flac_bits.specs.declared.target.Target as target
 use Rattle.flac_bits.proofs.Holding.{bits_of-append}
-use Rattle.flac_frame.specs.Audio.{Sound, IsSound, samples_each, as_long, each_small, channels_fault, audio_fault}
+use Rattle.flac_frame.specs.Audio.{Sound, IsSound, samples_each, as_long, each_small, samples_fault, channels_fault, audio_fault}
 use Rattle.flac_frame.specs.Setup.{format_fault}
 use Rattle.flac_frame.specs.declared.setup.SetupFault.{SetupFault}
-use Rattle.flac_frame.specs.declared.setup.SetupFault.TheVariants.{BadChannels, LengthsDiffer, SampleTooLarge, TooLong, BadBlockSize}
+use Rattle.flac_frame.specs.declared.setup.SetupFault.TheVariants.{BadChannels, TooLong, BadBlockSize}
 use Rattle.flac_frame.specs.Encoding.{IsEncoding, IsLeastWith, IsShort, block_of as part_of}
 use Rattle.flac_frame.specs.Frame.{Frame, frame, header_rules, rate_in, depth_in, left_by}
 use Rattle.flac_frame.specs.Spelling.{FrameForm, frame_spelling}
 use Rattle.flac_frame.specs.declared.before.Before.{Before}
 use Rattle.flac_frame.proofs.Encodings.{encodings_are_frames}
 use Rattle.flac_frame.proofs.FrameTie.{frames_spelled}
-use Rattle.flac_frame.proofs.Sounds.{long_of, small_of}
-use Rattle.flac_subframe.specs.Numbers.{fits}
-use Rattle.std.specs.List.{list_all}
 use Rattle.flac_native.specs.Decoding.{beginning}
 use Rattle.flac_native.specs.Stream.{Piece, marked, framed, Progress, opening, grammar, next, layout, room_in, may_end_in, end_rules}
 use Rattle.flac_native.specs.Stream as stream
@@ -380,30 +377,11 @@ module _ {X : Type 0} (f : X → List ℤ) (xs : List X) (channels bits : ℕ) w
       let e : not (nat_eq (length (map f xs)) channels) ≡ true = rw (length-map xs f) (grind (arith, nat_tests)) in
       rw e refl
 
-  counted : length xs ≡ channels → not (nat_eq (length (map f xs)) channels) ≡ false
-  counted h = rw (length-map xs f) (grind (arith, nat_tests))
-
-  pub differ : length xs ≡ channels → (n : ℕ) (b : Bool) → b ≡ list_all (λ c. nat_eq (length (f c)) n) xs → n ≡ samples_each (map f xs) → b ≡ false → Some LengthsDiffer ≡ block_fault channels bits (map f xs)
-  unfolding block_fault
-  differ h n b e is bad =
-      let k : not (as_long (map f xs)) ≡ true = ap not (sym (long_of f xs n b e is) ∙ bad) in
-      rw (counted h, k) refl
-
-  pub large : length xs ≡ channels → (n : ℕ) (b d : Bool) → b ≡ list_all (λ c. nat_eq (length (f c)) n) xs → n ≡ samples_each (map f xs) → b ≡ true → d ≡ list_all (λ c. list_all (fits bits) (f c)) xs → d ≡ false
-      → Some SampleTooLarge ≡ block_fault channels bits (map f xs)
-  unfolding block_fault
-  large h n b d e is all s bad =
-      let k : not (as_long (map f xs)) ≡ false = ap not (sym (long_of f xs n b e is) ∙ all) in
-      let l : not (each_small bits (map f xs)) ≡ true = ap not (sym (small_of f xs bits d s) ∙ bad) in
-      rw (counted h, k, l) refl
-
-  pub faultless : length xs ≡ channels → (n : ℕ) (b d : Bool) → b ≡ list_all (λ c. nat_eq (length (f c)) n) xs → n ≡ samples_each (map f xs) → b ≡ true → d ≡ list_all (λ c. list_all (fits bits) (f c)) xs → d ≡ true
-      → None ≡ block_fault channels bits (map f xs)
-  unfolding block_fault
-  faultless h n b d e is all s good =
-      let k : not (as_long (map f xs)) ≡ false = ap not (sym (long_of f xs n b e is) ∙ all) in
-      let l : not (each_small bits (map f xs)) ≡ false = ap not (sym (small_of f xs bits d s) ∙ good) in
-      rw (counted h, k, l) refl
+  pub enough_channels : length xs ≡ channels → samples_fault bits (map f xs) ≡ block_fault channels bits (map f xs)
+  unfolding block_fault samples_fault
+  enough_channels h =
+      let e : not (nat_eq (length (map f xs)) channels) ≡ false = rw (length-map xs f) (grind (arith, nat_tests)) in
+      rw e refl
 
 -- ---- the next frame
 

@@ -1,4 +1,4 @@
--- Which metadata blocks a stream has, said of the list of all of them (RFC 9639, section 8).
+-- Which metadata blocks a stream has, as a property of the list of all of them (RFC 9639, section 8).
 use Rattle.std.specs.Prelude.{◌≡◌, ◌↔◌, ◌≤◌, Bool, true, false, List, [], ◌∷◌, ◌++◌, map, None, All}
 use Rattle.std.specs.List.{count_by}
 use Rattle.flac_bits.specs.State.{Mark}
@@ -24,13 +24,15 @@ abbrev pub is_seek_table : Block → Bool
 is_seek_table (blocks.SeekTable points) = true
 is_seek_table b = false
 
--- A block that is valid by itself: its type is not forbidden, its length fits 24 bits, its seek points are in order, its cue sheet has from 1 to 255 tracks
--- of at most 255 index points (sections 8.1, 8.5 and 8.7), and each number fits its field.
+-- A block that is valid by itself: its type is not forbidden, its length fits 24 bits, its seek points are in order,
+-- its cue sheet has from 1 to 255 tracks of at most 255 index points (sections 8.1, 8.5 and 8.7), and each number fits
+-- its field.
 pub record IsValid (b : Block) : Type 0 where
   pub written : block_fault b ≡ None
   pub fits : FitsFields b
 
--- STREAMINFO is the first block, and no other block is one; at most one block is a seek table, and at most one is a Vorbis comment; each block is valid by itself.
+-- STREAMINFO is the first block, and no other block is one; at most one block is a seek table, and at most one is a
+-- Vorbis comment; each block is valid by itself.
 pub record AreInOrder (list : List Block) : Type 0 where
   pub info : Info
   pub others : List Block
@@ -86,7 +88,8 @@ pub record HasBlocks (items : List Piece) : Type 0 where
   pub marks : LastIsMarked list
   pub order : AreInOrder (without_marks list)
 
--- So a reader, which judges each block by those before it, accepts just the blocks that are in order; and each stream has such blocks.
+-- A reader, which checks each block by those before it, accepts exactly the blocks that are in order; and each stream
+-- has such blocks.
 pub record BlocksAreInOrder : Type 0 where
   pub read : (profile : Profile) (m : Mark) (list : List MarkedBlock) (text : List Bool) → AreRead profile m list text ↔ AreOrdered list text
   pub streams : (profile : Profile) (m : Mark) (items : List Piece) (text : List Bool) → Stream grammar (opening profile) m items text → HasBlocks items

@@ -8,7 +8,7 @@ use Rattle.flac_native.specs.Giving.{items_of, HasFirst, BreaksBehind, Stage, Mo
 use Rattle.flac_native.specs.declared.fault.Fault.{Fault}
 use Rattle.flac_native.specs.declared.container.Container as container
 
--- what a call of a decoder did that answered this
+-- a call of a decoder with this result
 abbrev pub Answers : {C : Type 0} → container.Ghosts C → Stage C → Result (Option Item) Fault → Stage C → Type 0
 Answers g old answer new = Moves g old new (λ (o : Option Item). o) answer
 
@@ -16,8 +16,9 @@ Answers g old answer new = Moves g old new (λ (o : Option Item). o) answer
 abbrev pub GivesAll : {C : Type 0} → container.Ghosts C → Stage C → List Item → Stage C → Type 0
 GivesAll {C} g old items new = TakesAll (λ (a : Stage C) (x : Item) (b : Stage C). Answers g a (Ok (Some x)) b) old items new
 
--- Calls of a decoder behind this progress gave these items, and then one was broken off, by an error of the device or for want of memory. They read parts one
--- after another, the first that were to come, of which just these items are handed out; and the place is told of the container that gave these parts.
+-- Calls of a decoder from this progress on gave these items, and then one ended early, by an error of the device or
+-- because memory ran out. They read parts one after another, the first of those to come, whose items are exactly these;
+-- and the place is that of the container that gave these parts.
 abbrev pub CallsBreakBehind : {C : Type 0} → container.Ghosts C → Type 0
 CallsBreakBehind {C} g = (p : Progress) (first now last : Stage C) (items : List Item) (f : Fault) → IsAt first.track p → GivesAll g first items now → Answers g now (Err f) last → IsOutside f.why
     → (parts : List Piece) × (items ≡ items_of parts) × HasFirst g p first.container parts × BreaksBehind g p first.container last.container parts f.at f.why

@@ -1,11 +1,11 @@
--- What decoding a stream answers, and what it hands out.
+-- What decoding a stream returns, and what it passes to the sink.
 use Rattle.std.specs.Prelude.{◌≡◌}
 use Rattle.flac_bits.specs.State.{Mark}
 use Rattle.flac_bits.specs.declared.why.Why.{Why}
 use Rattle.flac_native.specs.Stream.{Piece, marked, block, framed}
 use Rattle.flac_native.specs.Item.{Item, metadata, frame}
 
--- a sink takes the blocks and frames; of the marker it hears nothing
+-- a sink takes the blocks and frames, but not the marker
 abbrev pub taken : {S : Type 0} → (S → Item → S → Type 0) → S → Piece → S → Type 0
 taken takes old marked new = old ≡ new
 taken takes old (block last b) new = takes old (metadata b) new

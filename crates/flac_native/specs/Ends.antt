@@ -1,4 +1,4 @@
--- What is judged where a stream ends.
+-- The rules at the end of a stream.
 use Rattle.std.specs.Prelude.{List, Result, Ok, Err}
 use Rattle.flac_bits.specs.Layout.{Rule}
 use Rattle.flac_bits.specs.Meaning.{AllKept, BreaksFirst}

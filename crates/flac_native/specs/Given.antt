@@ -24,8 +24,9 @@ use Rattle.md5.specs.Md5.{md5}
 
 -- ---- a plan
 
--- How samples are cut: the samples of a block; the profile, the rate, the bits of a sample, the channels and the samples of each that the plan was made for; the
--- samples from one seek point to the next, 0 where there is none; and the linear predictors that are tried beside the fixed ones.
+-- How samples are cut: the samples of a block; the profile, the sample rate, the bits per sample, the channels and the
+-- samples of each that the plan was made for; the samples from one seek point to the next, 0 if there are none; and the
+-- linear predictors that are tried beside the fixed ones.
 pub record Cut : Type 0 where
   pub profile : Profile
   pub block_size : ℕ
@@ -52,7 +53,7 @@ cut_in profile block_size a seek_every = record {
 abbrev pub cut_of : (block_size : ℕ) → Sound → (seek_every : ℕ) → Cut
 cut_of block_size a seek_every = cut_in a.profile block_size a seek_every
 
--- the predictors of a list that may be left out
+-- the predictors of an optional list
 abbrev pub listed : Option (Vec LinearPredictor Global) → List LinearPredictor
 listed None = []
 listed (Some v) = v.items
@@ -76,11 +77,11 @@ fits_plan p a =
 abbrev pub room_of : Cut → Room
 room_of p = record { block = p.block_size; most = most_in p.profile }
 
--- how many blocks hold so many samples
+-- how many blocks hold `total` samples
 abbrev pub blocks_in : (block_size total : ℕ) → ℕ
 blocks_in block_size total = (total + (block_size - 1)) / block_size
 
--- how many samples the block of a number has: the last has those that are left
+-- how many samples the block of a number has: the last has the rest
 abbrev pub size_of : (block_size total number : ℕ) → ℕ
 size_of block_size total number = min block_size (total - block_size * number)
 
@@ -93,7 +94,8 @@ pub record IsRange (p : Cut) (a : Sound) (number from to : ℕ) : Type 0 where
   pub room : to - from ≤ p.block_size
   pub few : number < 2 ^ 31
 
--- The frame of a number has a seek point: it holds a multiple of so many samples, since the first multiple at or behind its first sample is below its end.
+-- The frame of a number has a seek point: one of its samples has a number that is a multiple of `every`, since the
+-- first multiple at or after its first sample is below its end.
 unfoldable pub has_point : (block_size total every number : ℕ) → Bool
 has_point block_size total every number =
     nat_lt 0 every && nat_lt (every * blocks_in every (block_size * number)) (block_size * number + size_of block_size total number)
@@ -103,19 +105,20 @@ abbrev pub points_before : (block_size total every n : ℕ) → ℕ
 points_before block_size total every zero = 0
 points_before block_size total every (suc n) = points_before block_size total every n + bit_value (has_point block_size total every n)
 
--- each of these predictors has an order of at most the greatest
+-- the order of each of these predictors is at most `greatest`
 abbrev pub orders_fit : (greatest : ℕ) → List LinearPredictor → Bool
 orders_fit greatest ps = list_all (λ x. nat_le (length x.coefficients.items) greatest) ps
 
--- Why linear predictors cannot be tried, if so: there are more than 64, or one has an order that the profile does not allow at the rate (RFC 9639, sections 7 and
--- 9.2.6).
+-- Why linear predictors cannot be tried, if so: there are more than 64, or one has an order that the profile does not
+-- allow at the rate (RFC 9639, sections 7 and 9.2.6).
 unfoldable pub predictors_fault : Profile → (rate : ℕ) → List LinearPredictor → Option SetupFault
 predictors_fault profile rate ps =
     cond (nat_lt 64 (length ps)) (Some TooManyPredictors) (cond (not (orders_fit (limits_at profile rate).linear ps)) (Some PredictorOrder) None)
 
--- Why samples whose format can be encoded cannot be cut into blocks, if so. A block has 16 samples or more (RFC 9639, section 8.2), and no more than the profile
--- allows at the rate (section 7); a frame number has 31 bits (section 9.1.5), and the number of samples 36 (section 8.2); the points of a seek table, each of 18
--- bytes, stand in one block (sections 8.1 and 8.5); or the predictors cannot be tried.
+-- Why samples whose format can be encoded cannot be cut into blocks, if so. A block has 16 samples or more (RFC 9639,
+-- section 8.2), and no more than the profile allows at the rate (section 7); a frame number has 31 bits
+-- (section 9.1.5), and the number of samples 36 (section 8.2); the points of a seek table, each of 18 bytes, are in one
+-- block (sections 8.1 and 8.5); or the predictors cannot be tried.
 unfoldable pub cutting_fault : Cut → Option SetupFault
 cutting_fault p =
     cond (nat_lt p.block_size 16 || nat_lt (greatest_in p.profile p.rate) p.block_size) (Some BadBlockSize)
@@ -123,18 +126,18 @@ cutting_fault p =
     (cond (nat_lt 932067 (points_before p.block_size p.total p.seek_every (blocks_in p.block_size p.total))) (Some TooManyPoints)
     (predictors_fault p.profile p.rate p.predictors)))
 
--- Why samples of a format cannot be cut into blocks, if so: no frame header of the profile, or no STREAMINFO, tells the format, which is so of no samples that can
--- be encoded (sections 7, 8.2 and 9.1), or else the reason above.
+-- Why samples of a format cannot be cut into blocks, if so: no frame header of the profile, or no STREAMINFO, can have
+-- the format, which is the case for no samples that can be encoded (sections 7, 8.2 and 9.1), or else the reason above.
 unfoldable pub plan_fault : Cut → Option SetupFault
 plan_fault p = option_or (format_fault p.profile p.rate p.bits p.channels) (cutting_fault p)
 
 -- ---- what is written
 
--- the message of the digest (section 8.2): all samples
+-- the MD5 input (section 8.2): all samples
 unfoldable pub sound_message : Sound → List ℕ
 sound_message a = rows_bytes (sample_width a.bits) a.channels (samples_each a.channels) 0
 
--- STREAMINFO, where the least and the greatest frame have so many bytes (section 8.2)
+-- STREAMINFO with the smallest and the largest frame size in bytes (section 8.2)
 abbrev pub info_of : Cut → Sound → (least greatest : ℕ) → Info
 info_of p a least greatest = record {
   least_block = p.block_size;
@@ -171,6 +174,7 @@ abbrev pub closing : List Block → List Piece
 closing [] = []
 closing (b ∷ bs) = block (is_nil bs) b ∷ closing bs
 
--- the parts of the stream: the marker, STREAMINFO, the blocks and the frames, of which the least and the greatest have so many bytes
+-- the parts of the stream: the marker, STREAMINFO with the smallest and the largest frame size in bytes, the blocks and
+-- the frames
 abbrev pub given : Cut → List Block → Sound → (least greatest : ℕ) → List Piece
 given p list a least greatest = marked ∷ (closing (blocks.StreamInfo (info_of p a least greatest) ∷ list) ++ map framed (frames_of p.block_size a))

@@ -1,4 +1,4 @@
--- What a decoder has still to give, and that each call gives the first of it.
+-- What a decoder still has to return, and that each call returns the first of it.
 use Rattle.std.specs.Prelude.{◌≡◌, ◌≢◌, ◌≤◌, ◌<◌, ◌⊎◌, true, List, [], ◌∷◌, ◌++◌, Option, Some, None, Result, Ok, Err, IfOk, IfErr, IfSome}
 use Rattle.flac_bits.specs.State.{Rises, without_fence}
 use Rattle.flac_bits.specs.Items.{after}
@@ -22,7 +22,7 @@ use Rattle.flac_native.specs.declared.decoder.Decoder.{Decoder}
 use Rattle.flac_native.specs.declared.item.Item.{Item as Lent}
 use Rattle.flac_native.specs.declared.item.Item.TheVariants as lent
 
--- of a stream's parts the blocks and frames are handed out, and not the marker
+-- a decoder returns the blocks and frames of a stream, but not the marker
 abbrev pub handed : Piece → Option Item
 handed marked = None
 handed (block last b) = Some (metadata b)
@@ -48,11 +48,12 @@ StillGives gives p items end = (parts : List Piece) × (items ≡ items_of parts
 abbrev pub Gave : {C : Type 0} → container.Ghosts C → C → List Piece → C → Type 0
 Gave g old parts new = TakesAll (λ c _ d. g.gave c d) old parts new
 
--- A container that gave these parts was broken off behind them, which is told at its place.
+-- A container gave these parts and then ended early, for this reason, which is reported at this place.
 abbrev pub BreaksBehind : {C : Type 0} → container.Ghosts C → Progress → C → C → List Piece → Place → Why → Type 0
 BreaksBehind {C} g p old new parts at why = g.breaks new (after grammar p parts) at why × ((there : C) × Gave g old parts there × g.broke there new why)
 
--- Behind this progress a container gave these parts. Where its bytes are known they are the first of what was still to come, and the others still are.
+-- From this progress on a container gave these parts. If its bytes are known, they are the first of what was still to
+-- come, and the others still are.
 pub record PassesParts {C : Type 0} (g : container.Ghosts C) (p : Progress) (old : C) (parts : List Piece) (new : C) : Type 0 where
   pub gave : Gave g old parts new
   pub known : g.known old ≡ true → g.known new ≡ true
@@ -62,7 +63,7 @@ pub record PassesParts {C : Type 0} (g : container.Ghosts C) (p : Progress) (old
 abbrev pub HasFirst : {C : Type 0} → container.Ghosts C → Progress → C → List Piece → Type 0
 HasFirst g p c parts = g.known c ≡ true → (all : List Piece) (end : Option (Place × Why)) → g.gives c p all end → (left : List Piece) × (all ≡ parts ++ left)
 
--- ---- what a call answers
+-- ---- what a call returns
 
 -- nothing is left but the end
 abbrev pub EndsBy : Option (Place × Why) → Result (Option Item) Fault → Type 0
@@ -78,15 +79,16 @@ abbrev pub seen_by : {X : Type 0} → (X → Option Item) → Result X Fault →
 seen_by view (Ok x) = Ok (view x)
 seen_by view (Err f) = Err f
 
--- What a call gives is the first of what is still to come, where the source tells its bytes, answered no error in the call, and no growth was refused.
+-- A call returns the first of what is still to come, if the bytes of the source are known, it returned no error in the
+-- call, and memory did not run out.
 abbrev pub GivesFirst : {C X : Type 0} → container.Ghosts C → Progress → C → C → Track → (X → Option Item) → Result X Fault → Type 0
 GivesFirst g p old new track view result =
     g.known old ≡ true → g.errors new ≡ g.errors old → g.raised new ≡ g.raised old → (reason_of told result ≡ Err Memory → ⊥)
     → (items : List Item) (end : Option (Place × Why)) → StillGives (g.gives old) p items end → IsFirst (g.gives new) items end (seen_by view result) track
 
--- Errors of the device are counted: a call that returns a value met none, and one that returns Read met one, but where one was foretold that is not counted.
--- Each that is returned raises the count, if it can rise, and none is of a sink. What stands behind the bytes to come stays, and the references that the
--- container goes through.
+-- Errors of the device are counted: a call that returns a value met none, and one that returns Read met one, unless it
+-- was foretold, which is not counted. Each that is returned raises the count, if it can rise, and none is of a sink.
+-- What comes after the bytes to come stays, and so do the references that the container goes through.
 pub record CountsIn {C X : Type 0} (g : container.Ghosts C) (track : Track) (old new : C) (result : Result X Fault) : Type 0 where
   pub met : IfOk result (λ _. (g.known old ≡ true → g.known new ≡ true) × (g.errors new ≡ g.errors old) × (g.raised new ≡ g.raised old) × (g.met new ≡ g.met old))
   pub kept : g.errors old ≤ g.errors new
@@ -96,11 +98,11 @@ pub record CountsIn {C X : Type 0} (g : container.Ghosts C) (track : Track) (old
   pub behind : g.known old ≡ true → g.errors new ≡ g.errors old → g.behind new ≡ without_fence (g.behind old)
   pub names : g.names new ≡ g.names old
 
--- what a call reads before the part of its item: nothing, or where the stream begins the marker
+-- what a call reads before the part of its item: nothing, or at the start of the stream the marker
 abbrev pub IsBeforeItem : Progress → List Piece → Type 0
 IsBeforeItem p parts = (parts ≡ []) ⊎ ((p.stand.phase ≡ Opening) × (parts ≡ marked ∷ []))
 
--- A call that gave this item read its part, and the marker before it where the stream begins.
+-- A call that gave this item read its part, and at the start of the stream the marker before it.
 pub record PassesItem {C : Type 0} (g : container.Ghosts C) (p : Progress) (old new : C) (track : Track) (item : Item) : Type 0 where
   pub front : List Piece
   pub before : IsBeforeItem p front
@@ -109,19 +111,20 @@ pub record PassesItem {C : Type 0} (g : container.Ghosts C) (p : Progress) (old 
   pub passes : PassesParts g p old (front ++ part ∷ []) new
   pub at : IsAt track (after grammar p (front ++ part ∷ []))
 
--- A call that was broken off, by an error of the device or for want of memory, read the marker at most: the place is that of the part behind.
+-- A call that ended early, by an error of the device or because memory ran out, read at most the marker: the place is
+-- that of the part after it.
 pub record BreaksOff {C : Type 0} (g : container.Ghosts C) (p : Progress) (old new : C) (f : Fault) : Type 0 where
   pub front : List Piece
   pub before : IsBeforeItem p front
   pub first : HasFirst g p old front
   pub behind : BreaksBehind g p old new front f.at f.why
 
--- the item that stands in a track behind a call that read this part
+-- the item in a track after a call that read this part
 abbrev pub found : Track → Option Part → Option Item
 found t None = None
 found t (Some p) = handed (piece_of t p)
 
--- what is lent is this item
+-- the item that is lent
 abbrev pub shown_of : Lent → Option Item
 shown_of (lent.Block b) = Some (metadata b.now)
 shown_of (lent.Frame v) = Some (frame (frame_of v))
@@ -143,26 +146,28 @@ held course.Begun t = None
 held course.Over t = None
 held (course.Spent at) t = None
 
--- A call gave the first of what was still to come, and left the rest. Behind the end the stream is over, and behind a refusal spent at its place.
+-- A call returned the first of what was still to come, and left the rest. After the end the stream is over, and after a
+-- refusal it is spent at that place.
 pub record Goes {C X : Type 0} (g : container.Ghosts C) (old new : Stage C) (view : X → Option Item) (result : Result X Fault) : Type 0 where
   pub gives : (p : Progress) → IsAt old.track p → GivesFirst g p old.container new.container new.track view result
   pub counts : CountsIn g old.track old.container new.container result
   -- which parts it read
   pub passes : (p : Progress) → IsAt old.track p → IfOk result (λ x. IfSome (view x) (λ item. PassesItem g p old.container new.container new.track item))
   pub broken : (p : Progress) → IsAt old.track p → IfErr result (λ f. IsOutside f.why → BreaksOff g p old.container new.container f)
-  -- no growth is refused behind the last block
+  -- memory does not run out after the last block
   pub memory : (stand_of old.track).phase ≡ Frames → IfErr result (λ f. f.why ≢ Memory)
   pub going : IfOk result (λ x. IfSome (view x) (λ _. (part : Part) × (new.course ≡ course.Read part)))
   pub ends : seen_by view result ≡ Ok None → new.course ≡ course.Over
   pub refused : IfErr result (λ f. new.course ≡ course.Spent f.at)
 
--- once the stream is over that is answered again, and once it was refused, that it is spent, at the place of that refusal
+-- once the stream is over, this is returned again; once it was refused, a call returns `Spent` at the place of that
+-- refusal
 abbrev pub MovesFrom : {C X : Type 0} → container.Ghosts C → Course → Stage C → Stage C → (X → Option Item) → Result X Fault → Type 0
 MovesFrom g course.Begun old new view result = Goes g old new view result
 MovesFrom g (course.Read part) old new view result = Goes g old new view result
 MovesFrom g course.Over old new view result = (seen_by view result ≡ Ok None) × (new ≡ old)
 MovesFrom g (course.Spent at) old new view result = (seen_by view result ≡ Err (record { at = at; why = Spent })) × (new ≡ old)
 
--- what a call of a decoder did that answered this, seen by view
+-- a call of a decoder with this result, seen by view
 abbrev pub Moves : {C X : Type 0} → container.Ghosts C → Stage C → Stage C → (X → Option Item) → Result X Fault → Type 0
 Moves g old new view result = MovesFrom g old.course old new view result

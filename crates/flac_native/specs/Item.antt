@@ -1,4 +1,4 @@
--- What is handed out of a stream: blocks and frames, not the marker.
+-- The items that a decoder returns: blocks and frames, not the marker.
 use Rattle.flac_bits.specs.declared.why.Why.{Why}
 use Rattle.flac_meta.specs.declared.block.Block.{Block}
 use Rattle.flac_frame.specs.Frame.{Frame}
@@ -9,6 +9,6 @@ pub data Item : Type 0 where
   metadata : Block → Item
   frame : Frame → Item
 
--- where and why a call refused
+-- the place and the reason of an error
 abbrev pub told : Fault → Place × Why
 told f = (f.at, f.why)

@@ -1,9 +1,9 @@
--- The message whose digest STREAMINFO states: all samples, interleaved channel by channel (RFC 9639, section 8.2).
+-- The MD5 input: all samples, interleaved channel by channel (RFC 9639, section 8.2).
 use Rattle.std.specs.Prelude.{ℕ, zero, suc, ℤ, pos, ◌+◌, ◌/◌, List, [], ◌∷◌, ◌++◌, take, slice_index_or}
 use Rattle.std.specs.Int.{to_le_bytes, cast_unsigned, w32}
 use Rattle.flac_frame.specs.Frame.{Frame}
 
--- how many whole bytes hold a sample of so many bits
+-- how many whole bytes hold a sample of `depth` bits
 abbrev pub sample_width : ℕ → ℕ
 sample_width depth = (depth + 7) / 8
 
@@ -21,6 +21,6 @@ unfoldable pub rows_bytes : ℕ → List (List ℤ) → ℕ → ℕ → List ℕ
 rows_bytes width channels zero i = []
 rows_bytes width channels (suc n) i = row_bytes width channels i ++ rows_bytes width channels n (i + 1)
 
--- all samples of a frame, of so many bits
+-- all samples of a frame, of `depth` bits
 abbrev pub frame_message : ℕ → Frame → List ℕ
 frame_message depth f = rows_bytes (sample_width depth) f.channels f.size 0

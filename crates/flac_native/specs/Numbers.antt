@@ -1,4 +1,4 @@
--- The numbers by which faults of encoding are told, and the texts that are printed of them.
+-- The numbers of faults of encoding, and the texts that are printed of them.
 use Rattle.std.specs.Prelude.{ℕ, Bool, true, false, List, codes}
 use Rattle.flac_frame.specs.Setup as setup
 use Rattle.flac_native.specs.declared.fault.EncodeFault.{EncodeFault}

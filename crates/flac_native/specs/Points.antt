@@ -1,4 +1,4 @@
--- What the points of a seek table tell (RFC 9639, section 8.5.1).
+-- What the points of a seek table mean (RFC 9639, section 8.5.1).
 use Rattle.std.specs.Prelude.{◌≡◌, ℕ, ◌+◌, ◌*◌, ◌<◌, ◌≤◌, Bool, true, List, length, take, None, Contains}
 use Rattle.flac_bits.specs.Forms.{joined}
 use Rattle.flac_meta.specs.Valid.{AllAre}
@@ -13,7 +13,8 @@ pub record Holds (x : SeekPoint) (sample : ℕ) : Type 0 where
   pub first : x.sample ≤ sample
   pub behind : sample < x.sample + x.length
 
--- A point names one of these frames: its first sample, the bytes before it, and its samples, of which one is a multiple.
+-- A point names one of these frames: its first sample, the bytes before it, and its samples, of which one is a
+-- multiple.
 pub record NamesFrame (p : Cut) (frames : List (List Bool)) (x : SeekPoint) : Type 0 where
   pub number : ℕ
   pub among : number < length frames
@@ -23,7 +24,8 @@ pub record NamesFrame (p : Cut) (frames : List (List Bool)) (x : SeekPoint) : Ty
   pub multiple : ℕ
   pub holds : Holds x (p.seek_every * multiple)
 
--- So each point of the table of frames does, and each multiple below the number of samples is held by the frame of a point.
+-- Each point of the table of frames does this, and each multiple below the number of samples is in the frame of a
+-- point.
 abbrev pub PointsNameFrames : Type 0
 PointsNameFrames = (p : Cut) (a : Sound) (frames : List (List Bool)) → plan_fault p ≡ None → fits_plan p a ≡ true → AreFrames p a frames
     → AllAre (NamesFrame p frames) (points_of p frames)

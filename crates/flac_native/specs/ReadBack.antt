@@ -1,4 +1,4 @@
--- What encoding wrote is read as just what was given.
+-- What encoding wrote is read as exactly what was given.
 use Rattle.std.specs.Prelude.{◌≡◌, ◌<◌, ℕ, ℤ, Bool, List, [], ◌∷◌, ◌++◌, length, slice_index_or, None}
 use Rattle.flac_bits.specs.State.{Mark}
 use Rattle.flac_bits.specs.Items.{Stream, Refused}
@@ -29,7 +29,8 @@ channel_in c (framed f ∷ xs) = slice_index_or f.channels c [] ++ channel_in c 
 abbrev pub HaveSamples : Sound → List Piece → Type 0
 HaveSamples a parts = (c : ℕ) → c < length a.channels → channel_in c parts ≡ slice_index_or a.channels c []
 
--- the parts of an encoded stream: the marker, STREAMINFO, the blocks, the seek table of the frames, where one has a point, and the frames
+-- the parts of an encoded stream: the marker, STREAMINFO, the blocks, the seek table of the frames, if one has a point,
+-- and the frames
 abbrev pub parts_of : (p : Cut) (list : List Block) (a : Sound) (before after : List Bool) → Encodes p list a before after → List Piece
 parts_of p list a before after e = given p (list ++ table_of (points_of p e.frames)) a e.least e.greatest
 
@@ -40,7 +41,7 @@ pub record IsReadBack (m : Mark) (p : Cut) (a : Sound) (parts : List Piece) (bef
   pub only : IsOnly p.profile m parts text
   pub samples : plan_fault p ≡ None → IsSound a → HaveSamples a parts
 
--- So it is of all that encoding writes, read from a whole byte on.
+-- This holds of all that encoding writes, read from a whole byte on.
 abbrev pub EncodedAreReadBack : Type 0
 EncodedAreReadBack = (m : Mark) (p : Cut) (list : List Block) (a : Sound) (before after : List Bool) → m.unread ≡ 0
     → (e : Encodes p list a before after) → IsReadBack m p a (parts_of p list a before after e) before after

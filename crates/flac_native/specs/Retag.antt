@@ -1,4 +1,5 @@
--- What retagging makes of a stream: the same STREAMINFO, the given comments, the other blocks in their order, and the rest of the input.
+-- What retagging makes of a stream: the same STREAMINFO, the given comments, the other blocks in their order, and the
+-- rest of the input.
 use Rattle.std.specs.Prelude.{◌≡◌, Bool, true, false, cond, List, [], ◌∷◌, ◌++◌, Some, None, ◌≤◌}
 use Rattle.flac_bits.specs.State.{Mark}
 use Rattle.flac_bits.specs.Items.{Joined, Refused}
@@ -36,7 +37,8 @@ without_comments (b ∷ bs) = unless_comment b ++ without_comments bs
 
 -- ---- the input
 
--- The bits begin with the marker and these blocks, STREAMINFO and a list, of which the last is marked, each spelled (RFC 9639, sections 6 and 8). The rest is not read.
+-- The bits begin with the marker and these blocks, STREAMINFO and a list, of which the last is marked, each spelled
+-- (RFC 9639, sections 6 and 8). The rest is not read.
 pub record Begins (profile : Profile) (m : Mark) (text : List Bool) (info : Info) (list : List Block) (rest : List Bool) : Type 0 where
   pub head : List Bool
   pub stands : text ≡ head ++ rest
@@ -52,20 +54,21 @@ is_before_frames place.Marker = true
 is_before_frames (place.Block index) = true
 is_before_frames other = false
 
--- Behind good items, the marker or a block is refused, as decoding refuses it.
+-- After valid items, the marker or a block is refused, as decoding refuses it.
 pub record IsRefused (m : Mark) (text : List Bool) (at : Place) (why : Why) : Type 0 where
   pub items : List Piece
   pub refused : Refused grammar (opening Subset) m items text at why
   pub place : is_before_frames at ≡ true
 
--- A head is there.
+-- The bits begin with a head.
 pub record HasHead (m : Mark) (text : List Bool) : Type 0 where
   pub info : Info
   pub list : List Block
   pub rest : List Bool
   pub begins : BeginsWith m text info list rest
 
--- Bits do not begin so in two ways, nor are they then refused before the frames; and they are not refused there in two ways.
+-- Bits have at most one head, with a head they are not refused before the frames, and they are refused there in at most
+-- one way.
 pub record OneHead (m : Mark) (text : List Bool) : Type 0 where
   pub heads : (i j : Info) (l k : List Block) (r t : List Bool) → BeginsWith m text i l r → BeginsWith m text j k t → (i ≡ j) × (l ≡ k) × (r ≡ t)
   pub either : (at : Place) (why : Why) → HasHead m text → IsRefused m text at why → ⊥
@@ -76,16 +79,18 @@ HeadsAreOne = (m : Mark) (text : List Bool) → OneHead m text
 
 -- ---- the output
 
--- the marker, STREAMINFO, the given comments, the blocks that are no comments, of all of which the last is marked, and the rest of the input
+-- the marker, STREAMINFO, the given comments, the blocks that are no comments, of all of which the last is marked, and
+-- the rest of the input
 abbrev pub retagged : Comments → Info → List Block → (rest : List Bool) → List Bool
 retagged comments info list rest = head_spelling info (blocks.VorbisComment comments ∷ without_comments list) ++ rest
 
--- The output begins with the blocks that it was given, and no bits of the rest are taken for one. So reading it gives them back.
+-- The output begins with the blocks that it was given, and no bits of the rest are taken for one. So reading it gives
+-- them back.
 abbrev pub RetaggedAreRead : Type 0
 RetaggedAreRead = (m k : Mark) (text : List Bool) (comments : Comments) (info : Info) (list : List Block) (rest : List Bool) → k.unread ≡ 0 → comments_length comments ≤ 16777215 → IsComments comments → BeginsWith m text info list rest
     → BeginsWith k (retagged comments info list rest) info (blocks.VorbisComment comments ∷ without_comments list) rest
 
--- Behind the bits that were there, the input was written with these comments.
+-- After the bits that were there, the input was written with these comments.
 pub record Retags (m : Mark) (text : List Bool) (comments : Comments) (before after : List Bool) : Type 0 where
   pub info : Info
   pub list : List Block
@@ -93,27 +98,27 @@ pub record Retags (m : Mark) (text : List Bool) (comments : Comments) (before af
   pub input : BeginsWith m text info list rest
   pub output : after ≡ before ++ retagged comments info list rest
 
--- Behind the bits that were there, a beginning of that was written.
+-- After the bits that were there, a prefix of that was written.
 pub record BeginsRetagging (m : Mark) (text : List Bool) (comments : Comments) (before after : List Bool) : Type 0 where
   pub front : List Bool
   pub left : List Bool
   pub written : after ≡ before ++ front
   pub retags : Retags m text comments before (before ++ (front ++ left))
 
--- ---- what is answered
+-- ---- what is returned
 
--- comments whose block would be longer than its header can tell, which is seen before anything is read
+-- comments whose block would be longer than its header can have; this is checked before anything is read
 abbrev pub too_long : RetagFault
 too_long = record { at = None; why = why.BlockLength }
 
--- the target answered an error
+-- the target returned an error
 abbrev pub not_written : RetagFault
 not_written = record { at = None; why = why.Write }
 
--- the source answered an error behind the blocks
+-- the source returned an error after the blocks
 abbrev pub not_read : RetagFault
 not_read = record { at = Some (place.Frame 0); why = why.Read }
 
--- a growth was refused behind the blocks
+-- memory ran out after the blocks
 abbrev pub no_memory : RetagFault
 no_memory = record { at = Some (place.Frame 0); why = why.Memory }

@@ -1,5 +1,5 @@
--- The samples of a stream as bytes: interleaved channel by channel, signed little-endian, each sign-extended to as many bytes as are
--- asked for. If none are, they are the bytes whose MD5 STREAMINFO states (RFC 9639, section 8.2).
+-- The samples of a stream as bytes: interleaved channel by channel, signed little-endian, each sign-extended to as many
+-- bytes as are asked for. If none are, they are the bytes whose MD5 STREAMINFO states (RFC 9639, section 8.2).
 use Rattle.std.specs.Prelude.{ℕ, cond, nat_eq, List, [], ◌∷◌, ◌++◌}
 use Rattle.flac_meta.specs.declared.block.Block.{Block}
 use Rattle.flac_meta.specs.declared.block.Block.TheVariants.{StreamInfo}
@@ -28,7 +28,7 @@ samples_from asked depth (marked ∷ xs) = samples_from asked depth xs
 samples_from asked depth (block last b ∷ xs) = samples_from asked (depth_after depth b) xs
 samples_from asked depth (framed f ∷ xs) = frame_bytes asked depth f ++ samples_from asked depth xs
 
--- the depth and the samples behind one item
+-- the depth after one item, and its samples
 abbrev pub depth_behind : ℕ → Item → ℕ
 depth_behind depth (metadata b) = depth_after depth b
 depth_behind depth (frame f) = depth

@@ -21,14 +21,14 @@ use Rattle.flac_native.specs.declared.track.Phase.{Phase}
 use Rattle.flac_native.specs.declared.track.Phase.TheVariants.{Opening, Blocks, Frames}
 use Rattle.md5.specs.Md5.{md5}
 
--- One part of a stream. A block stands beside whether it is marked as the last.
+-- One part of a stream. With a block goes whether it is marked as the last.
 pub data Piece : Type 0 where
   marked : Piece
   block : Bool → Block → Piece
   framed : Frame → Piece
 
--- The profile by which frames are judged; which part comes next: its kind and its index; which kinds of blocks came, STREAMINFO, and what the next frame has to
--- follow.
+-- The profile by which frames are checked; which part comes next: its kind and its index; which kinds of blocks came,
+-- STREAMINFO, and what the next frame has to follow.
 pub record Stand : Type 0 where
   pub profile : Profile
   pub phase : Phase
@@ -37,7 +37,7 @@ pub record Stand : Type 0 where
   pub info : Option Info
   pub before : Option Before
 
--- What the parts so far leave: beside it the number of samples of each channel, and all samples as the message of the digest.
+-- The state after the parts so far: also the number of samples of each channel, and all samples as the MD5 input.
 pub record Progress : Type 0 where
   pub stand : Stand
   pub samples : ℕ
@@ -51,7 +51,7 @@ marker = do
   v ← bits 32
   judge (record { broken = not (nat_eq v 0x664C6143); why = BadMarker } ∷ [])
 
--- a frame of the format that STREAMINFO tells
+-- a frame of the format in STREAMINFO
 unfoldable pub frame_behind : Profile → Option Info → Option Before → Layout Frame
 frame_behind profile None before = refuse NotStreamInfoFirst
 frame_behind profile (Some info) before = frame_layout profile info before
@@ -70,13 +70,13 @@ layout_in Frames s = do
 unfoldable pub layout : Stand → Layout Piece
 layout s = layout_in s.phase s
 
--- ---- what a part leaves
+-- ---- the state after a part
 
--- an index that stops at the greatest
+-- the next index, which stops at 2^64 - 1
 abbrev pub raised : ℕ → ℕ
 raised n = min (n + 1) 18446744073709551615
 
--- STREAMINFO is kept, and the frames begin behind it
+-- STREAMINFO is kept, and the frames begin after it
 abbrev pub info_after : Option Info → Block → Option Info
 info_after info (blocks.StreamInfo i) = Some i
 info_after info other = info
@@ -100,7 +100,7 @@ samples_in marked = 0
 samples_in (block last b) = 0
 samples_in (framed f) = f.size
 
--- and its samples as bytes, of the depth that STREAMINFO says
+-- and its samples as bytes, of the depth in STREAMINFO
 abbrev pub depth_in : Option Info → ℕ
 depth_in None = 0
 depth_in (Some i) = i.depth
@@ -115,11 +115,11 @@ next p x = record { stand = stand_after p.stand x; samples = p.samples + samples
 
 -- ---- the end
 
--- a digest of zeros is none
+-- a digest of zeros is unknown
 abbrev pub is_unknown : List ℕ → Bool
 is_unknown digest = list_all (λ b. nat_eq b 0) digest
 
--- STREAMINFO states the number of samples, 0 where it is unknown, and the digest of all of them (section 8.2).
+-- STREAMINFO has the number of samples, 0 if it is unknown, and the digest of all of them (section 8.2).
 unfoldable pub end_rules : Option Info → ℕ → List ℕ → List Rule
 end_rules None samples message = []
 end_rules (Some i) samples message =
@@ -128,7 +128,7 @@ end_rules (Some i) samples message =
 
 -- ---- the grammar
 
--- the input may end behind the blocks, of which STREAMINFO is the first
+-- the input may end after the blocks, of which STREAMINFO is the first
 abbrev pub may_end_in : Phase → Option Info → Bool
 may_end_in Opening info = false
 may_end_in Blocks info = false
@@ -140,7 +140,7 @@ place_in Opening index = place.Marker
 place_in Blocks index = place.Block index
 place_in Frames index = place.Frame index
 
--- a frame has at most 16777215 bytes: STREAMINFO tells the sizes of frames in 24 bits (section 8.2)
+-- a frame has at most 16777215 bytes: STREAMINFO has the sizes of frames in 24 bits (section 8.2)
 abbrev pub room_in : Phase → Option ℕ
 room_in Opening = None
 room_in Blocks = None

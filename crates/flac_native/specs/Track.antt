@@ -69,13 +69,13 @@ piece_of t part.Marker = marked
 piece_of t part.Block = block_in t.last t.block
 piece_of t part.Frame = framed (shown t)
 
--- The track has come so far: the count of samples stops at 2^64 - 1, and the digest has taken the message.
+-- The track is at this progress: the count of samples stops at 2^64 - 1, and the hasher has taken the MD5 input.
 pub record IsAt (t : Track) (p : Progress) : Type 0 where
   pub stand : stand_of t ≡ p.stand
   pub samples : t.samples ≡ min p.samples 18446744073709551615
   pub digest : Holds t.hasher p.message
 
--- the part that was read is there; the marker comes but once
+-- the part that was read is there; the marker comes only once
 abbrev pub IsMadeAs : Part → Track → Track → Type 0
 IsMadeAs part.Marker old new = (old.position.phase ≡ phase.Opening) × (new.position.phase ≡ phase.Blocks)
 IsMadeAs part.Block old new = is_some new.block ≡ true

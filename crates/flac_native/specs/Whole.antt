@@ -1,4 +1,4 @@
--- What a whole stream is, said of the list of all its frames.
+-- What a whole stream is, by the list of all its frames.
 use Rattle.std.specs.Prelude.{◌≡◌, ◌↔◌, Bool, List, ◌∷◌, ◌++◌, map, Some}
 use Rattle.std.specs.List.{sum_by, flat_map}
 use Rattle.flac_bits.specs.State.{Mark}
@@ -20,9 +20,10 @@ use Rattle.flac_native.specs.Retag.{Begins}
 abbrev pub head_parts : Info → List Block → List Piece
 head_parts info list = marked ∷ closing (blocks.StreamInfo info ∷ list)
 
--- The input begins with such a head. After it come frames to the end of the input, each a header and its body of at most 16777215 bytes; the headers follow one another
--- as the standard asks of the list of all headers. The number of samples and the digest that STREAMINFO states, where it states them, are those of all frames (RFC 9639,
--- sections 6, 8.2 and 9.1).
+-- The input begins with such a head. After it come frames to the end of the input, each a header and its body of at
+-- most 16777215 bytes; the headers follow one another as the standard requires of the list of all headers. The number
+-- of samples and the digest in STREAMINFO, if they are known, are those of all frames (RFC 9639, sections 6, 8.2 and
+-- 9.1).
 pub record IsWhole (profile : Profile) (m : Mark) (items : List Piece) (text : List Bool) : Type 0 where
   pub info : Info
   pub list : List Block
@@ -35,6 +36,6 @@ pub record IsWhole (profile : Profile) (m : Mark) (items : List Piece) (text : L
   pub follow : Follows profile info headers
   pub kept : AllKept (end_rules (Some info) (sum_by (λ f. f.size) frames) (flat_map (frame_message info.depth) frames))
 
--- So the streams of the grammar, whose rules judge one frame after another, are just these.
+-- The streams of the grammar, whose rules check one frame after another, are exactly these.
 abbrev pub StreamsAreWhole : Type 0
 StreamsAreWhole = (profile : Profile) (m : Mark) (items : List Piece) (text : List Bool) → Stream grammar (opening profile) m items text ↔ IsWhole profile m items text

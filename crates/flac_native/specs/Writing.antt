@@ -26,7 +26,8 @@ use Rattle.md5.specs.Md5.{md5}
 
 -- ---- frames
 
--- The bits spell a frame of a block of samples in at most 16777215 bytes, as STREAMINFO tells (RFC 9639, section 8.2).
+-- The bits spell a frame of a block of samples in at most 16777215 bytes, the largest size that STREAMINFO can have
+-- (RFC 9639, section 8.2).
 pub record SpellsFrame (a : Sound) (f : Frame) (text : List Bool) : Type 0 where
   pub form : FrameForm
   pub encoding : IsEncoding a f.size f.number f.channels form
@@ -38,17 +39,17 @@ pub record AreFrames (p : Cut) (a : Sound) (frames : List (List Bool)) : Type 0 
   pub many : length frames ≡ blocks_in p.block_size (samples_each a.channels)
   pub each : (i : ℕ) → i < length frames → SpellsFrame a (frame_of p.block_size a i) (slice_index_or frames i [])
 
--- the bits spell the least frame of a block of samples, where these linear predictors are tried beside the fixed ones
+-- the bits spell the shortest frame of a block of samples, if these linear predictors are tried beside the fixed ones
 pub record SpellsLeast (ps : List LinearPredictor) (a : Sound) (f : Frame) (text : List Bool) : Type 0 where
   pub form : FrameForm
   pub least : IsLeastWith ps a f.size f.number f.channels form
   pub spelling : text ≡ frame_spelling a.bits form
 
--- each frame is the least of its block, with the plan's predictors
+-- each frame is the shortest of its block, with the plan's predictors
 abbrev pub AreLeastFrames : Cut → Sound → List (List Bool) → Type 0
 AreLeastFrames p a frames = (i : ℕ) → i < length frames → SpellsLeast p.predictors a (frame_of p.block_size a i) (slice_index_or frames i [])
 
--- the least and the greatest size of the frames in bytes, 0 where there is no frame
+-- the smallest and the largest size of the frames in bytes, 0 if there is no frame
 pub record AreSizes (frames : List (List Bool)) (least greatest : ℕ) : Type 0 where
   pub none : length frames ≡ 0 → (least ≡ 0) × (greatest ≡ 0)
   pub least_is : 0 < length frames → (i : ℕ) × (i < length frames) × (length (slice_index_or frames i []) ≡ 8 * least)
@@ -62,7 +63,7 @@ abbrev pub blocks_spelling : List Block → List Bool
 blocks_spelling [] = []
 blocks_spelling (b ∷ bs) = block_spelling (is_nil bs) b ++ blocks_spelling bs
 
--- before the frames stand the marker fLaC (section 6), STREAMINFO and the blocks
+-- before the frames: the marker fLaC (section 6), STREAMINFO and the blocks
 abbrev pub head_spelling : Info → List Block → List Bool
 head_spelling info list = unsigned 32 0x664C6143 ++ blocks_spelling (blocks.StreamInfo info ∷ list)
 
@@ -71,15 +72,16 @@ abbrev pub stream_spelling : Cut → List Block → Sound → (least greatest : 
 stream_spelling p list a least greatest frames =
     unsigned 32 0x664C6143 ++ (blocks_spelling (blocks.StreamInfo (info_of p a least greatest) ∷ list) ++ joined frames)
 
--- So what is written is a stream of what was given, and of the plan's profile: of samples that a plan was made for, and of blocks that may stand behind STREAMINFO.
+-- What is written is a stream of what was given, and of the plan's profile, for samples that a plan was made for and
+-- blocks that may follow STREAMINFO.
 abbrev pub EncodedAreStreams : Type 0
 EncodedAreStreams =
     (p : Cut) (list : List Block) (a : Sound) (least greatest : ℕ) (frames : List (List Bool)) → plan_fault p ≡ None → fits_plan p a ≡ true → list_fault info_seen list ≡ None → AllAre FitsFields list
     → AreFrames p a frames → AreSizes frames least greatest
     → Stream grammar (opening p.profile) (beginning Truncated) (given p list a least greatest) (stream_spelling p list a least greatest frames)
 
--- what is known of the frames of the samples before they are written: each is the least of its block, the shortest and the longest have so many bytes, and these are
--- their points
+-- what is known of the frames of the samples before they are written: each is the shortest of its block, these are the
+-- smallest and the largest size in bytes, and these are their points
 pub record AreCounted (p : Cut) (a : Sound) (least greatest : ℕ) (points : List SeekPoint) : Type 0 where
   pub frames : List (List Bool)
   pub are : AreFrames p a frames
@@ -91,7 +93,7 @@ pub record AreCounted (p : Cut) (a : Sound) (least greatest : ℕ) (points : Lis
 abbrev pub IsDigest : Sound → List ℕ → Type 0
 IsDigest a digest = digest ≡ md5 (sound_message a)
 
--- the bits are those of the least frame of a number, and a short one
+-- the bits are those of the shortest frame of a number, of at most 16777215 bytes
 pub record IsSpelled (p : Cut) (a : Sound) (number : ℕ) (text : List Bool) : Type 0 where
   pub frame : SpellsFrame a (frame_of p.block_size a number) text
   pub least : SpellsLeast p.predictors a (frame_of p.block_size a number) text
@@ -105,15 +107,16 @@ pub record IsChoiceOf (p : Cut) (a : Sound) (number : ℕ) (c : FrameChoice) : T
 abbrev pub AreChoices : Cut → Sound → List FrameChoice → Type 0
 AreChoices p a choices = (i : ℕ) (c : FrameChoice) → i < length choices → c ≡ slice_index_or choices i c → IsChoiceOf p a i c
 
--- so many bytes hold any frame: the least frames are no longer than that
+-- `places` bytes hold any frame: the shortest frames are no longer than that
 pub record HasRoom (p : Cut) (a : Sound) (places : ℕ) : Type 0 where
   pub frames : List (List Bool)
   pub are : AreFrames p a frames
   pub are_least : AreLeastFrames p a frames
   pub within : (i : ℕ) → i < length frames → length (slice_index_or frames i []) ≤ 8 * places
 
--- Behind the bits that were there, a stream of what was given was written: all frames of the samples, each the least of its block, whose least and greatest sizes STREAMINFO tells.
--- The last block is the seek table of the frames, where one has a point.
+-- After the bits that were there, a stream of what was given was written: all frames of the samples, each the shortest
+-- of its block, whose smallest and largest sizes are in STREAMINFO. The last block is the seek table of the frames, if
+-- one has a point.
 pub record Encodes (p : Cut) (list : List Block) (a : Sound) (before after : List Bool) : Type 0 where
   pub least : ℕ
   pub greatest : ℕ
@@ -125,7 +128,7 @@ pub record Encodes (p : Cut) (list : List Block) (a : Sound) (before after : Lis
   pub stream : Stream grammar (opening p.profile) (beginning Truncated) (given p (list ++ table_of (points_of p frames)) a least greatest)
       (stream_spelling p (list ++ table_of (points_of p frames)) a least greatest frames)
 
--- What was written is a beginning of such a stream, behind the bits that were there.
+-- What was written is a prefix of such a stream, after the bits that were there.
 pub record BeginsEncoding (p : Cut) (list : List Block) (a : Sound) (before after : List Bool) : Type 0 where
   pub front : List Bool
   pub rest : List Bool

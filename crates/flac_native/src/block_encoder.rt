@@ -99,9 +99,9 @@ impl BlockEncoder {
     }
 
     /// Sets the linear predictors that are tried for each subframe of the frames from now on, beside the constant,
-    /// verbatim and fixed ones: at most 64, of orders that the profile allows at the rate, 32 in [`crate::Profile::Lax`]
-    /// and above 48000 Hz, else 12 (RFC 9639, sections 7 and 9.2.6). They take the place of those before; an empty list
-    /// is as none.
+    /// verbatim and fixed ones: at most 64, of orders that the profile allows at the rate, 32 in
+    /// [`crate::Profile::Lax`] and above 48000 Hz, else 12 (RFC 9639, sections 7 and 9.2.6). They take the place of
+    /// those before; an empty list is as none.
     ///
     /// # Errors
     /// [`SetupFault::TooManyPredictors`] if there are more than 64, else [`SetupFault::PredictorOrder`] if an order is
@@ -193,8 +193,8 @@ impl BlockEncoder {
         Ok(frame)
     }
 
-    /// Counts the frame of a block, which was put into the container: from now on a block is encoded as the frame behind
-    /// it. The block must be one that [`BlockEncoder::encode`] does not refuse.
+    /// Counts the frame of a block, which was put into the container: from now on a block is encoded as the frame
+    /// behind it. The block must be one that [`BlockEncoder::encode`] does not refuse.
     pub fn sent(&mut self, block: &[&[i32]])
         requires { push_fault self.old (map (λ c. c.now) block.now) ≡ None }
         ensures { self.new ≡ behind_block self.old (samples_each (map (λ c. c.now) block.now)) tt }

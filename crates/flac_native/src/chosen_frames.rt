@@ -19,8 +19,9 @@ use flac_meta::{SeekPoint, StreamInfo};
 use md5::{Digest, Md5};
 use std::alloc::Global;
 
-/// One choice is kept for each 192 samples of each channel, the smallest block size that a code names (RFC 9639, section
-/// 9.1.1). It takes some 80 bytes for each channel, and one for each partition of its residual; a sample takes 4.
+/// One choice is kept for each 192 samples of each channel, the smallest block size that a code names (RFC 9639,
+/// section 9.1.1). It takes some 80 bytes for each channel, and one for each partition of its residual; a sample takes
+/// 4.
 const KEPT: usize = 192;
 
 /// How the frames of a plan are written, chosen before any of them is written: the sizes of the frames, and the choices

@@ -1,6 +1,6 @@
 //! Decodes into a sink.
 
-ghost use Rattle.std.specs.Prelude.{◌≡◌, ◌<◌, ℕ, Bool, true, List, OnOk, OnErr, ◌≤◌, Option, IfOk, IfErr, is_some};
+ghost use Rattle.std.specs.Prelude.{◌≡◌, ◌<◌, ℕ, Bool, true, List, OnOk, OnErr, ◌≤◌, Option, Some, IfOk, IfErr, is_some, codes};
 ghost use Rattle.std.specs.Borrow.{GName};
 ghost use Rattle.flac_bits.specs.State.{Rises, without_fence, short_of};
 ghost use Rattle.flac_frame.specs.Lent.{frame_of};
@@ -29,6 +29,8 @@ use std::fmt;
 pub struct SinkFault;
 
 impl fmt::Display for SinkFault {
+    ghost output = { λ _. Some (codes "the sink did not take the item") };
+
     fn fmt<W: fmt::Write>(&self, f: &mut fmt::Formatter<W>) -> fmt::Result {
         f.write_str("the sink did not take the item")
     }

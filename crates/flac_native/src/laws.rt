@@ -103,8 +103,8 @@ pub fn frames_are_resumed()
 {}
 
 /// Calls of [`crate::Decoder::next`], one after another, read parts of the stream one after another: those of the items
-/// that they give, and the marker. If one then returns [`flac_bits::Why::Read`] or [`flac_bits::Why::Memory`], its place
-/// is what the container tells of these parts: in a native stream the place of the part after them.
+/// that they give, and the marker. If one then returns [`flac_bits::Why::Read`] or [`flac_bits::Why::Memory`], its
+/// place is what the container tells of these parts: in a native stream the place of the part after them.
 pub fn calls_break_behind<C: Container>()
     ensures { CallsBreakBehind C.Container }
 {}

@@ -54,7 +54,7 @@ pub use flac_frame::{Audio, EncodeBuffers, FrameView, SetupFault, greatest_order
 pub use flac_header::Profile;
 pub use flac_meta::{
     Block, BlockList, Bytes, Comments, CueIndex, CueIndices, CueSheet, CueTrack, CueTracks,
-    Picture, SeekPoint, SeekTable, StreamInfo, Texts,
+    Entries, Picture, SeekPoint, SeekTable, StreamInfo, Texts,
 };
 pub use flac_subframe::LinearPredictor;
 pub use format::LONGEST_FRAME;

@@ -111,7 +111,7 @@ fn count_points(size: u64, total: u64, every: u64) -> u64
 fn cutting_fault(asked: &Asked) -> Option<SetupFault>
     ensures { result ≡ cutting_fault (record { profile = asked.now.profile; block_size = asked.now.block_size; rate = asked.now.rate; bits = asked.now.bits; channels = asked.now.channels; total = asked.now.total; seek_every = asked.now.seek_every; predictors = [] }) }
 {
-    if asked.block_size < 16 || asked.block_size > asked.profile.greatest_block(asked.rate) {
+    if !asked.profile.allows_block(asked.block_size, asked.rate) {
         return Some(SetupFault::BadBlockSize);
     }
     let size = asked.block_size as u64;

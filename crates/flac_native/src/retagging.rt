@@ -10,6 +10,7 @@ ghost use Rattle.flac_bits.specs.inner.Handing.{IsCalm};
 ghost use Rattle.flac_native.specs.Stream.{Piece, Progress, Stand, grammar, layout, next, stand_after};
 ghost use Rattle.flac_native.specs.Track.{is_behind_blocks, position_of};
 ghost use Rattle.flac_native.specs.Item.{told};
+ghost use Rattle.flac_native.specs.Places.{retag_text};
 ghost use Rattle.flac_native.specs.Retag.{is_before_frames, IsRefused, not_read, not_written, BeginsWith, HasHead, Retags, BeginsRetagging, retagged, too_long, no_memory};
 ghost use Rattle.flac_native.specs.inner.Retag.{stand_at, piece_in, keeps, AreKept, MayBeHead, new_head};
 ghost use Rattle.flac_bits.specs.Bits.{bits_of};
@@ -45,6 +46,8 @@ pub struct RetagFault {
 }
 
 impl fmt::Display for RetagFault {
+    ghost output = { λ fault. Some (retag_text fault) };
+
     fn fmt<W: fmt::Write>(&self, f: &mut fmt::Formatter<W>) -> fmt::Result {
         let why = self.why;
         match self.at {

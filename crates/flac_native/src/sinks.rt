@@ -30,11 +30,25 @@ const ROWS: usize = 1024;
 /// ```
 #[derive(Drop)]
 pub struct Failures {
-    /// How often; it stops at 2^64 - 1.
-    pub count: u64,
+    count: u64,
 }
 
 impl Failures {
+    /// No failures.
+    pub fn new() -> Failures
+        ensures { result.count ≡ 0 }
+    {
+        Failures { count: 0 }
+    }
+
+    /// How many failures were counted; it stops at 2^64 - 1.
+    pub fn count(&self) -> u64
+        ensures { result ≡ self.now.count }
+    {
+        let Failures { count } = self;
+        *count
+    }
+
     /// Counts one more failure, and returns it as an error.
     pub fn fail(&mut self) -> Result<(), SinkFault>
         ensures refused { OnOk result ⊥ }
@@ -110,7 +124,7 @@ impl<W: Target> SampleWriter<W> {
             target,
             asked: width,
             depth: 0,
-            failures: Failures { count: 0 },
+            failures: Failures::new(),
             began,
         }
     }
@@ -123,7 +137,7 @@ impl<W: Target> SampleWriter<W> {
         ensures known { W.known self.now.began.value ≡ true → self.now.failures.count ≡ 0 → W.known self.now.target ≡ true }
         ensures failed { W.known self.now.began.value ≡ true → 0 < self.now.failures.count → W.errors self.now.began.value < W.errors self.now.target }
     {
-        self.failures.count
+        self.failures.count()
     }
 
     /// Returns the target.

@@ -1,9 +1,7 @@
 //! The format of a stream that is encoded a block at a time.
 
-ghost use Rattle.std.specs.Prelude.{◌≡◌, None, ◌≤◌, ◌<◌, ◌^◌, map, length, nat_eq, IfOk, IfErr};
-ghost use Rattle.std.specs.List.{list_all};
+ghost use Rattle.std.specs.Prelude.{◌≡◌, None, ◌≤◌, ◌<◌, ◌^◌, map, IfOk, IfErr};
 ghost use Rattle.flac_bits.specs.Bits.{bits_of};
-ghost use Rattle.flac_subframe.specs.Numbers.{fits};
 ghost use Rattle.flac_subframe.specs.Handed.{AreWithin};
 ghost use Rattle.flac_frame.specs.Audio.{samples_each};
 ghost use Rattle.flac_frame.specs.Encoding.{most_in};
@@ -13,7 +11,9 @@ ghost use Rattle.flac_native.specs.Pushing.{shape_of, shape_fault, open_info, bl
 ghost use Rattle.flac_native.specs.Writing.{SpellsFrame, SpellsLeast};
 
 use flac_bits::{BitWriter, Collected, Why};
-use flac_frame::{Audio, EncodeBuffers, SetupFault, encode_frame_with, format_fault, samples_fit};
+use flac_frame::{
+    Audio, EncodeBuffers, SetupFault, encode_frame_with, format_fault, samples_fault,
+};
 use flac_header::Profile;
 use flac_meta::StreamInfo;
 use flac_subframe::LinearPredictor;
@@ -37,6 +37,25 @@ pub struct StreamFormat {
 }
 
 impl StreamFormat {
+    /// The format of the stream that has this STREAMINFO, in a profile. Its block size is the largest that STREAMINFO
+    /// states.
+    ///
+    /// ```
+    /// let format = StreamFormat::of(info, Profile::Subset);
+    /// let mut encoder = StreamEncoder::new_in(alloc, &format, &blocks, file)?;
+    /// ```
+    pub fn of(info: &StreamInfo, profile: Profile) -> StreamFormat
+        ensures { shape_of result ≡ record { profile = profile; rate = info.now.rate; bits = info.now.depth; channels = info.now.channels; block_size = info.now.greatest_block } }
+    {
+        StreamFormat {
+            profile,
+            rate: info.rate(),
+            bits: u32::from(info.depth()),
+            channels: u32::from(info.channels()),
+            block_size: u32::from(info.greatest_block()),
+        }
+    }
+
     /// Why nothing of the format can be encoded, or `None` if it can: `BadRate`, `BadDepth`, `BadChannels` or
     /// `BadBlockSize`, the first that applies.
     #[tactic(auto, unfolding(crate::specs::Pushing::shape_fault, flac_frame::specs::Setup::format_fault))]
@@ -47,7 +66,7 @@ impl StreamFormat {
         if let Some(fault) = format {
             return Some(fault);
         }
-        if self.block_size < 16 || self.block_size > self.profile.greatest_block(self.rate) {
+        if !self.profile.allows_block(self.block_size, self.rate) {
             return Some(SetupFault::BadBlockSize);
         }
         None
@@ -82,13 +101,7 @@ impl StreamFormat {
         if block.len() as u64 != self.channels as u64 {
             return Some(SetupFault::BadChannels);
         }
-        if !are_long(block, block_len(block)) {
-            return Some(SetupFault::LengthsDiffer);
-        }
-        if !each_small(block, self.bits) {
-            return Some(SetupFault::SampleTooLarge);
-        }
-        None
+        samples_fault(block, self.bits)
     }
 
     /// Encodes a block of the format as the frame of this number, in memory (RFC 9639, section 9): a shortest frame,
@@ -137,23 +150,8 @@ impl StreamFormat {
     }
 }
 
-/// Whether each sample of each channel fits into `bits` bits.
-fn each_small(block: &[&[i32]], bits: u32) -> bool
-    requires { (1 ≤ bits) × (bits ≤ 32) }
-    ensures { result ≡ list_all (λ c. list_all (fits bits) c.now) block.now }
-{
-    block.iter().all(|c| samples_fit(c, bits))
-}
-
-/// Whether each channel has `len` samples.
-fn are_long(block: &[&[i32]], len: usize) -> bool
-    ensures { result ≡ list_all (λ c. nat_eq (length c.now) len) block.now }
-{
-    block.iter().all(|c| c.len() == len)
-}
-
-/// How many samples each channel of a block has, by its first channel; 0 if there is none. It is for encoders that stand
-/// on [`StreamFormat::encode_block`], as `OggEncoder` of `flac_ogg`.
+/// How many samples each channel of a block has, by its first channel; 0 if there is none. It is for encoders that
+/// stand on [`StreamFormat::encode_block`], as `OggEncoder` of `flac_ogg`.
 pub fn block_len(block: &[&[i32]]) -> usize
     ensures { result ≡ samples_each (map (λ c. c.now) block.now) }
 {

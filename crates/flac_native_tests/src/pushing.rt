@@ -4,7 +4,7 @@ use flac_bits::{Collected, Counted, Memory, Target};
 use flac_meta::BlockList;
 use flac_native::{
     BlockEncoder, Decoder, EncodeBuffers, EncodeFault, LinearPredictor, Profile, SetupFault,
-    StreamEncoder, StreamFormat, block_len, predictors_fault,
+    StreamEncoder, StreamFormat, StreamInfo, block_len, predictors_fault,
 };
 use flac_testing::{Narrow, Recorder, count_rising, number_of, setup_number};
 use std::alloc::Global;
@@ -69,6 +69,14 @@ fn format() -> StreamFormat {
         channels: 2,
         block_size: 4096,
     }
+}
+
+/// The format of a stream is that of its STREAMINFO, with the largest block size.
+#[test]
+fn format_of_streaminfo(rt: HostRuntime) -> Result<(), Fail> {
+    let info = StreamInfo::new(16, 4096, 0, 0, 44100, 2, 16, 0, [0; 16])?;
+    assert!(rt; StreamFormat::of(&info, Profile::Subset) == format());
+    Ok(())
 }
 
 /// The block of the stream above as a frame by itself, if the format, the block and the list have no fault.

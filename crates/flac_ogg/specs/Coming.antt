@@ -1,4 +1,4 @@
--- What good pages still give of a stream.
+-- What good pages still have of a stream.
 use Rattle.std.specs.Prelude.{◌≡◌, ℕ, List, Option, Some, None, ◌⊎◌}
 use Rattle.flac_bits.specs.declared.why.Why.{Why}
 use Rattle.flac_bits.specs.declared.why.Why.TheVariants.{Read}
@@ -11,7 +11,7 @@ use Rattle.flac_pages.specs.Given.{PacketsAhead}
 use Rattle.flac_ogg.specs.Steps.{PacketStep, over, refused, packet_step, Goes}
 use Rattle.flac_ogg.specs.Telling.{IsUnderWay}
 
--- the step behind all items
+-- the step after all items
 abbrev pub final : Option (Place × Why) → PacketStep
 final None = over
 final (Some f) = refused f.0 f.1
@@ -31,11 +31,11 @@ pub record ItemsCome (p : Progress) (a : Ahead) (items : List Piece) (end : Opti
 abbrev pub TellsRead : Option (ℕ × Why) → Type 0
 TellsRead o = (n : ℕ) × (o ≡ Some (n, Read))
 
--- an error stands behind what good pages give
+-- an error follows what good pages have
 abbrev pub Foretells : Ahead → Type 0
 Foretells a = TellsRead a.fault ⊎ TellsRead a.stop
 
--- of a stream that a track stands in, no error of the device stands behind the packets ahead
+-- of the stream of a track, no error of the device follows the packets ahead
 pub record IsClear (s : Stands) (t : Track) : Type 0 where
   pub progress : Progress
   pub at : IsAt t progress

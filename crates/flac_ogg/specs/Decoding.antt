@@ -22,8 +22,8 @@ pub record BeginsWith (profile : Profile) (mark : Mark) (items : List Piece) (te
   pub split : contents.packets ≡ taken ++ left
   pub spelled : AreItems (start profile) taken items
 
--- The first n of the input's good pages were read, where n stops at the greatest index: the packets that end in them are these items. A further packet may have
--- begun in them.
+-- The first n of the input's good pages were read, where n stops at 2^64 - 1: the packets that end in them are these
+-- items. A further packet may have begun in them.
 pub record ReadsTo (profile : Profile) (mark : Mark) (items : List Piece) (text : List Bool) (n : ℕ) : Type 0 where
   pub contents : Contents mark text
   pub read : List Page
@@ -35,18 +35,21 @@ pub record ReadsTo (profile : Profile) (mark : Mark) (items : List Piece) (text 
   pub packed : Packets read packets begun
   pub spelled : AreItems (start profile) packets items
 
--- The place of an error that breaks off the reading of the next item, once n pages were read: one of the device is reported at the page after them, one of memory at
--- the metadata block that comes next, since no memory is allocated for a frame.
+-- The place of an error that ends the reading of the next item early, once n pages were read: one of the device is
+-- reported at the page after them, one of memory at the metadata block that comes next, since no memory is allocated
+-- for a frame.
 abbrev pub IsBrokenAt : ℕ → Progress → Place → Why → Type 0
 IsBrokenAt n p at why = (why ≡ Read → at ≡ place.Page n) × (why ≡ Memory → (p.stand.phase ≢ Frames) × (at ≡ grammar.place p))
 
--- Reading was broken off behind these items, n pages of the input having been read; an error of the device is told at the page behind those of the items.
+-- Reading ended early after these items, when n pages of the input had been read; an error of the device is reported at
+-- the page after those of the items.
 abbrev pub BreaksAtPage : Profile → Mark → List Piece → List Bool → Place → Why → Type 0
 BreaksAtPage profile mark items text at why = (n : ℕ) × IsBrokenAt n (after grammar (start profile) items) at why × (why ≡ Read → ReadsTo profile mark items text n)
 
--- it is an Ogg stream of these items, or is refused behind them, or its first packets are these items; the next one stands where it would in a native stream.
--- An error of the device is told at the page behind those that were read, which are the pages of these items. Before the first item either may be told at the
--- marker too
+-- It is an Ogg stream of these items, or is refused after them, or its first packets are these items; the place of the
+-- next one is that in a native stream. An error of the device is reported at the page after those that were read, which
+-- are the pages of these items. Before the first item an error of the device or of memory may be reported at the marker
+-- too.
 abbrev pub ogg_reading : Profile → Mark → List Bool → Reading Piece Place
 ogg_reading profile mark text = record {
   whole = λ items. OggStream profile mark items text;
@@ -58,7 +61,7 @@ ogg_reading profile mark text = record {
 
 -- ---- where pages begin
 
--- a reader of pages stands before this input, whose bytes are known, and has read nothing of it
+-- a reader of pages is before this input, whose bytes are known, and has read nothing of it
 pub record IsFront (mark : Mark) (text : List Bool) (p : Stands) : Type 0 where
   pub known : p.known ≡ true
   pub lacing : p.lacing ≡ []
@@ -74,6 +77,6 @@ pub record IsFront (mark : Mark) (text : List Bool) (p : Stands) : Type 0 where
 abbrev pub PassesNext : Stands → Stands → Type 0
 PassesNext old new = old.known ≡ true → (new.known ≡ true) × PassesPacket (on_page old) (on_page new)
 
--- the device failed once so many pages were read as are counted, before the next packet ended
+-- the device failed after as many pages as are counted, before the next packet ended
 abbrev pub BreaksInNext : Stands → Stands → Why → Type 0
 BreaksInNext old new why = why ≡ Read → old.known ≡ true → BreaksAt (on_page old) new.count

@@ -1,4 +1,4 @@
--- A stream in either container, which its first byte tells.
+-- A stream in either container, by its first byte.
 use Rattle.std.specs.Prelude.{ℕ, Bool, true, false, nat_eq, List, [], ◌∷◌}
 use Rattle.flac_bits.specs.State.{Mark}
 use Rattle.flac_bits.specs.Handing.{Reading, by_grammar}

@@ -22,8 +22,9 @@ OggIsReadOnce = (profile : Profile) (mark : Mark) (text : List Bool) → ReadsOn
 abbrev pub OggIsRead : Type 0
 OggIsRead = (profile : Profile) (mark : Mark) (text : List Bool) → IsRead (ogg_reading profile mark text)
 
--- Calls of a decoder of this input gave these items, and then one was broken off, by an error of the device or for want of memory. The items are those of the
--- input's first packets, and the place is the one that the pages of these packets show.
+-- Calls of a decoder of this input gave these items, and then one ended early, by an error of the device or because
+-- memory ran out. The items are those of the input's first packets, and the place is that of the pages of these
+-- packets.
 abbrev pub CallsBreakAtPages : {R : Type 0} → container.Ghosts (OggPackets R) → Type 0
 CallsBreakAtPages {R} g = (profile : Profile) (mark : Mark) (text : List Bool) (first now last : Stage (OggPackets R)) (items : List Item) (f : Fault)
     → IsAt first.track (start profile) → IsFront mark text first.container.pages → GivesAll g first items now → Answers g now (Err f) last → IsOutside f.why

@@ -31,13 +31,13 @@ without_mapping (first ∷ packets) = drop 13 first ∷ packets
 abbrev pub native_text : List (List ℕ) → List Bool
 native_text packets = unsigned 32 0x664C6143 ++ joined (map bits_of (without_mapping packets))
 
--- So the items of an Ogg stream are those of a native stream.
+-- The items of an Ogg stream are those of a native stream.
 abbrev pub OggStreamsAreStreams : Type 0
 OggStreamsAreStreams = (profile : Profile) (mark : Mark) (items : List Piece) (text : List Bool) (o : OggStream profile mark items text) → Stream grammar (opening profile) (beginning Truncated) (marked ∷ items) (native_text o.contents.packets)
 
 -- ---- what is encoded, as packets
 
--- the mapping, which tells how many header packets follow the first
+-- the mapping, which has the number of header packets after the first
 abbrev pub mapping_spelling : (count : ℕ) → List Bool
 mapping_spelling count = joined (unsigned 40 0x7F464C4143 ∷ unsigned 16 0x0100 ∷ unsigned 16 count ∷ unsigned 32 0x664C6143 ∷ [])
 
@@ -50,14 +50,14 @@ block_spellings (b ∷ bs) = block_spelling (is_nil bs) b ∷ block_spellings bs
 abbrev pub packet_spellings : (count : ℕ) → Info → List Block → (frames : List (List Bool)) → List (List Bool)
 packet_spellings count info list frames = (mapping_spelling count ++ block_spelling (is_nil list) (blocks.StreamInfo info)) ∷ (block_spellings list ++ frames)
 
--- the packets are just these items, and a stream of the profile may end behind them
+-- the packets are exactly these items, and a stream of the profile may end after them
 pub record AreStream (profile : Profile) (packets : List (List ℕ)) (items : List Piece) : Type 0 where
   pub spelled : AreItems (start profile) packets items
   pub ends : grammar.may_end (after grammar (start profile) items) ≡ true
   pub kept : AllKept (grammar.at_end (after grammar (start profile) items))
 
--- So packets of what is encoded are the items of a stream of what was given, and of the plan's profile: of samples that a plan was made for, and of blocks that may
--- stand behind STREAMINFO.
+-- Packets of what is encoded are the items of a stream of what was given, and of the plan's profile, for samples that a
+-- plan was made for and blocks that may follow STREAMINFO.
 abbrev pub EncodedAreOggItems : Type 0
 EncodedAreOggItems =
     (p : Cut) (list : List Block) (a : Sound) (least greatest count : ℕ) (frames : List (List Bool)) (packets : List (List ℕ)) → plan_fault p ≡ None → fits_plan p a ≡ true → list_fault info_seen list ≡ None → AllAre FitsFields list

@@ -1,4 +1,4 @@
--- An encoder of an Ogg stream that samples are pushed to, a block at a time, and the stream that it stands for (RFC 9639, section 10.1).
+-- An encoder of an Ogg stream that samples are pushed to, a block at a time, and its stream (RFC 9639, section 10.1).
 use Rattle.std.specs.Prelude.{◌≡◌, ℕ, ◌+◌, ◌^◌, ◌<◌, ℤ, Bool, true, false, cond, List, [], ◌∷◌, ◌++◌, length, map, replicate, Option, Some, None, option_map}
 use Rattle.std.specs.List.{All}
 use Rattle.std.specs.Option.{option_or}
@@ -36,8 +36,8 @@ abbrev pub number_behind : ℕ → List Placed → ℕ
 number_behind sequence [] = sequence
 number_behind sequence (p ∷ ps) = number_behind (sequence_behind sequence p.packet) ps
 
--- What was written and then the pages that are held are the pages of these packets: `middle` if more packets follow, and `last` if the stream ends. The next page
--- has this number.
+-- What was written and then the pages that are held are the pages of these packets: `middle` if more packets follow,
+-- and `last` if the stream ends. The next page has this number.
 pub record ArePages (serial : ℕ) (packets : List Placed) (written middle last : List Bool) (sequence : ℕ) : Type 0 where
   pub middle_is : written ++ middle ≡ open_from serial 0 true packets
   pub last_is : written ++ last ≡ stream_spelling serial packets
@@ -45,8 +45,9 @@ pub record ArePages (serial : ℕ) (packets : List Placed) (written middle last 
 
 -- ---- the encoder
 
--- What an encoder of a native stream has, and beside it the number of the stream, the number of the page that the next packet begins, and the bytes of the pages of
--- the packet that is held back: as they are if more packets follow, and as they are if the stream ends.
+-- The state of an encoder of a native stream, and also the number of the stream, the number of the page that the next
+-- packet begins, and the bytes of the pages of the packet that is held back: as they are if more packets follow, and as
+-- they are if the stream ends.
 pub record PushedOgg (S : Type 0) : Type 0 where
   pub pushed : Pushed S
   pub serial : ℕ
@@ -62,13 +63,14 @@ trying_ogg e ps = record { pushed = trying e.pushed ps; serial = e.serial; seque
 abbrev pub open_fault : Shape → List Block → Option EncodeFault
 open_fault s list = option_or (option_map Setup (shape_fault s)) (cond (begins_with_comment list) None (Some BadMapping))
 
--- a fault of the format, or another one where the list begins with a Vorbis comment
+-- a fault of the format; or else another one, if the list begins with a Vorbis comment
 abbrev pub listed_fault : EncodeFault → (listed : Bool) → EncodeFault
 listed_fault (Setup fault) listed = Setup fault
 listed_fault other listed = cond listed other BadMapping
 
--- The encoder stands for this Ogg stream: of what was written and of the packet that is held back, marked last. Its packets are these, the first with the 51 bytes of
--- FLAC's first one, and each is one of these items. The items are those of the native stream that the encoder's state stands for.
+-- The Ogg stream of the encoder: what was written and the packet that is held back, marked last. Its packets are these,
+-- the first with the 51 bytes of FLAC's first one, and each is one of these items. The items are those of the native
+-- stream of the encoder's state.
 pub record StandsForOgg {S : Type 0} (e : PushedOgg S) (items : List Piece) (packets : List Placed) (written : List Bool) : Type 0 where
   pub pages : ArePages e.serial packets written (bits_of e.middle) (bits_of e.last) e.sequence
   pub stream : OggStream e.pushed.shape.profile (beginning Truncated) items (written ++ bits_of e.last)
@@ -80,7 +82,8 @@ pub record StandsForOgg {S : Type 0} (e : PushedOgg S) (items : List Piece) (pac
 
 -- ---- the calls
 
--- The encoder was made: it stands for the stream of STREAMINFO and the list, each in a header packet, and the target was sent what of it is not held back.
+-- The encoder was made: its stream is that of STREAMINFO and the list, each in a header packet, and the target was sent
+-- all of it but what is held back.
 pub record Opens {S : Type 0} (g : target.Ghosts S) (list : List Block) (old : S) (e : PushedOgg S) : Type 0 where
   pub packets : List Placed
   pub text : List Bool
@@ -89,9 +92,9 @@ pub record Opens {S : Type 0} (g : target.Ghosts S) (list : List Block) (old : S
   pub stands : StandsForOgg e (closing (blocks.StreamInfo (open_info e.pushed.shape) ∷ list)) packets text
   pub sent : g.known old ≡ true → bits_of (g.sent e.pushed.target) ≡ bits_of (g.sent old) ++ text
 
--- The packet is the next frame: it has just the samples of the block, no frame of its family, with the predictors of the encoder, is shorter, its last page states
--- the samples so far, and after whatever stream the encoder stood for it now stands for that stream with the frame as one more item in one more packet. The packet
--- that was held is then written.
+-- The packet is the next frame: it has exactly the samples of the block, no frame of its family, with the predictors of
+-- the encoder, is shorter, its last page has the number of samples so far, and the stream of the encoder is then the
+-- one before with the frame as one more item in one more packet. The packet that was held is then written.
 pub record IsNextPacket {S : Type 0} (old new : PushedOgg S) (block : List (List ℤ)) (q : Placed) : Type 0 where
   pub kind : q.kind ≡ kind_of.Frame (old.pushed.samples + samples_each block)
   pub spells : SpellsFrame (sound_of old.pushed.shape block) (frame_with old.pushed.number block) (bits_of q.packet)
@@ -105,7 +108,8 @@ pub record PushesOgg {S : Type 0} (g : target.Ghosts S) (block : List (List ℤ)
   pub next : IsNextPacket old new block packet
   pub sent : bits_of (g.sent new.pushed.target) ≡ bits_of (g.sent old.pushed.target) ++ bits_of old.middle
 
--- The target was sent a beginning of the packet that was held. So what was sent is a beginning of the stream that the encoder would now stand for.
+-- The target was sent a prefix of the packet that was held. So what was sent is a prefix of the stream that the encoder
+-- would have after it.
 pub record BeginsPushOgg {S : Type 0} (g : target.Ghosts S) (block : List (List ℤ)) (old new : PushedOgg S) : Type 0 where
   pub packet : Placed
   pub to : PushedOgg S
@@ -115,7 +119,7 @@ pub record BeginsPushOgg {S : Type 0} (g : target.Ghosts S) (block : List (List 
   pub held : bits_of old.middle ≡ front ++ rest
   pub sent : bits_of (g.sent new.pushed.target) ≡ bits_of (g.sent old.pushed.target) ++ front
 
--- The target was sent the packet that was held, marked last. So what was sent is the stream that the encoder stood for.
+-- The target was sent the packet that was held, marked last. So what was sent is the stream of the encoder.
 pub record EndsOgg {S : Type 0} (g : target.Ghosts S) (e : PushedOgg S) (new : S) : Type 0 where
   pub sent : bits_of (g.sent new) ≡ bits_of (g.sent e.pushed.target) ++ bits_of e.last
   pub whole : (items : List Piece) (packets : List Placed) (written : List Bool) → StandsForOgg e items packets written

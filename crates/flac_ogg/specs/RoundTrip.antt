@@ -19,17 +19,18 @@ use Rattle.flac_ogg.specs.Either.{begins_page}
 use Rattle.flac_ogg.specs.Verifying.{bytes_reading}
 use Rattle.flac_ogg.specs.Writing.{EncodesOgg, may_be_ogg}
 
--- An input is a stream of just these items: of these, and of no others; and it is not refused.
+-- An input is a stream of exactly these items: of these, and of no others; and it is not refused.
 pub record IsJust (r : Reading Piece Place) (items : List Piece) : Type 0 where
   pub whole : r.whole items
   pub only : (others : List Piece) → r.whole others → others ≡ items
   pub accepted : (before : List Piece) (at : Place) (why : Why) → r.refused before at why → ⊥
 
--- the items of an Ogg stream of what was given: STREAMINFO, the blocks and the frames, of which the least and the greatest have so many bytes
+-- the items of an Ogg stream of what was given: STREAMINFO with the smallest and the largest frame size in bytes, the
+-- blocks and the frames
 abbrev pub ogg_items : Cut → List Block → Sound → (least greatest : ℕ) → List Piece
 ogg_items p list a least greatest = closing (blocks.StreamInfo (info_of p a least greatest) ∷ list) ++ map framed (frames_of p.block_size a)
 
--- So what is encoded as an Ogg stream is one of just what was given, in the plan's profile.
+-- What is encoded as an Ogg stream is one of exactly what was given, in the plan's profile.
 abbrev pub EncodedOggIsRead : Type 0
 EncodedOggIsRead =
     (serial : ℕ) (p : Cut) (list : List Block) (a : Sound) (before after : List Bool) (e : EncodesOgg serial p list a before after)
@@ -37,24 +38,26 @@ EncodedOggIsRead =
 
 -- ---- in memory
 
--- the bytes are what is encoded as a native stream, and are read in the plan's profile as one of just what was given
+-- the bytes are what is encoded as a native stream, and are read in the plan's profile as one of exactly what was given
 pub record NativeBytes (p : Cut) (list : List Block) (a : Sound) (bytes : List ℕ) : Type 0 where
   pub encodes : Encodes p list a [] (bits_of bytes)
   pub container : begins_page bytes ≡ false
   pub read : IsJust (bytes_reading p.profile bytes) (given p (list ++ table_of (points_of p encodes.frames)) a encodes.least encodes.greatest)
 
--- the bytes are what is encoded as the Ogg stream of a number, and are read in the plan's profile as one of just what was given
+-- the bytes are what is encoded as the Ogg stream of a number, and are read in the plan's profile as one of exactly
+-- what was given
 pub record OggBytes (serial : ℕ) (p : Cut) (list : List Block) (a : Sound) (bytes : List ℕ) : Type 0 where
   pub encodes : EncodesOgg serial p list a [] (bits_of bytes)
   pub container : begins_page bytes ≡ true
   pub read : IsJust (bytes_reading p.profile bytes) (ogg_items p list a encodes.are.least encodes.are.greatest)
 
--- an Ogg stream where its number is given, otherwise a native one
+-- an Ogg stream if its number is given, otherwise a native one
 abbrev pub EncodedBytes : Option ℕ → Cut → List Block → Sound → List ℕ → Type 0
 EncodedBytes None p list a bytes = NativeBytes p list a bytes
 EncodedBytes (Some serial) p list a bytes = OggBytes serial p list a bytes
 
--- why an encoding is refused: for Ogg, that these cannot stand in an Ogg stream; for a native stream, that there would be two seek tables
+-- why an encoding is refused: for Ogg, that these cannot be in an Ogg stream; for a native stream, that there would be
+-- two seek tables
 abbrev pub is_no_ogg : Option ℕ → Cut → List Block → Bool
 is_no_ogg None p list = false
 is_no_ogg (Some serial) p list = not (may_be_ogg p list)

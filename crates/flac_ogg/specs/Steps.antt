@@ -1,4 +1,4 @@
--- What a reader of an Ogg stream does with one packet, as a function of what good pages still give.
+-- What a reader of an Ogg stream does with one packet, as a function of what good pages still have.
 use Rattle.std.specs.Prelude.{◌≡◌, ℕ, true, cond, List, [], ◌∷◌, Option, Some, None, Result, Ok, Err}
 use Rattle.flac_bits.specs.Bits.{bits_of}
 use Rattle.flac_bits.specs.State.{Behind}
@@ -13,13 +13,13 @@ use Rattle.flac_pages.specs.Items.{Packet, end_of, item_in}
 use Rattle.flac_ogg.specs.Mapping.{packet_layout, packet_place, page_place}
 use Rattle.flac_ogg.specs.Stream.{packet_start, last_fault}
 
--- a packet is an item, and good pages still give this behind it; or the stream is over, or refused
+-- a packet is an item, and good pages still have this after it; or the stream is over, or refused
 pub data PacketStep : Type 0 where
   item : Piece → Ahead → PacketStep
   over : PacketStep
   refused : Place → Why → PacketStep
 
--- behind a whole packet
+-- after a whole packet
 abbrev pub ahead_behind : Behind → Ahead
 ahead_behind b = record { lacing = b.pieces; bytes = b.bytes; fault = b.fault; stop = b.stop }
 
@@ -31,12 +31,12 @@ abbrev pub told : Stand → Behind → Result Piece (Option ℕ × Why) → Pack
 told s b (Ok x) = item x (ahead_behind b)
 told s b (Err why) = refused (packet_place s why) why.1
 
--- where the stream may end
+-- if the stream may end
 abbrev pub judged : List Rule → PacketStep
 judged [] = over
 judged (rule ∷ rules) = cond rule.broken (refused place.End rule.why) (judged rules)
 
--- where no packet is left
+-- if no packet is left
 abbrev pub without_packet : Progress → Option (ℕ × Why) → PacketStep
 without_packet p (Some f) = refused (page_place f.0 f.1) f.1
 without_packet p None = cond (grammar.may_end p) (judged (grammar.at_end p)) (refused (grammar.place p) PacketLength)

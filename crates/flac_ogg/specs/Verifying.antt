@@ -10,11 +10,12 @@ use Rattle.flac_native.specs.declared.fault.Place.{Place}
 use Rattle.flac_ogg.specs.Either.{begins_page, read_either}
 use Rattle.flac_header.specs.declared.subset.Profile.{Profile}
 
--- how bytes are read in the container that the first of them tells; after the last one the input ends
+-- how bytes are read in the container that the first of them names; after the last one the input ends
 abbrev pub bytes_reading : Profile → List ℕ → Reading Piece Place
 bytes_reading profile bytes = read_either profile (begins_page bytes) (beginning Truncated) (bits_of bytes)
 
--- the bytes are a stream if nothing is reported, and are refused where and why it is reported, unless memory ran out
+-- the bytes are a stream if nothing is reported, and else are refused at this place and for this reason, unless memory
+-- ran out
 abbrev pub Verifies : Profile → List ℕ → Option (Place × Why) → Type 0
 Verifies profile bytes None = (items : List Piece) × (bytes_reading profile bytes).whole items
 Verifies profile bytes (Some f) = f.1 ≢ Memory → (items : List Piece) × (bytes_reading profile bytes).refused items f.0 f.1

@@ -15,16 +15,17 @@ use Rattle.flac_ogg.specs.Stream.{OggStream}
 use Rattle.flac_ogg.specs.Native.{packet_spellings}
 use Rattle.flac_ogg.specs.Listed.{texts_of, kinds_in}
 
--- The first block behind STREAMINFO is a Vorbis comment.
+-- The first block after STREAMINFO is a Vorbis comment.
 abbrev pub begins_with_comment : List Block → Bool
 begins_with_comment (blocks.VorbisComment found ∷ list) = true
 begins_with_comment list = false
 
--- These can stand in an Ogg stream: the first block is a Vorbis comment, and no seek table is asked for, since its offsets have no meaning there.
+-- These can be in an Ogg stream: the first block is a Vorbis comment, and no seek table is asked for, since its offsets
+-- have no meaning there.
 abbrev pub may_be_ogg : Cut → List Block → Bool
 may_be_ogg p list = nat_eq p.seek_every 0 && begins_with_comment list
 
--- how many header packets follow the first one, in 16 bits: 0 where they are more than these can tell
+-- how many header packets follow the first one, in 16 bits: 0 if they are more than these can count
 abbrev pub header_count : ℕ → ℕ
 header_count n = cond (nat_lt 65535 n) 0 n
 
@@ -33,12 +34,13 @@ abbrev pub frames_to : (block_size total n : ℕ) → List PacketKind
 frames_to block_size total zero = []
 frames_to block_size total (suc n) = frames_to block_size total n ++ kind_of.Frame (min total (block_size * suc n)) ∷ []
 
--- header packets, one more than there are blocks, and behind them the frames
+-- header packets, one more than there are blocks, and after them the frames
 abbrev pub kinds_of : Cut → List Block → Sound → List PacketKind
 kinds_of p list a = replicate (length list + 1) kind_of.Header ++ frames_to p.block_size (samples_each a.channels) (blocks_in p.block_size (samples_each a.channels))
 
--- The packets are those of what was given: the mapping with STREAMINFO, a block each, and a frame each: all frames of the samples,
--- each the least of its block with the plan's predictors, whose least and greatest sizes STREAMINFO tells.
+-- The packets are those of what was given: the mapping with STREAMINFO, a block each, and a frame each: all frames of
+-- the samples, each the shortest of its block with the plan's predictors, whose smallest and largest sizes are in
+-- STREAMINFO.
 pub record ArePackets (p : Cut) (list : List Block) (a : Sound) (packets : List Placed) : Type 0 where
   pub least : ℕ
   pub greatest : ℕ
@@ -49,14 +51,15 @@ pub record ArePackets (p : Cut) (list : List Block) (a : Sound) (packets : List 
   pub texts : texts_of packets ≡ packet_spellings (header_count (length list)) (info_of p a least greatest) list frames
   pub kinds : kinds_in packets ≡ kinds_of p list a
 
--- Behind the bits that were there, an Ogg stream of what was given, and of the plan's profile, was written, of these packets.
+-- After the bits that were there, an Ogg stream of what was given, and of the plan's profile, was written, of these
+-- packets.
 pub record EncodesOgg (serial : ℕ) (p : Cut) (list : List Block) (a : Sound) (before after : List Bool) : Type 0 where
   pub packets : List Placed
   pub are : ArePackets p list a packets
   pub written : after ≡ before ++ stream_spelling serial packets
   pub stream : OggStream p.profile (beginning Truncated) (closing (blocks.StreamInfo (info_of p a are.least are.greatest) ∷ list) ++ map framed (frames_of p.block_size a)) (stream_spelling serial packets)
 
--- What was written is a beginning of such a stream, behind the bits that were there.
+-- What was written is a prefix of such a stream, after the bits that were there.
 pub record BeginsOgg (serial : ℕ) (p : Cut) (list : List Block) (a : Sound) (before after : List Bool) : Type 0 where
   pub front : List Bool
   pub rest : List Bool

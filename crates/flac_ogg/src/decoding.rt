@@ -22,7 +22,7 @@ ghost use Rattle.flac_ogg.specs.Either.{begins_page, read_either};
 use crate::packets::OggPackets;
 use flac_bits::{Source, Why};
 use flac_native::{Decoder, Fault, Place, Profile, Sink, Track, decode, hand_out};
-use flac_pages::{PageRoom, Pages};
+use flac_pages::{CAPTURE_PATTERN, PageRoom, Pages};
 use std::alloc::Global;
 use std::io;
 
@@ -120,7 +120,7 @@ pub fn decode_ogg<R: Source, S: Sink>(
     let mut packets = OggPackets::over(Pages::over(room, source));
     let outcome = hand_out(&mut packets, &mut track, sink);
     let pages = packets.into_pages();
-    let _source = pages.into_source();
+    let _source = pages.into_source(); // for its clauses alone
     outcome
 }
 
@@ -177,7 +177,7 @@ pub fn begins_page(front: Option<u8>) -> bool
     ensures { result ≡ begins_page (front_bytes front) }
 {
     match front {
-        Some(byte) => byte == 0x4F,
+        Some(byte) => byte == CAPTURE_PATTERN[0],
         None => false,
     }
 }
@@ -277,6 +277,6 @@ pub fn decode_any<R: Source, S: Sink>(
     let front = pull_front(source)?;
     let mut fronted = Fronted { front, source };
     let outcome = decode_as(alloc, begins_page(front), &mut fronted, profile, sink);
-    let _source = fronted.into_source();
+    let _source = fronted.into_source(); // for its clauses alone
     outcome
 }

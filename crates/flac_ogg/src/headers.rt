@@ -12,6 +12,7 @@ ghost use Rattle.flac_ogg.specs.Writing.{header_count};
 
 use crate::encoding::{block_packet, header_count};
 use crate::held_packet::HeldPacket;
+use crate::packets::{MAPPING_NAME, MAPPING_VERSION};
 use crate::verifying::bytes_fit;
 use flac_bits::{BitWriter, Collected, Target, Why};
 use flac_meta::BlockList;
@@ -92,8 +93,8 @@ pub(crate) fn write_mapped<W: Target>(
     requires { count < 2 ^ 16 }
     ensures { Writes (joined (unsigned 40 0x7F464C4143 ∷ unsigned 16 0x0100 ∷ unsigned 16 count ∷ bits_of head.now ∷ [])) writer.old writer.new result }
 {
-    writer.put(40, 0x7F464C4143)?;
-    writer.put(16, 0x0100)?;
+    writer.put(40, MAPPING_NAME)?;
+    writer.put(16, MAPPING_VERSION)?;
     writer.put(16, count)?;
     writer.put_bytes(head)?;
     Ok(())

@@ -151,8 +151,8 @@ fn hold_frame(
 
 impl<W: Target + Drop> OggEncoder<W> {
     /// Makes an encoder for the streamable subset, and writes the header packets, as [`OggEncoder::new_in`] does for
-    /// [`Profile::Subset`]: with a sample rate in Hz, bits per sample, a number of channels, and a block size in samples
-    /// of each channel ([`StreamFormat`] has their ranges).
+    /// [`Profile::Subset`]: with a sample rate in Hz, bits per sample, a number of channels, and a block size in
+    /// samples of each channel ([`StreamFormat`] has their ranges).
     ///
     /// # Errors
     /// Those of [`OggEncoder::new_in`].

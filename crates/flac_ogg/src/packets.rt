@@ -24,6 +24,12 @@ use flac_bits::{BitReader, Source, Why};
 use flac_native::{Container, Fault, MARKER, Part, Place, Track};
 use flac_pages::{PacketBytes, PacketFault, Pages, end_item, packet_bits};
 
+/// The first five bytes of the first packet: 7F and `FLAC` (RFC 9639, section 10.1).
+pub(crate) const MAPPING_NAME: u64 = 0x7F464C4143;
+
+/// The two bytes after them: version 1.0 of the mapping.
+pub(crate) const MAPPING_VERSION: u64 = 0x0100;
+
 /// Reads what the first packet has before STREAMINFO: the byte 7F and `FLAC`, version 1.0, the number of header
 /// packets, which may be any, and `fLaC` (RFC 9639, section 10.1).
 #[tactic(auto, unfolding(crate::specs::Mapping::mapping))]
@@ -34,7 +40,7 @@ pub(crate) fn read_mapping<R: Source>(bits: &mut BitReader<R>) -> Result<(), Why
     let version = bits.take(16)?;
     let _count = bits.take(16)?;
     let marker = bits.take(32)?;
-    if name != 0x7F464C4143 || version != 0x0100 || marker != MARKER {
+    if name != MAPPING_NAME || version != MAPPING_VERSION || marker != MARKER {
         return Err(Why::BadMapping);
     }
     Ok(())

@@ -15,7 +15,7 @@ use Rattle.flac_pages.specs.Pages.{Run, Stop, closed, broken, pages_behind, end_
 unfoldable pub lacing_of : List ℕ → List ℕ
 lacing_of packet = replicate (length packet / 255) 255 ++ (length packet % 255) ∷ []
 
--- the pages' lacing values joined are those of the packets one after another, and of a packet that goes on behind;
+-- the lacing values of all pages are those of the packets one after another, and of a packet that goes on after them;
 -- and so are the pages' bytes
 pub record Packets (pages : List Page) (packets : List (List ℕ)) (begun : List ℕ) : Type 0 where
   pub full : ℕ
@@ -23,7 +23,7 @@ pub record Packets (pages : List Page) (packets : List (List ℕ)) (begun : List
   pub bytes : flat_map (λ p. p.body) pages ≡ flat_map (λ packet. packet) packets ++ begun
   pub part : length begun ≡ 255 * full
 
--- ---- where a reader of packets stands
+-- ---- the state of a reader of packets
 
 -- how many bytes the packet still has whose next lacing values these are
 abbrev pub size : List ℕ → ℕ
@@ -35,13 +35,13 @@ abbrev pub ends : List ℕ → Bool
 ends [] = false
 ends (v ∷ vs) = cond (nat_eq v 255) (ends vs) true
 
--- the lacing values behind it
+-- the lacing values after it
 abbrev pub past_packet : List ℕ → List ℕ
 past_packet [] = []
 past_packet (v ∷ vs) = cond (nat_eq v 255) (past_packet vs) vs
 
--- Inside a segment, of which so many bytes are to come, and behind which the packet goes
--- on or ends; then what the page has still to come, and what the source has.
+-- Inside a segment, of which `rest` bytes are to come, and after which the packet goes on or ends; then what the page
+-- has still to come, and what the source has.
 pub record Place : Type 0 where
   pub known : Bool
   pub errors : ℕ
@@ -75,15 +75,15 @@ at_front known errors raised most names text short = record {
   cursor = record { left = text; mark = record { unread = 0; bytes = 0; check8 = 0; check16 = 0; short = short } };
 }
 
--- What good pages still give: lacing values and bytes; then the page, counted from 0, and its fault, where one breaks them off; and
--- the fault where no packet is left, which a byte behind the last page is too.
+-- What good pages still have: lacing values and bytes; then the page, counted from 0, and its fault, if one ends them
+-- early; and the fault if no packet is left, such as a byte after the last page.
 pub record Ahead : Type 0 where
   pub lacing : List ℕ
   pub bytes : List ℕ
   pub fault : Option (ℕ × Why)
   pub stop : Option (ℕ × Why)
 
--- an index of a page, which stops at the greatest number of 64 bits
+-- an index of a page, which stops at 2^64 - 1
 abbrev pub page_index : ℕ → ℕ
 page_index n = min n 18446744073709551615
 
@@ -114,12 +114,12 @@ ahead p = record {
 abbrev pub left_in : ℕ → Bool → List ℕ → ℕ
 left_in rest more lacing = rest + cond more (size lacing) 0
 
--- the bytes of the packet still to come that good pages give
+-- the bytes of the packet still to come that good pages have
 abbrev pub rest_in : ℕ → Bool → Ahead → List ℕ
 rest_in rest more a = take (left_in rest more a.lacing) a.bytes
 
--- behind them: the page, and its fault, that breaks the packet off; whether no lacing value ends it; and all that
--- good pages give behind it
+-- after them: the page, and its fault, that cuts the packet off; whether no lacing value ends it; and all that good
+-- pages have after it
 abbrev pub behind_in : ℕ → Bool → Ahead → Behind
 behind_in rest more a = record {
   fails = cond (more && not (ends a.lacing)) a.fault None;
@@ -137,13 +137,14 @@ rest_of p = rest_in p.rest p.more (ahead p)
 unfoldable pub behind_of : Place → Behind
 behind_of p = behind_in p.rest p.more (ahead p)
 
--- where a page's fault breaks the packet off
+-- if a page's fault cuts the packet off
 abbrev pub broken_off : ℕ × Why → Behind
 broken_off f = record { fails = Some f; cut = true; pieces = []; bytes = []; fault = Some f; stop = Some f; fenced = [] }
 
--- ---- on which page a reader of packets stands
+-- ---- the page that a reader of packets is on
 
--- How many pages were read, and the lacing values still to come, page by page: those that are left of this page, and those of each good page behind it.
+-- How many pages were read, and the lacing values still to come, page by page: those that are left of this page, and
+-- those of each good page after it.
 pub record OnPage : Type 0 where
   pub known : Bool
   pub more : Bool
@@ -158,7 +159,7 @@ on_page p = record { known = p.known; more = p.more; count = p.count; lacing = p
 abbrev pub read_since : (old new : OnPage) → ℕ
 read_since old new = length old.behind - length new.behind
 
--- further pages were read, which are counted up to the greatest index
+-- further pages were read, which are counted up to the largest index
 pub record ReadsPages (old new : OnPage) : Type 0 where
   pub fewer : length new.behind ≤ length old.behind
   pub behind : new.behind ≡ drop (read_since old new) old.behind
@@ -187,12 +188,13 @@ pub record BreaksAt (p : OnPage) (n : ℕ) : Type 0 where
 
 -- ---- what the calls of a reader do
 
--- A call that refused for this reason: by Read it met an error of the device, whose count rose, if it could; and no reader answers Sink.
+-- A call that failed for this reason: with Read it met an error of the device, whose count rose, if it could; and no
+-- reader returns Sink.
 abbrev pub Met : Why → ℕ → ℕ → Type 0
 Met why old new = (why ≡ Read → Rises old new) × (why ≡ Sink → ⊥)
 
--- The next packet is begun, of which good pages have a lacing value. Or they have none: where no fault stands there, all packets were read;
--- or this is the fault, of the next page or behind the page marked last.
+-- The next packet is begun, of which good pages have a lacing value. Or they have none: if there is no fault, all
+-- packets were read; or this is the fault, of the next page or after the page marked last.
 abbrev pub Begins : Place → Place → Result Bool (ℕ × Why) → Type 0
 Begins old new (Ok true) = record {
   known : old.known ≡ true → new.known ≡ true;
@@ -224,7 +226,7 @@ Begins old new (Err f) = record {
 
 -- ---- one packet as a source
 
--- what is left of a packet's bytes, and the fault behind them, once a fault was met or before
+-- what is left of a packet's bytes, and the fault after them, once a fault was met or before
 abbrev pub left_of : Option (ℕ × Why) → Place → List ℕ
 left_of None p = rest_of p
 left_of (Some f) p = []

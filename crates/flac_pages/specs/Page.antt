@@ -13,7 +13,7 @@ use Rattle.flac_bits.specs.declared.why.Why.TheVariants.{BadPage, PageCheck, Pag
 use Rattle.flac_pages.specs.declared.page.Head.{Head}
 use Rattle.flac_pages.specs.declared.page.Before.{Before}
 
--- the fixed fields, the lacing values (how long each segment is), and the segments joined
+-- the fixed fields, the lacing values (how long each segment is), and the bytes of all segments
 pub record Page : Type 0 where
   pub head : Head
   pub lacing : List ℕ
@@ -33,9 +33,9 @@ is_first flags = nat_eq (flags / 2 % 2) 1
 abbrev pub is_last : ℕ → Bool
 is_last flags = nat_eq (flags / 4 % 2) 1
 
--- ---- what the pages before leave for the next one to keep
+-- ---- the state after the pages before
 
--- a packet goes on behind these lacing values, of which each below 255 ends one
+-- a packet goes on after these lacing values, of which each below 255 ends one
 abbrev pub goes_on_behind : Bool → List ℕ → Bool
 goes_on_behind going [] = going
 goes_on_behind going (v ∷ vs) = goes_on_behind (nat_eq v 255) vs
@@ -47,7 +47,7 @@ went_on (Some b) = b.goes_on
 abbrev pub after : Option Before → Page → Before
 after before p = record { serial = p.head.serial; sequence = p.head.sequence; goes_on = goes_on_behind (went_on before) p.lacing }
 
--- ---- the sum
+-- ---- the checksum
 
 -- the bits of a page: the pattern OggS, version 0, and the fields in their order, the lowest byte of a number first
 unfoldable pub page_spelling : Page → List Bool
@@ -58,7 +58,7 @@ page_spelling p = joined (
 abbrev pub with_sum : ℕ → Page → Page
 with_sum sum p = record p { head = record p.head { sum = sum } }
 
--- the sum that a whole page states: the remainder over all of the page, whose sum counts as 0 (field 7)
+-- the checksum that a whole page has: the remainder over all of the page, whose checksum counts as 0 (field 7)
 unfoldable pub page_sum : Page → ℕ
 page_sum p = remainder 32 79764919 (page_spelling (with_sum 0 p))
 
@@ -73,7 +73,8 @@ abbrev pub is_disordered : Option Before → Head → Bool
 is_disordered None h = is_continued h.flags
 is_disordered (Some b) h = is_first h.flags || (not (nat_eq h.sequence ((b.sequence + 1) % 2 ^ 32)) || cond b.goes_on (not (is_continued h.flags)) (is_continued h.flags))
 
--- a first page that is not marked so, or whose one packet has not the 51 bytes of FLAC's first one (RFC 9639, section 10.1)
+-- a first page that is not marked so, or whose one packet has not the 51 bytes of FLAC's first one (RFC 9639,
+-- section 10.1)
 abbrev pub is_wrong_start : Option Before → Page → Bool
 is_wrong_start None p = not (is_first p.head.flags) || (not (nat_eq (length p.lacing) 1) || not (nat_eq (sum p.lacing) 51))
 is_wrong_start (Some b) p = false
@@ -92,7 +93,7 @@ first_broken (rule ∷ rules) = cond rule.broken (Some rule.why) (first_broken r
 
 -- ---- the layout
 
--- the fields behind the page's first byte and before the number of lacing values
+-- the fields after the page's first byte and before the number of lacing values
 unfoldable pub head_behind : ℕ → Layout Head
 head_behind first = do
   pattern ← bits 24
@@ -106,7 +107,7 @@ head_behind first = do
   sum ← little_32
   done (record { flags = flags; granule = granule; serial = serial; sequence = sequence; sum = sum })
 
--- a page behind its first byte
+-- a page after its first byte
 unfoldable pub page_behind : Option Before → ℕ → Layout Page
 page_behind before first = do
   head ← head_behind first
@@ -117,7 +118,7 @@ page_behind before first = do
   _ ← judge (end_rules before page)
   done page
 
--- a page, where the pages before left this
+-- a page after those before it
 unfoldable pub page : Option Before → Layout Page
 page before = do
   first ← bits 8

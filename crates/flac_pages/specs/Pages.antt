@@ -18,7 +18,7 @@ GoodPages before m (p ∷ ps) text = (front : List Bool) × (rest : List Bool) �
 
 -- ---- what reading gives
 
--- How the good pages end: a page marked last was among them, and this is behind it; or the next one is refused.
+-- How the good pages end: a page marked last was among them, and this follows it; or the next one is refused.
 pub data Stop : Type 0 where
   closed : Cursor → Stop
   broken : Why → Stop
@@ -33,7 +33,7 @@ one p r = record { pages = p ∷ r.pages; stop = r.stop }
 abbrev pub none : Stop → Run
 none stop = record { pages = []; stop = stop }
 
--- where no page has begun, the end of the input is another fault than inside a page
+-- if no page has begun, the end of the input is another fault than inside a page
 abbrev pub between : Why → Why
 between Truncated = NoEndPage
 between other = other
@@ -50,7 +50,7 @@ abbrev pub went_on : Result (Page × Cursor) Reason → (Page → Cursor → Run
 went_on (Ok x) more = one x.0 (more x.0 x.1)
 went_on (Err e) more = none (broken e.why)
 
--- in so many turns at most
+-- in at most n turns
 unfoldable pub pages_in : ℕ → Option Before → Cursor → Run
 pages_in zero before c = none (closed c)
 pages_in (suc n) before c = went_on (next_page before c) (λ p d. cond (is_last p.head.flags) (none (closed d)) (pages_in n (Some (after before p)) d))
@@ -59,7 +59,7 @@ pages_in (suc n) before c = went_on (next_page before c) (λ p d. cond (is_last 
 unfoldable pub pages_of : Option Before → Cursor → Run
 pages_of before c = pages_in (length c.left + 1) before c
 
--- behind a page
+-- the pages after one, which may be marked last
 abbrev pub pages_behind : Bool → Option Before → Cursor → Run
 pages_behind true before c = none (closed c)
 pages_behind false before c = pages_of before c
@@ -69,6 +69,6 @@ abbrev pub unless_over : Why → Option Why
 unless_over Truncated = None
 unless_over other = Some other
 
--- behind the page marked last nothing may follow
+-- after the page marked last nothing may follow
 unfoldable pub end_fault : Cursor → Option Why
 end_fault c = cond (is_nil c.left) (unless_over c.mark.short) (Some PageOrder)

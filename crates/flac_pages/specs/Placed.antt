@@ -14,7 +14,7 @@ use Rattle.flac_pages.specs.Packets.{Packets}
 use Rattle.flac_pages.specs.Written.{granule_at, pages_of_packet}
 use Rattle.flac_pages.specs.Runs.{FinalLast}
 
--- a packet and what it is
+-- a packet and its kind
 pub record Placed : Type 0 where
   pub packet : List ℕ
   pub kind : PacketKind
@@ -22,7 +22,7 @@ pub record Placed : Type 0 where
 abbrev pub marks_of : (serial sequence : ℕ) → (first last : Bool) → Placed → PacketMarks
 marks_of serial sequence first last p = record { serial = serial; sequence = sequence; kind = p.kind; first = first; last = last }
 
--- the number of the page behind a packet's pages, of which the first has this number
+-- the number of the page after a packet's pages, of which the first has this number
 abbrev pub sequence_behind : ℕ → List ℕ → ℕ
 sequence_behind sequence packet = (sequence + (length packet / 65025 + 1)) % 2 ^ 32
 
@@ -40,17 +40,17 @@ stream_spelling serial ps = flat_map page_spelling (stream_pages serial ps)
 
 -- ---- packets that lie one after another in memory
 
--- each packet ends where the one before does or behind it, and none behind the bytes' end
+-- each packet ends at the end of the one before or after it, and none after the bytes' end
 abbrev pub AreInOrder : (from most : ℕ) → List PacketAt → Type 0
 AreInOrder from most [] = ⊤
 AreInOrder from most (p ∷ ps) = (from ≤ p.end) × (p.end ≤ most) × AreInOrder p.end most ps
 
--- these packets, of which the first begins at this place
+-- these packets, of which the first begins at `from`
 abbrev pub placed_in : List ℕ → (from : ℕ) → List PacketAt → List Placed
 placed_in bytes from [] = []
 placed_in bytes from (p ∷ ps) = record { packet = take (p.end - from) (drop from bytes); kind = p.kind } ∷ placed_in bytes p.end ps
 
--- the place behind them
+-- the end of the last of them
 abbrev pub end_of : (from : ℕ) → List PacketAt → ℕ
 end_of from [] = from
 end_of from (p ∷ ps) = end_of p.end ps
@@ -61,19 +61,21 @@ pub record IsPlaced (p : Placed) : Type 0 where
   pub bytes : AreBytes p.packet
   pub position : granule_at p.kind true < 2 ^ 64
 
--- the pages are good, the final one alone is marked last, and they have just these packets; and so they are read again, whatever follows
+-- the pages are good, the final one alone is marked last, and they have exactly these packets; and they are read again
+-- so, whatever follows
 pub record HoldsPackets (m : Mark) (pages : List Page) (text : List Bool) (packets : List (List ℕ)) : Type 0 where
   pub good : GoodPages None m pages text
   pub final : FinalLast pages
   pub just : Packets pages packets []
   pub again : (rest : List Bool) → pages_of None (record { left = text ++ rest; mark = m }) ≡ record { pages = pages; stop = closed (record { left = rest; mark = past text m }) }
 
--- packets written one after another, of which the first has the 51 bytes of FLAC's first one (RFC 9639, section 10.1), are a stream that holds them
+-- packets written one after another, of which the first has the 51 bytes of FLAC's first one (RFC 9639, section 10.1),
+-- are a stream that holds them
 abbrev pub WrittenPagesAreGood : Type 0
 WrittenPagesAreGood = (serial : ℕ) (p : Placed) (ps : List Placed) (m : Mark) → serial < 2 ^ 32 → length p.packet ≡ 51 → All IsPlaced (p ∷ ps)
     → HoldsPackets m (stream_pages serial (p ∷ ps)) (stream_spelling serial (p ∷ ps)) (map (λ q. q.packet) (p ∷ ps))
 
--- bytes put behind the last packet's end are the next packet
+-- bytes put after the last packet's end are the next packet
 pub record TakesPacket (bytes packet : List ℕ) (kind : PacketKind) (packets : List PacketAt) (p : PacketAt) : Type 0 where
   pub order : AreInOrder 0 (length (bytes ++ packet)) (packets ++ p ∷ [])
   pub ends : end_of 0 (packets ++ p ∷ []) ≡ length (bytes ++ packet)

@@ -13,17 +13,18 @@ use Rattle.flac_pages.specs.declared.writing.PacketMarks.{PacketMarks}
 use Rattle.flac_pages.specs.Page.{Page, page, page_spelling, page_sum, with_sum, end_rules}
 use Rattle.flac_pages.specs.Packets.{Packets, lacing_of}
 
--- a page with its sum
+-- a page with its checksum
 abbrev pub summed : Page → Page
 summed p = with_sum (page_sum p) p
 
--- The granule position of a packet's page, on which the packet ends or goes on (RFC 9639, section 10.1): 0 on each page of a header packet; on a page of a frame the samples
--- so far if the frame ends there, and all ones if it goes on.
+-- The granule position of a packet's page, on which the packet ends or goes on (RFC 9639, section 10.1): 0 on each page
+-- of a header packet; on a page of a frame the samples so far if the frame ends there, and all ones if it goes on.
 abbrev pub granule_at : PacketKind → (ends : Bool) → ℕ
 granule_at Header ends = 0
 granule_at (Frame end) ends = cond ends end (2 ^ 64 - 1)
 
--- The fixed fields of a packet's page k, counted from 0: only the first begins no part of a packet, and may be the stream's first; only the last may be the stream's last.
+-- The fixed fields of a packet's page k, counted from 0: only the first begins no part of a packet, and may be the
+-- stream's first; only the last may be the stream's last.
 abbrev pub head_at : PacketMarks → (last k : ℕ) → Head
 head_at m last k = record {
   flags = cond (nat_eq k 0) (cond m.first 2 0) 1 + cond (nat_eq k last && m.last) 4 0;
@@ -46,7 +47,7 @@ packet_spelling m packet = flat_map (λ k. page_spelling (page_at m packet k)) (
 
 -- ---- laws
 
--- a page that may stand behind what the pages before leave
+-- a page that may follow the pages before
 pub record IsPage (before : Option Before) (p : Page) : Type 0 where
   pub flags : p.head.flags < 2 ^ 8
   pub granule : p.head.granule < 2 ^ 64
@@ -59,7 +60,7 @@ pub record IsPage (before : Option Before) (p : Page) : Type 0 where
   pub body : AreBytes p.body
   pub rules : AllKept (end_rules before p)
 
--- bits spell just these pages, each in one way
+-- bits spell exactly these pages, each in one way
 abbrev pub PagesAreSpelled : Type 0
 PagesAreSpelled = (before : Option Before) (m : Mark) (text : List Bool) (p : Page) → Spells (page before) m text p ↔ (IsPage before p × (text ≡ page_spelling p))
 
@@ -68,6 +69,6 @@ abbrev pub PagesAreReadAgain : Type 0
 PagesAreReadAgain = (before : Option Before) (m : Mark) (rest : List Bool) (p : Page) → IsPage before p
     → run (page before) (record { left = page_spelling p ++ rest; mark = m }) ≡ Ok (p, record { left = rest; mark = past (page_spelling p) m })
 
--- the pages of a packet have just this packet
+-- the pages of a packet have exactly this packet
 abbrev pub PagesHavePackets : Type 0
 PagesHavePackets = (m : PacketMarks) (packet : List ℕ) → Packets (pages_of_packet m packet) (packet ∷ []) []

@@ -4,7 +4,6 @@ ghost use Rattle.std.specs.Prelude.{◌≡◌, ◌≢◌, ◌≤◌, ◌+◌, �
 ghost use Rattle.flac_bits.specs.Bits.{is_nil};
 ghost use Rattle.flac_bits.specs.Layout.{bits as number};
 ghost use Rattle.flac_bits.specs.Lists.{list_of};
-ghost use Rattle.flac_bits.specs.Reading.{Counts, Reads};
 ghost use Rattle.flac_bits.specs.State.{short_of};
 ghost use Rattle.flac_pages.specs.Items.{end_of, behind_item, packet_of, packet_mark, TellsItem, Meets, TellsPages, numbers_of, GivesBack, IsAtPacket, JudgesPacket, GoesBehind, HasBehind, CountsSo, HasItsPage};
 ghost use Rattle.flac_pages.specs.Packets.{on_page};
@@ -102,16 +101,6 @@ pub fn end_item<'a, R: Source, X: Drop>(
     }
 }
 
-/// Fills `out` with the next bytes.
-fn fill<R: Source>(bits: &mut BitReader<R>, out: &mut [u8]) -> Result<(), Why>
-    ensures names { bits.new.names ≡ bits.old.names }
-    ensures counts { Counts bits.old bits.new result }
-    ensures memory { IfErr result (λ e. e ≢ Why.Memory) }
-    ensures reads { Reads (λ _. out.new) (list_of (length out.old) (number 8)) bits.old bits.new result }
-{
-    read_bytes(bits, out)
-}
-
 /// Reads the packet that was begun into `out`. It must have exactly as many bytes. At `Ok` the next packet can be
 /// begun.
 ///
@@ -132,7 +121,7 @@ pub fn read_packet<R: Source>(pages: &mut Pages<R>, out: &mut [u8]) -> Result<()
     ensures ahead { OnOk result (pages.old.known ≡ true → HasBehind pages.old pages.new) }
 {
     let mut bits = packet_bits(PacketBytes::over(pages));
-    let read = fill(&mut bits, out);
+    let read = read_bytes(&mut bits, out);
     let (told, _pages) = end_item(bits, read);
     told
 }

@@ -5,7 +5,7 @@
 //! | read packets | [`Pages`], with [`read_packet`], or [`PacketBytes`], [`packet_bits`] and [`end_item`] |
 //! | allocate room for a page first | [`PageRoom`] and [`Pages::over`] |
 //! | write packets | [`write_packet`] or [`write_packets`] |
-//! | read or write single pages, as these do and as tests do | [`next_page`], [`write_page`], [`sum_of_page`] |
+//! | read or write single pages, as these do and as tests do | [`next_page`], [`write_page`], [`page_checksum`] |
 #![tactic(auto)]
 
 mod fields;
@@ -27,5 +27,5 @@ pub use promises::{
 };
 pub use room::{PageRoom, next_page};
 pub use writing::{
-    PacketAt, PacketKind, PacketMarks, sum_of_page, write_packet, write_packets, write_page,
+    PacketAt, PacketKind, PacketMarks, page_checksum, write_packet, write_packets, write_page,
 };

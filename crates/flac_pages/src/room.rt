@@ -12,7 +12,7 @@ ghost use Rattle.flac_pages.specs.Runs.{MeansPage};
 
 use crate::fields::read_head;
 use crate::page::{Before, Head, MOST_BODY};
-use crate::writing::sum_of_page;
+use crate::writing::page_checksum;
 use flac_bits::{BitReader, Source, Why, read_bytes, read_unchecked};
 use std::alloc::Global;
 use std::marker::Model;
@@ -105,7 +105,7 @@ impl PageRoom {
     fn sum(&self) -> u32
         ensures { result ≡ page_sum self.now }
     {
-        sum_of_page(self.head, self.lacing(), self.body())
+        page_checksum(self.head, self.lacing(), self.body())
     }
 
     /// The first rule that the page breaks at its end, in the order of their ranks.

@@ -9,7 +9,7 @@ ghost use Rattle.flac_pages.specs.inner.Heads.{head_bytes};
 ghost use Rattle.flac_pages.specs.Written.{granule_at, summed, head_at, packet_spelling};
 
 use crate::page::{CAPTURE_PATTERN, CONTINUED, FIRST, Head, LAST, MOST_BODY};
-use flac_bits::{BitWriter, Target, Why, crc32_sum};
+use flac_bits::{BitWriter, Target, Why, crc32_after};
 
 /// What a packet is (RFC 9639, section 10.1).
 #[derive(Clone, Copy, Debug, PartialEq, Eq)]
@@ -79,14 +79,14 @@ fn head_bytes(head: Head, sum: u32, count: u8) -> [u8; 27]
 
 /// The checksum of a page (RFC 3533, section 6, field 7): the remainder over all of the page, whose own checksum counts
 /// as 0. `lacing` has at most 255 values.
-pub fn sum_of_page(head: Head, lacing: &[u8], body: &[u8]) -> u32
+pub fn page_checksum(head: Head, lacing: &[u8], body: &[u8]) -> u32
     requires { length lacing.now ≤ 255 }
     ensures { result ≡ page_sum (record { head = head; lacing = lacing.now; body = body.now }) }
 {
     let count = lacing.len() as u8;
-    let check = crc32_sum(0, &head_bytes(head, 0, count));
-    let check = crc32_sum(check, lacing);
-    crc32_sum(check, body)
+    let check = crc32_after(0, &head_bytes(head, 0, count));
+    let check = crc32_after(check, lacing);
+    crc32_after(check, body)
 }
 
 /// Writes a page (RFC 3533, section 6). `lacing` has the lengths of the segments, at most 255, and `body` their bytes.
@@ -103,7 +103,7 @@ pub fn write_page<W: Target>(
     requires { length lacing.now ≤ 255 }
     ensures { Writes (page_spelling (summed (record { head = head; lacing = lacing.now; body = body.now }))) writer.old writer.new result }
 {
-    let sum = sum_of_page(head, lacing, body);
+    let sum = page_checksum(head, lacing, body);
     let count = lacing.len() as u8;
     writer.put_bytes(&head_bytes(head, sum, count))?;
     writer.put_bytes(lacing)?;

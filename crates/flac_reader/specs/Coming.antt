@@ -1,4 +1,5 @@
--- What a decoder has still to give, and what a reader gives of it: the metadata blocks at once, and then one frame after another.
+-- What a decoder still has to return, and what a reader returns of it: the metadata blocks at once, and then one frame
+-- after another.
 use Rattle.std.specs.Prelude.{◌≡◌, ◌≤◌, ℕ, Bool, true, false, List, [], ◌∷◌, ◌++◌, map, filter, Option, Some, None, Result, Ok, Err, IfOk, IfErr, ⊤}
 use Rattle.flac_bits.specs.State.{Rises}
 use Rattle.flac_bits.specs.Handing.{reason_of}
@@ -23,8 +24,8 @@ use Rattle.flac_reader.specs.declared.keep.Keep.{Keep}
 
 -- ---- a decoder
 
--- A decoder has still to give these items, and then the end of the stream, or its refusal. After the end each call gives the end again, and after a refusal
--- it reports that it is spent, at the place of that refusal.
+-- A decoder still has to return these items, and then the end of the stream, or its refusal. After the end each call
+-- returns the end again, and after a refusal it reports that it is spent, at the place of that refusal.
 abbrev pub ComesBehind : {C : Type 0} → container.Ghosts C → Course → Stage C → List Item → Option (Place × Why) → Type 0
 ComesBehind g course.Begun s items end = (p : Progress) × IsAt s.track p × StillGives (g.gives s.container) p items end
 ComesBehind g (course.Read part) s items end = (p : Progress) × IsAt s.track p × StillGives (g.gives s.container) p items end
@@ -52,7 +53,8 @@ IsCalm g old new = (g.known old.container ≡ true) × (g.errors new.container �
 abbrev pub HadRoom : {X : Type 0} → Result X Fault → Type 0
 HadRoom result = reason_of told result ≡ Err Memory → ⊥
 
--- Errors of the device are counted: a call that returns a value met none, and one that returns Read raises the count, if it can rise.
+-- Errors of the device are counted: a call that returns a value met none, and one that returns Read raises the count,
+-- if it can rise.
 pub record Counted {C X : Type 0} (g : container.Ghosts C) (old new : Stage C) (result : Result X Fault) : Type 0 where
   pub met : IfOk result (λ _. (g.known old.container ≡ true → g.known new.container ≡ true) × (g.errors new.container ≡ g.errors old.container) × (g.raised new.container ≡ g.raised old.container) × (g.met new.container ≡ g.met old.container))
   pub kept : g.errors old.container ≤ g.errors new.container
@@ -66,7 +68,7 @@ stream_items blocks frames = map metadata blocks ++ map frame frames
 
 -- ---- the frames
 
--- A reader has still to give these frames, and then this end. It may have read the first of them ahead.
+-- A reader still has to return these frames, and then this end. It may have read the first of them ahead.
 abbrev pub FramesCome : {C : Type 0} → container.Ghosts C → (ahead : Bool) → Stage C → List Frame → Option (Place × Why) → Type 0
 FramesCome g false s frames end = Comes g s (map frame frames) end
 FramesCome g true s frames end = IsFirst g (map frame frames) end (Ok (held s.course s.track)) s
@@ -82,12 +84,12 @@ only_frame None = None
 only_frame (Some (metadata b)) = None
 only_frame (Some (frame f)) = Some (frame f)
 
--- what a call gave, seen by view, is the first of the frames that were still to come, or else the end
+-- the result of a call, seen by view, is the first of the frames that were still to come, or else the end
 abbrev pub GivesFrame : {C X : Type 0} → container.Ghosts C → (ahead : Bool) → Stage C → Stage C → (X → Option Item) → Result X Fault → Type 0
 GivesFrame g ahead old new view result =
     IsCalm g old new → HadRoom result → (frames : List Frame) (end : Option (Place × Why)) → FramesCome g ahead old frames end → IsFirst g (map frame frames) end (seen_by view result) new
 
--- a call read all blocks, and the wanted ones are kept, where the stream was not refused before its first frame
+-- a call read all blocks, and the wanted ones are kept, unless the stream was refused before its first frame
 abbrev pub HeadIs : {C : Type 0} → container.Ghosts C → Keep → List Block → List Frame → Option (Place × Why) → List Block → Result ⊤ Fault → Stage C → Type 0
 HeadIs g keep blocks frames end kept (Ok x) s = (kept ≡ filter (keeps keep) blocks) × FramesCome g true s frames end
 HeadIs g keep blocks frames end kept (Err f) s = (frames ≡ []) × (end ≡ Some (told f))
@@ -98,8 +100,8 @@ size_of None = 0
 size_of (Some (metadata b)) = 0
 size_of (Some (frame f)) = f.size
 
--- The metadata was read from old on, of a source whose bytes are known: the wanted blocks are kept, the frames come next, and the bytes before them are counted. No
--- error was met.
+-- The metadata was read from old on, of a source whose bytes are known: the wanted blocks are kept, the frames come
+-- next, and the bytes before them are counted. No error was met.
 pub record HeadOf {C : Type 0} (g : container.Ghosts C) (old new : Stage C) (keep : Keep) (kept : List Block) (ahead : Bool) (start : ℕ) : Type 0 where
   pub known : g.known old.container ≡ true → g.known new.container ≡ true
   pub errors : g.errors new.container ≡ g.errors old.container

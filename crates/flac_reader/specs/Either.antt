@@ -1,4 +1,4 @@
--- What a reader gives that was opened over an input in either container.
+-- What a reader returns that was opened over an input in either container.
 use Rattle.flac_bits.specs.Handing.{Reading}
 use Rattle.flac_native.specs.Stream.{Piece}
 use Rattle.flac_native.specs.declared.fault.Place.{Place}

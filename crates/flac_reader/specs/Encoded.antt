@@ -1,4 +1,5 @@
--- Where a stream that encoding wrote is cut, and which frames a reader gives that seeks a sample in it (RFC 9639, sections 8.5 and 9.1.5).
+-- The frames of an encoded stream by their offsets, and which frames a reader finds that seeks a sample in it
+-- (RFC 9639, sections 8.5 and 9.1.5).
 use Rattle.std.specs.Prelude.{◌≡◌, ◌≢◌, ◌≤◌, ◌<◌, ◌^◌, ℕ, ◌+◌, ◌-◌, ◌*◌, ◌/◌, true, false, nat_lt, cond, List, [], ◌∷◌, ◌++◌, length, take, None, Result, Ok, Err}
 use Rattle.flac_bits.specs.Bits.{bits_of}
 use Rattle.flac_bits.specs.Forms.{joined}
@@ -29,7 +30,8 @@ use Rattle.flac_reader.specs.declared.reader.Reader.{Reader}
 
 -- ---- an encoded stream
 
--- These bytes are what encoding writes of these blocks and samples, by a plan that was made for the samples; they are counted in 64 bits.
+-- These bytes are what encoding writes of these blocks and samples, by a plan that was made for the samples; they are
+-- counted in 64 bits.
 pub record IsEncoded (p : Cut) (list : List Block) (a : Sound) (stream : List ℕ) : Type 0 where
   pub planned : plan_fault p ≡ None
   pub fits : fits_plan p a ≡ true
@@ -55,7 +57,7 @@ frames_at {p = p} {a = a} e number = frames_from p.block_size a (frame_count e -
 abbrev pub bytes_before : {p : Cut} {list : List Block} {a : Sound} {stream : List ℕ} → IsEncoded p list a stream → ℕ → ℕ
 bytes_before e number = length (joined (take number e.written.frames)) / 8
 
--- ---- where it is cut
+-- ---- its cuts
 
 -- It is cut at each of its frames, and after the last.
 abbrev pub FramesAreCut : Type 0
@@ -69,13 +71,14 @@ pub record IsCutAt {p : Cut} {list : List Block} {a : Sound} {stream : List ℕ}
   pub sample : x.sample ≡ p.block_size * number
   pub cuts : Cuts p.profile stream (stream_info e) (frames_start (all_blocks e) + x.offset) (frames_at e number)
 
--- So it is at each point of its seek table.
+-- This holds at each point of its seek table.
 abbrev pub PointsAreCut : Type 0
 PointsAreCut = (p : Cut) (list : List Block) (a : Sound) (stream : List ℕ) (e : IsEncoded p list a stream) → AllAre (IsCutAt e) (points_of p e.written.frames)
 
 -- ---- what a reader of it finds
 
--- If a sample is sought by these points, the stream is cut at a frame that begins at or before the sample: that of the point, or the first.
+-- If a sample is sought by these points, the stream is cut at a frame that begins at or before the sample: that of the
+-- point, or the first.
 pub record IsSoughtFrom {p : Cut} {list : List Block} {a : Sound} {stream : List ℕ} (e : IsEncoded p list a stream) (info : Info) (start sample : ℕ) (points : List SeekPoint) : Type 0 where
   pub number : ℕ
   pub among : number ≤ frame_count e
@@ -83,7 +86,8 @@ pub record IsSoughtFrom {p : Cut} {list : List Block} {a : Sound} {stream : List
   pub first : p.block_size * number ≤ sample
   pub cuts : Cuts p.profile stream info (search_start start sample points) (frames_at e number)
 
--- So it is for each reader that opened the stream in the plan's profile, whichever blocks it keeps, if no seek table was among the given blocks.
+-- This holds for each reader that opened the stream in the plan's profile, whichever blocks it keeps, if no seek table
+-- was among the given blocks.
 abbrev pub SearchesAreCut : {C : Type 0} → container.Ghosts C → Type 0
 SearchesAreCut {C = C} g = (p : Cut) (list : List Block) (a : Sound) (stream : List ℕ) (e : IsEncoded p list a stream) (keep : Keep) (reader : Reader C g) (sample : ℕ) → has_table list ≡ false
     → Opens (by_grammar grammar (opening p.profile) (beginning Truncated) (bits_of stream)) keep reader → IsSoughtFrom e reader.info reader.start sample (first_points reader.blocks.items)
@@ -92,13 +96,13 @@ SearchesAreCut {C = C} g = (p : Cut) (list : List Block) (a : Sound) (stream : L
 abbrev pub frames_holding : {p : Cut} {list : List Block} {a : Sound} {stream : List ℕ} → IsEncoded p list a stream → ℕ → List Frame
 frames_holding {p = p} e sample = cond (nat_lt sample p.total) (frames_at e (sample / p.block_size)) []
 
--- A reader gives just these frames, and then the end of the stream; or memory ran out.
+-- A reader returns exactly these frames, and then the end of the stream; or memory ran out.
 abbrev pub GivesFrames : {D : Type 0} {h : container.Ghosts D} → List Frame → Result (Reader D h) Fault → Type 0
 GivesFrames {h = h} frames (Ok reader) = FramesCome h reader.ahead (stage_of reader.decoder) frames None
 GivesFrames frames (Err f) = f.why ≢ Memory → ⊥
 
--- What such a reader seeks in the bytes of the stream in that profile, as the clause `whole` of `Reader::seek_in` says it, is found: the frame that holds the sample comes next, and then
--- all later frames.
+-- What such a reader seeks in the bytes of the stream in that profile, as the clause `whole` of `Reader::seek_in` says
+-- it, is found: the frame that holds the sample comes next, and then all later frames.
 abbrev pub SamplesAreFound : {C D : Type 0} → container.Ghosts C → container.Ghosts D → Type 0
 SamplesAreFound {C = C} {D = D} g h = (p : Cut) (list : List Block) (a : Sound) (stream : List ℕ) (e : IsEncoded p list a stream) (keep : Keep) (reader : Reader C g) (sample : ℕ) (result : Result (Reader D h) Fault) → has_table list ≡ false
     → Opens (by_grammar grammar (opening p.profile) (beginning Truncated) (bits_of stream)) keep reader

@@ -1,4 +1,4 @@
--- What one call of a reader gives.
+-- What one call of a reader returns.
 use Rattle.std.specs.Prelude.{◌≡◌, ◌+◌, min, false, Option, Result, IfOk}
 use Rattle.flac_native.specs.Item.{Item}
 use Rattle.flac_native.specs.Giving.{stage_of}
@@ -7,8 +7,8 @@ use Rattle.flac_native.specs.declared.container.Container as container
 use Rattle.flac_reader.specs.Coming.{GivesFrame, Counted, size_of}
 use Rattle.flac_reader.specs.declared.reader.Reader.{Reader}
 
--- The call gave the first frame of those that were to come, and left the others. The samples of all frames so far are counted, up to 2^64 - 1, and the metadata
--- stays.
+-- The call returned the first frame of those that were to come, and left the others. The samples of all frames so far
+-- are counted, up to 2^64 - 1, and the metadata stays.
 pub record Gives {C X : Type 0} {g : container.Ghosts C} (old new : Reader C g) (view : X → Option Item) (result : Result X Fault) : Type 0 where
   pub frame : GivesFrame g old.ahead (stage_of old.decoder) (stage_of new.decoder) view result
   pub counts : Counted g (stage_of old.decoder) (stage_of new.decoder) result

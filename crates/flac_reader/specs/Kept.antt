@@ -35,7 +35,7 @@ unfoldable pub first_comments : List Block → Option Comments
 first_comments [] = None
 first_comments (b ∷ bs) = or_comments b (first_comments bs)
 
--- the points of the first seek table, none where there is no table
+-- the points of the first seek table, none if there is no table
 abbrev pub or_points : Block → List SeekPoint → List SeekPoint
 or_points (blocks.SeekTable points) later = points
 or_points other later = later

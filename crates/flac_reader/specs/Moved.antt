@@ -13,12 +13,13 @@ use Rattle.flac_native.specs.declared.fault.Place.{Place}
 use Rattle.flac_native.specs.declared.fault.Place.TheVariants as place
 use Rattle.flac_native.specs.declared.fault.Fault.{Fault}
 
--- A device was moved so that its byte of this number is the next, and keeps its bytes; if its position or its bytes are not known, nothing is said of these.
+-- A device was moved so that its byte of this number is the next, and keeps its bytes; if its position or its bytes are
+-- not known, this says nothing of them.
 pub record IsMoved {T : Type 0} (position : T → Option ℕ) (bytes : T → Option (List ℕ)) (old new : T) (at : ℕ) : Type 0 where
   pub there : IfSome (position old) (λ _. position new ≡ Some at)
   pub kept : Keeps (bytes old) (bytes new)
 
--- the bytes that a reader takes of a device, of those that it has still to give: 2^64 - 1 at most
+-- the bytes that a reader takes of a device, of those that it still has: 2^64 - 1 at most
 abbrev pub bytes_to_come : Option (List ℕ) → List ℕ
 bytes_to_come remaining = take 18446744073709551615 (unwrap_or remaining [])
 

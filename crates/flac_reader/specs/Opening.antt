@@ -1,4 +1,4 @@
--- What a reader gives that was opened over an input.
+-- What a reader returns that was opened over an input.
 use Rattle.std.specs.Prelude.{◌≡◌, List, filter, Option, Some}
 use Rattle.flac_bits.specs.Handing.{Reading}
 use Rattle.flac_bits.specs.declared.why.Why.{Why}
@@ -21,8 +21,8 @@ pub record IsReadAs (r : Reading Piece Place) (blocks : List Block) (frames : Li
   pub read : ReadAs r parts end
   pub items : items_of parts ≡ stream_items blocks frames
 
--- Of the stream that the input is: all wanted blocks are kept, STREAMINFO among them, and its frames are still to come, and then its end or its refusal; the bytes
--- before the first frame are counted as those of a native stream.
+-- Of the stream that the input is: all wanted blocks are kept, STREAMINFO among them, and its frames are still to come,
+-- and then its end or its refusal; the bytes before the first frame are counted as those of a native stream.
 pub record Opens {C : Type 0} {g : container.Ghosts C} (r : Reading Piece Place) (keep : Keep) (reader : Reader C g) : Type 0 where
   pub blocks : (blocks : List Block) (frames : List Frame) (end : Option (Place × Why)) → IsReadAs r blocks frames end → reader.blocks.items ≡ filter (keeps keep) blocks
   pub frames : (blocks : List Block) (frames : List Frame) (end : Option (Place × Why)) → IsReadAs r blocks frames end → FramesCome g reader.ahead (stage_of reader.decoder) frames end

@@ -1,4 +1,5 @@
--- The samples of frames, one by one: interleaved, channel by channel at each index, as they are played (RFC 9639, section 9.2).
+-- The samples of frames, one by one: interleaved, channel by channel at each index, as they are played (RFC 9639,
+-- section 9.2).
 use Rattle.std.specs.Prelude.{ℕ, ◌-◌, Bool, true, false, cond, nat_lt, ℤ, List, [], ◌∷◌, ◌++◌, length, drop, Option, Some, None}
 use Rattle.flac_frame.specs.Frame.{Frame}
 use Rattle.flac_frame.specs.Interleaved.{rows, interleaved}
@@ -11,7 +12,7 @@ unfoldable pub all_samples : List Frame → List ℤ
 all_samples [] = []
 all_samples (f ∷ fs) = interleaved f ++ all_samples fs
 
--- the samples of a frame from that of a channel at an index on; none where there is no such channel
+-- the samples of a frame from that of a channel at an index on; none if there is no such channel
 unfoldable pub samples_from : Frame → (channel index : ℕ) → List ℤ
 samples_from f channel index = cond (nat_lt channel (length f.channels)) (drop channel (rows f.channels (f.size - index) index)) []
 

@@ -17,22 +17,24 @@ use Rattle.flac_reader.specs.Kept.{first_info}
 use Rattle.flac_reader.specs.Coming.{Comes, IsCalm, stream_items}
 use Rattle.flac_reader.specs.Opening.{IsReadAs}
 
--- The fault is that of the stream, which is refused there before its first frame; or the metadata is whole and has no STREAMINFO (RFC 9639, section 8.2).
+-- The fault is that of the stream, which is refused there before its first frame; or the metadata is whole and has no
+-- STREAMINFO (RFC 9639, section 8.2).
 abbrev pub IsRefusal : List Block → List Frame → Option (Place × Why) → Fault → Type 0
 IsRefusal blocks frames end f = ((frames ≡ []) × (end ≡ Some (told f))) ⊎ ((f ≡ record { at = place.Block 0; why = NotStreamInfoFirst }) × (first_info blocks ≡ None))
 
--- The metadata was refused from old on, and the decoder stands at last: an error of the device raised the count, and without one, and with memory, what was to
--- come is refused so.
+-- The metadata was refused from old on, and the decoder is in the state `last`: an error of the device raised the
+-- count, and without one, and with memory, what was to come is refused in this way.
 pub record RefusedHead {C : Type 0} (g : container.Ghosts C) (old last : Stage C) (f : Fault) : Type 0 where
   pub kept : g.errors old.container ≤ g.errors last.container
   pub risen : f.why ≡ Read → Rises (g.met old.container) (g.met last.container)
   pub refused : IsCalm g old last → f.why ≢ Memory → (blocks : List Block) (frames : List Frame) (end : Option (Place × Why)) → Comes g old (stream_items blocks frames) end → IsRefusal blocks frames end f
 
--- some decoder was left so, unless memory ran out
+-- some decoder was left in such a state, unless memory ran out
 abbrev pub IsRefusedHead : {C : Type 0} → container.Ghosts C → Stage C → Fault → Type 0
 IsRefusedHead {C} g old f = f.why ≢ Memory → (last : Stage C) × RefusedHead g old last f
 
--- The input, which is known, was not opened for this reason. An error of the source raised its counts; without one, the input is refused so.
+-- The input, which is known, was not opened for this reason. An error of the source raised its counts; without one, the
+-- input is refused in this way.
 pub record RefusesInput (r : Reading Piece Place) (known : Bool) (errors raised errors_left raised_left : ℕ) (f : Fault) : Type 0 where
   pub kept : errors ≤ errors_left
   pub risen : f.why ≡ Read → Rises raised raised_left

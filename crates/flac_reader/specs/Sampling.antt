@@ -1,4 +1,4 @@
--- What an iterator over samples has still to give, and what one call of it gives.
+-- What an iterator over samples still has to return, and what one call of it returns.
 use Rattle.std.specs.Prelude.{◌≡◌, ◌<◌, ℕ, ◌+◌, cond, ℤ, List, [], ◌∷◌, ◌++◌, Option, Some, None, Result, Ok, Err, IfErr, MatchResult, IfSome}
 use Rattle.flac_bits.specs.declared.why.Why.{Why}
 use Rattle.flac_frame.specs.Frame.{Frame}
@@ -15,7 +15,8 @@ use Rattle.flac_reader.specs.declared.spot.Spot.TheVariants as spot
 
 -- ---- what is still to come
 
--- these samples come: those that are left of one frame, and those of the frames that a reader has still to give, and then this end
+-- these samples come: those that are left of one frame, and those of the frames that a reader still has to return, and
+-- then this end
 pub record SamplesLeft {C : Type 0} {g : container.Ghosts C} (reader : Reader C g) (first : List ℤ) (samples : List ℤ) (end : Option (Place × Why)) : Type 0 where
   pub frames : List Frame
   pub split : samples ≡ first ++ all_samples frames
@@ -30,7 +31,7 @@ ComeBehind (spot.Inside channel index) reader samples end = SamplesLeft reader (
 abbrev pub SamplesCome : {C : Type 0} {g : container.Ghosts C} → Samples C g → List ℤ → Option (Place × Why) → Type 0
 SamplesCome s samples end = ComeBehind s.spot s.reader samples end
 
--- ---- what a call gives
+-- ---- what a call returns
 
 -- the call returned the first of these samples, or else the end or the refusal, which is returned once
 abbrev pub IsFirstSample : {C : Type 0} {g : container.Ghosts C} → List ℤ → Option (Place × Why) → Result (Option ℤ) Fault → Samples C g → Type 0
@@ -38,11 +39,11 @@ IsFirstSample [] None answer s = (answer ≡ Ok None) × SamplesCome s [] None
 IsFirstSample [] (Some f) answer s = (answer ≡ Err (record { at = f.0; why = f.1 })) × SamplesCome s [] None
 IsFirstSample (x ∷ xs) end answer s = (answer ≡ Ok (Some x)) × SamplesCome s xs end
 
--- how many calls may still give something, at most
+-- how many calls may still return something, at most
 abbrev pub calls_left : Spot → ℕ → ℕ
 calls_left at left = cond (is_over at) 0 (left + 1)
 
--- The call gave the first sample of those that were to come, and left the others. The metadata stays.
+-- The call returned the first sample of those that were to come, and left the others. The metadata stays.
 pub record GivesSample {C : Type 0} {g : container.Ghosts C} (old new : Samples C g) (answer : Result (Option ℤ) Fault) : Type 0 where
   pub sample : IsCalm g (stage_of old.reader.decoder) (stage_of new.reader.decoder) → HadRoom answer → (samples : List ℤ) (end : Option (Place × Why)) → SamplesCome old samples end → IsFirstSample samples end answer new
   pub counts : Counted g (stage_of old.reader.decoder) (stage_of new.reader.decoder) answer
@@ -50,13 +51,13 @@ pub record GivesSample {C : Type 0} {g : container.Ghosts C} (old new : Samples 
   pub ended : answer ≡ Ok None → new.spot ≡ spot.Over
   pub spent : IfErr answer (λ _. new.spot ≡ spot.Over)
   pub over : old.spot ≡ spot.Over → (answer ≡ Ok None) × (new ≡ old)
-  -- with each answer that is something it comes nearer to the end
+  -- each call that returns something brings it nearer to the end
   pub nearer : MatchResult answer (λ o. IfSome o (λ _. calls_left new.spot new.left < calls_left old.spot old.left)) (λ _. calls_left new.spot new.left < calls_left old.spot old.left)
   pub blocks : new.reader.blocks ≡ old.reader.blocks
   pub info : new.reader.info ≡ old.reader.info
   pub start : new.reader.start ≡ old.reader.start
 
--- an item of an iterator as the answer of a call
+-- an item of an iterator as the result of a call
 abbrev pub turned : Option (Result ℤ Fault) → Result (Option ℤ) Fault
 turned None = Ok None
 turned (Some (Ok x)) = Ok (Some x)

@@ -1,4 +1,4 @@
--- Where a sample is sought in a stream (RFC 9639, sections 8.5 and 9.1.5).
+-- Seeking a sample in a stream (RFC 9639, sections 8.5 and 9.1.5).
 use Rattle.std.specs.Prelude.{◌≡◌, ◌≢◌, ◌≤◌, ◌<◌, ◌^◌, ℕ, ◌+◌, min, Bool, ◌&&◌, nat_le, nat_lt, List, [], ◌∷◌, ◌++◌, true, false, map, take, drop, length, Option, Some, None, Result, Ok, Err, ⊤}
 use Rattle.std.specs.List.{list_any}
 use Rattle.flac_bits.specs.Bits.{bits_of}
@@ -29,7 +29,7 @@ use Rattle.flac_reader.specs.declared.reader.Reader.{Reader}
 
 -- ---- a seek table
 
--- the offset of a point, from the first frame; that of the first frame where there is none
+-- the offset of a point, from the first frame; that of the first frame if there is none
 abbrev pub offset_of : Option SeekPoint → ℕ
 offset_of None = 0
 offset_of (Some p) = p.offset
@@ -38,7 +38,8 @@ offset_of (Some p) = p.offset
 abbrev pub offset_before : ℕ → List SeekPoint → ℕ
 offset_before sample points = offset_of (last_before sample points)
 
--- where a search begins, in bytes from the first of the stream, whose frames start here; it stops at 2^64 - 1
+-- the offset at which a search begins, in bytes from the first of the stream, whose frames start at `start`; it stops
+-- at 2^64 - 1
 abbrev pub search_start : (start sample : ℕ) → List SeekPoint → ℕ
 search_start start sample points = min (start + offset_before sample points) 18446744073709551615
 
@@ -48,7 +49,7 @@ search_start start sample points = min (start + offset_before sample points) 184
 abbrev pub holds : Info → ℕ → Frame → Bool
 holds info sample f = nat_le (first_sample info.greatest_block f) sample && nat_lt sample (first_sample info.greatest_block f + f.size)
 
--- the number of the first sample of a frame that is held, 0 where none is
+-- the number of the first sample of a frame that is held, 0 if none is
 abbrev pub number_of : Info → Option Item → ℕ
 number_of info None = 0
 number_of info (Some (metadata b)) = 0
@@ -63,7 +64,8 @@ abbrev pub HoldsFirst : Info → ℕ → List Frame → Type 0
 HoldsFirst info sample [] = ⊤
 HoldsFirst info sample (f ∷ frames) = holds info sample f ≡ true
 
--- Of these frames, which were to come, the ones before the first that holds the sample were passed by, and that one comes next; if none holds it, all were passed by.
+-- Of these frames, which were to come, the ones before the first that holds the sample were passed by, and that one
+-- comes next; if none holds it, all were passed by.
 pub record Finds {C : Type 0} (g : container.Ghosts C) (info : Info) (sample : ℕ) (frames : List Frame) (end : Option (Place × Why)) (ahead : Bool) (s : Stage C) : Type 0 where
   pub passed : List Frame
   pub left : List Frame
@@ -76,13 +78,14 @@ pub record Finds {C : Type 0} (g : container.Ghosts C) (info : Info) (sample : �
 abbrev pub Sought : {C : Type 0} {g : container.Ghosts C} → Info → ℕ → Reading Piece Place → Reader C g → Type 0
 Sought {g = g} info sample r reader = (frames : List Frame) (end : Option (Place × Why)) → IsReadAs r [] frames end → Finds g info sample frames end reader.ahead (stage_of reader.decoder)
 
--- So a reader was made over this input: it finds the frame; or the input is refused after frames that do not hold the sample, unless memory ran out.
+-- A reader was made over this input: it finds the frame; or the input is refused after frames that do not hold the
+-- sample, unless memory ran out.
 abbrev pub SeeksTo : {C : Type 0} {g : container.Ghosts C} → Info → ℕ → Reading Piece Place → Result (Reader C g) Fault → Type 0
 SeeksTo info sample r (Ok reader) = Sought info sample r reader
 SeeksTo info sample r (Err f) = f.why ≢ Memory → (frames : List Frame) (end : Option (Place × Why)) → IsReadAs r [] frames end → PassedBy info sample frames × (end ≡ Some (told f))
 
--- No reader was made over the input of a source, for this reason. An error of the source raised its counts; without one, and if the input is known, it is refused
--- after frames that do not hold the sample.
+-- No reader was made over the input of a source, for this reason. An error of the source raised its counts; without
+-- one, and if the input is known, it is refused after frames that do not hold the sample.
 pub record RefusesSeek (info : Info) (sample : ℕ) (r : Reading Piece Place) (known : Bool) (errors raised errors_left raised_left : ℕ) (f : Fault) : Type 0 where
   pub kept : errors ≤ errors_left
   pub risen : f.why ≡ Read → Rises raised raised_left
@@ -90,19 +93,21 @@ pub record RefusesSeek (info : Info) (sample : ℕ) (r : Reading Piece Place) (k
 
 -- ---- in a whole stream
 
--- The first bytes of a native stream, up to this offset, are all its parts before these frames, and STREAMINFO among them is this.
+-- The first bytes of a native stream, up to this offset, are all its parts before these frames, and STREAMINFO among
+-- them is this.
 pub record Cuts (profile : Profile) (stream : List ℕ) (info : Info) (at : ℕ) (frames : List Frame) : Type 0 where
   pub front : List Piece
   pub whole : Stream grammar (opening profile) (beginning Truncated) (front ++ map framed frames) (bits_of stream)
   pub before : Joined grammar (opening profile) (beginning Truncated) front (bits_of (take at stream))
   pub known : (after grammar (opening profile) front).stand.info ≡ Some info
 
--- A reader finds the frame among these, and gives it and all later ones, up to the end of the stream; or memory ran out.
+-- A reader finds the frame among these, and returns it and all later ones, up to the end of the stream; or memory ran
+-- out.
 abbrev pub SeeksFrames : {C : Type 0} {g : container.Ghosts C} → Info → ℕ → List Frame → Result (Reader C g) Fault → Type 0
 SeeksFrames {g = g} info sample frames (Ok reader) = Finds g info sample frames None reader.ahead (stage_of reader.decoder)
 SeeksFrames info sample frames (Err f) = f.why ≢ Memory → ⊥
 
--- So a native stream in memory is cut where its frames start, as the reader that opened it counted.
+-- A native stream in memory is cut at the start of its frames, as the reader that opened it counted.
 abbrev pub FramesStart : Type 0
 FramesStart = (profile : Profile) (stream : List ℕ) (blocks : List Block) (frames : List Frame) (info : Info) → length stream < 2 ^ 64
     → IsReadAs (by_grammar grammar (opening profile) (beginning Truncated) (bits_of stream)) blocks frames None → first_info blocks ≡ Some info → Cuts profile stream info (frames_start blocks) frames

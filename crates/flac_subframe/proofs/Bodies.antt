@@ -12,6 +12,7 @@ use Rattle.flac_bits.specs.Signed.{signed}
 use Rattle.flac_subframe.specs.declared.coding_method.CodingMethod.{CodingMethod}
 use Rattle.flac_subframe.specs.declared.coding_method.CodingMethod.TheVariants.{FourBits, FiveBits}
 use Rattle.flac_subframe.specs.Cost.{MayWrite, Codings, parameter_bits_of}
+use Rattle.flac_subframe.specs.inner.Codes.{method_code}
 use Rattle.flac_subframe.specs.inner.Cost.{residual_cost}
 use Rattle.flac_subframe.proofs.Lengths.{length-residual, length-signed, length-samples, length-predictor, length-two, length-three}
 use Rattle.flac_subframe.specs.Spelling.{content_spelling, residual_spelling, predictor_spelling}
@@ -25,6 +26,14 @@ use Rattle.flac_subframe.proofs.Differences.{first_all}
 pub method_bits : (w : ℕ) → (w ≡ 4) ⊎ (w ≡ 5) → 4 + (w - 4) ≡ w
 method_bits w (inl e) = rw e refl
 method_bits w (inr e) = rw e refl
+
+pub bits_of_code : (m : CodingMethod) → parameter_bits_of m ≡ 4 + method_code m
+bits_of_code FourBits = refl
+bits_of_code FiveBits = refl
+
+pub code_of_bits : (m : CodingMethod) → parameter_bits_of m - 4 ≡ method_code m
+code_of_bits FourBits = refl
+code_of_bits FiveBits = refl
 
 pub four_or_five : (m : CodingMethod) → (parameter_bits_of m ≡ 4) ⊎ (parameter_bits_of m ≡ 5)
 four_or_five FourBits = inl refl

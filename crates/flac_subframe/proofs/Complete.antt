@@ -85,7 +85,7 @@ and_true false b e = (e, absurd (no e))
 
 module _ (most limit order block : ℕ) (r : Residual) (small : limit ≤ most) (left : MayLeave limit order block r) where
   abbrev pub codings_in : Codings
-  codings_in = record { parameter_bits = 4 + r.method; halvings = r.order; codings = map coding_of r.partitions }
+  codings_in = record { parameter_bits = 4 + r.method; partition_order = r.order; codings = map coding_of r.partitions }
 
   even : block % 2 ^ r.order ≡ 0
   even = let t = (and_true (nat_eq (block % 2 ^ r.order) 0) (nat_lt order (block / 2 ^ r.order)) left.halves).0 in grind (arith, nat_tests)

@@ -48,17 +48,17 @@ both a b p q = rw (p, q) refl
 
 module _ (most order : ℕ) (rs : List ℤ) (f : Codings) (may : MayWrite most order rs f) where
   -- the partitions make the residual up
-  pub cuts : length rs + (length rs + order) / 2 ^ f.halvings ≡ ((length rs + order) / 2 ^ f.halvings - order) + length f.codings * ((length rs + order) / 2 ^ f.halvings)
+  pub cuts : length rs + (length rs + order) / 2 ^ f.partition_order ≡ ((length rs + order) / 2 ^ f.partition_order - order) + length f.codings * ((length rs + order) / 2 ^ f.partition_order)
   cuts =
-      let size : ℕ = (length rs + order) / 2 ^ f.halvings in
-      let some = pow_pos f.halvings in
-      let many : length f.codings * size ≡ 2 ^ f.halvings * size = ap (λ (n : ℕ). n * size) may.each in
+      let size : ℕ = (length rs + order) / 2 ^ f.partition_order in
+      let some = pow_pos f.partition_order in
+      let many : length f.codings * size ≡ 2 ^ f.partition_order * size = ap (λ (n : ℕ). n * size) may.each in
       omega (arith, many, may.even, may.room, some)
 
   -- a residual that may be written is one that a predictor may leave
   pub may_leave : (limit : ℕ) → most ≤ limit → most ≤ 15 → All IsResidual rs → MayLeave limit order (length rs + order) (residual_of order rs f)
   may_leave limit le few range =
-      let size : ℕ = (length rs + order) / 2 ^ f.halvings in
+      let size : ℕ = (length rs + order) / 2 ^ f.partition_order in
       record {
         method = method_small f.parameter_bits may.method;
         field = omega (arith, may.few);
@@ -70,4 +70,4 @@ module _ (most order : ℕ) (rs : List ℤ) (f : Codings) (may : MayWrite most o
 
   -- its values are the residual
   pub values_are : residual_values (residual_of order rs f) ≡ rs
-  values_are = cut_values f.parameter_bits ((length rs + order) / 2 ^ f.halvings) ((length rs + order) / 2 ^ f.halvings - order) rs f.codings (omega (arith, may.each, pow_pos f.halvings)) cuts
+  values_are = cut_values f.parameter_bits ((length rs + order) / 2 ^ f.partition_order) ((length rs + order) / 2 ^ f.partition_order - order) rs f.codings (omega (arith, may.each, pow_pos f.partition_order)) cuts

@@ -92,13 +92,13 @@ digits_folded : (rs : List ℤ) → sum_by digits (map folded rs) ≡ sum_by val
 digits_folded [] = refl
 digits_folded (r ∷ rs) = omega (arith, sum_by-cons digits (folded r) (map folded rs), sum_by-cons value_digits r rs, digits_folded rs)
 
-pub digits_at_least : (most order p : ℕ) (rs : List ℤ) (ns : List ℕ) (n : ℕ) → ns ≡ map folded rs → All IsResidual rs → n ≡ sum_by (λ n. 63 - count_leading_zeros 64 (2 * n + 1)) ns → (f : Codings) → MayWrite most order rs f → f.halvings ≡ p
+pub digits_at_least : (most order p : ℕ) (rs : List ℤ) (ns : List ℕ) (n : ℕ) → ns ≡ map folded rs → All IsResidual rs → n ≡ sum_by (λ n. 63 - count_leading_zeros 64 (2 * n + 1)) ns → (f : Codings) → MayWrite most order rs f → f.partition_order ≡ p
     → n + 6 + 2 ^ p * (4 + min 5 ((length rs + order) / 2 ^ p)) ≤ residual_cost order rs f + order
 digits_at_least most order p rs ns n is range sum f m e =
     let w : ℕ = f.parameter_bits in
-    let size : ℕ = (length rs + order) / 2 ^ f.halvings in
-    let some : 0 < length f.codings = omega (arith, m.each, pow_pos f.halvings) in
+    let size : ℕ = (length rs + order) / 2 ^ f.partition_order in
+    let some : 0 < length f.codings = omega (arith, m.each, pow_pos f.partition_order) in
     let all = all_parts w size (four_bits w m.method) (size - order) rs f.codings some (cuts most order rs f m) range m.codings in
     let here : n ≡ sum_by value_digits rs = sum ∙ ap (λ (l : List ℕ). sum_by digits l) is ∙ digits_folded rs in
-    let each : length f.codings * (4 + min 5 size) ≡ 2 ^ f.halvings * (4 + min 5 size) = ap (λ (k : ℕ). k * (4 + min 5 size)) m.each in
+    let each : length f.codings * (4 + min 5 size) ≡ 2 ^ f.partition_order * (4 + min 5 size) = ap (λ (k : ℕ). k * (4 + min 5 size)) m.each in
     rw (← e) (omega (arith, all, here, each))

@@ -63,9 +63,9 @@ length-partitions w first size rs (c ∷ cs) =
 pub length-residual : (order : ℕ) (rs : List ℤ) (f : Codings) → 4 + (f.parameter_bits - 4) ≡ f.parameter_bits → length (residual_spelling (residual_of order rs f)) ≡ residual_cost order rs f
 unfolding residual_spelling
 length-residual order rs f e =
-    let size : ℕ = (length rs + order) / 2 ^ f.halvings in
-    length-two (joined (unsigned 2 (f.parameter_bits - 4) ∷ unsigned 4 f.halvings ∷ [])) (flat_map (partition_spelling (4 + (f.parameter_bits - 4))) (cut (size - order) size rs f.codings))
-    ∙ rw (length-two (unsigned 2 (f.parameter_bits - 4)) (unsigned 4 f.halvings), length-unsigned 2 (f.parameter_bits - 4), length-unsigned 4 f.halvings, e, length-partitions f.parameter_bits (size - order) size rs f.codings) refl
+    let size : ℕ = (length rs + order) / 2 ^ f.partition_order in
+    length-two (joined (unsigned 2 (f.parameter_bits - 4) ∷ unsigned 4 f.partition_order ∷ [])) (flat_map (partition_spelling (4 + (f.parameter_bits - 4))) (cut (size - order) size rs f.codings))
+    ∙ rw (length-two (unsigned 2 (f.parameter_bits - 4)) (unsigned 4 f.partition_order), length-unsigned 2 (f.parameter_bits - 4), length-unsigned 4 f.partition_order, e, length-partitions f.parameter_bits (size - order) size rs f.codings) refl
 
 pub length-predictor : (p : Predictor) → length (predictor_spelling p) ≡ 9 + p.precision * length p.coefficients
 unfolding predictor_spelling

@@ -29,6 +29,7 @@ pub mod Settled
 pub mod Bounded
 pub mod Greater
 pub mod Convex
+pub mod Counts
 pub mod Walks
 pub mod LowerBounds
 pub mod Close

@@ -159,7 +159,7 @@ bound_down w order rs b (suc n) p half so =
 
 pub bound_of_all : (order h : ℕ) (rs : List ℤ) (b : ℕ) → Halves order rs h → ((w : ℕ) → Bounds w order rs b h) → (f : Codings) → MayWrite h order rs f → b ≤ residual_cost order rs f
 bound_of_all order h rs b half so f m =
-    let p : ℕ = f.halvings in
+    let p : ℕ = f.partition_order in
     let w : ℕ = f.parameter_bits in
     let e : h - p + p ≡ h = omega (arith, m.few) in
     let here : Bounds w order rs b p = bound_down w order rs b (h - p) p (rw e half) (rw e (so w)) in
@@ -170,10 +170,10 @@ four_bits w (inl e) = omega (arith, e)
 four_bits w (inr e) = omega (arith, e)
 
 -- at the finest partition order itself the parameters come on top of it
-pub bound_of_last : (order h : ℕ) (rs : List ℤ) (b : ℕ) → ((w : ℕ) → Bounds w order rs b h) → (f : Codings) → MayWrite h order rs f → f.halvings ≡ h → b + (6 + 4 * 2 ^ h) ≤ residual_cost order rs f
+pub bound_of_last : (order h : ℕ) (rs : List ℤ) (b : ℕ) → ((w : ℕ) → Bounds w order rs b h) → (f : Codings) → MayWrite h order rs f → f.partition_order ≡ h → b + (6 + 4 * 2 ^ h) ≤ residual_cost order rs f
 bound_of_last order h rs b so f m e =
     let w : ℕ = f.parameter_bits in
-    let p : ℕ = f.halvings in
+    let p : ℕ = f.partition_order in
     let here : Bounds w order rs b p = rw e (so w) in
     let many : length f.codings ≡ 2 ^ h = rw e at m.each in
     omega (arith, many, here f.codings m.each m.codings, fields_within w ((length rs + order) / 2 ^ p - order) ((length rs + order) / 2 ^ p) rs f.codings (four_bits w m.method))

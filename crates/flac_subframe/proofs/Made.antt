@@ -1,8 +1,8 @@
 -- A choice that was made of samples.
 use Rattle.std.proofs.Common.{◌≡◌, inl, inr, refl, sym, subst, ℕ, suc, ◌+◌, ◌≤◌, ◌<◌, arith, ℤ, List, [], ◌∷◌, length, take, map, get_or}
 use Rattle.std.proofs.lemmas.List.{length-take-le, get_or_default}
-use Rattle.flac_subframe.specs.declared.content.Content.{Content}
-use Rattle.flac_subframe.specs.declared.content.Content.TheVariants.{Constant, Verbatim, Predicted}
+use Rattle.flac_subframe.specs.declared.content.ContentKind.{ContentKind}
+use Rattle.flac_subframe.specs.declared.content.ContentKind.TheVariants.{Constant, Verbatim, Predicted}
 use Rattle.flac_subframe.specs.declared.content.SubframeForm.{SubframeForm}
 use Rattle.flac_subframe.specs.declared.content.PredictorKind.TheVariants.{Fixed, Linear}
 use Rattle.flac_subframe.specs.declared.linear.LinearPredictor.{LinearPredictor}
@@ -60,14 +60,8 @@ one_type : (hs : List LinearPredictor) (i : ℕ) (f : Codings) (t : List ℤ) �
 one_type [] i f t within room = absurd (omega (arith, within))
 one_type (q ∷ qs) i f t within room = linear_type (handed_at (q ∷ qs) i) (get_or (q ∷ qs) i q) f t (at_place (q ∷ qs) i (get_or (q ∷ qs) i q) within (get_or_default (q ∷ qs) i q (get_or (q ∷ qs) i q) within)) room
 
-one_few : (hs : List LinearPredictor) (i : ℕ) → i < length hs → order_of (handed_at hs i) ≤ 32
-one_few [] i within = absurd (omega (arith, within))
-one_few (q ∷ qs) i within =
-    let p : LinearPredictor = get_or (q ∷ qs) i q in
-    subst (λ (x : Chooses). order_of x ≤ 32) (sym (at_place (q ∷ qs) i p within (get_or_default (q ∷ qs) i q p within))) p.few
-
 module _ (hs : List LinearPredictor) where
-  pub type_is : (most : ℕ) (c : Content) (f : Codings) (t : List ℤ) → HasPredictor hs c → StandsFor most (offered hs) (body_as hs c f t) t → type_number hs c ≡ type_of (content_of (body_as hs c f t))
+  pub type_is : (most : ℕ) (c : ContentKind) (f : Codings) (t : List ℤ) → HasPredictor hs c → StandsFor most (offered hs) (body_as hs c f t) t → type_number hs c ≡ type_of (content_of (body_as hs c f t))
   type_is most Constant f t has h = refl
   type_is most Verbatim f t has h = refl
   type_is most (Predicted (Fixed order)) f t has h =
@@ -78,12 +72,6 @@ module _ (hs : List LinearPredictor) where
   type_is most (Predicted (Linear index)) f t has h =
       let room = h.1.room in
       one_type hs index f t has (omega (arith, room))
-
-  pub type_few : (c : Content) → HasPredictor hs c → type_number hs c < 64
-  type_few Constant has = omega arith
-  type_few Verbatim has = omega arith
-  type_few (Predicted (Fixed order)) has = omega (arith, has)
-  type_few (Predicted (Linear index)) has = omega (arith, one_few hs index has)
 
 -- what stands with few partition orders stands with more
 pub fewer_orders : (most more : ℕ) (ps : List Chooses) (b : Body) (t : List ℤ) → most ≤ more → StandsFor most ps b t → StandsFor more ps b t

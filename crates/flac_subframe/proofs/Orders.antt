@@ -13,13 +13,13 @@ use Rattle.flac_subframe.specs.Cost.{Codings}
 
 module _ (w p most order : ℕ) (rs : List ℤ) (method : (w ≡ 4) ⊎ (w ≡ 5)) (within : p ≤ most) (halves : Halves order rs p) where
   pub halved_least : (cs : List Coding) → (let size : ℕ = (length rs + order) / 2 ^ p in IsLeast (Partitioned w (size - order) size (2 ^ p) rs) (partitions_cost w (size - order) size rs) cs) →
-      IsLeast (HalvedTo w p most order rs) (residual_cost order rs) (record { parameter_bits = w; halvings = p; codings = cs })
+      IsLeast (HalvedTo w p most order rs) (residual_cost order rs) (record { parameter_bits = w; partition_order = p; codings = cs })
   halved_least cs so = record {
     member = (refl, refl, record { method = method; few = within; even = halves.even; room = halves.room; each = so.member.0; codings = so.member.1 });
     least = below;
   }
     where
-      below : (f : Codings) → HalvedTo w p most order rs f → residual_cost order rs (record { parameter_bits = w; halvings = p; codings = cs }) ≤ residual_cost order rs f
+      below : (f : Codings) → HalvedTo w p most order rs f → residual_cost order rs (record { parameter_bits = w; partition_order = p; codings = cs }) ≤ residual_cost order rs f
       below f m =
           let may : MayCodeEach w ((length rs + order) / 2 ^ p - order) ((length rs + order) / 2 ^ p) rs f.codings = rw (m.0, m.1) at m.2.codings in
           let each : length f.codings ≡ 2 ^ p = rw m.1 at m.2.each in
@@ -28,14 +28,14 @@ module _ (w p most order : ℕ) (rs : List ℤ) (method : (w ≡ 4) ⊎ (w ≡ 5
   pub halved_cost : (n : ℕ) → (let size : ℕ = (length rs + order) / 2 ^ p in IsLeastCost (Partitioned w (size - order) size (2 ^ p) rs) (partitions_cost w (size - order) size rs) n) →
       IsLeastCost (HalvedTo w p most order rs) (residual_cost order rs) (6 + n)
   halved_cost n so = record {
-    one = record { parameter_bits = w; halvings = p; codings = so.one };
+    one = record { parameter_bits = w; partition_order = p; codings = so.one };
     least = halved_least so.one so.least;
     is = rw so.is refl;
   }
 
 -- the forms of a method with a partition order below i
 abbrev pub BelowOrder : ℕ → ℕ → ℕ → List ℤ → ℕ → Codings → Type 0
-BelowOrder w most order rs i f = ByMethod w most order rs f × (f.halvings < i)
+BelowOrder w most order rs i f = ByMethod w most order rs f × (f.partition_order < i)
 
 module _ (w most order : ℕ) (rs : List ℤ) (n m i : ℕ) where
   pub first_order : IsLeastCost (HalvedTo w 0 most order rs) (residual_cost order rs) n → IsLeastCost (BelowOrder w most order rs 1) (residual_cost order rs) n
@@ -50,7 +50,7 @@ module _ (w most order : ℕ) (rs : List ℤ) (n m i : ℕ) where
     one = so.one;
     least = record {
       member = (so.least.member.0, omega (arith, so.least.member.1));
-      least = λ f h. elim (cases_lt f.halvings i) [
+      least = λ f h. elim (cases_lt f.partition_order i) [
         | inl b ↦ so.least.least f (h.0, b)
         | inr b ↦ omega (arith, more.least.least f (h.0.0, omega (arith, h.1), h.0.1), so.is, more.is)
       ];
@@ -63,7 +63,7 @@ module _ (w most order : ℕ) (rs : List ℤ) (n m i : ℕ) where
     one = more.one;
     least = record {
       member = ((more.least.member.0, more.least.member.2), omega (arith, more.least.member.1));
-      least = λ f h. elim (cases_lt f.halvings i) [
+      least = λ f h. elim (cases_lt f.partition_order i) [
         | inl b ↦ omega (arith, so.least.least f (h.0, b), so.is, more.is)
         | inr b ↦ more.least.least f (h.0.0, omega (arith, h.1), h.0.1)
       ];
@@ -92,7 +92,7 @@ same_cost M cost a n p q = omega (arith, p.least q.one q.least.member, q.least.l
 
 module _ (most order : ℕ) (rs : List ℤ) (h : ℕ) (within : h ≤ most) (greatest : (p : ℕ) → p ≤ most → Halves order rs p → p ≤ h) where
   pub narrower : (f : Codings) → MayWrite most order rs f → MayWrite h order rs f
-  narrower f m = record { method = m.method; few = greatest f.halvings m.few (record { even = m.even; room = m.room }); even = m.even; room = m.room; each = m.each; codings = m.codings }
+  narrower f m = record { method = m.method; few = greatest f.partition_order m.few (record { even = m.even; room = m.room }); even = m.even; room = m.room; each = m.each; codings = m.codings }
 
   wider : (f : Codings) → MayWrite h order rs f → MayWrite most order rs f
   wider f m = record { method = m.method; few = omega (arith, m.few); even = m.even; room = m.room; each = m.each; codings = m.codings }
@@ -110,7 +110,7 @@ module _ (most order : ℕ) (rs : List ℤ) (h : ℕ) (within : h ≤ most) (gre
 -- The block can be halved h times and not more, so a form of any partition order up to the greatest is one of those up to h.
 module _ (order h most : ℕ) (rs : List ℤ) (within : h ≤ most) (greatest : (p : ℕ) → p ≤ most → Halves order rs p → p ≤ h) where
   coarser_form : (f : Codings) → MayWrite most order rs f → MayWrite h order rs f
-  coarser_form f m = record { method = m.method; few = greatest f.halvings m.few (record { even = m.even; room = m.room }); even = m.even; room = m.room; each = m.each; codings = m.codings }
+  coarser_form f m = record { method = m.method; few = greatest f.partition_order m.few (record { even = m.even; room = m.room }); even = m.even; room = m.room; each = m.each; codings = m.codings }
 
   pub least_of_all : (f : Codings) → IsLeast (MayWrite h order rs) (residual_cost order rs) f → IsLeast (MayWrite most order rs) (residual_cost order rs) f
   least_of_all f so = let m = so.member in record {

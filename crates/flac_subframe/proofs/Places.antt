@@ -10,4 +10,4 @@ power_le p q le = pow-le-pow_right {n = 2} (omega arith) {i = p} {j = q} le
 pub fewer_places : (p q : ℕ) (t : Tables) → p ≤ q → HasPlaces q t → HasPlaces p t
 fewer_places p q t le so =
     let h = power_le p q le in
-    record { sums = omega (arith, h, so.sums); four = omega (arith, h, so.four); five = omega (arith, h, so.five); widths = omega (arith, h, so.widths); codings = omega (arith, h, so.codings) }
+    record { leaves = omega (arith, h, so.leaves); sums = omega (arith, h, so.sums); four = omega (arith, h, so.four); five = omega (arith, h, so.five); widths = omega (arith, h, so.widths); codings = omega (arith, h, so.codings) }

@@ -38,12 +38,12 @@ module _ (order h : ℕ) (rs : List ℤ) (each : (p j : ℕ) → p ≤ h → j <
   lower : (f : Codings) → f.parameter_bits ≡ 5 → MayWrite h order rs f → (g : Codings) × ByMethod 4 h order rs g × (residual_cost order rs g ≤ residual_cost order rs f)
   lower f e m =
       let n : ℕ = length rs + order in
-      let p : ℕ = f.halvings in
+      let p : ℕ = f.partition_order in
       let size : ℕ = n / 2 ^ p in
       let zero' : start order n p 0 ≡ 0 = omega arith in
       let may : MayCodeEach 5 (size - order) size rs f.codings = rw e at m.codings in
       let so = each_lower order p rs m.room (λ j b. each p j m.few b) 0 (size - order) rs f.codings (omega (arith, m.each)) (rw zero' refl) (omega arith) may in (
-        record { parameter_bits = 4; halvings = p; codings = so.0 },
+        record { parameter_bits = 4; partition_order = p; codings = so.0 },
         (refl, record { method = inl refl; few = m.few; even = m.even; room = m.room; each = so.1 ∙ m.each; codings = so.2 }),
         rw e (omega (arith, so.3)),
       )

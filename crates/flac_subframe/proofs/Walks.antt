@@ -1,12 +1,16 @@
 -- Parameters are tried from a middle one downwards and upwards, as long as one of the finest partitions gains by it: so none that is left out costs less.
-use Rattle.std.proofs.Common.{◌≡◌, inl, inr, refl, ℕ, zero, suc, ◌+◌, ◌-◌, ◌*◌, ◌^◌, ◌≤◌, ◌<◌, arith, ℤ, List, ◌++◌, length, All, min}
+use Rattle.std.proofs.Common.{◌≡◌, inl, inr, refl, ℕ, zero, suc, ◌+◌, ◌-◌, ◌*◌, ◌/◌, ◌^◌, ◌≤◌, ◌<◌, arith, ℤ, List, [], ◌∷◌, ◌++◌, length, map, take, drop, All, min}
 use Rattle.std.specs.List.{sum_by}
 use Rattle.std.proofs.lemmas.Bool.{cases_lt}
-use Rattle.std.proofs.lemmas.List.Sums.{sum_by-append}
+use Rattle.std.proofs.lemmas.List.Elements.{All-take, All-drop, All-get_or, All-tail}
+use Rattle.std.proofs.lemmas.List.Sums.{sum_by-append, sum_by-cons}
 use Rattle.std.proofs.lemmas.Nat.{pow_pos}
+use Rattle.std.proofs.Math.Nat.{div-lt_iff_lt-mul}
 use Rattle.flac_bits.specs.Rice.{IsResidual}
-use Rattle.flac_subframe.specs.inner.Cost.{value_cost}
-use Rattle.flac_subframe.specs.inner.Halves.{part, Halves, entry, priced, LeastBelow}
+use Rattle.flac_subframe.specs.Spelling.{folded}
+use Rattle.flac_subframe.specs.inner.Cost.{folded_cost, value_cost}
+use Rattle.flac_subframe.specs.inner.Halves.{part, start, Halves, entry, priced, LeastBelow}
+use Rattle.flac_subframe.proofs.Folds.{segment_cost}
 use Rattle.flac_subframe.proofs.Convex.{no_less_after, more_before, last_no_more, next_less}
 use Rattle.flac_subframe.proofs.Splits.{part_splits, coarser, part_small, power_more}
 
@@ -171,3 +175,32 @@ module _ (order h k : ℕ) (rs : List ℤ) (half : Halves order rs h) (few : len
         | inr d ↦ let e : n ≡ k = omega arith in rw e (omega (arith, so.least (k + 1) (omega arith) some_next, next p j le b))
       ];
     }
+
+-- ---- above the width of the values no parameter gains anything
+
+none_above : (n w k : ℕ) → w ≤ k → n < 2 ^ w → folded_cost w n ≤ folded_cost k n
+none_above n w k le lt =
+    let none : n / 2 ^ w < 1 = (div-lt_iff_lt-mul {k = 2 ^ w} {x = n} {y = 1} (pow_pos w)).1 (omega arith) in
+    omega (arith, none)
+
+costs_above : (w k : ℕ) (ns : List ℕ) → w ≤ k → All (λ n. n < 2 ^ w) ns → sum_by (folded_cost w) ns ≤ sum_by (folded_cost k) ns
+costs_above w k [] le all = omega arith
+costs_above w k (n ∷ ns) le all =
+    let first : n < 2 ^ w = All-get_or (λ m. m < 2 ^ w) (n ∷ ns) 0 0 (omega arith) all in
+    omega (arith, sum_by-cons (folded_cost w) n ns, sum_by-cons (folded_cost k) n ns, none_above n w k le first, costs_above w k ns le (All-tail (λ m. m < 2 ^ w) n ns all))
+
+-- so the number for a partition, if the width was tried, is not above any of theirs
+pub kept_above : (order h w k : ℕ) (rs : List ℤ) (ns : List ℕ) → ns ≡ map folded rs → All (λ n. n < 2 ^ w) ns → w < k → (j e : ℕ) → LeastBelow k (part order rs h j) e → e ≤ priced k (sum_by (value_cost k) (part order rs h j))
+unfolding part
+kept_above order h w k rs ns is all lt j e so =
+    let a : ℕ = start order (length rs + order) h j in
+    let b : ℕ = start order (length rs + order) h (j + 1) in
+    let own = costs_above w k (take (b - a) (drop a ns)) (omega arith) (All-take (λ n. n < 2 ^ w) (b - a) (drop a ns) (All-drop (λ n. n < 2 ^ w) a ns all)) in
+    omega (arith, lt, so.least w lt, own, segment_cost w a b rs ns is, segment_cost k a b rs ns is)
+
+pub settled_above : (order h w k m : ℕ) (rs : List ℤ) (ns : List ℕ) → Halves order rs h → length rs ≤ 65535 → k < 31 → All IsResidual rs → ns ≡ map folded rs → All (λ n. n < 2 ^ w) ns → w < k → k < m → (old : List ℕ)
+    → ((p j : ℕ) → p ≤ h → j < 2 ^ p → LeastBelow k (part order rs p j) (entry old p j)) → (p j : ℕ) → p ≤ h → j < 2 ^ p → LeastBelow m (part order rs p j) (entry old p j)
+settled_above order h w k m rs ns half few small range is all above more old so p j le b =
+    let none : (i : ℕ) → i < 2 ^ h → entry old h i ≤ priced k (sum_by (value_cost k) (part order rs h i)) = λ i d. kept_above order h w k rs ns is all above i (entry old h i) (so h i (omega arith) d) in
+    let leaves : (i : ℕ) → i < 2 ^ h → LeastBelow k (part order rs h i) (entry old h i) = λ i d. so h i (omega arith) d in
+    settled order h k rs half few small range old none leaves p j (entry old p j) m le b more (kept_by order h k rs half few small range old none leaves p j le b (so p j le b))

@@ -78,16 +78,16 @@ unfolding cut
 nothing_left w long size rest [] e = refl
 nothing_left w long size rest (c ∷ cs) e = absurd (omega (arith, e))
 
-pub residual_text : (order : ℕ) (rs : List ℤ) (f : Codings) (field : ℕ) → f.halvings < 16 → field ≡ (f.parameter_bits - 4) * 16 + f.halvings → 4 + (f.parameter_bits - 4) ≡ f.parameter_bits
-    → residual_spelling (residual_of order rs f) ≡ unsigned 6 field ++ flat_map (partition_spelling f.parameter_bits) (cut ((length rs + order) / 2 ^ f.halvings - order) ((length rs + order) / 2 ^ f.halvings) rs f.codings)
+pub residual_text : (order : ℕ) (rs : List ℤ) (f : Codings) (field : ℕ) → f.partition_order < 16 → field ≡ (f.parameter_bits - 4) * 16 + f.partition_order → 4 + (f.parameter_bits - 4) ≡ f.parameter_bits
+    → residual_spelling (residual_of order rs f) ≡ unsigned 6 field ++ flat_map (partition_spelling f.parameter_bits) (cut ((length rs + order) / 2 ^ f.partition_order - order) ((length rs + order) / 2 ^ f.partition_order) rs f.codings)
 unfolding residual_spelling
 residual_text order rs f field small is e =
-    let size : ℕ = (length rs + order) / 2 ^ f.halvings in
+    let size : ℕ = (length rs + order) / 2 ^ f.partition_order in
     let ps = cut (size - order) size rs f.codings in
     let parts : List Bool = flat_map (partition_spelling f.parameter_bits) ps in
     let a : List Bool = unsigned 2 (f.parameter_bits - 4) in
-    let b : List Bool = unsigned 4 f.halvings in
-    let fields : unsigned 6 field ≡ a ++ b = ap (unsigned 6) is ∙ two_fields 2 4 (f.parameter_bits - 4) f.halvings small in
+    let b : List Bool = unsigned 4 f.partition_order in
+    let fields : unsigned 6 field ≡ a ++ b = ap (unsigned 6) is ∙ two_fields 2 4 (f.parameter_bits - 4) f.partition_order small in
     ap (λ (n : ℕ). (a ++ (b ++ [])) ++ (flat_map (partition_spelling n) ps ++ [])) e
     ∙ ap (λ (t : List Bool). (a ++ (b ++ [])) ++ t) (append-nil parts)
     ∙ ap (λ (t : List Bool). (a ++ t) ++ parts) (append-nil b)

@@ -1,4 +1,4 @@
--- The forms of a subframe behind its header, what they spell and what they stand for.
+-- The contents of a subframe after its header, what they spell, and which samples they encode.
 use Rattle.std.specs.Prelude.{ℕ, ℤ, ◌≡◌, ◌+◌, ◌-◌, ◌*◌, ◌/◌, ◌^◌, ◌<◌, ◌⊎◌, ◌-ℤ◌, List, [], ◌∷◌, ◌++◌, Bool, length, take, drop, map, replicate, All}
 use Rattle.std.specs.List.{range_with_len}
 use Rattle.flac_subframe.specs.declared.coding.Coding.{Coding}
@@ -10,7 +10,8 @@ use Rattle.flac_subframe.specs.Prediction.{prediction, fixed_coefficients, Resto
 use Rattle.flac_subframe.specs.Cost.{Codings, MayWrite}
 use Rattle.flac_bits.specs.Rice.{IsResidual}
 
--- A fixed predictor of an order, or a linear one of a precision and a shift, the coefficient for the nearest sample first.
+-- A fixed predictor of an order, or a linear one of a precision and a shift, the coefficient for the nearest sample
+-- first.
 pub data Chooses : Type 0 where
   fixed : ℕ → Chooses
   linear : ℕ → ℕ → List ℤ → Chooses
@@ -37,7 +38,7 @@ pub data Body : Type 0 where
   verbatim : List ℤ → Body
   predicted : Chooses → List ℤ → Codings → List ℤ → Body
 
--- the values in partitions: one of a first length, and others of another
+-- the values in partitions: the first of one length, and the others of another
 unfoldable pub cut : ℕ → ℕ → List ℤ → List Coding → List Partition
 cut first size rs [] = []
 cut first size rs (c ∷ cs) = record { coding = c; values = take first rs } ∷ cut size size (drop first rs) cs
@@ -45,11 +46,11 @@ cut first size rs (c ∷ cs) = record { coding = c; values = take first rs } ∷
 abbrev pub residual_of : ℕ → List ℤ → Codings → Residual
 residual_of order rs f = record {
   method = f.parameter_bits - 4;
-  order = f.halvings;
-  partitions = cut ((length rs + order) / 2 ^ f.halvings - order) ((length rs + order) / 2 ^ f.halvings) rs f.codings;
+  order = f.partition_order;
+  partitions = cut ((length rs + order) / 2 ^ f.partition_order - order) ((length rs + order) / 2 ^ f.partition_order) rs f.codings;
 }
 
--- the content of a subframe that a body is
+-- the content of a subframe for a body
 abbrev pub content_of : Body → Content
 content_of (constant v) = Constant v
 content_of (verbatim vs) = Verbatim vs
@@ -64,7 +65,8 @@ abbrev pub Among : Chooses → List Chooses → Type 0
 Among p [] = ⊥
 Among p (q ∷ qs) = (p ≡ q) ⊎ Among p qs
 
--- warm-up samples and a residual from which a predictor restores the samples, written with partition orders up to the greatest
+-- warm-up samples and a residual from which a predictor restores the samples, written with a partition order of at most
+-- `most`
 pub record Predicts (most : ℕ) (p : Chooses) (ws : List ℤ) (f : Codings) (rs s : List ℤ) : Type 0 where
   pub room : order_of p < length s
   pub long : length ws ≡ order_of p
@@ -72,13 +74,13 @@ pub record Predicts (most : ℕ) (p : Chooses) (ws : List ℤ) (f : Codings) (rs
   pub range : All IsResidual rs
   pub written : MayWrite most (order_of p) rs f
 
--- the body is one that may stand for the samples, by a predictor of the list where it has one
+-- the body encodes the samples, with a predictor of the list if it has one
 abbrev pub StandsFor : ℕ → List Chooses → Body → List ℤ → Type 0
 StandsFor most predictors (constant v) s = s ≡ replicate (length s) v
 StandsFor most predictors (verbatim vs) s = vs ≡ s
 StandsFor most predictors (predicted p ws f rs) s = Among p predictors × Predicts most p ws f rs s
 
--- what a predictor leaves of the samples
+-- the residual of a predictor: at index j, after the warm-up samples
 unfoldable pub difference : List ℤ → ℕ → List ℤ → ℕ → ℤ
 difference cs shift s j = sample_at s (length cs + j) -ℤ prediction cs shift s (length cs + j)
 

@@ -1,9 +1,9 @@
--- What a choice of the code stands for.
+-- The body that a choice of the code names.
 use Rattle.std.specs.Prelude.{ℕ, ℤ, List, ◌++◌, take, length, map, ◌<◌, ◌≤◌}
 use Rattle.std.specs.List.{range_with_len}
 use Rattle.flac_subframe.specs.Cost.{Codings}
-use Rattle.flac_subframe.specs.declared.content.Content.{Content}
-use Rattle.flac_subframe.specs.declared.content.Content.TheVariants.{Constant, Verbatim, Predicted}
+use Rattle.flac_subframe.specs.declared.content.ContentKind.{ContentKind}
+use Rattle.flac_subframe.specs.declared.content.ContentKind.TheVariants.{Constant, Verbatim, Predicted}
 use Rattle.flac_subframe.specs.declared.content.PredictorKind.{PredictorKind}
 use Rattle.flac_subframe.specs.declared.content.PredictorKind.TheVariants.{Fixed, Linear}
 use Rattle.flac_subframe.specs.declared.linear.LinearPredictor.{LinearPredictor}
@@ -15,7 +15,7 @@ use Rattle.flac_subframe.specs.Bodies.{Chooses, fixed, coefficients_of, shift_of
 abbrev pub fixed_below : ℕ → List Chooses
 fixed_below n = map fixed (range_with_len 0 n)
 
--- the fixed predictors of the orders 0 to 4, and behind them linear ones that are handed in
+-- the fixed predictors of the orders 0 to 4, and after them the linear ones of the caller's list
 abbrev pub offered : List LinearPredictor → List Chooses
 offered ps = fixed_below 5 ++ map predictor_of ps
 
@@ -23,7 +23,7 @@ offered ps = fixed_below 5 ++ map predictor_of ps
 abbrev pub body_under : Chooses → Codings → List ℤ → Body
 body_under p f s = predicted p (take (length (coefficients_of p)) s) f (differences (coefficients_of p) (shift_of p) s)
 
--- the predictor that is named, whose linear ones are those of a list
+-- the predictor of a kind; a linear one is from the list
 abbrev pub predictor_named : List LinearPredictor → PredictorKind → Chooses
 predictor_named ps (Fixed order) = fixed order
 predictor_named ps (Linear index) = handed_at ps index
@@ -33,14 +33,14 @@ abbrev pub IsNamed : List LinearPredictor → PredictorKind → Type 0
 IsNamed ps (Fixed order) = order ≤ 4
 IsNamed ps (Linear index) = index < length ps
 
--- the body of a content, whose linear predictor is one of a list, and of the codings of its residual
-abbrev pub body_as : List LinearPredictor → Content → Codings → List ℤ → Body
+-- the body of a content under the codings of its residual; a linear predictor is from the list
+abbrev pub body_as : List LinearPredictor → ContentKind → Codings → List ℤ → Body
 body_as ps Constant f s = constant (sample_at s 0)
 body_as ps Verbatim f s = verbatim s
 body_as ps (Predicted kind) f s = body_under (predictor_named ps kind) f s
 
 -- there is the predictor of a content, if it has one
-abbrev pub HasPredictor : List LinearPredictor → Content → Type 0
+abbrev pub HasPredictor : List LinearPredictor → ContentKind → Type 0
 HasPredictor ps Constant = Unit {0}
 HasPredictor ps Verbatim = Unit {0}
 HasPredictor ps (Predicted kind) = IsNamed ps kind

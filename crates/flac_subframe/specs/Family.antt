@@ -1,4 +1,4 @@
--- The forms of a subframe for some samples, and the form that a choice stands for.
+-- The forms of a subframe that encode some samples, and the form of a choice.
 use Rattle.std.specs.Prelude.{ℕ, ℤ, ◌≡◌, ◌≤◌, ◌^◌, List, [], length, map, take}
 use Rattle.flac_subframe.specs.declared.chosen.Choice.{Choice}
 use Rattle.flac_subframe.specs.Bodies.{Chooses, Body, content_of, StandsFor}
@@ -10,17 +10,18 @@ use Rattle.flac_subframe.specs.Cost.{codings_of}
 use Rattle.flac_subframe.specs.Subframe.{Form}
 use Rattle.flac_subframe.specs.Wasted.{IsWasted, times_power, shortened}
 
--- A form stands for samples: its wasted bits are as many as all samples lack, and its content is a body that restores the samples without them,
--- with partition orders up to the greatest and by one of the predictors where it has one.
+-- A form encodes samples: its wasted bits are the most that all samples have, and its content is a body that encodes
+-- the samples without them, with a partition order of at most `most` and one of the predictors if it has one.
 pub record Stands (most : ℕ) (predictors : List Chooses) (f : Form) (s : List ℤ) : Type 0 where
   pub wasted : IsWasted f.wasted s
   pub body : (b : Body) × (t : List ℤ) × (f.content ≡ content_of b) × (s ≡ map (times_power f.wasted) t) × StandsFor most predictors b t
 
--- the form that was chosen, whose linear predictor is one of a list, with the bytes of the codings of its residual
+-- the form that was chosen, with the bytes of the codings of its residual; a linear predictor is from the list
 abbrev pub form_as : List LinearPredictor → SubframeForm → List ℕ → List ℤ → Form
 form_as ps c bytes s = record { wasted = c.wasted; content = content_of (body_as ps c.content (codings_of c.residual bytes) (shortened c.wasted s)) }
 
--- it was chosen of these samples, with partition orders up to the greatest, and by a fixed predictor or by a linear one of a list if there is one
+-- it was chosen for these samples, with a partition order of at most `most`, and a fixed predictor or a linear one of
+-- the list if it has one
 pub record IsMadeAs (most : ℕ) (ps : List LinearPredictor) (c : SubframeForm) (bytes : List ℕ) (s : List ℤ) : Type 0 where
   pub wasted : IsWasted c.wasted s
   pub times : s ≡ map (times_power c.wasted) (shortened c.wasted s)
@@ -29,33 +30,33 @@ pub record IsMadeAs (most : ℕ) (ps : List LinearPredictor) (c : SubframeForm) 
 
 -- ---- a choice with partition orders up to 8
 
--- the form that a choice stands for, whose linear predictor is one of a list
+-- the form of a choice; a linear predictor is from the list
 abbrev pub form_with : List LinearPredictor → Choice → List ℤ → Form
 form_with ps c s = form_as ps c.form c.codings.items s
 
--- the choice was made of these samples, by a fixed predictor or by a linear one of a list if it has one
+-- the choice was made for these samples, with a fixed predictor or a linear one of the list if it has one
 abbrev pub IsMadeWith : List LinearPredictor → Choice → List ℤ → Type 0
 IsMadeWith ps c s = IsMadeAs 8 ps c.form c.codings.items s
 
--- the same where no linear predictor is handed in
+-- the same without linear predictors
 abbrev pub form_of : Choice → List ℤ → Form
 form_of c s = form_with [] c s
 
 abbrev pub IsMadeOf : Choice → List ℤ → Type 0
 IsMadeOf c s = IsMadeWith [] c s
 
--- ---- one in a place that is used again, with partition orders up to 15
+-- ---- a choice in an array that is used again, with partition orders up to 15
 
--- the bytes of a choice's codings, the first of its places
+-- the bytes of a choice's codings, the first ones of its array
 abbrev pub bytes_kept : WideChoice → List ℕ
-bytes_kept c = take (2 ^ c.form.residual.halvings) c.codings.items
+bytes_kept c = take (2 ^ c.form.residual.partition_order) c.codings.items
 
--- the form that a choice stands for, whose linear predictor is one of a list
+-- the form of a choice; a linear predictor is from the list
 abbrev pub form_in : List LinearPredictor → WideChoice → List ℤ → Form
 form_in ps c s = form_as ps c.form (bytes_kept c) s
 
--- the choice was made of these samples, by a fixed predictor or by a linear one of a list if it has one
+-- the choice was made for these samples, with a fixed predictor or a linear one of the list if it has one
 pub record IsMadeIn (ps : List LinearPredictor) (c : WideChoice) (s : List ℤ) : Type 0 where
   pub made : IsMadeAs 15 ps c.form (bytes_kept c) s
-  pub few : c.form.residual.halvings ≤ 15
-  pub places : 2 ^ c.form.residual.halvings ≤ length c.codings.items
+  pub few : c.form.residual.partition_order ≤ 15
+  pub places : 2 ^ c.form.residual.partition_order ≤ length c.codings.items

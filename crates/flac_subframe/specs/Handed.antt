@@ -1,4 +1,4 @@
--- What a linear predictor that is handed in is.
+-- The linear predictors of the caller's list.
 use Rattle.std.specs.Prelude.{ℕ, ◌≤◌, List, length, map, slice_index_or, All}
 use Rattle.flac_subframe.specs.declared.linear.LinearPredictor.{LinearPredictor}
 use Rattle.flac_subframe.specs.Bodies.{Chooses, fixed, linear}
@@ -7,11 +7,11 @@ use Rattle.flac_subframe.specs.Subframe.{Predictor}
 abbrev pub predictor_of : LinearPredictor → Chooses
 predictor_of p = linear p.precision p.shift p.coefficients.items
 
--- the one at a place of the list, the fixed one of order 0 past its end
+-- the one at an index of the list; past its end the fixed one of order 0
 abbrev pub handed_at : List LinearPredictor → ℕ → Chooses
 handed_at ps index = slice_index_or (map predictor_of ps) index (fixed 0)
 
--- what a subframe spells of it
+-- the predictor that a subframe spells
 abbrev pub handed : LinearPredictor → Predictor
 handed p = record { precision = p.precision; shift = p.shift; coefficients = p.coefficients.items }
 

@@ -1,4 +1,4 @@
--- What a predictor says of a sample from the samples before it (RFC 9639, sections 9.2.5 and 9.2.6).
+-- The prediction of a sample from the samples before it (RFC 9639, sections 9.2.5 and 9.2.6).
 use Rattle.std.specs.Prelude.{ℕ, zero, suc, ℤ, pos, negsuc, ◌+ℤ◌, ◌*ℤ◌, ◌-◌, ◌<◌, ◌≤◌, ◌≡◌, List, [], ◌∷◌, ◌++◌, length, cond, nat_lt}
 use Rattle.std.specs.Int.{int_shr}
 use Rattle.flac_subframe.specs.Numbers.{sample_at}

@@ -12,13 +12,13 @@ pub record Partition : Type 0 where
   pub coding : Coding
   pub values : List ℤ
 
--- The coding method, how often the block is halved, and the partitions (section 9.2.7).
+-- The coding method, the partition order, and the partitions (section 9.2.7).
 pub record Residual : Type 0 where
   pub method : ℕ
   pub order : ℕ
   pub partitions : List Partition
 
--- n values of signed numbers of a width that is told first, and 0 where it is 0: then they take no bits (section 9.2.7.1)
+-- n signed numbers of a width that comes before them; if it is 0, they are 0 and take no bits (section 9.2.7.1)
 unfoldable pub escaped : ℕ → Layout Partition
 escaped n = do
   width ← bits 5
@@ -33,7 +33,7 @@ coded n parameter = list_of n (rice_value parameter) >>= λ values. done (record
 unfoldable pub partition : ℕ → ℕ → Layout Partition
 partition parameter_bits n = bits parameter_bits >>= λ parameter. choose (nat_eq parameter (2 ^ parameter_bits - 1)) (escaped n) (coded n parameter)
 
--- Partitions one after another: one of a first length, and the others of another.
+-- Partitions one after another: the first of one length, and the others of another.
 unfoldable pub partitions : ℕ → ℕ → ℕ → ℕ → Layout (List Partition)
 partitions parameter_bits first size zero = done []
 partitions parameter_bits first size (suc n) = do
@@ -41,7 +41,7 @@ partitions parameter_bits first size (suc n) = do
   others ← partitions parameter_bits size size n
   done (one ∷ others)
 
--- the block can be halved so often, and each part is longer than the predictor's order (section 9.2.7)
+-- the partition order cuts the block into equal parts, each longer than the predictor's order (section 9.2.7)
 abbrev pub can_halve : ℕ → ℕ → ℕ → Bool
 can_halve block times order = nat_eq (block % 2 ^ times) 0 && nat_lt order (block / 2 ^ times)
 
@@ -54,8 +54,8 @@ residual_header limit order block = do
   _ ← judge (record { broken = nat_lt limit times; why = NotSubset } ∷ record { broken = not (can_halve block times order); why = BadPartition } ∷ [])
   done (method, times)
 
--- The residual of a predictor of an order in a block: the method gives the bits of a parameter, 4 or 5; the first partition lacks the values of the
--- warm-up samples (section 9.2.7).
+-- The residual of a predictor of an order in a block: the method gives the bits of a parameter, 4 or 5; the first
+-- partition lacks the values of the warm-up samples (section 9.2.7).
 unfoldable pub residual : ℕ → ℕ → ℕ → Layout Residual
 residual limit order block = do
   h ← residual_header limit order block

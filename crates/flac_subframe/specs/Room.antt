@@ -1,7 +1,7 @@
 -- What working arrays have room for.
 use Rattle.std.specs.Prelude.{ℕ}
 
--- blocks of at most so many samples, and partition orders up to the greatest
+-- the largest block in samples, and the largest partition order
 pub record Room : Type 0 where
   pub block : ℕ
   pub most : ℕ

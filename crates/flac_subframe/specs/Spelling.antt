@@ -11,7 +11,7 @@ use Rattle.flac_subframe.specs.declared.coding.Coding.TheVariants.{Rice, Escape}
 use Rattle.flac_subframe.specs.Residual.{Partition, Residual, can_halve}
 use Rattle.flac_subframe.specs.Subframe.{Content, Constant, Verbatim, Fixed, Linear, Predictor, Form}
 
--- 2r stands for r where r is not negative, else -2r - 1 (section 9.2.7.3).
+-- The folded number: 2r if r is not negative, else -2r - 1 (section 9.2.7.3).
 abbrev pub folded : ℤ → ℕ
 folded (pos n) = 2 * n
 folded (negsuc n) = 2 * n + 1
@@ -20,7 +20,8 @@ folded (negsuc n) = 2 * n + 1
 unfoldable pub value_spelling : ℕ → ℤ → List Bool
 value_spelling k r = joined (unary_bits (folded r / 2 ^ k) ∷ unsigned k (folded r % 2 ^ k) ∷ [])
 
--- The values of a partition under a coding, with a parameter of w bits, of which all ones are an escape (section 9.2.7.1).
+-- The values of a partition under a coding, with a parameter of w bits, of which all ones are an escape
+-- (section 9.2.7.1).
 unfoldable pub coding_spelling : ℕ → Coding → List ℤ → List Bool
 coding_spelling w (Rice k) values = joined (unsigned w k ∷ flat_map (value_spelling k) values ∷ [])
 coding_spelling w (Escape n) values = joined (unsigned w (2 ^ w - 1) ∷ unsigned 5 n ∷ flat_map (signed n) values ∷ [])
@@ -50,7 +51,7 @@ type_of (Verbatim samples) = 1
 type_of (Fixed warm_up rest) = 8 + length warm_up
 type_of (Linear warm_up chosen rest) = 31 + length warm_up
 
--- The flag of the wasted bits, and one zero fewer than they are before a one (section 9.2.2).
+-- The flag of the wasted bits, and one zero fewer than their number before a one (section 9.2.2).
 abbrev pub flag_of : ℕ → ℕ
 flag_of zero = 0
 flag_of (suc k) = 1
@@ -68,7 +69,7 @@ subframe_spelling depth f = joined (header_spelling (type_of f.content) f.wasted
 
 -- ---- which forms may be spelled
 
--- a number of so many bits, where no bits are 0
+-- a number of n bits; of no bits it is 0
 abbrev pub FitsWidth : ℕ → ℤ → Type 0
 FitsWidth zero z = z ≡ pos 0
 FitsWidth (suc n) z = FitsBits (suc n) z
@@ -78,7 +79,7 @@ abbrev pub IsCoded : ℕ → ℕ → Coding → List ℤ → Type 0
 IsCoded w n (Rice k) values = (k + 1 < 2 ^ w) × (length values ≡ n) × All IsResidual values
 IsCoded w n (Escape width) values = (width < 2 ^ 5) × (length values ≡ n) × All (FitsWidth width) values
 
--- a partition of a first length, and others of another
+-- a first partition of one length, and others of another
 abbrev pub ArePartitions : ℕ → ℕ → ℕ → List Partition → Type 0
 ArePartitions w first size [] = Unit {0}
 ArePartitions w first size (p ∷ ps) = IsCoded w first p.coding p.values × ArePartitions w size size ps
@@ -100,12 +101,12 @@ pub record MayPredict (order : ℕ) (p : Predictor) : Type 0 where
   pub many : length p.coefficients ≡ order
   pub fit : All (FitsWidth p.precision) p.coefficients
 
--- so many numbers of so many bits
+-- n numbers of `width` bits
 pub record AreSigned (width n : ℕ) (zs : List ℤ) : Type 0 where
   pub many : length zs ≡ n
   pub fit : All (FitsWidth width) zs
 
--- a content in a block, of samples of so many bits
+-- a content in a block, of samples of `depth` bits
 abbrev pub MayHold : ℕ → ℕ → Limits → Content → Type 0
 MayHold depth block limits (Constant sample) = FitsWidth depth sample
 MayHold depth block limits (Verbatim samples) = AreSigned depth block samples

@@ -9,15 +9,16 @@ use Rattle.flac_subframe.specs.Prediction.{fixed_coefficients, restored}
 use Rattle.flac_subframe.specs.Residual.{Residual, residual, residual_values}
 use Rattle.flac_bits.specs.Signed.{signed_field}
 
--- A linear predictor: the precision of its coefficients in bits, the shift, and the coefficients, the one for the nearest sample first (section 9.2.6).
+-- A linear predictor: the precision of its coefficients in bits, the shift, and the coefficients, the one for the
+-- nearest sample first (section 9.2.6).
 pub record Predictor : Type 0 where
   pub precision : ℕ
   pub shift : ℕ
   pub coefficients : List ℤ
 
--- What a spelling of the samples chose, by the type of the subframe.
+-- The content of a subframe, by its type.
 pub data Content : Type 0 where
-  -- one sample, which each place of the block has
+  -- one sample, the value of all samples of the block
   Constant : ℤ → Content
   -- the samples themselves
   Verbatim : List ℤ → Content
@@ -26,7 +27,7 @@ pub data Content : Type 0 where
   -- the warm-up samples of a linear predictor, what it is, and the residual
   Linear : List ℤ → Predictor → Residual → Content
 
--- how many lowest bits of each sample are zeros and left out, and the rest
+-- how many lowest bits of each sample are zeros and not stored, and the rest
 pub record Form : Type 0 where
   pub wasted : ℕ
   pub content : Content
@@ -35,7 +36,8 @@ pub record Form : Type 0 where
 abbrev pub is_reserved : ℕ → Bool
 is_reserved kind = (nat_lt 1 kind && nat_lt kind 8) || (nat_lt 12 kind && nat_lt kind 32)
 
--- the order of a type's predictor: 8 to 12 are the fixed ones of order 0 to 4, 32 to 63 the linear ones of order 1 to 32 (section 9.2.1)
+-- the order of a type's predictor: 8 to 12 are the fixed ones of order 0 to 4, 32 to 63 the linear ones of order 1 to
+-- 32 (section 9.2.1)
 abbrev pub predictor_order : ℕ → ℕ
 predictor_order kind = cond (nat_lt kind 32) (kind - 8) (kind - 31)
 
@@ -49,7 +51,8 @@ fixed depth block limit order = do
   rest ← residual limit order block
   done (Fixed warm_up rest)
 
--- The precision less one, of which 15 is forbidden; the shift, which is signed and must not be negative; and the coefficients (section 9.2.6).
+-- The precision less one, of which 15 is forbidden; the shift, which is signed and must not be negative; and the
+-- coefficients (section 9.2.6).
 unfoldable pub predictor : ℕ → Layout Predictor
 predictor order = do
   low ← bits 4
@@ -73,19 +76,20 @@ constant depth = signed_field depth >>= λ sample. done (Constant sample)
 unfoldable pub verbatim : ℕ → ℕ → Layout Content
 verbatim depth block = list_of block (signed_field depth) >>= λ samples. done (Verbatim samples)
 
--- The content of a type, of samples of so many bits (sections 9.2.3 to 9.2.6).
+-- The content of a type, of samples of `depth` bits (sections 9.2.3 to 9.2.6).
 unfoldable pub content : ℕ → ℕ → ℕ → ℕ → Layout Content
 content kind depth block limit =
     choose (nat_eq kind 0) (constant depth)
     (choose (nat_eq kind 1) (verbatim depth block)
     (choose (nat_lt kind 32) (fixed depth block limit (predictor_order kind)) (linear depth block limit (predictor_order kind))))
 
--- one more, or the reason where there is none
+-- one more, or the reason if there is none
 abbrev pub one_more : Option ℕ → Layout ℕ
 one_more (Some zeros) = done (zeros + 1)
 one_more None = refuse BadSubframe
 
--- How many bits are wasted: none, or one more than the zeros before a one; one bit of the depth at least is left (section 9.2.2).
+-- How many bits are wasted: none, or one more than the zeros before a one; one bit of the depth at least is left
+-- (section 9.2.2).
 unfoldable pub wasted_bits : ℕ → ℕ → Layout ℕ
 wasted_bits flag depth =
     choose (nat_eq flag 0) (done 0) (unary (depth - 2) >>= λ zeros. one_more zeros)
@@ -116,14 +120,14 @@ subframe depth block limits = do
 
 -- ---- the samples
 
--- the samples before the wasted bits are put back, for a block of so many
+-- the samples before the wasted bits are put back, for a block of this size
 abbrev pub restored_samples : ℕ → Content → List ℤ
 restored_samples block (Constant sample) = replicate block sample
 restored_samples block (Verbatim samples) = samples
 restored_samples block (Fixed warm_up rest) = restored (fixed_coefficients (length warm_up)) 0 (warm_up ++ residual_values rest)
 restored_samples block (Linear warm_up chosen rest) = restored chosen.coefficients chosen.shift (warm_up ++ residual_values rest)
 
--- they, where each fits so many bits
+-- these samples, if each fits `depth` bits
 unfoldable pub fitting : ℕ → ℕ → Content → Option (List ℤ)
 fitting depth block c = cond (all_fit depth (restored_samples block c)) (Some (restored_samples block c)) None
 
@@ -132,7 +136,7 @@ abbrev pub scaled : ℕ → Option (List ℤ) → Option (List ℤ)
 scaled wasted (Some samples) = Some (map (λ z. z *ℤ pos (2 ^ wasted)) samples)
 scaled wasted None = None
 
--- The samples of a form, where each that was restored fits the bits that it has.
+-- The samples of a form, if each that was restored fits its bits.
 abbrev pub samples_of : ℕ → ℕ → Form → Option (List ℤ)
 samples_of depth block form = scaled form.wasted (fitting (depth - form.wasted) block form.content)
 

@@ -15,7 +15,7 @@ ghost use Rattle.flac_subframe.specs.inner.Cost.{residual_cost};
 ghost use Rattle.flac_subframe.specs.inner.Halves.{HasPlaces, HasResidual, HasRoom};
 ghost use Rattle.flac_subframe.specs.declared.linear.LinearPredictor.{LinearPredictor};
 
-use crate::content::{Content, PredictorKind, SubframeForm};
+use crate::content::{ContentKind, PredictorKind, SubframeForm};
 use crate::folding::fold_each;
 use crate::leaving::{take_differences, take_weighed};
 use crate::linear::LinearPredictor;
@@ -23,17 +23,17 @@ use crate::narrowed::{narrow, peak, take_narrow};
 use crate::numbers::power;
 use crate::products::take_products;
 use crate::residual_form::ResidualForm;
-use crate::survey::{greatest_halvings, least_residual};
+use crate::survey::{greatest_partition_order, least_residual};
 use crate::tables::{SearchArrays, Tables};
 use crate::view::{ResidualView, SampleView, Task};
 use crate::wasted::drop_wasted;
 use crate::wide_products::take_wide_products;
 
-/// The best content so far, and how many bits it takes. The codings of its residual stay in their array and are overwritten only by better
-/// ones.
+/// The best content so far, and how many bits it takes. The codings of its residual stay in their array and are
+/// overwritten only by better ones.
 #[derive(Clone, Copy)]
 pub(crate) struct Best {
-    pub(crate) content: Content,
+    pub(crate) content: ContentKind,
     pub(crate) residual: ResidualForm,
     pub(crate) bits: u64,
 }
@@ -50,14 +50,14 @@ pub(crate) fn all_equal(samples: &[i64]) -> bool
     true
 }
 
-/// The number of bits that a predictor must stay below to replace the best so far: of two fixed ones that take as many, the one of the
-/// lower order is kept.
+/// The number of bits that a predictor must stay below to replace the best so far: of two fixed ones that take as many,
+/// the one of the lower order is kept.
 fn limit(best: &Best, kind: PredictorKind) -> u64
     requires { best.now.bits ≤ 2 ^ 60 }
     ensures { (best.now.bits ≤ result) × (result ≤ best.now.bits + 1) }
 {
     match (best.content, kind) {
-        (Content::Predicted(PredictorKind::Fixed(higher)), PredictorKind::Fixed(order))
+        (ContentKind::Predicted(PredictorKind::Fixed(higher)), PredictorKind::Fixed(order))
             if order < higher => best.bits + 1,
         _ => best.bits,
     }
@@ -83,8 +83,8 @@ fn add_left(run: &[i64], sums: &mut [u64; 5]) {
     }
 }
 
-/// The order of the fixed predictor whose residual has the smallest sum of absolute values over eight short runs of the samples. It is a
-/// guess of the best order, which is priced first, so that bounds can rule out the others.
+/// The order of the fixed predictor whose residual has the smallest sum of absolute values over eight short runs of the
+/// samples. It is a guess of the best order, which is priced first, so that bounds can rule out the others.
 fn likely_order(samples: &[i64]) -> usize
     ensures { result ≤ 4 }
 {
@@ -101,7 +101,8 @@ fn likely_order(samples: &[i64]) -> usize
     likely
 }
 
-/// What the fixed predictor of an order leaves of the samples, and the same as unsigned numbers, if a residual may have it all.
+/// What the fixed predictor of an order leaves of the samples, and the same as unsigned numbers, if a residual may have
+/// it all.
 fn take_fixed_residual(
     subject: &SampleView<'_>,
     order: usize,
@@ -177,7 +178,8 @@ fn take_linear_residual(
     true
 }
 
-/// Puts what a predictor leaves of the samples into the first places, and the same as unsigned numbers, if a residual may have it all.
+/// Puts what a predictor leaves of the samples into the first places, and the same as unsigned numbers, if a residual
+/// may have it all.
 fn take_residual(
     subject: &SampleView<'_>,
     kind: PredictorKind,
@@ -221,23 +223,25 @@ fn least_form(
     requires tables { HasPlaces subject.now.most tables.old }
     ensures least { let rs = take (length subject.now.samples.now - order) values.now in IfSome result (λ f. IsLeast (MayWrite subject.now.most order rs) (residual_cost order rs) (codings_in f tables.new.codings.now)) }
     ensures bits { let rs = take (length subject.now.samples.now - order) values.now in IfSome result (λ f. f.bits ≡ residual_cost order rs (codings_in f tables.new.codings.now)) }
-    ensures within { IfSome result (λ f. f.halvings ≤ subject.now.most) }
+    ensures within { IfSome result (λ f. f.partition_order ≤ subject.now.most) }
     ensures less { IfSome result (λ f. f.bits < below) }
     ensures small { IfSome result (λ f. f.bits ≤ 2 ^ 49) }
     ensures kept { IfNone result (tables.new.codings.now ≡ tables.old.codings.now) }
     ensures none { let rs = take (length subject.now.samples.now - order) values.now in IfNone result ((f : Codings) → MayWrite subject.now.most order rs f → below ≤ residual_cost order rs f) }
     ensures places { HasPlaces subject.now.most tables.new }
     ensures same { tables.new.codings.ghost_name ≡ tables.old.codings.ghost_name }
+    ensures coarse { subject.now.most ≤ 8 → tables.new.priced ≤ tables.old.priced + 32 * length subject.now.samples.now }
+    ensures priced { tables.new.priced ≤ tables.old.priced + 93 * length subject.now.samples.now }
 {
     let count = subject.samples.len() - order;
     let values = &values[..count];
     let folds = &folds[..count];
-    let halvings = greatest_halvings(values, order, subject.most);
+    let partition_order = greatest_partition_order(values, order, subject.most);
     let residual = ResidualView {
         values,
         folds,
         order,
-        halvings,
+        partition_order,
     };
     least_residual(&residual, tables, below)
 }
@@ -256,10 +260,12 @@ fn improve(
     requires small { best.old.bits ≤ 2 ^ 60 }
     ensures best { (tried : List Chooses) → IsBest subject.now.predictors.now subject.now.most subject.now.bits subject.now.samples.now tried (way_of best.old tables.old.codings.now) → IsBest subject.now.predictors.now subject.now.most subject.now.bits subject.now.samples.now (tried ++ predictor_named subject.now.predictors.now kind ∷ []) (way_of best.new tables.new.codings.now) }
     ensures less { best.new.bits ≤ best.old.bits }
-    ensures within { best.old.residual.halvings ≤ subject.now.most → best.new.residual.halvings ≤ subject.now.most }
+    ensures within { best.old.residual.partition_order ≤ subject.now.most → best.new.residual.partition_order ≤ subject.now.most }
     ensures arrays { HasRoom (length subject.now.samples.now) arrays.new }
     ensures tables { HasPlaces subject.now.most tables.new }
     ensures same { tables.new.codings.ghost_name ≡ tables.old.codings.ghost_name }
+    ensures coarse { subject.now.most ≤ 8 → tables.new.priced ≤ tables.old.priced + 32 * length subject.now.samples.now }
+    ensures priced { tables.new.priced ≤ tables.old.priced + 93 * length subject.now.samples.now }
 {
     let order = subject.order(kind);
     if order >= subject.samples.len() {
@@ -278,7 +284,7 @@ fn improve(
     }
     if let Some(residual) = least_form(subject, order, values, folds, tables, limit - before) {
         *best = Best {
-            content: Content::Predicted(kind),
+            content: ContentKind::Predicted(kind),
             residual,
             bits: before + residual.bits,
         };
@@ -291,34 +297,36 @@ fn begin(samples: &[i64], bits: u32) -> Best
     requires few { length samples.now ≤ 65535 }
     requires bits { bits ≤ 33 }
     ensures best { (handed : List LinearPredictor) (most : ℕ) (codings : List ℕ) → IsBest handed most bits samples.now (fixed_below 0) (way_of result codings) }
-    ensures none { result.residual.halvings ≡ 0 }
+    ensures none { result.residual.partition_order ≡ 0 }
 {
     let residual = ResidualForm::none();
     let width = u64::from(bits);
     if all_equal(samples) {
         Best {
-            content: Content::Constant,
+            content: ContentKind::Constant,
             residual,
             bits: width,
         }
     } else {
         Best {
-            content: Content::Verbatim,
+            content: ContentKind::Verbatim,
             residual,
             bits: width * samples.len() as u64,
         }
     }
 }
 
-/// The content of the fewest bits: constant, verbatim, a fixed predictor or one of the linear ones, with a partition order up to the
-/// greatest. The codings of its residual are in their array.
+/// The content of the fewest bits: constant, verbatim, a fixed predictor or one of the linear ones, with a partition
+/// order up to the greatest. The codings of its residual are in their array.
 fn search(subject: &SampleView<'_>, arrays: &mut SearchArrays<'_>, tables: &mut Tables<'_>) -> Best
     requires some { 0 < length subject.now.samples.now }
     requires arrays { HasRoom (length subject.now.samples.now) arrays.old }
     requires tables { HasPlaces subject.now.most tables.old }
     ensures best { IsBest subject.now.predictors.now subject.now.most subject.now.bits subject.now.samples.now (offered subject.now.predictors.now) (way_of result tables.new.codings.now) }
-    ensures within { result.residual.halvings ≤ subject.now.most }
+    ensures within { result.residual.partition_order ≤ subject.now.most }
     ensures same { tables.new.codings.ghost_name ≡ tables.old.codings.ghost_name }
+    ensures coarse { subject.now.most ≤ 8 → tables.new.priced ≤ tables.old.priced + (5 + length subject.now.predictors.now) * (32 * length subject.now.samples.now) }
+    ensures priced { tables.new.priced ≤ tables.old.priced + (5 + length subject.now.predictors.now) * (93 * length subject.now.samples.now) }
 {
     let mut best = begin(subject.samples, subject.bits);
     let first = likely_order(subject.samples);
@@ -352,37 +360,52 @@ fn search(subject: &SampleView<'_>, arrays: &mut SearchArrays<'_>, tables: &mut 
     best
 }
 
-/// The same by tables that are one after another in an array.
+/// The same by tables that are one after another in an array, and how often a value was priced.
 fn search_within(
     subject: &SampleView<'_>,
     arrays: &mut SearchArrays<'_>,
     tables: &mut [u64],
     widths: &mut [u8],
     codings: &mut [u8],
-) -> Best
+) -> (Best, u64)
     requires some { 0 < length subject.now.samples.now }
     requires arrays { HasRoom (length subject.now.samples.now) arrays.old }
-    requires tables { 5 * 2 ^ subject.now.most ≤ length tables.old }
+    requires tables { 6 * 2 ^ subject.now.most ≤ length tables.old }
     requires widths { 2 * 2 ^ subject.now.most ≤ length widths.old }
     requires codings { 2 ^ subject.now.most ≤ length codings.old }
-    ensures best { IsBest subject.now.predictors.now subject.now.most subject.now.bits subject.now.samples.now (offered subject.now.predictors.now) (way_of result codings.new) }
-    ensures within { result.residual.halvings ≤ subject.now.most }
+    ensures best { IsBest subject.now.predictors.now subject.now.most subject.now.bits subject.now.samples.now (offered subject.now.predictors.now) (way_of result.0 codings.new) }
+    ensures within { result.0.residual.partition_order ≤ subject.now.most }
+    ensures coarse { subject.now.most ≤ 8 → result.1 ≤ (5 + length subject.now.predictors.now) * (32 * length subject.now.samples.now) }
+    ensures priced { result.1 ≤ (5 + length subject.now.predictors.now) * (93 * length subject.now.samples.now) }
 {
     let count = power(subject.most);
-    let (sums, rest) = tables.split_at_mut(count);
+    let (leaves, others) = tables.split_at_mut(count);
+    let (sums, rest) = others.split_at_mut(count);
     let (four, five) = rest.split_at_mut(2 * count);
     let mut tables = Tables {
+        leaves,
         sums,
         four,
         five,
         widths,
         codings,
+        priced: 0,
     };
-    search(subject, arrays, &mut tables)
+    let best = search(subject, arrays, &mut tables);
+    (best, tables.priced)
 }
 
-/// The subframe of the fewest bits and how many it takes. The codings of its residual are the first of the bytes; the places behind those for
-/// the codings are for the widths of partitions.
+/// What a search finds: the subframe of the fewest bits, how many it takes, and how often a value was priced to find
+/// it.
+#[derive(Clone, Copy)]
+pub(crate) struct Found {
+    pub(crate) form: SubframeForm,
+    pub(crate) bits: u64,
+    pub(crate) priced: u64,
+}
+
+/// The subframe of the fewest bits and how many it takes. The codings of its residual are the first of the bytes; the
+/// places behind those for the codings are for the widths of partitions.
 pub(crate) fn choose_in_places(
     task: &Task<'_>,
     longs: &mut [i64],
@@ -390,18 +413,20 @@ pub(crate) fn choose_in_places(
     folds: &mut [u32],
     tables: &mut [u64],
     bytes: &mut [u8],
-) -> (SubframeForm, u64)
+) -> Found
     requires longs { 2 * length task.now.samples.now ≤ length longs.old }
     requires shorts { 2 * length task.now.samples.now ≤ length shorts.old }
     requires folds { length task.now.samples.now ≤ length folds.old }
-    requires tables { 5 * 2 ^ task.now.most ≤ length tables.old }
+    requires tables { 6 * 2 ^ task.now.most ≤ length tables.old }
     requires bytes { 3 * 2 ^ task.now.most ≤ length bytes.old }
-    ensures least { IsLeast (λ f. Stands task.now.most (offered task.now.predictors.now) f task.now.samples.now) (λ f. length (subframe_spelling task.now.depth f)) (form_as task.now.predictors.now result.0 (take (2 ^ result.0.residual.halvings) bytes.new) task.now.samples.now) }
-    ensures bits { result.1 ≡ length (subframe_spelling task.now.depth (form_as task.now.predictors.now result.0 (take (2 ^ result.0.residual.halvings) bytes.new) task.now.samples.now)) }
-    ensures made { IsMadeAs task.now.most task.now.predictors.now result.0 (take (2 ^ result.0.residual.halvings) bytes.new) task.now.samples.now }
-    ensures some { result.0.wasted < task.now.depth }
-    ensures within { result.0.residual.halvings ≤ task.now.most }
-    ensures small { result.1 ≤ 2 ^ 61 }
+    ensures least { IsLeast (λ f. Stands task.now.most (offered task.now.predictors.now) f task.now.samples.now) (λ f. length (subframe_spelling task.now.depth f)) (form_as task.now.predictors.now result.form (take (2 ^ result.form.residual.partition_order) bytes.new) task.now.samples.now) }
+    ensures bits { result.bits ≡ length (subframe_spelling task.now.depth (form_as task.now.predictors.now result.form (take (2 ^ result.form.residual.partition_order) bytes.new) task.now.samples.now)) }
+    ensures made { IsMadeAs task.now.most task.now.predictors.now result.form (take (2 ^ result.form.residual.partition_order) bytes.new) task.now.samples.now }
+    ensures some { result.form.wasted < task.now.depth }
+    ensures within { result.form.residual.partition_order ≤ task.now.most }
+    ensures small { result.bits ≤ 2 ^ 61 }
+    ensures coarse { task.now.most ≤ 8 → result.priced ≤ (5 + length task.now.predictors.now) * (32 * length task.now.samples.now) }
+    ensures priced { result.priced ≤ (5 + length task.now.predictors.now) * (93 * length task.now.samples.now) }
 {
     let samples = task.samples;
     let (shortened, wide) = longs.split_at_mut(samples.len());
@@ -424,11 +449,15 @@ pub(crate) fn choose_in_places(
         folds,
     };
     let (codings, widths) = bytes.split_at_mut(power(task.most));
-    let best = search_within(&subject, &mut arrays, tables, widths, codings);
+    let (best, priced) = search_within(&subject, &mut arrays, tables, widths, codings);
     let form = SubframeForm {
         wasted,
         content: best.content,
         residual: best.residual,
     };
-    (form, 8 + u64::from(wasted) + best.bits)
+    Found {
+        form,
+        bits: 8 + u64::from(wasted) + best.bits,
+        priced,
+    }
 }

@@ -1,6 +1,10 @@
 //! The shortest subframe of some samples.
 
-ghost use Rattle.std.specs.Prelude.{◌≡◌, ◌<◌, ◌≤◌, ◌^◌, length, take, All};
+ghost use Rattle.std.specs.Prelude.{◌≡◌, ◌<◌, ◌≤◌, ◌^◌, ◌+◌, ◌*◌, length, take, nat_eq, All};
+ghost use Rattle.std.specs.Cmp.{partial_equiv_from_equiv};
+ghost use Rattle.std.specs.Cmp.Lexicographic.{pointwise};
+ghost use Rattle.std.proofs.lemmas.Cmp.{and_equiv, nat_eq_equiv, nat_list_eq_equiv, on_equiv};
+ghost use Rattle.std.specs.Ordering.{on, eq_of_both};
 ghost use Rattle.flac_bits.specs.Signed.{FitsBits};
 ghost use Rattle.flac_subframe.specs.Least.{IsLeast};
 ghost use Rattle.flac_subframe.specs.Chosen.{fixed_below, offered};
@@ -10,7 +14,7 @@ ghost use Rattle.flac_subframe.specs.Spelling.{subframe_spelling, IsSubframe};
 ghost use Rattle.flac_subframe.specs.Subframe.{samples_of};
 ghost use Rattle.flac_subframe.specs.declared.limits.Limits.{Limits};
 
-use crate::choice::choose_in_places;
+use crate::choice::{Found, choose_in_places};
 use crate::content::SubframeForm;
 use crate::limits::Limits;
 use crate::linear::LinearPredictor;
@@ -21,30 +25,34 @@ use arrayvec::ArrayVec;
 
 /// How a subframe is written, with the codings that are in use, each as a byte, and how many bits it takes.
 ///
-/// A linear predictor is named by its place in the list that was handed in, so a choice takes no more memory where there are such lists.
-/// Two choices are equal if they are written in the same way with the same list.
-#[derive(Drop, Clone, Debug, PartialEq, Eq)]
+/// A linear predictor is named by its place in the list that was handed in, so a choice takes no more memory where
+/// there are such lists. Two choices are equal if they are written in the same way with the same list, however much
+/// work it took to find them.
+#[derive(Drop, Clone, Debug)]
 pub struct Choice {
     pub(crate) form: SubframeForm,
     pub(crate) codings: ArrayVec<u8, 256>,
     bits: u64,
+    priced: u64,
 }
 
 impl Choice {
-    /// A form with its codings, which are the first of an array, and how many bits it takes.
-    fn gathered(form: SubframeForm, codings: &[u8], bits: u64) -> Choice
-        requires few { form.residual.halvings ≤ 8 }
-        requires places { 2 ^ form.residual.halvings ≤ length codings.now }
-        ensures form { result.form ≡ form }
-        ensures codings { result.codings.items ≡ take (2 ^ form.residual.halvings) codings.now }
-        ensures bits { result.bits ≡ bits }
+    /// What a search found, with its codings, which are the first of an array.
+    fn gathered(found: &Found, codings: &[u8]) -> Choice
+        requires few { found.now.form.residual.partition_order ≤ 8 }
+        requires places { 2 ^ found.now.form.residual.partition_order ≤ length codings.now }
+        ensures form { result.form ≡ found.now.form }
+        ensures codings { result.codings.items ≡ take (2 ^ found.now.form.residual.partition_order) codings.now }
+        ensures bits { result.bits ≡ found.now.bits }
+        ensures priced { result.priced ≡ found.now.priced }
     {
         let mut copy = ArrayVec::new();
-        let _ = copy.try_extend_from_slice(&codings[..power(form.residual.halvings)]);
+        let _ = copy.try_extend_from_slice(&codings[..power(found.form.residual.partition_order)]);
         Choice {
-            form,
+            form: found.form,
             codings: copy,
-            bits,
+            bits: found.bits,
+            priced: found.priced,
         }
     }
 
@@ -53,6 +61,14 @@ impl Choice {
         ensures { result ≡ self.now.bits }
     {
         self.bits
+    }
+
+    /// How often the search computed one value's cost under one parameter, or its width. [`choose`] does so at most 32
+    /// times for each sample and each of its five predictors.
+    pub fn priced(&self) -> u64
+        ensures { result ≡ self.now.priced }
+    {
+        self.priced
     }
 
     /// The same with its codings lent.
@@ -67,6 +83,25 @@ impl Choice {
     }
 }
 
+impl PartialEq for Choice {
+    ghost use Rattle.flac_subframe.specs.contracts.content.SubframeFormPartialEq.TheImpl as form;
+    ghost use Rattle.flac_subframe.specs.contracts.content.SubframeFormEq.TheImpl.Laws.{laws-law};
+
+    ghost eq = { eq_of_both (on (λ c. c.form) (form.ghosts).eq) (eq_of_both (on (λ c. c.codings.items) (pointwise nat_eq)) (on (λ c. c.bits) nat_eq)) };
+
+    ghost laws = { partial_equiv_from_equiv (and_equiv (on_equiv (λ c. c.form) laws-law) (and_equiv (on_equiv (λ c. c.codings.items) nat_list_eq_equiv) (on_equiv (λ c. c.bits) nat_eq_equiv))) };
+
+    fn eq(&self, other: &Choice) -> bool {
+        self.form == other.form && self.codings == other.codings && self.bits == other.bits
+    }
+}
+
+impl Eq for Choice {
+    ghost use Rattle.flac_subframe.specs.contracts.content.SubframeFormEq.TheImpl.Laws.{laws-law};
+
+    ghost laws = { and_equiv (on_equiv (λ c. c.form) laws-law) (and_equiv (on_equiv (λ c. c.codings.items) nat_list_eq_equiv) (on_equiv (λ c. c.bits) nat_eq_equiv)) };
+}
+
 /// The greatest partition order that is tried, as the subset allows.
 pub const MOST_HALVINGS: u32 = 8;
 
@@ -75,10 +110,12 @@ pub(crate) const MOST_SAMPLES: usize = 65535;
 
 /// The subframe of the fewest bits for 1 to 65535 samples of a depth of 1 to 33 bits (RFC 9639, section 9.2).
 ///
-/// The family is constant, verbatim, and the fixed predictors of order 0 to 4 with either coding method, partition orders up to 8 and every
-/// parameter and escape; the wasted bits are as many as all samples lack. Among equals the first of this order is chosen.
+/// The family is constant, verbatim, and the fixed predictors of order 0 to 4 with either coding method, partition
+/// orders up to 8 and every parameter and escape; the wasted bits are as many as all samples lack. Among equals the
+/// first of this order is chosen.
 ///
-/// The work is done in arrays of 1.9 MB on the stack. For many blocks [`crate::choose_in`] takes arrays that are used again.
+/// The work is done in arrays of 1.9 MB on the stack. For many blocks [`crate::choose_in`] takes arrays that are used
+/// again.
 pub fn choose(samples: &[i64], depth: u32) -> Choice
     requires some { 0 < length samples.now }
     requires few { length samples.now ≤ 65535 }
@@ -90,6 +127,7 @@ pub fn choose(samples: &[i64], depth: u32) -> Choice
     ensures valid { (limits : Limits) → 8 ≤ limits.partition → IsSubframe depth (length samples.now) limits (form_of result samples.now) }
     ensures restored { samples_of depth (length samples.now) (form_of result samples.now) ≡ Some samples.now }
     ensures small { result.bits ≤ 2 ^ 61 }
+    ensures priced { result.priced ≤ 5 * (32 * length samples.now) }
 {
     let limits = Limits {
         partition: MOST_HALVINGS,
@@ -98,15 +136,17 @@ pub fn choose(samples: &[i64], depth: u32) -> Choice
     choose_with(samples, depth, &limits, &[])
 }
 
-/// The subframe of the fewest bits for 1 to 65535 samples of a depth of 1 to 33 bits, with linear predictors beside the fixed ones (RFC
-/// 9639, section 9.2).
+/// The subframe of the fewest bits for 1 to 65535 samples of a depth of 1 to 33 bits, with linear predictors beside the
+/// fixed ones (RFC 9639, section 9.2).
 ///
-/// The family of [`choose`], with partition orders up to the limit, at most 8, gains the linear form of each predictor, with either coding
-/// method, every partition order up to the limit, and every parameter and escape, if the predictor's order is below the number of samples
-/// and each residual value is above -2^31 and below 2^31. The orders are within the limit. Among equals a linear form comes after the
-/// others, and the first of the list before the next. With no predictor and a limit of 8 it chooses what [`choose`] does.
+/// The family of [`choose`], with partition orders up to the limit, at most 8, gains the linear form of each predictor,
+/// with either coding method, every partition order up to the limit, and every parameter and escape, if the predictor's
+/// order is below the number of samples and each residual value is above -2^31 and below 2^31. The orders are within
+/// the limit. Among equals a linear form comes after the others, and the first of the list before the next. With no
+/// predictor and a limit of 8 it chooses what [`choose`] does.
 ///
-/// The work is done in arrays of 1.9 MB on the stack. For many blocks [`crate::choose_in`] takes arrays that are used again.
+/// The work is done in arrays of 1.9 MB on the stack. For many blocks [`crate::choose_in`] takes arrays that are used
+/// again.
 pub fn choose_with(
     samples: &[i64],
     depth: u32,
@@ -125,11 +165,12 @@ pub fn choose_with(
     ensures valid { (most : Limits) → limits.now.partition ≤ most.partition → AreWithin most.linear predictors.now → IsSubframe depth (length samples.now) most (form_with predictors.now result samples.now) }
     ensures restored { samples_of depth (length samples.now) (form_with predictors.now result samples.now) ≡ Some samples.now }
     ensures small { result.bits ≤ 2 ^ 61 }
+    ensures priced { result.priced ≤ (5 + length predictors.now) * (32 * length samples.now) }
 {
     let mut longs: [i64; 2 * MOST_SAMPLES] = filled(0);
     let mut shorts: [i32; 2 * MOST_SAMPLES] = filled(0);
     let mut folds: [u32; MOST_SAMPLES] = filled(0);
-    let mut tables = [0; 1280];
+    let mut tables = [0; 1536];
     let mut bytes = [0; 768];
     let task = Task {
         samples,
@@ -137,7 +178,7 @@ pub fn choose_with(
         most: limits.partition as u8,
         predictors,
     };
-    let (form, bits) = choose_in_places(
+    let found = choose_in_places(
         &task,
         &mut longs,
         &mut shorts,
@@ -145,5 +186,5 @@ pub fn choose_with(
         &mut tables,
         &mut bytes,
     );
-    Choice::gathered(form, &bytes, bits)
+    Choice::gathered(&found, &bytes)
 }

@@ -1,6 +1,6 @@
 //! The coding method of a residual.
 
-ghost use Rattle.std.specs.Prelude.{◌≡◌, ◌<◌, ◌+◌, ◌⊎◌, IfSome, IfNone};
+ghost use Rattle.std.specs.Prelude.{◌≡◌, ◌<◌, ◌+◌, ◌-◌, ◌^◌, ◌⊎◌, IfSome, IfNone};
 ghost use Rattle.flac_subframe.specs.Cost.{parameter_bits_of};
 ghost use Rattle.flac_subframe.specs.inner.Codes.{method_code};
 
@@ -37,6 +37,26 @@ impl CodingMethod {
         match self {
             CodingMethod::FourBits => 4,
             CodingMethod::FiveBits => 5,
+        }
+    }
+
+    /// Its code of two bits.
+    pub(crate) fn code(self) -> u64
+        ensures { result ≡ method_code self }
+    {
+        match self {
+            CodingMethod::FourBits => 0,
+            CodingMethod::FiveBits => 1,
+        }
+    }
+
+    /// The parameter that marks an escape: all ones.
+    pub(crate) fn escape(self) -> u32
+        ensures { result ≡ 2 ^ parameter_bits_of self - 1 }
+    {
+        match self {
+            CodingMethod::FourBits => 15,
+            CodingMethod::FiveBits => 31,
         }
     }
 }

@@ -4,7 +4,7 @@ use crate::residual_form::ResidualForm;
 
 /// How the samples of a subframe are written, but for the codings of a residual.
 #[derive(Clone, Copy, Debug, PartialEq, Eq)]
-pub enum Content {
+pub enum ContentKind {
     /// The first sample, which stands for all (RFC 9639, section 9.2.3).
     Constant,
     /// Each sample (section 9.2.4).
@@ -16,15 +16,17 @@ pub enum Content {
 /// A predictor: a fixed one by its order, or a linear one by its place in the list that was handed in.
 #[derive(Clone, Copy, Debug, PartialEq, Eq)]
 pub enum PredictorKind {
+    /// The fixed predictor of this order, 0 to 4 (RFC 9639, section 9.2.5).
     Fixed(usize),
+    /// The linear predictor at this index of the list (section 9.2.6).
     Linear(usize),
 }
 
-/// How a subframe is written, but for the codings of its residual: how many of the lowest bits are left out of each sample, how the rest is
-/// written, and the form of its residual, which a content without one does not use.
+/// How a subframe is written, but for the codings of its residual: how many of the lowest bits are left out of each
+/// sample, how the rest is written, and the form of its residual, which a content without one does not use.
 #[derive(Clone, Copy, Debug, PartialEq, Eq)]
 pub struct SubframeForm {
     pub wasted: u32,
-    pub content: Content,
+    pub content: ContentKind,
     pub residual: ResidualForm,
 }

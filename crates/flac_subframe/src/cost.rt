@@ -13,8 +13,8 @@ pub struct Priced {
     pub bits: u64,
 }
 
-/// The sum of what is above the lowest bits of `count` numbers of few bits: in 32 bits, and by a loop of fixed length, since
-/// each call has a constant count.
+/// The sum of what is above the lowest bits of `count` numbers of few bits: in 32 bits, and by a loop of fixed length,
+/// since each call has a constant count.
 #[inline(always)]
 fn quotients_of_few(folds: &[u32], count: usize, parameter: u8, width: u8) -> u32
     requires long { length folds.now ≡ count }

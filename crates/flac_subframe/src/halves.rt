@@ -14,10 +14,10 @@ use crate::view::ResidualView;
 pub(crate) fn price(residual: &ResidualView<'_>, width: u8, parameter: u8, sums: &mut [u64])
     requires bounded { All (λ n. n < 2 ^ width) residual.now.folds.now }
     requires parameter { parameter < 31 }
-    requires places { length sums.old ≡ 2 ^ residual.now.halvings }
-    ensures costs { (j : ℕ) → j < 2 ^ residual.now.halvings → slice_index sums.new j ≡ sum_by (value_cost parameter) (part residual.now.order residual.now.values.now residual.now.halvings j) }
+    requires places { length sums.old ≡ 2 ^ residual.now.partition_order }
+    ensures costs { (j : ℕ) → j < 2 ^ residual.now.partition_order → slice_index sums.new j ≡ sum_by (value_cost parameter) (part residual.now.order residual.now.values.now residual.now.partition_order j) }
 {
-    let size = (residual.values.len() + residual.order) >> residual.halvings;
+    let size = (residual.values.len() + residual.order) >> residual.partition_order;
     let mut rest = residual.folds;
     let mut long = size - residual.order;
     for sum in sums.iter_mut() {
@@ -52,16 +52,16 @@ fn note(sums: &[u64], best: &mut [u64], parameter: u8)
 }
 
 /// The same at one partition order, whose entries stand one after another in the table.
-fn note_level(sums: &[u64], table: &mut [u64], halvings: u8, parameter: u8)
+fn note_level(sums: &[u64], table: &mut [u64], partition_order: u8, parameter: u8)
     requires few { parameter < 32 }
-    requires most { halvings ≤ 15 }
-    requires sums { 2 ^ halvings ≤ length sums.now }
-    requires small { (j : ℕ) → j < 2 ^ halvings → slice_index sums.now j < 2 ^ 50 }
-    requires table { 2 * 2 ^ halvings ≤ length table.old }
-    ensures level { (j : ℕ) → j < 2 ^ halvings → entry table.new halvings j ≡ min (entry table.old halvings j) (priced parameter (slice_index sums.now j)) }
-    ensures others { (i : ℕ) → (i < 2 ^ halvings) ⊎ (2 * 2 ^ halvings ≤ i) → slice_index table.new i ≡ slice_index table.old i }
+    requires most { partition_order ≤ 15 }
+    requires sums { 2 ^ partition_order ≤ length sums.now }
+    requires small { (j : ℕ) → j < 2 ^ partition_order → slice_index sums.now j < 2 ^ 50 }
+    requires table { 2 * 2 ^ partition_order ≤ length table.old }
+    ensures level { (j : ℕ) → j < 2 ^ partition_order → entry table.new partition_order j ≡ min (entry table.old partition_order j) (priced parameter (slice_index sums.now j)) }
+    ensures others { (i : ℕ) → (i < 2 ^ partition_order) ⊎ (2 * 2 ^ partition_order ≤ i) → slice_index table.new i ≡ slice_index table.old i }
 {
-    let first = power(halvings);
+    let first = power(partition_order);
     note(sums, &mut table[first..2 * first], parameter);
 }
 
@@ -80,30 +80,24 @@ fn gains(sums: &[u64], best: &[u64], parameter: u8) -> bool
     false
 }
 
-/// Compares, at each partition order, each partition's cost under a parameter with the best so far, if it lowers that of one of the finest.
-fn pass(
-    residual: &ResidualView<'_>,
-    width: u8,
-    parameter: u8,
-    sums: &mut [u64],
-    table: &mut [u64],
-) -> bool
-    requires bounded { All (λ n. n < 2 ^ width) residual.now.folds.now }
+/// Compares, at each partition order, each partition's cost under a parameter with the best so far, if it lowers that
+/// of one of the finest. `sums` has the costs of these.
+fn pass(residual: &ResidualView<'_>, parameter: u8, sums: &mut [u64], table: &mut [u64]) -> bool
     requires parameter { parameter < 31 }
-    requires sums { length sums.old ≡ 2 ^ residual.now.halvings }
-    requires table { 2 * 2 ^ residual.now.halvings ≤ length table.old }
+    requires sums { length sums.old ≡ 2 ^ residual.now.partition_order }
+    requires costs { (j : ℕ) → j < 2 ^ residual.now.partition_order → slice_index sums.old j ≡ sum_by (value_cost parameter) (part residual.now.order residual.now.values.now residual.now.partition_order j) }
+    requires table { 2 * 2 ^ residual.now.partition_order ≤ length table.old }
     ensures kept { length table.new ≡ length table.old }
-    ensures entries { IsTrue result → (p j : ℕ) → p ≤ residual.now.halvings → j < 2 ^ p → entry table.new p j ≡ min (entry table.old p j) (priced parameter (sum_by (value_cost parameter) (part residual.now.order residual.now.values.now p j))) }
+    ensures entries { IsTrue result → (p j : ℕ) → p ≤ residual.now.partition_order → j < 2 ^ p → entry table.new p j ≡ min (entry table.old p j) (priced parameter (sum_by (value_cost parameter) (part residual.now.order residual.now.values.now p j))) }
     ensures same { result ≡ false → table.new ≡ table.old }
-    ensures none { result ≡ false → (j : ℕ) → j < 2 ^ residual.now.halvings → entry table.old residual.now.halvings j ≤ priced parameter (sum_by (value_cost parameter) (part residual.now.order residual.now.values.now residual.now.halvings j)) }
+    ensures none { result ≡ false → (j : ℕ) → j < 2 ^ residual.now.partition_order → entry table.old residual.now.partition_order j ≤ priced parameter (sum_by (value_cost parameter) (part residual.now.order residual.now.values.now residual.now.partition_order j)) }
 {
-    price(residual, width, parameter, sums);
-    let first = power(residual.halvings);
+    let first = power(residual.partition_order);
     if !gains(sums, &table[first..2 * first], parameter) {
         return false;
     }
-    note_level(sums, table, residual.halvings, parameter);
-    let mut level = residual.halvings;
+    note_level(sums, table, residual.partition_order, parameter);
+    let mut level = residual.partition_order;
     while level > 0 {
         level -= 1;
         pair(sums, power(level));
@@ -112,32 +106,64 @@ fn pass(
     true
 }
 
-/// Fills an empty table with the least of the parameters below one: tries them downwards, as long as one of the finest partitions gains by it.
+/// The same, but that it copies the costs under parameter 0, which are known.
+fn take_row(residual: &ResidualView<'_>, width: u8, parameter: u8, leaves: &[u64], sums: &mut [u64])
+    requires bounded { All (λ n. n < 2 ^ width) residual.now.folds.now }
+    requires parameter { parameter < 31 }
+    requires places { length sums.old ≡ 2 ^ residual.now.partition_order }
+    requires leaves { length leaves.now ≡ 2 ^ residual.now.partition_order }
+    requires known { (j : ℕ) → j < 2 ^ residual.now.partition_order → slice_index leaves.now j ≡ sum_by (value_cost 0) (part residual.now.order residual.now.values.now residual.now.partition_order j) }
+    ensures costs { (j : ℕ) → j < 2 ^ residual.now.partition_order → slice_index sums.new j ≡ sum_by (value_cost parameter) (part residual.now.order residual.now.values.now residual.now.partition_order j) }
+{
+    if parameter == 0 {
+        copy(leaves, sums, leaves.len());
+    } else {
+        price(residual, width, parameter, sums);
+    }
+}
+
+/// Fills an empty table with the least of the parameters below one: tries them downwards, as long as one of the finest
+/// partitions gains by it. It returns how many were priced; the costs under parameter 0 are in `leaves`.
 pub(crate) fn compare_down(
     residual: &ResidualView<'_>,
     width: u8,
     from: u8,
+    leaves: &[u64],
     sums: &mut [u64],
     table: &mut [u64],
-)
+) -> u8
     requires bounded { All (λ n. n < 2 ^ width) residual.now.folds.now }
+    requires some { 1 ≤ from }
     requires from { from ≤ 31 }
-    requires sums { length sums.old ≡ 2 ^ residual.now.halvings }
-    requires table { 2 * 2 ^ residual.now.halvings ≤ length table.old }
-    requires start { (p j : ℕ) → p ≤ residual.now.halvings → j < 2 ^ p → entry table.old p j ≡ 2 ^ 64 - 1 }
-    ensures entries { HasEntries from residual.now.order residual.now.values.now residual.now.halvings table.new }
+    requires leaves { length leaves.now ≡ 2 ^ residual.now.partition_order }
+    requires known { (j : ℕ) → j < 2 ^ residual.now.partition_order → slice_index leaves.now j ≡ sum_by (value_cost 0) (part residual.now.order residual.now.values.now residual.now.partition_order j) }
+    requires sums { length sums.old ≡ 2 ^ residual.now.partition_order }
+    requires table { 2 * 2 ^ residual.now.partition_order ≤ length table.old }
+    requires start { (p j : ℕ) → p ≤ residual.now.partition_order → j < 2 ^ p → entry table.old p j ≡ 2 ^ 64 - 1 }
+    ensures entries { HasEntries from residual.now.order residual.now.values.now residual.now.partition_order table.new }
     ensures long { length table.new ≡ length table.old }
+    ensures few { result ≤ from - 1 }
 {
     let mut low = from;
     while low > 0 {
         low -= 1;
-        if !pass(residual, width, low, sums, table) {
-            return;
+        take_row(residual, width, low, leaves, sums);
+        if !pass(residual, low, sums, table) {
+            return from - low.max(1);
         }
     }
+    from - 1
 }
 
-/// Goes on with a table of the parameters below one, upwards, as long as one of the finest partitions gains by it: whether none gains by any above.
+/// How many parameters were priced, and whether no partition gains by one that was not.
+#[derive(Clone, Copy)]
+pub(crate) struct Tried {
+    pub(crate) count: u8,
+    pub(crate) settled: bool,
+}
+
+/// Goes on with a table of the parameters below one, upwards, as long as one of the finest partitions gains by it:
+/// whether none gains by any above. None gains by one above the width of the residual, so these are not tried.
 pub(crate) fn compare(
     residual: &ResidualView<'_>,
     width: u8,
@@ -145,23 +171,36 @@ pub(crate) fn compare(
     parameters: u8,
     sums: &mut [u64],
     table: &mut [u64],
-) -> bool
+) -> Tried
     requires bounded { All (λ n. n < 2 ^ width) residual.now.folds.now }
+    requires small_width { width ≤ 32 }
     requires from { from ≤ parameters }
     requires parameters { parameters ≤ 31 }
-    requires sums { length sums.old ≡ 2 ^ residual.now.halvings }
-    requires table { 2 * 2 ^ residual.now.halvings ≤ length table.old }
-    requires start { HasEntries from residual.now.order residual.now.values.now residual.now.halvings table.old }
-    ensures entries { HasEntries parameters residual.now.order residual.now.values.now residual.now.halvings table.new }
-    ensures settled { result ≡ true → HasEntries 31 residual.now.order residual.now.values.now residual.now.halvings table.new }
+    requires within { from ≤ width + 1 }
+    requires sums { length sums.old ≡ 2 ^ residual.now.partition_order }
+    requires table { 2 * 2 ^ residual.now.partition_order ≤ length table.old }
+    requires start { HasEntries from residual.now.order residual.now.values.now residual.now.partition_order table.old }
+    ensures entries { HasEntries parameters residual.now.order residual.now.values.now residual.now.partition_order table.new }
+    ensures settled { IsTrue result.settled → HasEntries 31 residual.now.order residual.now.values.now residual.now.partition_order table.new }
     ensures long { length table.new ≡ length table.old }
+    ensures wide { (IsTrue result.settled → ⊥) → parameters ≤ width + 1 }
+    ensures few { result.count ≤ parameters - from }
+    ensures narrow { result.count ≤ width + 1 - from }
 {
-    for parameter in from..parameters {
-        if !pass(residual, width, parameter, sums, table) {
-            return true;
+    let end = parameters.min(width + 1);
+    for parameter in from..end {
+        price(residual, width, parameter, sums);
+        if !pass(residual, parameter, sums, table) {
+            let count = parameter - from + 1;
+            return Tried {
+                count,
+                settled: true,
+            };
         }
     }
-    false
+    let count = end - from;
+    let settled = end < parameters;
+    Tried { count, settled }
 }
 
 /// Makes the first entries of a table ready, before any parameter is compared.

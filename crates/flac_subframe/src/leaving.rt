@@ -79,7 +79,8 @@ pub(crate) fn take_fixed(order: usize, samples: &[i64], values: &mut [i64])
     }
 }
 
-/// What the fixed predictor of an order leaves of the samples (RFC 9639, section 9.2.5), and whether a residual may have it all.
+/// What the fixed predictor of an order leaves of the samples (RFC 9639, section 9.2.5), and whether a residual may
+/// have it all.
 pub(crate) fn take_differences(order: usize, samples: &[i64], values: &mut [i64]) -> bool
     requires order { order ≤ 4 }
     requires fits { All (FitsBits 33) samples.now }

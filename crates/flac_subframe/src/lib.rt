@@ -36,6 +36,7 @@ mod writing;
 pub use chosen::{Choice, choose, choose_with};
 pub use limits::Limits;
 pub use linear::LinearPredictor;
+pub use numbers::offset_binary;
 pub use predictors::{predict_fixed, predict_linear};
 pub use promises::{
     family_is_plain, samples_are_restored, subframes_are_read_again, subframes_are_spelled,

@@ -10,8 +10,8 @@ use std::alloc::AllocError;
 /// The most coefficients that a linear predictor has.
 const MOST_COEFFICIENTS: usize = 32;
 
-/// A linear predictor: the precision of its coefficients in bits, the shift, and the coefficients, the one for the nearest sample first
-/// (RFC 9639, section 9.2.6).
+/// A linear predictor: the precision of its coefficients in bits, the shift, and the coefficients, the one for the
+/// nearest sample first (RFC 9639, section 9.2.6).
 #[derive(Drop, Debug, PartialEq, Eq)]
 pub struct LinearPredictor {
     precision: u8,

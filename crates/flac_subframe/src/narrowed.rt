@@ -9,14 +9,7 @@ ghost use Rattle.flac_subframe.specs.Prediction.{prediction, fixed_coefficients}
 ghost use Rattle.flac_subframe.specs.Bodies.{differences};
 
 use crate::folding::fold_narrow;
-
-/// A sample moved up by half the range of 27 bits, below 2^27 just if it has no more bits.
-#[inline(always)]
-fn moved(sample: i64) -> u64
-    ensures { (result < 2 ^ 27) ↔ FitsBits 27 sample }
-{
-    sample.wrapping_add(0x400_0000).cast_unsigned()
-}
+use crate::numbers::offset_binary;
 
 /// Whether each sample has so few bits that what a fixed predictor leaves is in the range of a residual.
 fn are_narrow(samples: &[i64]) -> bool
@@ -24,7 +17,7 @@ fn are_narrow(samples: &[i64]) -> bool
 {
     let mut all: u64 = 0;
     for sample in samples {
-        all |= moved(*sample);
+        all |= offset_binary(*sample, 27);
     }
     all < 0x800_0000
 }
@@ -40,7 +33,8 @@ fn narrow_each(samples: &[i64], narrowed: &mut [i32])
     }
 }
 
-/// Whether each sample has so few bits that what a fixed predictor leaves is in the range of a residual; if so, the samples in 32 bits each.
+/// Whether each sample has so few bits that what a fixed predictor leaves is in the range of a residual; if so, the
+/// samples in 32 bits each.
 pub(crate) fn narrow(samples: &[i64], narrowed: &mut [i32]) -> bool
     requires places { length narrowed.old ≡ length samples.now }
     ensures fits { IsTrue result → All (FitsBits 27) samples.now }
@@ -81,8 +75,8 @@ fn narrow_before(samples: &[i32], order: usize, at: usize, back: usize) -> i32
     if back <= order { samples[at - back] } else { 0 }
 }
 
-/// What the fixed predictor of an order says after four samples, the nearest first (RFC 9639, section 9.2.5), with no product but by a
-/// power of two or by 3.
+/// What the fixed predictor of an order says after four samples, the nearest first (RFC 9639, section 9.2.5), with no
+/// product but by a power of two or by 3.
 #[inline(always)]
 fn predict_narrow(order: usize, first: i32, second: i32, third: i32, fourth: i32) -> i32
     requires order { order ≤ 4 }

@@ -1,18 +1,35 @@
 //! Signed numbers of a given number of bits.
 
-ghost use Rattle.std.specs.Prelude.{◌≡◌, ◌≤◌, ◌^◌, ◌↔◌, pos, length, replicate, IsTrue};
+ghost use Rattle.std.specs.Prelude.{◌≡◌, ◌<◌, ◌≤◌, ◌^◌, ◌↔◌, pos, length, replicate, IsTrue};
 ghost use Rattle.flac_bits.specs.Signed.{FitsBits};
 
-/// Whether a number has a two's complement form of `bits` bits. The number is moved up by half the range, so that a
-/// single comparison decides, whose limit is the same for each number of a loop.
+/// A number in offset binary of `bits` bits, 1 to 63: moved up by half the range, 2^(bits - 1). It is below 2^bits
+/// exactly if the number has a two's complement form of that many bits. Several numbers are below it exactly if their
+/// bitwise or is.
+///
+/// ```
+/// let small = offset_binary(-128, 8); // 0
+/// let large = offset_binary(128, 8); // 256, which 8 bits do not hold
+/// ```
+#[inline(always)]
+pub fn offset_binary(number: i64, bits: u32) -> u64
+    requires positive { 1 ≤ bits }
+    requires small { bits ≤ 63 }
+    ensures { (result < 2 ^ bits) ↔ FitsBits bits number }
+{
+    let half = 1i64 << (bits - 1);
+    number.wrapping_add(half).cast_unsigned()
+}
+
+/// Whether a number has a two's complement form of `bits` bits, by a single comparison, whose limit is the same for
+/// each number of a loop.
 #[inline(always)]
 pub(crate) fn fits_bits(number: i64, bits: u32) -> bool
     requires positive { 1 ≤ bits }
     requires small { bits ≤ 63 }
     ensures { IsTrue result ↔ FitsBits bits number }
 {
-    let limit = 1i64 << (bits - 1);
-    number.wrapping_add(limit).cast_unsigned() <= u64::MAX >> (64 - bits)
+    offset_binary(number, bits) <= u64::MAX >> (64 - bits)
 }
 
 /// Two to the power of the exponent, as a number of places.

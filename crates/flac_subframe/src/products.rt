@@ -126,8 +126,8 @@ fn are_small(coefficients: &[i32], peak: u32) -> bool
     (1 + sum) * u64::from(peak) < 0x8000_0000
 }
 
-/// What a linear predictor leaves of narrow samples that are at most `peak` from 0, and the same as unsigned numbers, if the sums fit 32
-/// bits: whether they do (RFC 9639, section 9.2.6).
+/// What a linear predictor leaves of narrow samples that are at most `peak` from 0, and the same as unsigned numbers,
+/// if the sums fit 32 bits: whether they do (RFC 9639, section 9.2.6).
 pub(crate) fn take_products(
     coefficients: &[i32],
     shift: u32,

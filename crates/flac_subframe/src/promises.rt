@@ -26,9 +26,9 @@ pub fn family_is_plain()
     ensures plain { FamilyIsPlain }
 {}
 
-/// The same if linear predictors are handed in: the forms among which a choice with them is the least are just those that may be spelled, have
-/// these samples, are constant, verbatim, by a fixed predictor or by one of these linear ones, and leave out all the lowest bits that the
-/// samples lack.
+/// The same if linear predictors are handed in: the forms among which a choice with them is the least are just those
+/// that may be spelled, have these samples, are constant, verbatim, by a fixed predictor or by one of these linear
+/// ones, and leave out all the lowest bits that the samples lack.
 pub fn widened_family_is_plain()
     ensures whole { WidenedIsWhole }
     ensures plain { WidenedIsPlain }

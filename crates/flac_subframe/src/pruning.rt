@@ -13,8 +13,8 @@ use crate::numbers::power;
 use crate::view::ResidualView;
 use crate::widths::lowest;
 
-/// The greatest partition order whose tables are made at once. Above it a partition is often so short that its parameter
-/// takes more than it saves, so finer partitions are tried only if no bound rules them out.
+/// The greatest partition order whose tables are made at once. Above it a partition is often so short that its
+/// parameter takes more than it saves, so finer partitions are tried only if no bound rules them out.
 pub(crate) const COARSE: u8 = 8;
 
 /// A shift that brings the number of bits near the number of values.
@@ -121,6 +121,21 @@ fn bound_values(values: &[i32], folds: &[u32], bits: u64, width: u8, closely: bo
     }
 }
 
+/// A lower bound, and of how many values it was made.
+#[derive(Clone, Copy)]
+struct Bound {
+    bits: u64,
+    seen: usize,
+}
+
+/// Whether lower bounds show that a residual takes as many bits as it may not, and how often a value's bits under one
+/// parameter or its width were computed for them.
+#[derive(Clone, Copy)]
+pub(crate) struct Verdict {
+    pub(crate) dear: bool,
+    pub(crate) priced: u64,
+}
+
 /// The sum of the lower bounds of the finest partitions, or of the first of them once they reach `below`.
 fn bound_parts(
     residual: &ResidualView<'_>,
@@ -128,23 +143,25 @@ fn bound_parts(
     widths: &[u8],
     closely: bool,
     below: u64,
-) -> u64
-    requires places { 2 ^ residual.now.halvings ≤ length sums.now }
-    requires costs { (j : ℕ) → j < 2 ^ residual.now.halvings → slice_index sums.now j ≡ sum_by (value_cost 0) (part residual.now.order residual.now.values.now residual.now.halvings j) }
-    requires widths { HasWidths residual.now.order residual.now.values.now residual.now.halvings residual.now.halvings widths.now }
-    requires widths_long { 2 * 2 ^ residual.now.halvings ≤ length widths.now }
-    ensures all { (f : Codings) → MayWrite residual.now.halvings residual.now.order residual.now.values.now f → result ≤ residual_cost residual.now.order residual.now.values.now f }
-    ensures last { (f : Codings) → MayWrite residual.now.halvings residual.now.order residual.now.values.now f → f.halvings ≡ residual.now.halvings → result + (6 + 4 * 2 ^ residual.now.halvings) ≤ residual_cost residual.now.order residual.now.values.now f }
+) -> Bound
+    requires places { 2 ^ residual.now.partition_order ≤ length sums.now }
+    requires costs { (j : ℕ) → j < 2 ^ residual.now.partition_order → slice_index sums.now j ≡ sum_by (value_cost 0) (part residual.now.order residual.now.values.now residual.now.partition_order j) }
+    requires widths { HasWidths residual.now.order residual.now.values.now residual.now.partition_order residual.now.partition_order widths.now }
+    requires widths_long { 2 * 2 ^ residual.now.partition_order ≤ length widths.now }
+    ensures all { (f : Codings) → MayWrite residual.now.partition_order residual.now.order residual.now.values.now f → result.bits ≤ residual_cost residual.now.order residual.now.values.now f }
+    ensures last { (f : Codings) → MayWrite residual.now.partition_order residual.now.order residual.now.values.now f → f.partition_order ≡ residual.now.partition_order → result.bits + (6 + 4 * 2 ^ residual.now.partition_order) ≤ residual_cost residual.now.order residual.now.values.now f }
+    ensures seen { result.seen ≤ length residual.now.values.now }
 {
-    let size = (residual.values.len() + residual.order) >> residual.halvings;
-    let count = power(residual.halvings);
+    let size = (residual.values.len() + residual.order) >> residual.partition_order;
+    let count = power(residual.partition_order);
     let mut bits = 0;
     let mut rest = residual.values;
     let mut left = residual.folds;
     let mut long = size - residual.order;
     for j in 0..count {
         if bits >= below {
-            return bits;
+            let seen = residual.values.len() - rest.len();
+            return Bound { bits, seen };
         }
         let (front, after) = rest.split_at(long);
         let (first, others) = left.split_at(long);
@@ -153,22 +170,39 @@ fn bound_parts(
         left = others;
         long = size;
     }
-    bits
+    let seen = residual.values.len() - rest.len();
+    Bound { bits, seen }
 }
 
 /// Whether the closer bound shows that the residual takes `below` bits or more. It is computed only if the rougher
-/// bound is at least half of that.
-fn reaches(residual: &ResidualView<'_>, sums: &[u64], widths: &[u8], bound: u64, below: u64) -> bool
-    requires sums { 2 ^ residual.now.halvings ≤ length sums.now }
-    requires costs { (j : ℕ) → j < 2 ^ residual.now.halvings → slice_index sums.now j ≡ sum_by (value_cost 0) (part residual.now.order residual.now.values.now residual.now.halvings j) }
-    requires widths { HasWidths residual.now.order residual.now.values.now 0 residual.now.halvings widths.now }
-    requires places { 2 * 2 ^ residual.now.halvings ≤ length widths.now }
-    ensures { IsTrue result → (f : Codings) → MayWrite residual.now.halvings residual.now.order residual.now.values.now f → below ≤ residual_cost residual.now.order residual.now.values.now f }
+/// bound is at least half of that, and only if the residual's width leaves out so many parameters that, with these two,
+/// a value is priced at most 32 times.
+fn reaches(
+    residual: &ResidualView<'_>,
+    sums: &[u64],
+    widths: &[u8],
+    bound: u64,
+    below: u64,
+) -> Verdict
+    requires sums { 2 ^ residual.now.partition_order ≤ length sums.now }
+    requires costs { (j : ℕ) → j < 2 ^ residual.now.partition_order → slice_index sums.now j ≡ sum_by (value_cost 0) (part residual.now.order residual.now.values.now residual.now.partition_order j) }
+    requires widths { HasWidths residual.now.order residual.now.values.now 0 residual.now.partition_order widths.now }
+    requires places { 2 * 2 ^ residual.now.partition_order ≤ length widths.now }
+    ensures dear { IsTrue result.dear → (f : Codings) → MayWrite residual.now.partition_order residual.now.order residual.now.values.now f → below ≤ residual_cost residual.now.order residual.now.values.now f }
+    ensures few { result.priced ≤ 2 * length residual.now.values.now }
+    ensures none { 28 < slice_index widths.now 1 → result.priced ≡ 0 }
 {
-    if bound < below / 2 {
-        return false;
+    if widths[1] > 28 || bound < below / 2 {
+        return Verdict {
+            dear: false,
+            priced: 0,
+        };
     }
-    bound_parts(residual, sums, widths, true, below) >= below
+    let close = bound_parts(residual, sums, widths, true, below);
+    Verdict {
+        dear: close.bits >= below,
+        priced: 2 * close.seen as u64,
+    }
 }
 
 /// Whether lower bounds show that the residual takes `below` bits or more in any form. `sums` has what the finest
@@ -178,18 +212,23 @@ pub(crate) fn is_too_dear(
     sums: &[u64],
     widths: &[u8],
     below: u64,
-) -> bool
-    requires sums { 2 ^ residual.now.halvings ≤ length sums.now }
-    requires costs { (j : ℕ) → j < 2 ^ residual.now.halvings → slice_index sums.now j ≡ sum_by (value_cost 0) (part residual.now.order residual.now.values.now residual.now.halvings j) }
-    requires widths { HasWidths residual.now.order residual.now.values.now 0 residual.now.halvings widths.now }
-    requires places { 2 * 2 ^ residual.now.halvings ≤ length widths.now }
-    ensures { IsTrue result → (f : Codings) → MayWrite residual.now.halvings residual.now.order residual.now.values.now f → below ≤ residual_cost residual.now.order residual.now.values.now f }
+) -> Verdict
+    requires sums { 2 ^ residual.now.partition_order ≤ length sums.now }
+    requires costs { (j : ℕ) → j < 2 ^ residual.now.partition_order → slice_index sums.now j ≡ sum_by (value_cost 0) (part residual.now.order residual.now.values.now residual.now.partition_order j) }
+    requires widths { HasWidths residual.now.order residual.now.values.now 0 residual.now.partition_order widths.now }
+    requires places { 2 * 2 ^ residual.now.partition_order ≤ length widths.now }
+    ensures dear { IsTrue result.dear → (f : Codings) → MayWrite residual.now.partition_order residual.now.order residual.now.values.now f → below ≤ residual_cost residual.now.order residual.now.values.now f }
+    ensures few { result.priced ≤ 2 * length residual.now.values.now }
+    ensures none { 28 < slice_index widths.now 1 → result.priced ≡ 0 }
 {
-    let bound = bound_parts(residual, sums, widths, false, below);
-    if bound >= below {
-        return true;
+    let rough = bound_parts(residual, sums, widths, false, below);
+    if rough.bits >= below {
+        return Verdict {
+            dear: true,
+            priced: 0,
+        };
     }
-    reaches(residual, sums, widths, bound, below)
+    reaches(residual, sums, widths, rough.bits, below)
 }
 
 /// The sum of how many digits numbers have.
@@ -207,69 +246,81 @@ fn digits(folds: &[u32]) -> u64
     sum
 }
 
-/// A lower bound on the bits of the residual at one partition order, from the digits of its values: each partition has a
-/// parameter of four bits, and then one bit more for each value, or five for an escape.
-fn bound_by_digits(residual: &ResidualView<'_>, halvings: u8, digits: u64) -> u64
-    requires within { halvings ≤ residual.now.halvings }
+/// A lower bound on the bits of the residual at one partition order, from the digits of its values: each partition has
+/// a parameter of four bits, and then one bit more for each value, or five for an escape.
+fn bound_by_digits(residual: &ResidualView<'_>, partition_order: u8, digits: u64) -> u64
+    requires within { partition_order ≤ residual.now.partition_order }
     requires sum { digits ≡ sum_by (λ n. 63 - count_leading_zeros 64 (2 * n + 1)) residual.now.folds.now }
     requires small { digits ≤ 64 * length residual.now.folds.now }
-    ensures { (f : Codings) → MayWrite residual.now.halvings residual.now.order residual.now.values.now f → f.halvings ≡ halvings → result ≤ residual_cost residual.now.order residual.now.values.now f }
+    ensures { (f : Codings) → MayWrite residual.now.partition_order residual.now.order residual.now.values.now f → f.partition_order ≡ partition_order → result ≤ residual_cost residual.now.order residual.now.values.now f }
 {
-    let size = (residual.values.len() + residual.order) >> halvings;
-    let fields = power(halvings) * (4 + size.min(5));
+    let size = (residual.values.len() + residual.order) >> partition_order;
+    let fields = power(partition_order) * (4 + size.min(5));
     (digits + 6 + fields as u64).saturating_sub(residual.order as u64)
 }
 
 /// Whether lower bounds show that the residual takes `below` bits or more at one partition order: by the digits of its
-/// values, or else by the bits of each partition. The arrays are then those of that partition order.
+/// values, or else by the bits of each partition, for which each value is priced four times. The arrays are then those
+/// of that partition order.
 fn is_order_too_dear(
     residual: &ResidualView<'_>,
-    halvings: u8,
+    partition_order: u8,
     digits: u64,
     sums: &mut [u64],
     widths: &mut [u8],
     below: u64,
-) -> bool
-    requires within { halvings ≤ residual.now.halvings }
+) -> Verdict
+    requires within { partition_order ≤ residual.now.partition_order }
     requires sum { digits ≡ sum_by (λ n. 63 - count_leading_zeros 64 (2 * n + 1)) residual.now.folds.now }
     requires small { digits ≤ 64 * length residual.now.folds.now }
-    requires sums { 2 ^ residual.now.halvings ≤ length sums.old }
-    requires widths { 2 * 2 ^ residual.now.halvings ≤ length widths.old }
-    ensures { IsTrue result → (f : Codings) → MayWrite residual.now.halvings residual.now.order residual.now.values.now f → f.halvings ≡ halvings → below ≤ residual_cost residual.now.order residual.now.values.now f }
+    requires sums { 2 ^ residual.now.partition_order ≤ length sums.old }
+    requires widths { 2 * 2 ^ residual.now.partition_order ≤ length widths.old }
+    ensures dear { IsTrue result.dear → (f : Codings) → MayWrite residual.now.partition_order residual.now.order residual.now.values.now f → f.partition_order ≡ partition_order → below ≤ residual_cost residual.now.order residual.now.values.now f }
+    ensures few { result.priced ≤ 4 * length residual.now.values.now }
 {
-    let bound = bound_by_digits(residual, halvings, digits);
+    let bound = bound_by_digits(residual, partition_order, digits);
     if bound >= below {
-        return true;
+        return Verdict {
+            dear: true,
+            priced: 0,
+        };
     }
-    let coarser = residual.at(halvings);
+    let coarser = residual.at(partition_order);
     lowest(&coarser, widths, sums);
-    let fields = 6 + 4 * power(halvings) as u64;
+    let fields = 6 + 4 * power(partition_order) as u64;
     let rest = below.saturating_sub(fields);
-    let bound = bound_parts(&coarser, sums, widths, true, rest);
-    bound >= rest
+    let close = bound_parts(&coarser, sums, widths, true, rest);
+    Verdict {
+        dear: close.bits >= rest,
+        priced: 2 * (residual.values.len() + close.seen) as u64,
+    }
 }
 
 /// The greatest partition order at which no lower bound shows that the residual takes `below` bits or more, or the one
-/// whose tables are made at once.
+/// whose tables are made at once; and how often a value was priced for that.
 pub(crate) fn finest_in_doubt(
     residual: &ResidualView<'_>,
     sums: &mut [u64],
     widths: &mut [u8],
     below: u64,
-) -> u8
-    requires fine { 8 ≤ residual.now.halvings }
-    requires sums { 2 ^ residual.now.halvings ≤ length sums.old }
-    requires widths { 2 * 2 ^ residual.now.halvings ≤ length widths.old }
-    ensures within { (8 ≤ result) × (result ≤ residual.now.halvings) }
-    ensures dear { (f : Codings) → MayWrite residual.now.halvings residual.now.order residual.now.values.now f → result < f.halvings → below ≤ residual_cost residual.now.order residual.now.values.now f }
+) -> (u8, u64)
+    requires fine { 8 ≤ residual.now.partition_order }
+    requires sums { 2 ^ residual.now.partition_order ≤ length sums.old }
+    requires widths { 2 * 2 ^ residual.now.partition_order ≤ length widths.old }
+    ensures within { (8 ≤ result.0) × (result.0 ≤ residual.now.partition_order) }
+    ensures few { result.1 ≤ 29 * length residual.now.values.now }
+    ensures dear { (f : Codings) → MayWrite residual.now.partition_order residual.now.order residual.now.values.now f → result.0 < f.partition_order → below ≤ residual_cost residual.now.order residual.now.values.now f }
 {
     let digits = digits(residual.folds);
-    let mut halvings = residual.halvings;
-    while halvings > COARSE {
-        if !is_order_too_dear(residual, halvings, digits, sums, widths, below) {
-            return halvings;
+    let mut priced = residual.folds.len() as u64;
+    let mut partition_order = residual.partition_order;
+    while partition_order > COARSE {
+        let verdict = is_order_too_dear(residual, partition_order, digits, sums, widths, below);
+        priced += verdict.priced;
+        if !verdict.dear {
+            return (partition_order, priced);
         }
-        halvings -= 1;
+        partition_order -= 1;
     }
-    halvings
+    (partition_order, priced)
 }

@@ -1,11 +1,12 @@
 //! Reads a residual, to the places of the samples that it restores.
 
-ghost use Rattle.std.specs.Prelude.{◌≡◌, ◌≤◌, ◌<◌, ◌+◌, ◌-◌, ◌*◌, ◌^◌, ◌/◌, ◌⊎◌, OnOk, IfOk, IfSome, length, All};
+ghost use Rattle.std.specs.Prelude.{◌≡◌, ◌≤◌, ◌<◌, ◌+◌, ◌-◌, ◌*◌, ◌^◌, ◌/◌, OnOk, IfOk, IfSome, length, All};
 ghost use Rattle.flac_bits.specs.Layout.{bind, done, zeros_at};
 ghost use Rattle.flac_bits.specs.Lists.{list_of};
 ghost use Rattle.flac_bits.specs.Rice.{rice_value, unfolded};
 ghost use Rattle.flac_bits.specs.Reading.{Reads, CallInPlace};
 ghost use Rattle.flac_bits.specs.Signed.{FitsBits};
+ghost use Rattle.flac_subframe.specs.Cost.{parameter_bits_of};
 ghost use Rattle.flac_subframe.specs.inner.Codes.{method_code};
 ghost use Rattle.flac_subframe.specs.Residual.{partition, partitions, residual_header, residual, all_values, residual_values, can_halve};
 
@@ -17,15 +18,14 @@ use flac_bits::{BitReader, Source, Why};
 #[tactic(auto, unfolding(crate::specs::Residual::partition, crate::specs::Residual::escaped, crate::specs::Residual::coded), using(crate::proofs::Bounds::all_fit_32, crate::proofs::Bounds::residuals_fit, crate::proofs::Samples::no_bits))]
 fn read_partition<R: Source>(
     bits: &mut BitReader<R>,
-    parameter_bits: u32,
+    method: CodingMethod,
     out: &mut [i64],
 ) -> Result<(), Why>
-    requires { (parameter_bits ≡ 4) ⊎ (parameter_bits ≡ 5) }
     ensures fits { OnOk result (All (FitsBits 32) out.new) }
-    ensures reading { CallInPlace 0 (Reads (λ _. out.new) (bind (partition parameter_bits (length out.old)) (λ p. done p.values))) bits.old bits.new result }
+    ensures reading { CallInPlace 0 (Reads (λ _. out.new) (bind (partition (parameter_bits_of method) (length out.old)) (λ p. done p.values))) bits.old bits.new result }
 {
-    let parameter = bits.take(parameter_bits)? as u32;
-    if parameter == (1 << parameter_bits) - 1 {
+    let parameter = bits.take(method.parameter_bits())? as u32;
+    if parameter == method.escape() {
         let width = bits.take(5)? as u32;
         if width == 0 {
             repeat(0, out);
@@ -43,25 +43,24 @@ fn read_partition<R: Source>(
 #[tactic(auto, using(crate::proofs::Parts::gathers_nothing))]
 fn read_partitions<R: Source>(
     bits: &mut BitReader<R>,
-    parameter_bits: u32,
+    method: CodingMethod,
     order: usize,
     size: usize,
     count: usize,
     out: &mut [i64],
 ) -> Result<(), Why>
-    requires parameter_bits { (parameter_bits ≡ 4) ⊎ (parameter_bits ≡ 5) }
     requires room { order < size }
     requires some { 0 < count }
     requires few { length out.old ≤ 65535 }
     requires small { size ≤ 65535 }
     requires cut { length out.old + order ≡ count * size }
     ensures fits { OnOk result (All (FitsBits 32) out.new) }
-    ensures reading { CallInPlace 0 (Reads (λ _. out.new) (bind (partitions parameter_bits (size - order) size count) (λ ps. done (all_values ps)))) bits.old bits.new result }
+    ensures reading { CallInPlace 0 (Reads (λ _. out.new) (bind (partitions (parameter_bits_of method) (size - order) size count) (λ ps. done (all_values ps)))) bits.old bits.new result }
 {
     let mut start = 0;
     let mut end = size - order;
     for i in 0..count {
-        read_partition(bits, parameter_bits, &mut out[start..end])?;
+        read_partition(bits, method, &mut out[start..end])?;
         start = end;
         end += size;
     }
@@ -114,7 +113,6 @@ pub(crate) fn read_residual<R: Source>(
     let block = out.len() + order;
     let (method, times) = read_residual_header(bits, limit, order, block)?;
     let count = power(times as u8);
-    let parameter_bits = method.parameter_bits();
-    read_partitions(bits, parameter_bits, order, block / count, count, out)?;
+    read_partitions(bits, method, order, block / count, count, out)?;
     Ok(())
 }

@@ -10,7 +10,7 @@ pub struct ResidualForm {
     /// The coding method (RFC 9639, section 9.2.7).
     pub method: CodingMethod,
     /// The partition order, at most 15.
-    pub halvings: u8,
+    pub partition_order: u8,
     /// Bits of the residual.
     pub bits: u64,
 }
@@ -18,12 +18,12 @@ pub struct ResidualForm {
 impl ResidualForm {
     /// That of no residual.
     pub(crate) fn none() -> ResidualForm
-        ensures halvings { result.halvings ≡ 0 }
+        ensures partition_order { result.partition_order ≡ 0 }
         ensures bits { result.bits ≡ 0 }
     {
         ResidualForm {
             method: CodingMethod::FourBits,
-            halvings: 0,
+            partition_order: 0,
             bits: 0,
         }
     }

@@ -58,8 +58,8 @@ fn gap(number: i64, other: i64) -> i64
     number - other
 }
 
-/// The next sample by the fixed predictor of an order, from the nearest sample and its first three differences. As sums of differences
-/// the samples are one addition after another, and no product.
+/// The next sample by the fixed predictor of an order, from the nearest sample and its first three differences. As sums
+/// of differences the samples are one addition after another, and no product.
 #[inline(always)]
 fn sample_after(order: usize, residual: i64, value: i64, slope: i64, bend: i64, twist: i64) -> i64
     requires order { order ≤ 4 }
@@ -118,8 +118,8 @@ fn restore_order(order: usize, bits: u32, samples: &mut [i64]) -> bool
     true
 }
 
-/// Turns warm-up samples and the residual of the fixed predictor of an order into samples, from the front (RFC 9639, section 9.2.5).
-/// It stops with `false` at a sample that does not fit.
+/// Turns warm-up samples and the residual of the fixed predictor of an order into samples, from the front (RFC 9639,
+/// section 9.2.5). It stops with `false` at a sample that does not fit.
 #[inline(never)]
 pub(crate) fn restore_fixed(order: usize, bits: u32, samples: &mut [i64]) -> bool
     requires order { order ≤ 4 }
@@ -246,8 +246,8 @@ fn sample_of(sum: i64, shift: u32, residual: i64) -> i64
     (sum >> shift) + residual
 }
 
-/// Restores by a linear predictor of an order. The sums of products for the next samples are held beside the slice: each
-/// sample is multiplied by all coefficients once it is known, and is not read again. For orders of 9 to 12 this is
+/// Restores by a linear predictor of an order. The sums of products for the next samples are held beside the slice:
+/// each sample is multiplied by all coefficients once it is known, and is not read again. For orders of 9 to 12 this is
 /// faster than [`restore_by`], whose loop reads the last samples again, and on processors with AVX2 by far: there the
 /// compiler makes lanes of that loop, which wait for the samples that were just stored.
 #[inline(always)]

@@ -1,6 +1,6 @@
 //! The type of a subframe.
 
-ghost use Rattle.std.specs.Prelude.{◌≡◌, ◌<◌, true, false, IfSome, IfNone};
+ghost use Rattle.std.specs.Prelude.{◌≡◌, ◌<◌, ◌+◌, true, false, IfSome, IfNone};
 ghost use Rattle.flac_subframe.specs.Subframe.{is_reserved, predictor_order, linear_order};
 ghost use Rattle.flac_subframe.specs.inner.Codes.{IsType, type_code, type_order, type_linear_order};
 
@@ -64,6 +64,18 @@ impl SubframeType {
             SubframeType::Verbatim => 0,
             SubframeType::Fixed(_) => 0,
             SubframeType::Linear(order) => order,
+        }
+    }
+
+    /// Its code of six bits.
+    pub(crate) fn code(self) -> u64
+        ensures { result ≡ type_code self }
+    {
+        match self {
+            SubframeType::Constant => 0,
+            SubframeType::Verbatim => 1,
+            SubframeType::Fixed(order) => 8 + u64::from(order),
+            SubframeType::Linear(order) => 31 + u64::from(order),
         }
     }
 }

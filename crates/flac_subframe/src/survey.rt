@@ -1,19 +1,20 @@
 //! The search for the form of a residual with the fewest bits: tables have the cost of each partition, and only the
 //! codings of the best form are listed.
 
-ghost use Rattle.std.specs.Prelude.{◌≡◌, ◌<◌, ◌≤◌, ◌^◌, ◌+◌, ◌-◌, ◌*◌, ◌/◌, ℕ, length, map, take, All, IsTrue, IfSome, IfNone};
+ghost use Rattle.std.specs.Prelude.{◌≡◌, ◌<◌, ◌≤◌, ◌^◌, ◌+◌, ◌-◌, ◌*◌, ◌/◌, ℕ, length, map, take, slice_index, All, IsTrue, IfSome, IfNone};
+ghost use Rattle.std.specs.List.{sum_by};
 ghost use Rattle.flac_bits.specs.Rice.{IsResidual};
 ghost use Rattle.flac_subframe.specs.declared.coding_method.CodingMethod.{CodingMethod};
 ghost use Rattle.flac_subframe.specs.Least.{IsLeast};
 ghost use Rattle.flac_subframe.specs.inner.Least.{IsLeastCost};
 ghost use Rattle.flac_subframe.specs.Cost.{MayCode, MayWrite, Codings, coding_of, codings_in, parameter_bits_of};
-ghost use Rattle.flac_subframe.specs.inner.Cost.{HalvedTo, ByMethod, coding_cost, partitions_cost, residual_cost, Partitioned};
-ghost use Rattle.flac_subframe.specs.inner.Halves.{Halves, HasEntries, HasPlaces, LeastBelow, IsWidth, HasWidths};
+ghost use Rattle.flac_subframe.specs.inner.Cost.{HalvedTo, ByMethod, coding_cost, partitions_cost, residual_cost, value_cost, Partitioned};
+ghost use Rattle.flac_subframe.specs.inner.Halves.{Halves, HasEntries, HasPlaces, LeastBelow, IsWidth, HasWidths, part};
 
 use crate::coding::Coding;
 use crate::coding_method::CodingMethod;
 use crate::cost::Priced;
-use crate::halves::{clear, compare, compare_down, copy};
+use crate::halves::{Tried, clear, compare, compare_down, copy};
 use crate::numbers::power;
 use crate::pruning::{COARSE, finest_in_doubt, is_too_dear};
 use crate::residual_form::ResidualForm;
@@ -22,7 +23,7 @@ use crate::view::ResidualView;
 use crate::widths::measure;
 
 /// The largest partition order that fits the block, at most `most`.
-pub(crate) fn greatest_halvings(values: &[i32], order: usize, most: u8) -> u8
+pub(crate) fn greatest_partition_order(values: &[i32], order: usize, most: u8) -> u8
     requires few { length values.now + order ≤ 65535 }
     requires room { 0 < length values.now }
     requires most { most ≤ 15 }
@@ -68,21 +69,21 @@ fn finish(values: &[i32], method: CodingMethod, best: u64, width: u8) -> Priced
 /// How many bits the best codings at one partition order take.
 fn total(
     residual: &ResidualView<'_>,
-    halvings: u8,
+    partition_order: u8,
     method: CodingMethod,
     table: &[u64],
     widths: &[u8],
 ) -> u64
-    requires within { halvings ≤ residual.now.halvings }
-    requires table { 2 * 2 ^ residual.now.halvings ≤ length table.now }
-    requires entries { HasEntries (2 ^ parameter_bits_of method - 1) residual.now.order residual.now.values.now residual.now.halvings table.now }
-    requires widths { HasWidths residual.now.order residual.now.values.now 0 residual.now.halvings widths.now }
-    requires places { 2 * 2 ^ residual.now.halvings ≤ length widths.now }
-    ensures least { let size = (length residual.now.values.now + residual.now.order) / 2 ^ halvings in IsLeastCost (Partitioned (parameter_bits_of method) (size - residual.now.order) size (2 ^ halvings) residual.now.values.now) (partitions_cost (parameter_bits_of method) (size - residual.now.order) size residual.now.values.now) result }
+    requires within { partition_order ≤ residual.now.partition_order }
+    requires table { 2 * 2 ^ residual.now.partition_order ≤ length table.now }
+    requires entries { HasEntries (2 ^ parameter_bits_of method - 1) residual.now.order residual.now.values.now residual.now.partition_order table.now }
+    requires widths { HasWidths residual.now.order residual.now.values.now 0 residual.now.partition_order widths.now }
+    requires places { 2 * 2 ^ residual.now.partition_order ≤ length widths.now }
+    ensures least { let size = (length residual.now.values.now + residual.now.order) / 2 ^ partition_order in IsLeastCost (Partitioned (parameter_bits_of method) (size - residual.now.order) size (2 ^ partition_order) residual.now.values.now) (partitions_cost (parameter_bits_of method) (size - residual.now.order) size residual.now.values.now) result }
     ensures small { result ≤ 2 ^ 33 * 65535 + 10 * 2 ^ 15 }
 {
-    let size = (residual.values.len() + residual.order) >> halvings;
-    let count = power(halvings);
+    let size = (residual.values.len() + residual.order) >> partition_order;
+    let count = power(partition_order);
     let parameter_bits = u64::from(method.parameter_bits());
     let mut bits = 0;
     let mut rest = residual.values;
@@ -100,24 +101,24 @@ fn total(
 /// Puts the best codings at one partition order into the first places, from the table.
 fn gather(
     residual: &ResidualView<'_>,
-    halvings: u8,
+    partition_order: u8,
     method: CodingMethod,
     table: &[u64],
     widths: &[u8],
     codings: &mut [u8],
 ) -> u64
-    requires within { halvings ≤ residual.now.halvings }
-    requires table { 2 * 2 ^ residual.now.halvings ≤ length table.now }
-    requires entries { HasEntries (2 ^ parameter_bits_of method - 1) residual.now.order residual.now.values.now residual.now.halvings table.now }
-    requires widths { HasWidths residual.now.order residual.now.values.now 0 residual.now.halvings widths.now }
-    requires places { 2 * 2 ^ residual.now.halvings ≤ length widths.now }
-    requires codings { 2 ^ halvings ≤ length codings.old }
-    ensures least { let size = (length residual.now.values.now + residual.now.order) / 2 ^ halvings in IsLeast (Partitioned (parameter_bits_of method) (size - residual.now.order) size (2 ^ halvings) residual.now.values.now) (partitions_cost (parameter_bits_of method) (size - residual.now.order) size residual.now.values.now) (map coding_of (take (2 ^ halvings) codings.new)) }
-    ensures bits { let size = (length residual.now.values.now + residual.now.order) / 2 ^ halvings in result ≡ partitions_cost (parameter_bits_of method) (size - residual.now.order) size residual.now.values.now (map coding_of (take (2 ^ halvings) codings.new)) }
+    requires within { partition_order ≤ residual.now.partition_order }
+    requires table { 2 * 2 ^ residual.now.partition_order ≤ length table.now }
+    requires entries { HasEntries (2 ^ parameter_bits_of method - 1) residual.now.order residual.now.values.now residual.now.partition_order table.now }
+    requires widths { HasWidths residual.now.order residual.now.values.now 0 residual.now.partition_order widths.now }
+    requires places { 2 * 2 ^ residual.now.partition_order ≤ length widths.now }
+    requires codings { 2 ^ partition_order ≤ length codings.old }
+    ensures least { let size = (length residual.now.values.now + residual.now.order) / 2 ^ partition_order in IsLeast (Partitioned (parameter_bits_of method) (size - residual.now.order) size (2 ^ partition_order) residual.now.values.now) (partitions_cost (parameter_bits_of method) (size - residual.now.order) size residual.now.values.now) (map coding_of (take (2 ^ partition_order) codings.new)) }
+    ensures bits { let size = (length residual.now.values.now + residual.now.order) / 2 ^ partition_order in result ≡ partitions_cost (parameter_bits_of method) (size - residual.now.order) size residual.now.values.now (map coding_of (take (2 ^ partition_order) codings.new)) }
     ensures small { result ≤ 2 ^ 33 * 65535 + 10 * 2 ^ 15 }
 {
-    let size = (residual.values.len() + residual.order) >> halvings;
-    let count = power(halvings);
+    let size = (residual.values.len() + residual.order) >> partition_order;
+    let count = power(partition_order);
     let parameter_bits = u64::from(method.parameter_bits());
     let mut bits = 0;
     let mut rest = residual.values;
@@ -140,27 +141,27 @@ fn best_order(
     table: &[u64],
     widths: &[u8],
 ) -> ResidualForm
-    requires table { 2 * 2 ^ residual.now.halvings ≤ length table.now }
-    requires entries { HasEntries (2 ^ parameter_bits_of method - 1) residual.now.order residual.now.values.now residual.now.halvings table.now }
-    requires widths { HasWidths residual.now.order residual.now.values.now 0 residual.now.halvings widths.now }
-    requires places { 2 * 2 ^ residual.now.halvings ≤ length widths.now }
+    requires table { 2 * 2 ^ residual.now.partition_order ≤ length table.now }
+    requires entries { HasEntries (2 ^ parameter_bits_of method - 1) residual.now.order residual.now.values.now residual.now.partition_order table.now }
+    requires widths { HasWidths residual.now.order residual.now.values.now 0 residual.now.partition_order widths.now }
+    requires places { 2 * 2 ^ residual.now.partition_order ≤ length widths.now }
     ensures method { result.method ≡ method }
-    ensures within { result.halvings ≤ residual.now.halvings }
-    ensures least { IsLeastCost (ByMethod (parameter_bits_of method) residual.now.halvings residual.now.order residual.now.values.now) (residual_cost residual.now.order residual.now.values.now) result.bits }
-    ensures here { IsLeastCost (HalvedTo (parameter_bits_of method) result.halvings residual.now.halvings residual.now.order residual.now.values.now) (residual_cost residual.now.order residual.now.values.now) result.bits }
+    ensures within { result.partition_order ≤ residual.now.partition_order }
+    ensures least { IsLeastCost (ByMethod (parameter_bits_of method) residual.now.partition_order residual.now.order residual.now.values.now) (residual_cost residual.now.order residual.now.values.now) result.bits }
+    ensures here { IsLeastCost (HalvedTo (parameter_bits_of method) result.partition_order residual.now.partition_order residual.now.order residual.now.values.now) (residual_cost residual.now.order residual.now.values.now) result.bits }
     ensures small { result.bits ≤ 2 ^ 33 * 2 ^ 16 }
 {
     let mut best = ResidualForm {
         method,
-        halvings: 0,
+        partition_order: 0,
         bits: 6 + total(residual, 0, method, table, widths),
     };
-    for p in 1..residual.halvings + 1 {
+    for p in 1..residual.partition_order + 1 {
         let bits = 6 + total(residual, p, method, table, widths);
         if bits < best.bits {
             best = ResidualForm {
                 method,
-                halvings: p,
+                partition_order: p,
                 bits,
             };
         }
@@ -168,77 +169,103 @@ fn best_order(
     best
 }
 
-/// A parameter near the best one of most partitions, from the bits of the finest under parameter 0.
-fn middle(sums: &[u64], count: usize) -> u8
-    ensures { result ≤ 15 }
+/// A parameter near the best one of most partitions, from the bits of the finest under parameter 0; it is not above the
+/// width of the residual, but at least 1.
+fn middle(sums: &[u64], count: usize, width: u8) -> u8
+    ensures some { 1 ≤ result }
+    ensures few { result ≤ 15 }
+    ensures within { 1 < result → result ≤ width }
 {
     let mut bits: u64 = 0;
     for sum in sums {
         bits = bits.wrapping_add(*sum);
     }
     let mean = bits / (count as u64).max(1);
-    (64 - mean.leading_zeros()).saturating_sub(1).min(15) as u8
+    let middle = (64 - mean.leading_zeros()).saturating_sub(1).min(15) as u8;
+    middle.min(width).max(1)
 }
 
-/// Fills the table of the first method, and that of the second where it is another: whether it is the same.
+/// Fills the table of the first method, and that of the second where it is another: whether it is the same, and how
+/// many parameters were priced.
 fn tabulate(
     residual: &ResidualView<'_>,
     width: u8,
+    leaves: &[u64],
     sums: &mut [u64],
     four: &mut [u64],
     five: &mut [u64],
-) -> bool
+) -> Tried
     requires bounded { All (λ n. n < 2 ^ width) residual.now.folds.now }
-    requires sums { 2 ^ residual.now.halvings ≤ length sums.old }
-    requires four { 2 * 2 ^ residual.now.halvings ≤ length four.old }
-    requires five { 2 * 2 ^ residual.now.halvings ≤ length five.old }
-    ensures entries { HasEntries 15 residual.now.order residual.now.values.now residual.now.halvings four.new }
-    ensures same { IsTrue result → HasEntries 31 residual.now.order residual.now.values.now residual.now.halvings four.new }
-    ensures more { (IsTrue result → ⊥) → HasEntries 31 residual.now.order residual.now.values.now residual.now.halvings five.new }
+    requires small_width { width ≤ 32 }
+    requires leaves { 2 ^ residual.now.partition_order ≤ length leaves.now }
+    requires known { (j : ℕ) → j < 2 ^ residual.now.partition_order → slice_index leaves.now j ≡ sum_by (value_cost 0) (part residual.now.order residual.now.values.now residual.now.partition_order j) }
+    requires sums { 2 ^ residual.now.partition_order ≤ length sums.old }
+    requires four { 2 * 2 ^ residual.now.partition_order ≤ length four.old }
+    requires five { 2 * 2 ^ residual.now.partition_order ≤ length five.old }
+    ensures entries { HasEntries 15 residual.now.order residual.now.values.now residual.now.partition_order four.new }
+    ensures same { IsTrue result.settled → HasEntries 31 residual.now.order residual.now.values.now residual.now.partition_order four.new }
+    ensures more { (IsTrue result.settled → ⊥) → HasEntries 31 residual.now.order residual.now.values.now residual.now.partition_order five.new }
+    ensures few { result.count ≤ 30 }
+    ensures narrow { result.count ≤ width }
 {
-    let count = power(residual.halvings);
+    let count = power(residual.partition_order);
+    let leaves = &leaves[..count];
     let row = &mut sums[..count];
-    let middle = middle(row, residual.values.len());
+    let middle = middle(leaves, residual.values.len(), width);
     clear(four, 2 * count);
-    compare_down(residual, width, middle, row, four);
-    if compare(residual, width, middle, 15, row, four) {
-        return true;
+    let down = compare_down(residual, width, middle, leaves, row, four);
+    let up = compare(residual, width, middle, 15, row, four);
+    let first = down + up.count;
+    if up.settled {
+        return Tried {
+            count: first,
+            settled: true,
+        };
     }
     copy(four, five, 2 * count);
-    compare(residual, width, 15, 31, row, five);
-    false
+    let more = compare(residual, width, 15, 31, row, five);
+    Tried {
+        count: first + more.count,
+        settled: false,
+    }
 }
 
-/// The best method and partition order, with the table of that method filled.
+/// The best method and partition order, with the table of that method filled, and how many parameters were priced for
+/// it.
 fn survey(
     residual: &ResidualView<'_>,
+    leaves: &[u64],
     sums: &mut [u64],
     four: &mut [u64],
     five: &mut [u64],
     widths: &[u8],
-) -> ResidualForm
-    requires sums { 2 ^ residual.now.halvings ≤ length sums.old }
-    requires four { 2 * 2 ^ residual.now.halvings ≤ length four.old }
-    requires five { 2 * 2 ^ residual.now.halvings ≤ length five.old }
-    requires widths { HasWidths residual.now.order residual.now.values.now 0 residual.now.halvings widths.now }
-    requires places { 2 * 2 ^ residual.now.halvings ≤ length widths.now }
-    ensures within { result.halvings ≤ residual.now.halvings }
-    ensures least { IsLeastCost (MayWrite residual.now.halvings residual.now.order residual.now.values.now) (residual_cost residual.now.order residual.now.values.now) result.bits }
-    ensures here { IsLeastCost (HalvedTo (parameter_bits_of result.method) result.halvings residual.now.halvings residual.now.order residual.now.values.now) (residual_cost residual.now.order residual.now.values.now) result.bits }
-    ensures small { result.bits ≤ 2 ^ 33 * 2 ^ 16 }
-    ensures entries { HasEntries 15 residual.now.order residual.now.values.now residual.now.halvings four.new }
-    ensures more { result.method ≡ CodingMethod.FiveBits → HasEntries 31 residual.now.order residual.now.values.now residual.now.halvings five.new }
+) -> (ResidualForm, u8)
+    requires leaves { 2 ^ residual.now.partition_order ≤ length leaves.now }
+    requires known { (j : ℕ) → j < 2 ^ residual.now.partition_order → slice_index leaves.now j ≡ sum_by (value_cost 0) (part residual.now.order residual.now.values.now residual.now.partition_order j) }
+    requires sums { 2 ^ residual.now.partition_order ≤ length sums.old }
+    requires four { 2 * 2 ^ residual.now.partition_order ≤ length four.old }
+    requires five { 2 * 2 ^ residual.now.partition_order ≤ length five.old }
+    requires widths { HasWidths residual.now.order residual.now.values.now 0 residual.now.partition_order widths.now }
+    requires places { 2 * 2 ^ residual.now.partition_order ≤ length widths.now }
+    ensures within { result.0.partition_order ≤ residual.now.partition_order }
+    ensures least { IsLeastCost (MayWrite residual.now.partition_order residual.now.order residual.now.values.now) (residual_cost residual.now.order residual.now.values.now) result.0.bits }
+    ensures here { IsLeastCost (HalvedTo (parameter_bits_of result.0.method) result.0.partition_order residual.now.partition_order residual.now.order residual.now.values.now) (residual_cost residual.now.order residual.now.values.now) result.0.bits }
+    ensures small { result.0.bits ≤ 2 ^ 33 * 2 ^ 16 }
+    ensures entries { HasEntries 15 residual.now.order residual.now.values.now residual.now.partition_order four.new }
+    ensures more { result.0.method ≡ CodingMethod.FiveBits → HasEntries 31 residual.now.order residual.now.values.now residual.now.partition_order five.new }
+    ensures few { result.1 ≤ 30 }
+    ensures narrow { result.1 ≤ slice_index widths.now 1 }
 {
-    let same = tabulate(residual, widths[1], sums, four, five);
+    let tried = tabulate(residual, widths[1], leaves, sums, four, five);
     let first = best_order(residual, CodingMethod::FourBits, four, widths);
-    if same {
-        return first;
+    if tried.settled {
+        return (first, tried.count);
     }
     let second = best_order(residual, CodingMethod::FiveBits, five, widths);
     if second.bits < first.bits {
-        second
+        (second, tried.count)
     } else {
-        first
+        (first, tried.count)
     }
 }
 
@@ -250,16 +277,23 @@ fn take_up(
     widths: &[u8],
     codings: &mut [u8],
 ) -> u64
-    requires within { form.halvings ≤ residual.now.halvings }
-    requires table { 2 * 2 ^ residual.now.halvings ≤ length table.now }
-    requires entries { HasEntries (2 ^ parameter_bits_of form.method - 1) residual.now.order residual.now.values.now residual.now.halvings table.now }
-    requires widths { HasWidths residual.now.order residual.now.values.now 0 residual.now.halvings widths.now }
-    requires places { 2 * 2 ^ residual.now.halvings ≤ length widths.now }
-    requires codings { 2 ^ residual.now.halvings ≤ length codings.old }
-    ensures least { IsLeast (HalvedTo (parameter_bits_of form.method) form.halvings residual.now.halvings residual.now.order residual.now.values.now) (residual_cost residual.now.order residual.now.values.now) (codings_in form codings.new) }
+    requires within { form.partition_order ≤ residual.now.partition_order }
+    requires table { 2 * 2 ^ residual.now.partition_order ≤ length table.now }
+    requires entries { HasEntries (2 ^ parameter_bits_of form.method - 1) residual.now.order residual.now.values.now residual.now.partition_order table.now }
+    requires widths { HasWidths residual.now.order residual.now.values.now 0 residual.now.partition_order widths.now }
+    requires places { 2 * 2 ^ residual.now.partition_order ≤ length widths.now }
+    requires codings { 2 ^ residual.now.partition_order ≤ length codings.old }
+    ensures least { IsLeast (HalvedTo (parameter_bits_of form.method) form.partition_order residual.now.partition_order residual.now.order residual.now.values.now) (residual_cost residual.now.order residual.now.values.now) (codings_in form codings.new) }
     ensures bits { result ≡ residual_cost residual.now.order residual.now.values.now (codings_in form codings.new) }
 {
-    let bits = gather(residual, form.halvings, form.method, table, widths, codings);
+    let bits = gather(
+        residual,
+        form.partition_order,
+        form.method,
+        table,
+        widths,
+        codings,
+    );
     6 + bits
 }
 
@@ -272,15 +306,15 @@ fn take_found(
     widths: &[u8],
     codings: &mut [u8],
 ) -> u64
-    requires within { form.halvings ≤ residual.now.halvings }
-    requires four { 2 * 2 ^ residual.now.halvings ≤ length four.now }
-    requires five { 2 * 2 ^ residual.now.halvings ≤ length five.now }
-    requires entries { HasEntries 15 residual.now.order residual.now.values.now residual.now.halvings four.now }
-    requires more { form.method ≡ CodingMethod.FiveBits → HasEntries 31 residual.now.order residual.now.values.now residual.now.halvings five.now }
-    requires widths { HasWidths residual.now.order residual.now.values.now 0 residual.now.halvings widths.now }
-    requires places { 2 * 2 ^ residual.now.halvings ≤ length widths.now }
-    requires codings { 2 ^ residual.now.halvings ≤ length codings.old }
-    ensures least { IsLeast (HalvedTo (parameter_bits_of form.method) form.halvings residual.now.halvings residual.now.order residual.now.values.now) (residual_cost residual.now.order residual.now.values.now) (codings_in form codings.new) }
+    requires within { form.partition_order ≤ residual.now.partition_order }
+    requires four { 2 * 2 ^ residual.now.partition_order ≤ length four.now }
+    requires five { 2 * 2 ^ residual.now.partition_order ≤ length five.now }
+    requires entries { HasEntries 15 residual.now.order residual.now.values.now residual.now.partition_order four.now }
+    requires more { form.method ≡ CodingMethod.FiveBits → HasEntries 31 residual.now.order residual.now.values.now residual.now.partition_order five.now }
+    requires widths { HasWidths residual.now.order residual.now.values.now 0 residual.now.partition_order widths.now }
+    requires places { 2 * 2 ^ residual.now.partition_order ≤ length widths.now }
+    requires codings { 2 ^ residual.now.partition_order ≤ length codings.old }
+    ensures least { IsLeast (HalvedTo (parameter_bits_of form.method) form.partition_order residual.now.partition_order residual.now.order residual.now.values.now) (residual_cost residual.now.order residual.now.values.now) (codings_in form codings.new) }
     ensures bits { result ≡ residual_cost residual.now.order residual.now.values.now (codings_in form codings.new) }
 {
     match form.method {
@@ -289,34 +323,40 @@ fn take_found(
     }
 }
 
-/// The residual form of the fewest bits, if it takes fewer bits than `below`, with its codings in their array. Cheap lower bounds come
-/// first, so that most predictors are refused before their parameters are tried.
+/// The residual form of the fewest bits, if it takes fewer bits than `below`, with its codings in their array. Cheap
+/// lower bounds come first, so that most predictors are refused before their parameters are tried.
 fn least_at_once(
     residual: &ResidualView<'_>,
     tables: &mut Tables<'_>,
     below: u64,
 ) -> Option<ResidualForm>
-    requires places { HasPlaces residual.now.halvings tables.old }
-    ensures least { IfSome result (λ f. IsLeast (MayWrite residual.now.halvings residual.now.order residual.now.values.now) (residual_cost residual.now.order residual.now.values.now) (codings_in f tables.new.codings.now)) }
+    requires places { HasPlaces residual.now.partition_order tables.old }
+    ensures least { IfSome result (λ f. IsLeast (MayWrite residual.now.partition_order residual.now.order residual.now.values.now) (residual_cost residual.now.order residual.now.values.now) (codings_in f tables.new.codings.now)) }
     ensures bits { IfSome result (λ f. f.bits ≡ residual_cost residual.now.order residual.now.values.now (codings_in f tables.new.codings.now)) }
-    ensures within { IfSome result (λ f. f.halvings ≤ residual.now.halvings) }
+    ensures within { IfSome result (λ f. f.partition_order ≤ residual.now.partition_order) }
     ensures less { IfSome result (λ f. f.bits < below) }
     ensures small { IfSome result (λ f. f.bits ≤ 2 ^ 49) }
     ensures kept { IfNone result (tables.new.codings.now ≡ tables.old.codings.now) }
-    ensures none { IfNone result ((f : Codings) → MayWrite residual.now.halvings residual.now.order residual.now.values.now f → below ≤ residual_cost residual.now.order residual.now.values.now f) }
+    ensures none { IfNone result ((f : Codings) → MayWrite residual.now.partition_order residual.now.order residual.now.values.now f → below ≤ residual_cost residual.now.order residual.now.values.now f) }
     ensures places { (most : ℕ) → HasPlaces most tables.old → HasPlaces most tables.new }
     ensures same { tables.new.codings.ghost_name ≡ tables.old.codings.ghost_name }
+    ensures priced { tables.new.priced ≤ tables.old.priced + 32 * length residual.now.values.now }
 {
+    let leaves = &mut *tables.leaves;
     let sums = &mut *tables.sums;
     let four = &mut *tables.four;
     let five = &mut *tables.five;
     let widths = &mut *tables.widths;
     let codings = &mut *tables.codings;
-    measure(residual, widths, sums);
-    if is_too_dear(residual, sums, widths, below) {
+    let count = residual.values.len() as u64;
+    measure(residual, widths, leaves);
+    let verdict = is_too_dear(residual, leaves, widths, below);
+    tables.priced = tables.priced.saturating_add(2 * count + verdict.priced);
+    if verdict.dear {
         return None;
     }
-    let form = survey(residual, sums, four, five, widths);
+    let (form, tried) = survey(residual, leaves, sums, four, five, widths);
+    tables.priced = tables.priced.saturating_add(u64::from(tried) * count);
     if form.bits >= below {
         return None;
     }
@@ -324,58 +364,61 @@ fn least_at_once(
     Some(ResidualForm { bits, ..form })
 }
 
-/// The same with partition orders up to `halvings` alone.
+/// The same with partition orders up to `partition_order` alone.
 fn least_up_to(
     residual: &ResidualView<'_>,
-    halvings: u8,
+    partition_order: u8,
     tables: &mut Tables<'_>,
     below: u64,
 ) -> Option<ResidualForm>
-    requires within { halvings ≤ residual.now.halvings }
-    requires places { HasPlaces residual.now.halvings tables.old }
-    ensures least { IfSome result (λ f. IsLeast (MayWrite halvings residual.now.order residual.now.values.now) (residual_cost residual.now.order residual.now.values.now) (codings_in f tables.new.codings.now)) }
+    requires within { partition_order ≤ residual.now.partition_order }
+    requires places { HasPlaces residual.now.partition_order tables.old }
+    ensures least { IfSome result (λ f. IsLeast (MayWrite partition_order residual.now.order residual.now.values.now) (residual_cost residual.now.order residual.now.values.now) (codings_in f tables.new.codings.now)) }
     ensures bits { IfSome result (λ f. f.bits ≡ residual_cost residual.now.order residual.now.values.now (codings_in f tables.new.codings.now)) }
-    ensures within { IfSome result (λ f. f.halvings ≤ halvings) }
+    ensures within { IfSome result (λ f. f.partition_order ≤ partition_order) }
     ensures less { IfSome result (λ f. f.bits < below) }
     ensures small { IfSome result (λ f. f.bits ≤ 2 ^ 49) }
     ensures kept { IfNone result (tables.new.codings.now ≡ tables.old.codings.now) }
-    ensures none { IfNone result ((f : Codings) → MayWrite halvings residual.now.order residual.now.values.now f → below ≤ residual_cost residual.now.order residual.now.values.now f) }
+    ensures none { IfNone result ((f : Codings) → MayWrite partition_order residual.now.order residual.now.values.now f → below ≤ residual_cost residual.now.order residual.now.values.now f) }
     ensures places { (most : ℕ) → HasPlaces most tables.old → HasPlaces most tables.new }
     ensures same { tables.new.codings.ghost_name ≡ tables.old.codings.ghost_name }
+    ensures priced { tables.new.priced ≤ tables.old.priced + 32 * length residual.now.values.now }
 {
-    least_at_once(&residual.at(halvings), tables, below)
+    least_at_once(&residual.at(partition_order), tables, below)
 }
 
-/// The same for the finer partition orders: none if each form of these takes `below` bits or more, which bounds mostly show before
-/// their tables are made.
+/// The same for the finer partition orders: none if each form of these takes `below` bits or more, which bounds mostly
+/// show before their tables are made.
 fn least_of_finer(
     residual: &ResidualView<'_>,
     tables: &mut Tables<'_>,
     below: u64,
 ) -> Option<ResidualForm>
-    requires fine { 8 ≤ residual.now.halvings }
-    requires places { HasPlaces residual.now.halvings tables.old }
-    ensures least { IfSome result (λ f. IsLeast (MayWrite residual.now.halvings residual.now.order residual.now.values.now) (residual_cost residual.now.order residual.now.values.now) (codings_in f tables.new.codings.now)) }
+    requires fine { 8 ≤ residual.now.partition_order }
+    requires places { HasPlaces residual.now.partition_order tables.old }
+    ensures least { IfSome result (λ f. IsLeast (MayWrite residual.now.partition_order residual.now.order residual.now.values.now) (residual_cost residual.now.order residual.now.values.now) (codings_in f tables.new.codings.now)) }
     ensures bits { IfSome result (λ f. f.bits ≡ residual_cost residual.now.order residual.now.values.now (codings_in f tables.new.codings.now)) }
-    ensures within { IfSome result (λ f. f.halvings ≤ residual.now.halvings) }
+    ensures within { IfSome result (λ f. f.partition_order ≤ residual.now.partition_order) }
     ensures less { IfSome result (λ f. f.bits < below) }
     ensures small { IfSome result (λ f. f.bits ≤ 2 ^ 49) }
     ensures kept { IfNone result (tables.new.codings.now ≡ tables.old.codings.now) }
-    ensures none { IfNone result ((f : Codings) → MayWrite residual.now.halvings residual.now.order residual.now.values.now f → 8 < f.halvings → below ≤ residual_cost residual.now.order residual.now.values.now f) }
+    ensures none { IfNone result ((f : Codings) → MayWrite residual.now.partition_order residual.now.order residual.now.values.now f → 8 < f.partition_order → below ≤ residual_cost residual.now.order residual.now.values.now f) }
     ensures places { (most : ℕ) → HasPlaces most tables.old → HasPlaces most tables.new }
     ensures same { tables.new.codings.ghost_name ≡ tables.old.codings.ghost_name }
+    ensures priced { tables.new.priced ≤ tables.old.priced + 61 * length residual.now.values.now }
 {
-    let sums = &mut *tables.sums;
+    let leaves = &mut *tables.leaves;
     let widths = &mut *tables.widths;
-    let finest = finest_in_doubt(residual, sums, widths, below);
+    let (finest, priced) = finest_in_doubt(residual, leaves, widths, below);
+    tables.priced = tables.priced.saturating_add(priced);
     if finest <= COARSE {
         return None;
     }
     least_up_to(residual, finest, tables, below)
 }
 
-/// The number of bits that a finer form must stay below. Of two forms that take as many, that of the first method comes first, and
-/// then that of the lower partition order.
+/// The number of bits that a finer form must stay below. Of two forms that take as many, that of the first method comes
+/// first, and then that of the lower partition order.
 fn bits_to_beat(found: Option<ResidualForm>, below: u64) -> u64
     requires less { IfSome found (λ f. f.bits < below) }
     ensures none { IfNone found (result ≡ below) }
@@ -391,25 +434,27 @@ fn bits_to_beat(found: Option<ResidualForm>, below: u64) -> u64
     }
 }
 
-/// The residual form of the fewest bits, if it takes fewer bits than `below`, with its codings in their array. The finer partition
-/// orders come after the others, whose best form is a bound for them.
+/// The residual form of the fewest bits, if it takes fewer bits than `below`, with its codings in their array. The
+/// finer partition orders come after the others, whose best form is a bound for them.
 pub(crate) fn least_residual(
     residual: &ResidualView<'_>,
     tables: &mut Tables<'_>,
     below: u64,
 ) -> Option<ResidualForm>
-    requires places { HasPlaces residual.now.halvings tables.old }
-    ensures least { IfSome result (λ f. IsLeast (MayWrite residual.now.halvings residual.now.order residual.now.values.now) (residual_cost residual.now.order residual.now.values.now) (codings_in f tables.new.codings.now)) }
+    requires places { HasPlaces residual.now.partition_order tables.old }
+    ensures least { IfSome result (λ f. IsLeast (MayWrite residual.now.partition_order residual.now.order residual.now.values.now) (residual_cost residual.now.order residual.now.values.now) (codings_in f tables.new.codings.now)) }
     ensures bits { IfSome result (λ f. f.bits ≡ residual_cost residual.now.order residual.now.values.now (codings_in f tables.new.codings.now)) }
-    ensures within { IfSome result (λ f. f.halvings ≤ residual.now.halvings) }
+    ensures within { IfSome result (λ f. f.partition_order ≤ residual.now.partition_order) }
     ensures less { IfSome result (λ f. f.bits < below) }
     ensures small { IfSome result (λ f. f.bits ≤ 2 ^ 49) }
     ensures kept { IfNone result (tables.new.codings.now ≡ tables.old.codings.now) }
-    ensures none { IfNone result ((f : Codings) → MayWrite residual.now.halvings residual.now.order residual.now.values.now f → below ≤ residual_cost residual.now.order residual.now.values.now f) }
+    ensures none { IfNone result ((f : Codings) → MayWrite residual.now.partition_order residual.now.order residual.now.values.now f → below ≤ residual_cost residual.now.order residual.now.values.now f) }
     ensures places { (most : ℕ) → HasPlaces most tables.old → HasPlaces most tables.new }
     ensures same { tables.new.codings.ghost_name ≡ tables.old.codings.ghost_name }
+    ensures coarse { residual.now.partition_order ≤ 8 → tables.new.priced ≤ tables.old.priced + 32 * length residual.now.values.now }
+    ensures priced { tables.new.priced ≤ tables.old.priced + 93 * length residual.now.values.now }
 {
-    if residual.halvings <= COARSE {
+    if residual.partition_order <= COARSE {
         return least_at_once(residual, tables, below);
     }
     let first = least_up_to(residual, COARSE, tables, below);

@@ -11,8 +11,8 @@ ghost use Rattle.flac_subframe.specs.inner.Halves.{Halves};
 use crate::content::{PredictorKind, SubframeForm};
 use crate::linear::LinearPredictor;
 
-/// What is searched for: the subframe of the fewest bits for samples of a depth, with partition orders up to the greatest and with linear
-/// predictors beside the fixed ones.
+/// What is searched for: the subframe of the fewest bits for samples of a depth, with partition orders up to the
+/// greatest and with linear predictors beside the fixed ones.
 #[derive(Drop)]
 pub(crate) struct Task<'a> {
     pub(crate) samples: &'a [i64],
@@ -27,44 +27,44 @@ pub(crate) struct Task<'a> {
     ghost halved: { most ≤ 15 },
 }
 
-/// A residual whose codings are searched: its values, the same as unsigned numbers, the order of its predictor, and how often its block
-/// can be halved.
+/// A residual whose codings are searched: its values, the same as unsigned numbers, the order of its predictor, and how
+/// often its block can be halved.
 #[derive(Drop)]
 pub(crate) struct ResidualView<'a> {
     pub(crate) values: &'a [i32],
     pub(crate) folds: &'a [u32],
     pub(crate) order: usize,
-    pub(crate) halvings: u8,
+    pub(crate) partition_order: u8,
     ghost few: { length values.now + order ≤ 65535 },
     ghost range: { All IsResidual values.now },
     ghost unsigned: { folds.now ≡ map folded values.now },
     ghost small: { All (λ n. n < 2 ^ 32) folds.now },
     ghost long: { length folds.now ≡ length values.now },
-    ghost most: { halvings ≤ 15 },
-    ghost halves: { Halves order values.now halvings },
+    ghost most: { partition_order ≤ 15 },
+    ghost halves: { Halves order values.now partition_order },
 }
 
 impl ResidualView<'_> {
     /// The same at a coarser partition order.
-    pub(crate) fn at(&self, halvings: u8) -> ResidualView<'_>
-        requires { halvings ≤ self.now.halvings }
+    pub(crate) fn at(&self, partition_order: u8) -> ResidualView<'_>
+        requires { partition_order ≤ self.now.partition_order }
         ensures values { result.values.now ≡ self.now.values.now }
         ensures folds { result.folds.now ≡ self.now.folds.now }
         ensures order { result.order ≡ self.now.order }
-        ensures halvings { result.halvings ≡ halvings }
+        ensures partition_order { result.partition_order ≡ partition_order }
     {
         ResidualView {
             values: self.values,
             folds: self.folds,
             order: self.order,
-            halvings,
+            partition_order,
         }
     }
 }
 
-/// The samples of a subframe without its wasted bits: how many bits each has, the greatest partition order and the linear predictors
-/// that are tried, and whether each sample has so few bits that what a fixed predictor leaves is in the range of a residual; if so, also
-/// the samples in 32 bits each, and how far from 0 they are at most.
+/// The samples of a subframe without its wasted bits: how many bits each has, the greatest partition order and the
+/// linear predictors that are tried, and whether each sample has so few bits that what a fixed predictor leaves is in
+/// the range of a residual; if so, also the samples in 32 bits each, and how far from 0 they are at most.
 #[derive(Drop)]
 pub(crate) struct SampleView<'a> {
     pub(crate) samples: &'a [i64],
@@ -100,7 +100,8 @@ impl SampleView<'_> {
         }
     }
 
-    /// The bits of a predictor's own fields in a subframe: those of its precision, shift and coefficients; a fixed one has none.
+    /// The bits of a predictor's own fields in a subframe: those of its precision, shift and coefficients; a fixed one
+    /// has none.
     pub(crate) fn field_bits(&self, kind: PredictorKind) -> u64
         requires { IsNamed self.now.predictors.now kind }
         ensures value { result ≡ fields_cost (predictor_named self.now.predictors.now kind) }

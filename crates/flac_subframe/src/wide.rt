@@ -1,6 +1,6 @@
 //! The shortest subframe of some samples, with partition orders up to 15, worked out in arrays that are made once.
 
-ghost use Rattle.std.specs.Prelude.{◌≡◌, ◌<◌, ◌≤◌, ◌*◌, ◌^◌, ℤ, List, length, take, All, IfOk, IfErr, vec_len};
+ghost use Rattle.std.specs.Prelude.{◌≡◌, ◌<◌, ◌≤◌, ◌+◌, ◌*◌, ◌^◌, ℤ, List, length, take, All, IfOk, IfErr, vec_len};
 ghost use Rattle.flac_bits.specs.Signed.{FitsBits};
 ghost use Rattle.flac_bits.specs.Written.{Writes};
 ghost use Rattle.flac_bits.specs.declared.why.Why.{Why};
@@ -14,7 +14,7 @@ ghost use Rattle.flac_subframe.specs.declared.limits.Limits.{Limits};
 ghost use Rattle.flac_subframe.specs.declared.linear.LinearPredictor.{LinearPredictor};
 
 use crate::choice::choose_in_places;
-use crate::content::{Content, SubframeForm};
+use crate::content::{ContentKind, SubframeForm};
 use crate::limits::Limits;
 use crate::linear::LinearPredictor;
 use crate::numbers::power;
@@ -25,8 +25,8 @@ use crate::writing::write_chosen;
 use flac_bits::{BitWriter, Target, Why};
 use std::alloc::Global;
 
-/// How a subframe is written, in a place that is made once for partition orders up to some greatest, and then takes one choice after
-/// another. It keeps one byte for each partition.
+/// How a subframe is written, in a place that is made once for partition orders up to some greatest, and then takes one
+/// choice after another. It keeps one byte for each partition.
 ///
 /// A linear predictor is named by its place in the list that was handed in.
 #[derive(Drop)]
@@ -34,11 +34,12 @@ pub struct WideChoice {
     pub(crate) form: SubframeForm,
     pub(crate) codings: Vec<u8>,
     bits: u64,
+    priced: u64,
 }
 
 impl WideChoice {
-    /// A place for choices with partition orders up to that of the limits, at most 15. Until one is made in it, it has the constant
-    /// subframe of samples that are all 0 and have one bit.
+    /// A place for choices with partition orders up to that of the limits, at most 15. Until one is made in it, it has
+    /// the constant subframe of samples that are all 0 and have one bit.
     ///
     /// # Errors
     /// [`Why::Memory`] if an allocation fails.
@@ -46,17 +47,19 @@ impl WideChoice {
         requires { limits.now.partition ≤ 15 }
         ensures ok { IfOk result (λ c. vec_len c.codings ≡ 2 ^ limits.now.partition) }
         ensures bits { IfOk result (λ c. c.bits ≡ 9) }
+        ensures priced { IfOk result (λ c. c.priced ≡ 0) }
         ensures err { IfErr result (λ e. e ≡ Why.Memory) }
     {
         let codings = vec![in alloc; 0u8; power(limits.partition as u8)]?;
         Ok(WideChoice {
             form: SubframeForm {
                 wasted: 0,
-                content: Content::Constant,
+                content: ContentKind::Constant,
                 residual: ResidualForm::none(),
             },
             codings,
             bits: 9,
+            priced: 0,
         })
     }
 
@@ -67,20 +70,27 @@ impl WideChoice {
         self.bits
     }
 
-    /// The codings that the choice has, the first of its places.
-    fn codings_used(&self) -> &[u8]
-        ensures same { take (2 ^ self.now.form.residual.halvings) result.now ≡ take (2 ^ self.now.form.residual.halvings) self.now.codings.items }
-        ensures exact { self.now.form.residual.halvings ≤ 15 → 2 ^ self.now.form.residual.halvings ≤ vec_len self.now.codings → length result.now ≡ 2 ^ self.now.form.residual.halvings }
+    /// How often the search computed one value's cost under one parameter, or its width; 0 until a choice is made.
+    pub fn priced(&self) -> u64
+        ensures { result ≡ self.now.priced }
     {
-        let places = self.codings.len();
-        if self.form.residual.halvings > 15 {
-            return &self.codings;
-        }
-        &self.codings[..power(self.form.residual.halvings).min(places)]
+        self.priced
     }
 
-    /// A copy of the choice with places for just its own codings, one byte for each partition. A copy of which the rest is not needed
-    /// takes so much less memory than a place for any choice; it can be written as this one is.
+    /// The codings that the choice has, the first of its places.
+    fn codings_used(&self) -> &[u8]
+        ensures same { take (2 ^ self.now.form.residual.partition_order) result.now ≡ take (2 ^ self.now.form.residual.partition_order) self.now.codings.items }
+        ensures exact { self.now.form.residual.partition_order ≤ 15 → 2 ^ self.now.form.residual.partition_order ≤ vec_len self.now.codings → length result.now ≡ 2 ^ self.now.form.residual.partition_order }
+    {
+        let places = self.codings.len();
+        if self.form.residual.partition_order > 15 {
+            return &self.codings;
+        }
+        &self.codings[..power(self.form.residual.partition_order).min(places)]
+    }
+
+    /// A copy of the choice with places for just its own codings, one byte for each partition. A copy of which the rest
+    /// is not needed takes so much less memory than a place for any choice; it can be written as this one is.
     ///
     /// # Errors
     /// [`Why::Memory`] if an allocation fails.
@@ -88,7 +98,8 @@ impl WideChoice {
         ensures same { IfOk result (λ c. (predictors : List LinearPredictor) (samples : List ℤ) → form_in predictors c samples ≡ form_in predictors self.now samples) }
         ensures made { IfOk result (λ c. (predictors : List LinearPredictor) (samples : List ℤ) → IsMadeIn predictors self.now samples → IsMadeIn predictors c samples) }
         ensures bits { IfOk result (λ c. c.bits ≡ self.now.bits) }
-        ensures exact { IfOk result (λ c. self.now.form.residual.halvings ≤ 15 → 2 ^ self.now.form.residual.halvings ≤ vec_len self.now.codings → vec_len c.codings ≡ 2 ^ self.now.form.residual.halvings) }
+        ensures priced { IfOk result (λ c. c.priced ≡ self.now.priced) }
+        ensures exact { IfOk result (λ c. self.now.form.residual.partition_order ≤ 15 → 2 ^ self.now.form.residual.partition_order ≤ vec_len self.now.codings → vec_len c.codings ≡ 2 ^ self.now.form.residual.partition_order) }
         ensures memory { IfErr result (λ e. e ≡ Why.Memory) }
     {
         let used = self.codings_used();
@@ -98,19 +109,20 @@ impl WideChoice {
             form: self.form,
             codings,
             bits: self.bits,
+            priced: self.priced,
         })
     }
 
     /// The same with its codings lent.
     fn lent(&self) -> ChoiceView<'_>
-        requires few { self.now.form.residual.halvings ≤ 15 }
-        requires places { 2 ^ self.now.form.residual.halvings ≤ vec_len self.now.codings }
+        requires few { self.now.form.residual.partition_order ≤ 15 }
+        requires places { 2 ^ self.now.form.residual.partition_order ≤ vec_len self.now.codings }
         ensures form { result.form ≡ self.now.form }
         ensures codings { result.codings.now ≡ bytes_kept self.now }
     {
         ChoiceView {
             form: self.form,
-            codings: &self.codings[..power(self.form.residual.halvings)],
+            codings: &self.codings[..power(self.form.residual.partition_order)],
         }
     }
 }
@@ -124,14 +136,14 @@ fn copy_first(bytes: &[u8], count: usize, places: &mut [u8])
     places[..count].copy_from_slice(&bytes[..count]);
 }
 
-/// Chooses the subframe of the fewest bits for samples of a depth of 1 to 33 bits, with partition orders up to that of the limits, at
-/// most 15, and puts it into the place of a choice (RFC 9639, section 9.2.7).
+/// Chooses the subframe of the fewest bits for samples of a depth of 1 to 33 bits, with partition orders up to that of
+/// the limits, at most 15, and puts it into the place of a choice (RFC 9639, section 9.2.7).
 ///
-/// The family is that of [`crate::choose_with`], with the partition orders that the limits allow: constant, verbatim, the fixed
-/// predictors of order 0 to 4 and the linear ones that are handed in, with either coding method and every parameter and escape; the
-/// wasted bits are as many as all samples lack. Among equals the first of this order is chosen. The samples are 1 or more and at most
-/// as many as the workspace was made for; the workspace and the place were made for partition orders up to that of the limits or
-/// above. It takes no memory.
+/// The family is that of [`crate::choose_with`], with the partition orders that the limits allow: constant, verbatim,
+/// the fixed predictors of order 0 to 4 and the linear ones that are handed in, with either coding method and every
+/// parameter and escape; the wasted bits are as many as all samples lack. Among equals the first of this order is
+/// chosen. The samples are 1 or more and at most as many as the workspace was made for; the workspace and the place
+/// were made for partition orders up to that of the limits or above. It takes no memory.
 pub fn choose_in(
     samples: &[i64],
     depth: u32,
@@ -153,17 +165,19 @@ pub fn choose_in(
     ensures valid { (most : Limits) → limits.now.partition ≤ most.partition → AreWithin most.linear predictors.now → IsSubframe depth (length samples.now) most (form_in predictors.now choice.new samples.now) }
     ensures restored { samples_of depth (length samples.now) (form_in predictors.now choice.new samples.now) ≡ Some samples.now }
     ensures small { choice.new.bits ≤ 2 ^ 61 }
+    ensures priced { limits.now.partition ≤ 8 → choice.new.priced ≤ (5 + length predictors.now) * (32 * length samples.now) }
+    ensures priced_wide { choice.new.priced ≤ (5 + length predictors.now) * (93 * length samples.now) }
     ensures places { vec_len choice.new.codings ≡ vec_len choice.old.codings }
     ensures room { workspace.new ≡ workspace.old }
 {
-    let _most = workspace.most;
+    let _most = workspace.most; // for the proof alone: what holds of every workspace
     let task = Task {
         samples,
         depth,
         most: limits.partition as u8,
         predictors,
     };
-    let (form, bits) = choose_in_places(
+    let found = choose_in_places(
         &task,
         &mut workspace.longs,
         &mut workspace.shorts,
@@ -171,16 +185,17 @@ pub fn choose_in(
         &mut workspace.tables,
         &mut workspace.bytes,
     );
-    let count = power(form.residual.halvings);
+    let count = power(found.form.residual.partition_order);
     copy_first(&workspace.bytes, count, &mut choice.codings);
-    choice.form = form;
-    choice.bits = bits;
+    choice.form = found.form;
+    choice.bits = found.bits;
+    choice.priced = found.priced;
 }
 
 /// Writes the subframe that [`choose_in`] chose for samples of a depth (RFC 9639, section 9.2).
 ///
-/// The choice is one that was made of these samples at this depth with just these predictors, and the workspace was made for blocks of
-/// as many samples or more. It takes no memory.
+/// The choice is one that was made of these samples at this depth with just these predictors, and the workspace was
+/// made for blocks of as many samples or more. It takes no memory.
 ///
 /// # Errors
 /// [`Why::Write`] if the target fails.

@@ -11,13 +11,13 @@ use crate::view::ResidualView;
 
 /// The width of each partition at the finest partition order, and its bits under parameter 0.
 fn leaves(residual: &ResidualView<'_>, widths: &mut [u8], sums: &mut [u64])
-    requires places { length widths.old ≡ 2 ^ residual.now.halvings }
-    requires sums { length sums.old ≡ 2 ^ residual.now.halvings }
-    ensures widths { (j : ℕ) → j < 2 ^ residual.now.halvings → IsWidth (part residual.now.order residual.now.values.now residual.now.halvings j) (slice_index widths.new j) }
-    ensures small { (j : ℕ) → j < 2 ^ residual.now.halvings → slice_index widths.new j ≤ 32 }
-    ensures costs { (j : ℕ) → j < 2 ^ residual.now.halvings → slice_index sums.new j ≡ sum_by (value_cost 0) (part residual.now.order residual.now.values.now residual.now.halvings j) }
+    requires places { length widths.old ≡ 2 ^ residual.now.partition_order }
+    requires sums { length sums.old ≡ 2 ^ residual.now.partition_order }
+    ensures widths { (j : ℕ) → j < 2 ^ residual.now.partition_order → IsWidth (part residual.now.order residual.now.values.now residual.now.partition_order j) (slice_index widths.new j) }
+    ensures small { (j : ℕ) → j < 2 ^ residual.now.partition_order → slice_index widths.new j ≤ 32 }
+    ensures costs { (j : ℕ) → j < 2 ^ residual.now.partition_order → slice_index sums.new j ≡ sum_by (value_cost 0) (part residual.now.order residual.now.values.now residual.now.partition_order j) }
 {
-    let size = (residual.values.len() + residual.order) >> residual.halvings;
+    let size = (residual.values.len() + residual.order) >> residual.partition_order;
     let mut rest = residual.folds;
     let mut long = size - residual.order;
     for j in 0..widths.len() {
@@ -32,13 +32,13 @@ fn leaves(residual: &ResidualView<'_>, widths: &mut [u8], sums: &mut [u64])
 
 /// The same, with each width at its place after those of the coarser partitions.
 pub(crate) fn lowest(residual: &ResidualView<'_>, widths: &mut [u8], sums: &mut [u64])
-    requires places { 2 * 2 ^ residual.now.halvings ≤ length widths.old }
-    requires sums { 2 ^ residual.now.halvings ≤ length sums.old }
-    ensures widths { HasWidths residual.now.order residual.now.values.now residual.now.halvings residual.now.halvings widths.new }
+    requires places { 2 * 2 ^ residual.now.partition_order ≤ length widths.old }
+    requires sums { 2 ^ residual.now.partition_order ≤ length sums.old }
+    ensures widths { HasWidths residual.now.order residual.now.values.now residual.now.partition_order residual.now.partition_order widths.new }
     ensures long { length widths.new ≡ length widths.old }
-    ensures costs { (j : ℕ) → j < 2 ^ residual.now.halvings → slice_index sums.new j ≡ sum_by (value_cost 0) (part residual.now.order residual.now.values.now residual.now.halvings j) }
+    ensures costs { (j : ℕ) → j < 2 ^ residual.now.partition_order → slice_index sums.new j ≡ sum_by (value_cost 0) (part residual.now.order residual.now.values.now residual.now.partition_order j) }
 {
-    let first = power(residual.halvings);
+    let first = power(residual.partition_order);
     let row = &mut sums[..first];
     leaves(residual, &mut widths[first..2 * first], row);
 }
@@ -46,14 +46,14 @@ pub(crate) fn lowest(residual: &ResidualView<'_>, widths: &mut [u8], sums: &mut 
 /// The width of each partition at each partition order, the larger of its two halves', and the bits of each of the
 /// finest under parameter 0.
 pub(crate) fn measure(residual: &ResidualView<'_>, widths: &mut [u8], sums: &mut [u64])
-    requires places { 2 * 2 ^ residual.now.halvings ≤ length widths.old }
-    requires sums { 2 ^ residual.now.halvings ≤ length sums.old }
-    ensures widths { HasWidths residual.now.order residual.now.values.now 0 residual.now.halvings widths.new }
+    requires places { 2 * 2 ^ residual.now.partition_order ≤ length widths.old }
+    requires sums { 2 ^ residual.now.partition_order ≤ length sums.old }
+    ensures widths { HasWidths residual.now.order residual.now.values.now 0 residual.now.partition_order widths.new }
     ensures long { length widths.new ≡ length widths.old }
-    ensures costs { (j : ℕ) → j < 2 ^ residual.now.halvings → slice_index sums.new j ≡ sum_by (value_cost 0) (part residual.now.order residual.now.values.now residual.now.halvings j) }
+    ensures costs { (j : ℕ) → j < 2 ^ residual.now.partition_order → slice_index sums.new j ≡ sum_by (value_cost 0) (part residual.now.order residual.now.values.now residual.now.partition_order j) }
 {
     lowest(residual, widths, sums);
-    let mut at = power(residual.halvings);
+    let mut at = power(residual.partition_order);
     while at > 1 {
         at -= 1;
         widths[at] = widths[2 * at].max(widths[2 * at + 1]);

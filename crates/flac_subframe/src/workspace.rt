@@ -9,9 +9,9 @@ use flac_bits::Why;
 use std::alloc::Global;
 use std::marker::Model;
 
-/// The working arrays for choosing and writing one subframe after another, made for blocks of at most some number of samples and for
-/// partition orders up to some greatest (RFC 9639, section 9.2.7). With an order of 15 there are 2^15 and 2^16 places for what is known
-/// of each partition, 1.4 MB in all; with one of 8 some 11 kB.
+/// The working arrays for choosing and writing one subframe after another, made for blocks of at most some number of
+/// samples and for partition orders up to some greatest (RFC 9639, section 9.2.7). With an order of 15 there are 2^15
+/// and 2^16 places for what is known of each partition, 1.7 MB in all; with one of 8 some 13 kB.
 #[derive(Drop)]
 pub struct Workspace {
     pub(crate) longs: Vec<i64>,
@@ -35,7 +35,7 @@ impl Model for Workspace {
       longs : vec_len w.longs ≡ 2 * w.max_block;
       shorts : vec_len w.shorts ≡ 2 * w.max_block;
       folds : vec_len w.folds ≡ w.max_block;
-      tables : vec_len w.tables ≡ 5 * 2 ^ w.most;
+      tables : vec_len w.tables ≡ 6 * 2 ^ w.most;
       bytes : vec_len w.bytes ≡ 3 * 2 ^ w.most;
       block : w.max_block ≤ 65535;
       most : w.most ≤ 15;
@@ -43,7 +43,8 @@ impl Model for Workspace {
 }
 
 impl Workspace {
-    /// Allocates the arrays for blocks of at most `max_block` samples, 1 to 65535, and for partition orders up to that of the limits.
+    /// Allocates the arrays for blocks of at most `max_block` samples, 1 to 65535, and for partition orders up to that
+    /// of the limits.
     ///
     /// # Errors
     /// [`Why::Memory`] if an allocation fails.
@@ -59,7 +60,7 @@ impl Workspace {
         let longs = vec![in alloc; 0i64; 2 * max_block]?;
         let shorts = vec![in alloc; 0i32; 2 * max_block]?;
         let folds = vec![in alloc; 0u32; max_block]?;
-        let tables = vec![in alloc; 0u64; 5 * count]?;
+        let tables = vec![in alloc; 0u64; 6 * count]?;
         let bytes = vec![in alloc; 0u8; 3 * count]?;
         Ok(Workspace {
             longs,

@@ -1,26 +1,29 @@
 //! Subframes, written.
 
-ghost use Rattle.std.specs.Prelude.{◌≡◌, ◌≤◌, ◌<◌, ◌+◌, ◌*◌, ◌-◌, ◌^◌, ◌⊎◌, ◌++◌, List, length, All, flat_map, map, take};
+ghost use Rattle.std.specs.Prelude.{◌≡◌, ◌≤◌, ◌<◌, ◌+◌, ◌*◌, ◌-◌, ◌++◌, List, length, All, flat_map, map, take};
 ghost use Rattle.flac_bits.specs.Rice.{IsResidual};
 ghost use Rattle.flac_bits.specs.Signed.{signed, FitsBits};
 ghost use Rattle.flac_bits.specs.Written.{Writes};
 ghost use Rattle.flac_subframe.specs.Bodies.{cut, residual_of, content_of, Predicts, fixed, order_of, coefficients_of, shift_of, differences, StandsFor};
 ghost use Rattle.flac_subframe.specs.Chosen.{body_under, body_as, HasPredictor, offered};
 ghost use Rattle.flac_subframe.specs.Family.{form_as, form_of, form_with, IsMadeAs, IsMadeOf, IsMadeWith};
+ghost use Rattle.flac_subframe.specs.inner.Codes.{IsType, type_code};
 ghost use Rattle.flac_subframe.specs.inner.Family.{type_number};
 ghost use Rattle.flac_subframe.specs.Handed.{predictor_of, handed};
-ghost use Rattle.flac_subframe.specs.Cost.{MayCode, MayCodeEach, MayWrite, coding_of};
+ghost use Rattle.flac_subframe.specs.Cost.{MayCode, MayCodeEach, MayWrite, coding_of, parameter_bits_of};
 ghost use Rattle.flac_subframe.specs.inner.Cost.{codings_lent};
 ghost use Rattle.flac_subframe.specs.Spelling.{value_spelling, coding_spelling, partition_spelling, residual_spelling, predictor_spelling, content_spelling, header_spelling, subframe_spelling};
 
 use crate::chosen::{Choice, MOST_SAMPLES};
 use crate::coding::Coding;
-use crate::content::{Content, PredictorKind};
+use crate::coding_method::CodingMethod;
+use crate::content::{ContentKind, PredictorKind};
 use crate::folding::fold;
 use crate::leaving::{take_fixed, take_linear};
 use crate::linear::LinearPredictor;
 use crate::numbers::power;
 use crate::predictors::fixed_coefficients;
+use crate::subframe_type::SubframeType;
 use crate::tables::filled;
 use crate::view::ChoiceView;
 use crate::wasted::drop_wasted;
@@ -57,34 +60,25 @@ fn write_signed<W: Target>(writer: &mut BitWriter<W>, n: u32, values: &[i64]) ->
     Ok(())
 }
 
-/// The parameter that marks an escape: all ones.
-fn escape(parameter_bits: u32) -> u64
-    requires { (parameter_bits ≡ 4) ⊎ (parameter_bits ≡ 5) }
-    ensures { result ≡ 2 ^ parameter_bits - 1 }
-{
-    if parameter_bits == 4 { 15 } else { 31 }
-}
-
 /// Writes a partition.
 fn write_partition<W: Target>(
     writer: &mut BitWriter<W>,
-    parameter_bits: u32,
+    method: CodingMethod,
     coding: Coding,
     values: &[i64],
 ) -> Result<(), Why>
-    requires method { (parameter_bits ≡ 4) ⊎ (parameter_bits ≡ 5) }
-    requires may { MayCode parameter_bits values.now coding }
+    requires may { MayCode (parameter_bits_of method) values.now coding }
     requires range { All IsResidual values.now }
-    ensures { Writes (coding_spelling parameter_bits coding values.now) writer.old writer.new result }
+    ensures { Writes (coding_spelling (parameter_bits_of method) coding values.now) writer.old writer.new result }
 {
     match coding {
         Coding::Rice(parameter) => {
-            writer.put(parameter_bits, parameter as u64)?;
+            writer.put(method.parameter_bits(), parameter as u64)?;
             write_values(writer, parameter as u32, values)
         }
         Coding::Escape(width) => {
-            let field = escape(parameter_bits) * 32 + width as u64;
-            writer.put(parameter_bits + 5, field)?;
+            let field = u64::from(method.escape()) * 32 + width as u64;
+            writer.put(method.parameter_bits() + 5, field)?;
             write_signed(writer, width as u32, values)
         }
     }
@@ -93,23 +87,22 @@ fn write_partition<W: Target>(
 /// Writes partitions, of which the first has a length of its own. The coding of each is a byte.
 fn write_partitions<W: Target>(
     writer: &mut BitWriter<W>,
-    parameter_bits: u32,
+    method: CodingMethod,
     first: usize,
     size: usize,
     codings: &[u8],
     values: &[i64],
 ) -> Result<(), Why>
-    requires method { (parameter_bits ≡ 4) ⊎ (parameter_bits ≡ 5) }
-    requires may { MayCodeEach parameter_bits first size values.now (map coding_of codings.now) }
+    requires may { MayCodeEach (parameter_bits_of method) first size values.now (map coding_of codings.now) }
     requires range { All IsResidual values.now }
     requires cut { length values.now + size ≡ first + length codings.now * size }
-    ensures { Writes (flat_map (partition_spelling parameter_bits) (cut first size values.now (map coding_of codings.now))) writer.old writer.new result }
+    ensures { Writes (flat_map (partition_spelling (parameter_bits_of method)) (cut first size values.now (map coding_of codings.now))) writer.old writer.new result }
 {
     let mut rest = values;
     let mut long = first;
     for byte in codings {
         let (part, after) = rest.split_at(long);
-        write_partition(writer, parameter_bits, Coding::of_byte(*byte), part)?;
+        write_partition(writer, method, Coding::of_byte(*byte), part)?;
         rest = after;
         long = size;
     }
@@ -129,13 +122,12 @@ fn write_residual<W: Target>(
     ensures { Writes (residual_spelling (residual_of order values.now (codings_lent choice.now))) writer.old writer.new result }
 {
     let form = choice.form.residual;
-    let size = (values.len() + order) / power(form.halvings);
-    let parameter_bits = form.method.parameter_bits();
-    let field = (parameter_bits as u64 - 4) * 16 + form.halvings as u64;
+    let size = (values.len() + order) / power(form.partition_order);
+    let field = form.method.code() * 16 + form.partition_order as u64;
     writer.put(6, field)?;
     write_partitions(
         writer,
-        parameter_bits,
+        form.method,
         size - order,
         size,
         choice.codings,
@@ -256,9 +248,9 @@ fn write_content<W: Target>(
     ensures { Writes (content_spelling depth (content_of (body_as predictors.now choice.now.form.content (codings_lent choice.now) samples.now))) writer.old writer.new result }
 {
     match choice.form.content {
-        Content::Constant => writer.put_signed(depth, samples[0]),
-        Content::Verbatim => write_signed(writer, depth, samples),
-        Content::Predicted(kind) => match kind {
+        ContentKind::Constant => writer.put_signed(depth, samples[0]),
+        ContentKind::Verbatim => write_signed(writer, depth, samples),
+        ContentKind::Predicted(kind) => match kind {
             PredictorKind::Fixed(order) => {
                 write_fixed(writer, order, choice, depth, samples, values)
             }
@@ -271,31 +263,37 @@ fn write_content<W: Target>(
 }
 
 /// The header of a subframe: its type, and how many bits are wasted.
-fn write_header<W: Target>(writer: &mut BitWriter<W>, kind: u64, wasted: u32) -> Result<(), Why>
-    requires kind { kind < 64 }
+fn write_header<W: Target>(
+    writer: &mut BitWriter<W>,
+    kind: SubframeType,
+    wasted: u32,
+) -> Result<(), Why>
+    requires kind { IsType kind }
     requires wasted { wasted ≤ 33 }
-    ensures { Writes (header_spelling kind wasted) writer.old writer.new result }
+    ensures { Writes (header_spelling (type_code kind) wasted) writer.old writer.new result }
 {
+    let code = kind.code();
     if wasted == 0 {
-        return writer.put(8, kind * 2);
+        return writer.put(8, code * 2);
     }
-    writer.put(8, kind * 2 + 1)?;
+    writer.put(8, code * 2 + 1)?;
     writer.put_unary(wasted as u64 - 1)
 }
 
 /// The type of a subframe (RFC 9639, section 9.2.1).
-fn type_of_content(content: Content, predictors: &[LinearPredictor]) -> u64
+fn type_of_content(content: ContentKind, predictors: &[LinearPredictor]) -> SubframeType
     requires handed { HasPredictor predictors.now content }
-    ensures { result ≡ type_number predictors.now content }
+    ensures code { type_code result ≡ type_number predictors.now content }
+    ensures within { IsType result }
 {
     match content {
-        Content::Constant => 0,
-        Content::Verbatim => 1,
-        Content::Predicted(kind) => match kind {
-            PredictorKind::Fixed(order) => 8 + order as u64,
+        ContentKind::Constant => SubframeType::Constant,
+        ContentKind::Verbatim => SubframeType::Verbatim,
+        ContentKind::Predicted(kind) => match kind {
+            PredictorKind::Fixed(order) => SubframeType::Fixed(order as u32),
             PredictorKind::Linear(index) => {
                 let predictor = &predictors[index];
-                31 + predictor.order() as u64
+                SubframeType::Linear(predictor.order() as u32)
             }
         },
     }
@@ -338,8 +336,8 @@ pub(crate) fn write_chosen<W: Target>(
 
 /// Writes the subframe that was chosen for samples of a depth (RFC 9639, section 9.2).
 ///
-/// The choice is one that was made of these samples at this depth. The work is done in arrays of 1 MB on the stack; for many blocks
-/// [`crate::write_subframe_in`] takes arrays that are used again.
+/// The choice is one that was made of these samples at this depth. The work is done in arrays of 1 MB on the stack; for
+/// many blocks [`crate::write_subframe_in`] takes arrays that are used again.
 ///
 /// # Errors
 /// [`Why::Write`] if the target fails.
@@ -359,10 +357,11 @@ pub fn write_subframe<W: Target>(
     write_subframe_with(choice, &[], samples, depth, bits)
 }
 
-/// Writes the subframe that was chosen for samples of a depth with linear predictors beside the fixed ones (RFC 9639, section 9.2).
+/// Writes the subframe that was chosen for samples of a depth with linear predictors beside the fixed ones (RFC 9639,
+/// section 9.2).
 ///
-/// The choice is one that was made of these samples at this depth with just these predictors. The work is done in arrays of 1 MB on the
-/// stack; for many blocks [`crate::write_subframe_in`] takes arrays that are used again.
+/// The choice is one that was made of these samples at this depth with just these predictors. The work is done in
+/// arrays of 1 MB on the stack; for many blocks [`crate::write_subframe_in`] takes arrays that are used again.
 ///
 /// # Errors
 /// [`Why::Write`] if the target fails.

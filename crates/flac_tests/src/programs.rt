@@ -2,7 +2,7 @@
 //! digest unknown; and the samples 0, 1, .., 9999 of one channel in frames of 4096, 4096 and 1808 samples.
 
 use flac_meta::BlockList;
-use flac_native::{StreamEncoder, Target};
+use flac_native::{StreamEncoder, StreamFormat, Target};
 use flac_reader::{
     Container, Counted, Fault, FrameView, Keep, Profile, Reader, Samples, open_native,
 };
@@ -58,11 +58,9 @@ fn copy_frames<C: Container + Drop, W: Target + Drop>(
 /// Copies a native stream of one or two channels, frame by frame, through decoder and encoder.
 fn copy(alloc: Global, from: File, to: File) -> Result<(), Fail> {
     let mut reader = open_native(alloc, Counted::new(from), Profile::Subset, Keep::Tags)?;
-    let info = reader.info();
-    let (rate, bits) = (info.rate(), u32::from(info.depth()));
-    let (count, block) = (u32::from(info.channels()), u32::from(info.greatest_block()));
+    let format = StreamFormat::of(reader.info(), Profile::Subset);
     let (list, to) = (BlockList::new(Vec::new(alloc))?, Counted::new(to));
-    let mut encoder = StreamEncoder::new(alloc, rate, bits, count, block, &list, to)?;
+    let mut encoder = StreamEncoder::new_in(alloc, &format, &list, to)?;
     copy_frames(&mut reader, &mut encoder)?;
     let _file = encoder.finish()?;
     Ok(())

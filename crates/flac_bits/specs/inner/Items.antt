@@ -18,6 +18,6 @@ judged at (rule ∷ rules) = cond rule.broken (refused at rule.why) (judged at r
 abbrev pub step_at : {S I P : Type 0} → Grammar S I P → S → Cursor → Step I P
 step_at g s c = cond (g.may_end s && is_nil c.left) (judged g.end_place (g.at_end s)) (stepped (g.place s) (read_in (g.room s) (g.layout s) (record c { mark = fresh c.mark })))
 
--- where it may end, an item needs at least one bit
+-- if the input may end, an item needs at least one bit
 abbrev pub NeedsBits : {S I P : Type 0} → Grammar S I P → Type 0
 NeedsBits {S = S} g = (s : S) (m : Mark) → g.may_end s ≡ true → IsCut (g.layout s) m []

@@ -8,7 +8,7 @@ use Rattle.flac_bits.specs.Store.{Fence, Store, allowed, forbidden, reached, lef
 abbrev pub Takes : List Bool → Store → Store → Type 0
 Takes text old new = (old.word ≡ text ++ new.word) × (new.bytes ≡ old.bytes) × (new.mark ≡ past text old.mark) × (new.fence ≡ old.fence)
 
--- these bits were taken, off the word or behind it
+-- these bits were taken, off the word or off the bytes after it
 abbrev pub Passes : List Bool → Store → Store → Type 0
 Passes text old new = (old.word ++ bits_of old.bytes ≡ text ++ (new.word ++ bits_of new.bytes)) × (new.mark ≡ past text old.mark) × (new.fence ≡ old.fence)
 
@@ -16,13 +16,13 @@ Passes text old new = (old.word ++ bits_of old.bytes ≡ text ++ (new.word ++ bi
 abbrev pub HoldsSame : Store → Store → Type 0
 HoldsSame old new = (new.word ++ bits_of new.bytes ≡ old.word ++ bits_of old.bytes) × (new.mark ≡ old.mark) × (new.fence ≡ old.fence)
 
--- the four bytes at a place
+-- the four bytes from an index on
 abbrev pub four_at : List ℕ → ℕ → List ℕ
 four_at bytes place = get_or bytes place 0 ∷ get_or bytes (place + 1) 0 ∷ get_or bytes (place + 2) 0 ∷ get_or bytes (place + 3) 0 ∷ []
 
 -- ---- with a fence, of bytes that are still to come
 
--- how many of n bytes that came stand before it, and where it is then
+-- how many of n bytes that came are before it, and how many may still come
 abbrev pub seen : Option ℕ → ℕ → ℕ
 seen None n = n
 seen (Some room) n = min n room
@@ -31,7 +31,7 @@ abbrev pub room_behind : Option ℕ → ℕ → Option ℕ
 room_behind None n = None
 room_behind (Some room) n = Some (room - n)
 
--- ---- what a store and the source behind it stand at
+-- ---- the state of a store and of the source that fills it
 
 -- the same bits are to come, before a fence and past it
 pub record SameBits (old : Store) (xs : List ℕ) (new : Store) (ys : List ℕ) : Type 0 where

@@ -4,12 +4,12 @@ use Rattle.flac_bits.specs.State.{Mark, past}
 use Rattle.flac_bits.specs.declared.why.Why.{Why}
 use Rattle.flac_bits.specs.Written.{Written, Fails}
 
--- bits behind which these parts were written, one after another
+-- the bits, and these parts after them
 abbrev pub behind_parts : List Bool → List (List Bool) → List Bool
 behind_parts bits [] = bits
 behind_parts bits (part ∷ parts) = behind_parts (bits ++ part) parts
 
--- the mark behind these parts
+-- the mark after these parts
 abbrev pub past_parts : List (List Bool) → Mark → Mark
 past_parts [] m = m
 past_parts (part ∷ parts) m = past_parts parts (past part m)

@@ -15,14 +15,14 @@ use Rattle.flac_c.specs.Heads.{comments_from, comments_after, count_of}
 use Rattle.flac_c.specs.Starts.{are_metadata, point_after, point_from}
 use Rattle.flac_c.specs.declared.metadata.Metadata.{Metadata}
 
--- what a block tells is kept
+-- STREAMINFO, the number of comments and the seek point of a block are kept
 pub record Noted (old : Metadata) (b : Block) (new : Metadata) : Type 0 where
   pub info : new.info ≡ info_after old.info b
   pub comments : (c : Option Comments) → old.comments ≡ count_of c → new.comments ≡ count_of (comments_after c b)
   pub sample : new.sample ≡ old.sample
   pub point : new.point ≡ point_after old.sample old.point b
 
--- what all these parts tell is kept
+-- STREAMINFO, the number of comments and the seek point of all these parts are kept
 pub record IsFound (sample : ℕ) (parts : List Piece) (found : Metadata) : Type 0 where
   pub info : found.info ≡ (after grammar (opening Subset) parts).stand.info
   pub comments : found.comments ≡ count_of (comments_from None parts)
@@ -65,6 +65,6 @@ pub record HeadRead (start now : State) (sample : ℕ) (found : Metadata) : Type
   pub read : PartsRead start now sample found
   pub phase : (after grammar (opening Subset) read.parts).stand.phase ≡ Frames
 
--- what comes from the start on is refused there
+-- what comes from the start on is refused at this place
 abbrev pub IsRefusedAt : State → Fault → Type 0
 IsRefusedAt start f = (parts : List Piece) × Refused grammar (opening Subset) start.cursor.mark parts start.cursor.left f.at f.why

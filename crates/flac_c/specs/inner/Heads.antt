@@ -6,7 +6,7 @@ use Rattle.flac_native.specs.Item.{Item, metadata, frame}
 use Rattle.flac_native.specs.Stream.{info_after}
 use Rattle.flac_c.specs.Heads.{comments_after}
 
--- and behind one item
+-- and after one item
 abbrev pub info_behind : Option Info → Item → Option Info
 info_behind info (metadata b) = info_after info b
 info_behind info (frame f) = info

@@ -1,4 +1,4 @@
--- For proofs of the reports: where a refusal is.
+-- For proofs of the reports: the place of a refusal.
 use Rattle.std.specs.Prelude.{ℕ, List, ◌++◌, codes, Option, Some, None}
 use Rattle.flac_bits.specs.declared.why.Why.{Why}
 use Rattle.flac_native.specs.Places.{place_text}
@@ -13,7 +13,7 @@ at_place fault = (Some fault.at, fault.why)
 abbrev pub at_some_place : RetagFault → Option Place × Why
 at_some_place fault = (fault.at, fault.why)
 
--- the text of a reason: behind that of its place, if it has one
+-- the text of a reason: after that of its place, if it has one
 abbrev pub placed : Option Place → (text : List ℕ) → List ℕ
 placed None text = text
 placed (Some at) text = place_text at ++ (codes ": " ++ text)

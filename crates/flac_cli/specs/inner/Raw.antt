@@ -5,28 +5,28 @@ use Rattle.flac_frame.specs.Audio.{samples_each}
 use Rattle.flac_native.specs.Message.{sample_bytes, rows_bytes}
 use Rattle.flac_cli.specs.Raw.{samples_at, raw_channels}
 
--- These are the samples of one channel in rows of so many bytes: each stands behind the same number of bytes of its row, in so
--- many bytes.
+-- These are the samples of one channel in inter-channel samples of `row` bytes: each has `width` bytes, from the byte
+-- `start` of its inter-channel sample on.
 pub record IsChannel (bytes : List ℕ) (rows row start width : ℕ) (samples : List ℤ) : Type 0 where
   pub long : length samples ≡ rows
   pub spelled : (i : ℕ) → i < rows → sample_bytes width (slice_index_or samples i (pos 0)) ≡ take width (drop (i * row + start) bytes)
   pub fits : All (FitsBits (8 * width)) samples
   pub numbers : samples ≡ samples_at bytes row start width rows
 
--- the same of these bytes, whatever their number of rows
+-- the same of these bytes, for any number of inter-channel samples
 abbrev pub IsPart : (row start width : ℕ) → (bytes : List ℕ) (rows : ℕ) → List ℤ → Type 0
 IsPart row start width bytes rows samples = IsChannel bytes rows row start width samples
 
--- each of so many channels is that of so many rows of these bytes
+-- each of `count` channels is that of `rows` inter-channel samples of these bytes
 pub record AreParts (count width : ℕ) (bytes : List ℕ) (rows : ℕ) (channels : List (List ℤ)) : Type 0 where
   pub many : length channels ≡ count
   pub each : (c : ℕ) → c < count → IsChannel bytes rows (count * width) (c * width) width (slice_index_or channels c [])
 
--- what is so of whole rows of bytes is then so of these bytes and so many rows more
+-- what is true of whole inter-channel samples is then true of these bytes and `rows` more
 abbrev pub IsMore : {X : Type 0} (Is : List ℕ → ℕ → X → Type 0) (piece : List ℕ) (row rows : ℕ) (old new : X) → Type 0
 IsMore Is piece row rows old new = (bytes : List ℕ) (before : ℕ) → length bytes ≡ before * row → Is bytes before old → Is (bytes ++ piece) (before + rows) new
 
--- these are the samples of so many channels, each of so many bytes
+-- these are the samples of `count` channels, each of `width` bytes
 pub record AreChannels (bytes : List ℕ) (count width : ℕ) (channels : List (List ℤ)) : Type 0 where
   pub many : length channels ≡ count
   pub long : All (λ c. length c ≡ samples_each channels) channels

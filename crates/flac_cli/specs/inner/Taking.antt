@@ -2,12 +2,12 @@
 use Rattle.std.specs.Prelude.{ℕ, ◌+◌, min}
 use Rattle.flac_native.specs.Item.{Item, metadata, frame}
 
--- the count of frames behind this item; it stops at 2^64 - 1
+-- the count of frames after this item; it stops at 2^64 - 1
 abbrev pub frames_after : ℕ → Item → ℕ
 frames_after n (metadata b) = n
 frames_after n (frame f) = min (n + 1) 18446744073709551615
 
--- the count of each channel's samples behind this item; it stops at 2^64 - 1
+-- the count of each channel's samples after this item; it stops at 2^64 - 1
 abbrev pub samples_after : ℕ → Item → ℕ
 samples_after n (metadata b) = n
 samples_after n (frame f) = min (n + f.size) 18446744073709551615

@@ -5,7 +5,7 @@ use Rattle.flac_subframe.specs.declared.linear.LinearPredictor.{LinearPredictor}
 use Rattle.flac_frame.specs.inner.Encoding.{AreForms, AreLeast}
 use Rattle.flac_frame.specs.Chosen.{forms_of, AreMade}
 
--- the choices are of the least subframes of channels, each by itself
+-- the choices are the shortest subframes of channels, each by itself
 pub record AreChosen (most : ℕ) (ps : List LinearPredictor) (depth size : ℕ) (choices : List WideChoice) (block : List (List ℤ)) : Type 0 where
   pub made : AreMade ps choices block
   pub are : AreForms most ps depth size (forms_of ps choices block) block

@@ -13,12 +13,13 @@ use Rattle.flac_subframe.specs.Subframe.{Form, samples_of}
 
 -- ---- a frame
 
--- no form in the family takes fewer bits for the samples: constant, verbatim, or a fixed predictor of order 0 to 4 with either coding method, partition orders
--- up to the greatest and any parameter or escape, and as many wasted bits as all samples lack; and behind these the linear predictors that are handed in
+-- no form in the family takes fewer bits for the samples: constant, verbatim, or a fixed predictor of order 0 to 4 with
+-- either coding method, partition orders up to `most` and any parameter or escape, with all wasted bits left out; and
+-- the same with the linear predictors of the list
 abbrev pub IsLeastFor : (most : ℕ) → List LinearPredictor → ℕ → List ℤ → Form → Type 0
 IsLeastFor most ps depth s f = IsLeast (λ g. Stands most (offered ps) g s) (λ g. length (subframe_spelling depth g)) f
 
--- each channel's subframe is the least by itself
+-- each channel's subframe is the shortest by itself
 abbrev pub AreLeast : (most : ℕ) → List LinearPredictor → ℕ → List Form → List (List ℤ) → Type 0
 AreLeast most ps depth [] [] = ⊤
 AreLeast most ps depth [] (s ∷ ss) = ⊥
@@ -27,13 +28,14 @@ AreLeast most ps depth (f ∷ fs) (s ∷ ss) = IsLeastFor most ps depth s f × A
 
 -- ---- its parts
 
--- forms that may be spelled, where the orders of the predictors are within the limit, have the samples of channels, each by itself
+-- forms that may be spelled, if the orders of the predictors are within the limit, have the samples of channels, each
+-- by itself
 abbrev pub AreForms : (most : ℕ) → List LinearPredictor → (depth size : ℕ) → List Form → List (List ℤ) → Type 0
 AreForms most ps depth size [] [] = ⊤
 AreForms most ps depth size [] (s ∷ ss) = ⊥
 AreForms most ps depth size (f ∷ fs) [] = ⊥
 AreForms most ps depth size (f ∷ fs) (s ∷ ss) = ((limits : Limits) → most ≤ limits.partition → AreWithin limits.linear ps → IsSubframe depth size limits f) × (samples_of depth size f ≡ Some s) × AreForms most ps depth size fs ss
 
--- zeros up to a whole byte behind a mark, and CRC-16
+-- zeros up to a whole byte after a mark, and CRC-16
 abbrev pub end_spelling : Mark → List Bool
 end_spelling m = unsigned m.unread 0 ++ unsigned 16 (past (unsigned m.unread 0) m).check16

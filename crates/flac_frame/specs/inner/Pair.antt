@@ -1,4 +1,4 @@
--- For proofs of the search: the shortest of the ways to keep two channels.
+-- For proofs of the search: the shortest of the ways to store two channels.
 use Rattle.std.specs.Prelude.{◌≡◌, ℕ, ◌+◌, ◌≤◌, ◌<◌, ◌⊎◌, cond, nat_eq, ℤ, List, length, Some}
 use Rattle.flac_subframe.specs.declared.limits.Limits.{Limits}
 use Rattle.flac_subframe.specs.declared.linear.LinearPredictor.{LinearPredictor}
@@ -19,25 +19,25 @@ IsPairCode code = (code ≡ 1) ⊎ (code ≡ 8) ⊎ (code ≡ 9) ⊎ (code ≡ 1
 abbrev pub pair_cost : (left right side middle code : ℕ) → ℕ
 pair_cost left right side middle code = cond (nat_eq code 8) (left + side) (cond (nat_eq code 9) (side + right) (cond (nat_eq code 10) (middle + side) (left + right)))
 
--- no code costs less, and those below cost more
+-- no code costs less, and smaller codes cost more
 pub record IsFirstLeast (cost : ℕ → ℕ) (code : ℕ) : Type 0 where
   pub one : IsPairCode code
   pub least : (c : ℕ) → IsPairCode c → cost code ≤ cost c
   pub first : (c : ℕ) → IsPairCode c → c < code → cost code < cost c
 
--- a least form of samples, which may be spelled, has them, and takes so many bits
+-- a shortest form of samples, which may be spelled, has them, and takes `bits` bits
 pub record IsChosen (most : ℕ) (ps : List LinearPredictor) (depth : ℕ) (s : List ℤ) (f : Form) (bits : ℕ) : Type 0 where
   pub least : IsLeastFor most ps depth s f
   pub cost : bits ≡ length (subframe_spelling depth f)
   pub valid : (limits : Limits) → most ≤ limits.partition → AreWithin limits.linear ps → IsSubframe depth (length s) limits f
   pub samples : samples_of depth (length s) f ≡ Some s
 
--- what was chosen of samples makes a least form of them
+-- what was chosen for samples is a shortest form of them
 pub record IsPlane (most : ℕ) (ps : List LinearPredictor) (depth : ℕ) (s : List ℤ) (c : WideChoice) : Type 0 where
   pub chosen : IsChosen most ps depth s (form_in ps c s) c.bits
   pub made : IsMadeIn ps c s
 
--- what was chosen of left and right, of their side and of their middle (section 4.2)
+-- what was chosen for left and right, for their side and for their middle (section 4.2)
 pub record ArePlanes (most : ℕ) (ps : List LinearPredictor) (depth : ℕ) (left right : List ℤ) (c : PairChoices) : Type 0 where
   pub lefts : IsPlane most ps depth left c.left
   pub rights : IsPlane most ps depth right c.right
@@ -48,7 +48,7 @@ pub record ArePlanes (most : ℕ) (ps : List LinearPredictor) (depth : ℕ) (lef
 abbrev pub choices_cost : PairChoices → ℕ → ℕ
 choices_cost c code = pair_cost c.left.bits c.right.bits c.side.bits c.middle.bits code
 
--- which of the choices a code keeps first, and which second
+-- which of the choices a code stores first, and which second
 abbrev pub first_kept : ℕ → PairChoices → WideChoice
 first_kept code c = cond (nat_eq code 9) c.side (cond (nat_eq code 10) c.middle c.left)
 

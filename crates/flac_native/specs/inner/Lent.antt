@@ -7,7 +7,7 @@ has_still [] now = true
 has_still (b ∷ before) [] = false
 has_still (b ∷ before) (c ∷ now) = cond (nat_eq b c) (has_still before now) false
 
--- A one and the bytes behind those, or a zero if they are no longer there.
+-- A one and the bytes after those, or a zero if they are no longer there.
 abbrev pub sent_since : (before now : List ℕ) → List ℕ
 sent_since [] now = 1 ∷ now
 sent_since (b ∷ before) [] = 0 ∷ []

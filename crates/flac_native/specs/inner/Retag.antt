@@ -17,7 +17,7 @@ use Rattle.flac_native.specs.Retag.{unless_comment, without_comments, BeginsWith
 abbrev pub stand_at : Position → Stand → Stand
 stand_at q s = record s { phase = q.phase; index = q.index; seen = q.seen }
 
--- the marker, or a block beside whether it is marked last
+-- the marker, or a block with whether it is marked as the last
 abbrev pub piece_in : Option (Bool × Block) → Piece
 piece_in None = marked
 piece_in (Some b) = block b.0 b.1
@@ -28,14 +28,14 @@ keeps old marked new = new ≡ old
 keeps old (block last b) new = new ≡ old ++ unless_comment b
 keeps old (framed f) new = ⊥
 
--- what is kept where bits begin with a marker and blocks
+-- what is kept if bits begin with a marker and blocks
 pub record AreKept (c : Cursor) (kept : List Block) (rest : List Bool) : Type 0 where
   pub info : Info
   pub list : List Block
   pub input : BeginsWith c.mark c.left info list rest
   pub are : kept ≡ blocks.StreamInfo info ∷ without_comments list
 
--- what stands before the frames with these comments, where the first of these blocks is STREAMINFO
+-- what comes before the frames with these comments, if the first of these blocks is STREAMINFO
 abbrev pub new_head : Comments → List Block → List Bool
 new_head comments [] = []
 new_head comments (b ∷ bs) = unsigned 32 0x664C6143 ++ blocks_spelling (b ∷ blocks.VorbisComment comments ∷ bs)

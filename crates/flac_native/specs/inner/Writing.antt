@@ -24,7 +24,8 @@ pub record WritesAll {X : Type 0} (text : List Bool) (old new : Written) (result
   pub names : new.names ≡ old.names
   pub sent : OnOk result (old.known ≡ true → bits_of new.sent ≡ old.bits ++ text)
 
--- These bits were written, from a whole byte to one, or else the target failed. The checks may have begun anew among them, and the last bits may be held.
+-- These bits were written, from a whole byte to one, or else the target failed. The checks may have begun anew among
+-- them, and the last bits may be held.
 pub record WritesOn {X : Type 0} (text : List Bool) (old new : Written) (result : Result X Why) : Type 0 where
   pub failed : IfErr result (λ e. Fails (old.bits ++ text) old new e)
   pub known : OnOk result (old.known ≡ true → new.known ≡ true)
@@ -33,18 +34,19 @@ pub record WritesOn {X : Type 0} (text : List Bool) (old new : Written) (result 
   pub bits : OnOk result (old.known ≡ true → new.bits ≡ old.bits ++ text)
   pub whole : OnOk result (new.mark.unread ≡ 0)
 
--- The frame of a number can be written: it has samples, which fit the plan; these are the choices of the first frames; and the buffers were made for the plan.
+-- The frame of a number can be written: it has samples, which fit the plan; these are the choices of the first frames;
+-- and the buffers were made for the plan.
 pub record IsReady (p : Cut) (a : Sound) (number : ℕ) (choices : List FrameChoice) (room : Room) : Type 0 where
   pub fits : fits_plan p a ≡ true
   pub few : number < blocks_in p.block_size (samples_each a.channels)
   pub chosen : AreChoices p a choices
   pub buffers : room ≡ room_of p
 
--- at a whole byte, where the checks begin, the least frame of a number was written
+-- at a whole byte, at which the checks begin, the shortest frame of a number was written
 abbrev pub WritesChosen : {X : Type 0} → Cut → Sound → ℕ → Written → Written → Result X Why → Type 0
 WritesChosen p a number old new result = (f : FrameForm) × IsSpelled p a number (frame_spelling a.bits f) × Writes (frame_spelling a.bits f) (restarted old) new result
 
--- so it is of the least frame of a number
+-- the shortest frame of a number was written and sent
 abbrev pub WritesNext : {X : Type 0} → Cut → Sound → ℕ → Written → Written → Result X Why → Type 0
 WritesNext p a number old new result = (text : List Bool) × IsSpelled p a number text × WritesAll text old new result
 
@@ -53,7 +55,8 @@ pub record IsKept (c kept : FrameChoice) : Type 0 where
   pub same : (ps : List LinearPredictor) (a : Sound) (size number : ℕ) (block : List (List ℤ)) → IsChoiceWith ps a size number block c → IsChoiceWith ps a size number block kept
   pub many : length kept.subframes.items ≡ length c.subframes.items
 
--- A call that was to send whole bytes of these bits sent all of them where it answered Ok, and else a beginning of them; then the target answered an error.
+-- A call that was to send whole bytes of these bits sent all of them if it returned Ok, and else a prefix of them; then
+-- the target returned an error.
 pub record SendsBits {S X E : Type 0} (g : target.Ghosts S) (text : List Bool) (old new : S) (result : Result X E) : Type 0 where
   pub known : OnOk result (g.known old ≡ true → g.known new ≡ true)
   pub sent : OnOk result (g.known old ≡ true → bits_of (g.sent new) ≡ bits_of (g.sent old) ++ text)
@@ -64,20 +67,20 @@ pub record SendsBits {S X E : Type 0} (g : target.Ghosts S) (text : List Bool) (
   pub rises : OnErr result (g.known old ≡ true → g.errors old < g.errors new)
   pub risen : OnErr result (Rises (g.errors old) (g.errors new))
 
--- each block of the samples has a least frame
+-- each block of the samples has a shortest frame
 pub record HaveFrames (p : Cut) (a : Sound) : Type 0 where
   pub frames : List (List Bool)
   pub are : AreFrames p a frames
   pub are_least : AreLeastFrames p a frames
 
--- all frames of the samples were written, each the least of its block
+-- all frames of the samples were written, each the shortest of its block
 abbrev pub WritesFrames : {X : Type 0} → Cut → Sound → Written → Written → Result X Why → Type 0
 WritesFrames p a old new result = (frames : List (List Bool)) × AreFrames p a frames × AreLeastFrames p a frames × WritesOn (joined frames) old new result
 
--- behind other bits they were written and sent
+-- after other bits they were written and sent
 abbrev pub WritesStream : {X : Type 0} → List Bool → Cut → Sound → Written → Written → Result X Why → Type 0
 WritesStream head p a old new result = (frames : List (List Bool)) × AreFrames p a frames × AreLeastFrames p a frames × WritesAll (head ++ joined frames) old new result
 
--- behind other bits all of them were sent, or else a beginning
+-- after other bits all of them were sent, or else a prefix
 abbrev pub SendsStream : {S X E : Type 0} → target.Ghosts S → List Bool → Cut → Sound → S → S → Result X E → Type 0
 SendsStream g head p a old new result = (frames : List (List Bool)) × AreFrames p a frames × AreLeastFrames p a frames × SendsBits g (head ++ joined frames) old new result

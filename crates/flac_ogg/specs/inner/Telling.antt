@@ -21,7 +21,7 @@ first_packet s = mapping >>= λ _. block_packet s
 
 -- ---- what is read
 
--- what a call answers that reads the next packet is what the step gives, but where memory is wanting
+-- the result of a call that reads the next packet is what the step gives, unless memory ran out
 abbrev pub StepIs : {X : Type 0} → (X → Piece) → PacketStep → Ahead → Result (Option X) Fault → Type 0
 StepIs view step a (Ok None) = step ≡ over
 StepIs view step a (Ok (Some x)) = step ≡ item (view x) a
@@ -32,7 +32,7 @@ abbrev pub MeetsIn : {X : Type 0} → ℕ → ℕ → Result X Fault → Type 0
 MeetsIn old new (Ok x) = new ≡ old
 MeetsIn old new (Err f) = Met f.why old new
 
--- and what is answered where no packet is left
+-- and the result if no packet is left
 abbrev pub EndIs : {X : Type 0} → PacketStep → Result X Fault → Type 0
 EndIs step (Ok x) = step ≡ over
 EndIs step (Err f) = step ≡ refused f.at f.why

@@ -11,8 +11,8 @@ use Rattle.flac_pages.specs.Placed.{Placed, IsPlaced, pages_from, stream_spellin
 use Rattle.flac_ogg.specs.Listed.{texts_of, kinds_in}
 use Rattle.flac_ogg.specs.Writing.{frames_to}
 
--- Pages from the one of a number on were sent, or else a beginning of them: all frames of the samples, each the least of its block
--- with the plan's predictors, in a packet each.
+-- Pages from the one of a number on were sent, or else a prefix of them: all frames of the samples, each the shortest
+-- of its block with the plan's predictors, in a packet each.
 pub record SendsPackets {S X E : Type 0} (g : target.Ghosts S) (serial from : ℕ) (p : Cut) (a : Sound) (old new : S) (result : Result X E) : Type 0 where
   pub frames : List (List Bool)
   pub are : AreFrames p a frames
@@ -23,7 +23,7 @@ pub record SendsPackets {S X E : Type 0} (g : target.Ghosts S) (serial from : �
   pub good : All IsPlaced packets
   pub sends : SendsBits g (flat_map page_spelling (pages_from serial from false packets)) old new result
 
--- so it is of a whole stream, behind header packets
+-- the same for a whole stream, after header packets
 pub record SendsOgg {S X E : Type 0} (g : target.Ghosts S) (serial : ℕ) (p : Cut) (a : Sound) (headers : List Placed) (old new : S) (result : Result X E) : Type 0 where
   pub frames : List (List Bool)
   pub are : AreFrames p a frames

@@ -5,23 +5,24 @@ use Rattle.flac_bits.specs.declared.why.Why.TheVariants.{Read, Truncated, Packet
 use Rattle.flac_pages.specs.Packets.{Place, Met, behind_of, on_page, ReadsPages, BreaksAt}
 use Rattle.flac_pages.specs.Items.{PacketEnd, whole, cut_at, end_of, cut_off}
 
--- the reason where a field needs more bits than the packet has
+-- the reason if a field needs more bits than the packet has
 abbrev pub short_at : PacketEnd → Why
 short_at (cut_at n why) = Read
 short_at other = Truncated
 
 -- ---- how it is read
 
--- a reason of an item's reader, told of the packet, where the reader met this page's fault, if any
+-- the reason of an item's reader as one of the packet; `fault` is the page's fault that the reader met, if any
 abbrev pub why_in : Option (ℕ × Why) → Why → Option ℕ × Why
 why_in fault Truncated = (None, PacketLength)
 why_in None Read = (None, Read)
 why_in (Some f) Read = (Some f.0, f.1)
 why_in fault why = (None, why)
 
--- ---- what the calls do that judge a packet's end
+-- ---- what the calls do that check a packet's end
 
--- A reader of packets went behind the packet that it had begun, to where the next one begins. Or the packet does not end there, and this is why.
+-- A reader of packets passed the packet that it had begun, to the start of the next one. Or the packet does not end
+-- there, and this is why.
 abbrev pub EndsPacket : {X : Type 0} → Place → Place → Result X (Option ℕ × Why) → Type 0
 EndsPacket old new (Ok x) = record {
   known : old.known ≡ true → new.known ≡ true;

@@ -3,7 +3,7 @@ use Rattle.std.specs.Prelude.{◌≡◌, ℕ, ◌+◌, ◌*◌, ◌<◌, Bool, t
 use Rattle.flac_bits.specs.declared.why.Why.{Why}
 use Rattle.flac_pages.specs.Packets.{Place, Ahead, ahead, rest_of, behind_of, broken_off, on_page, ReadsPages, BreaksAt, Met}
 
--- ---- where a reader of packets stands
+-- ---- the state of a reader of packets
 
 -- a page's fault, and nothing before it
 abbrev pub only_fault : ℕ × Why → Ahead
@@ -16,14 +16,14 @@ abbrev pub next_segment : Place → List ℕ → Place
 next_segment p [] = p
 next_segment p (v ∷ vs) = record p { rest = v; more = nat_eq v 255; lacing = vs }
 
--- Within a packet further pages were read, and what breaks the packet off there does so from the start too.
+-- Within a packet further pages were read, and what cuts the packet off there does so from the start too.
 pub record Follows (old new : Place) : Type 0 where
   pub known : old.known ≡ true → new.known ≡ true
   pub more : new.more ≡ true → old.more ≡ true
   pub pages : old.known ≡ true → ReadsPages (on_page old) (on_page new)
   pub breaks : old.known ≡ true → new.more ≡ true → (n : ℕ) → BreaksAt (on_page new) n → BreaksAt (on_page old) n
 
--- the next page, or its fault: what good pages give stays
+-- the next page, or its fault: what good pages have stays
 abbrev pub Turns : {X : Type 0} → Place → Place → Result X Why → Type 0
 Turns old new (Ok x) = record {
   known : old.known ≡ true → new.known ≡ true;
@@ -48,8 +48,8 @@ Turns old new (Err why) = record {
   breaks : BreaksAt (on_page old) new.count;
 }
 
--- A step towards the packet's next bytes: the same bytes are still to come, and the same behind them. There is none
--- to make at the packet's end; and what is refused is the fault behind the packet's last good byte.
+-- A step towards the packet's next bytes: the same bytes are still to come, and the same after them. There is none to
+-- make at the packet's end; and what is refused is the fault after the packet's last good byte.
 abbrev pub Steps : Place → Place → Result Bool Why → Type 0
 Steps old new (Ok true) = record {
   known : old.known ≡ true → new.known ≡ true;
@@ -73,7 +73,7 @@ Steps old new (Err why) = record {
   breaks : (old.more ≡ true) × BreaksAt (on_page old) new.count;
 }
 
--- the next byte of the packet is found, or the packet's end, or the fault behind its last good byte
+-- the next byte of the packet is found, or the packet's end, or the fault after its last good byte
 abbrev pub Finds : Place → Place → Result Bool Why → Type 0
 Finds old new (Ok found) = record {
   known : old.known ≡ true → new.known ≡ true;
@@ -97,7 +97,7 @@ Finds old new (Err why) = record {
   breaks : old.known ≡ true → (old.more ≡ true) × BreaksAt (on_page old) new.count;
 }
 
--- so many bytes of the packet are copied to the room's front
+-- n bytes of the packet are copied to the front of the buffer
 pub record Copies (old new : Place) (out : List ℕ) (n : ℕ) : Type 0 where
   pub known : new.known ≡ old.known
   pub errors : new.errors ≡ old.errors
@@ -108,7 +108,7 @@ pub record Copies (old new : Place) (out : List ℕ) (n : ℕ) : Type 0 where
   pub behind : behind_of new ≡ behind_of old
   pub follows : Follows old new
 
--- behind the last page: no packet, or the fault there
+-- after the last page: no packet, or the fault there
 abbrev pub ended : ℕ → Option Why → Result Bool (ℕ × Why)
 ended n None = Ok false
 ended n (Some why) = Err (n, why)

@@ -16,7 +16,7 @@ abbrev pub FirstIfHeld : Info → ℕ → Frame → Option ℕ → Type 0
 FirstIfHeld info sample f None = holds info sample f ≡ false
 FirstIfHeld info sample f (Some n) = (holds info sample f ≡ true) × (n ≡ first_sample info.greatest_block f)
 
--- a search ended so; or the stream was refused behind frames that do not hold the sample
+-- a search ended so; or the stream was refused after frames that do not hold the sample
 abbrev pub Searches : {C X : Type 0} → container.Ghosts C → Info → ℕ → List Frame → Option (Place × Why) → Bool → Result X Fault → Stage C → Type 0
 Searches g info sample frames end ahead (Ok x) s = Finds g info sample frames end ahead s
 Searches g info sample frames end ahead (Err f) s = PassedBy info sample frames × (end ≡ Some (told f))

@@ -13,8 +13,8 @@ use Rattle.flac_reader.specs.Coming.{Comes, FramesCome, stream_items}
 use Rattle.flac_reader.specs.Starting.{and_block}
 use Rattle.flac_reader.specs.declared.keep.Keep.{Keep}
 
--- A block was the first of what was to come, is kept if it is wanted, and its bytes are counted behind those before; or else a frame was, or the end, and is read
--- ahead; or the stream is refused.
+-- A block was the first of what was to come, is kept if it is wanted, and its bytes are counted after those before; or
+-- else a frame was, or the end, and is read ahead; or the stream is refused.
 abbrev pub Took : {C : Type 0} → container.Ghosts C → Keep → List Block → List Frame → Option (Place × Why) → (old new : List Block) → (before now : ℕ) → Result Bool Fault → Stage C → Type 0
 Took g keep blocks frames end old new before now (Ok true) s = (b : Block) × (rest : List Block) × (blocks ≡ b ∷ rest) × (new ≡ old ++ filter (keeps keep) (b ∷ [])) × (now ≡ and_block before b) × Comes g s (stream_items rest frames) end
 Took g keep blocks frames end old new before now (Ok false) s = (blocks ≡ []) × (new ≡ old) × (now ≡ before) × FramesCome g true s frames end

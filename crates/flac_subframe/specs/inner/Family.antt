@@ -1,14 +1,14 @@
 -- For proofs of writing: the type of a subframe of a choice.
 use Rattle.std.specs.Prelude.{ℕ, ◌+◌, List}
 use Rattle.flac_subframe.specs.Bodies.{order_of}
-use Rattle.flac_subframe.specs.declared.content.Content.{Content}
-use Rattle.flac_subframe.specs.declared.content.Content.TheVariants.{Constant, Verbatim, Predicted}
+use Rattle.flac_subframe.specs.declared.content.ContentKind.{ContentKind}
+use Rattle.flac_subframe.specs.declared.content.ContentKind.TheVariants.{Constant, Verbatim, Predicted}
 use Rattle.flac_subframe.specs.declared.content.PredictorKind.TheVariants.{Fixed, Linear}
 use Rattle.flac_subframe.specs.declared.linear.LinearPredictor.{LinearPredictor}
 use Rattle.flac_subframe.specs.Handed.{handed_at}
 
 -- the type of a subframe (RFC 9639, section 9.2.1)
-abbrev pub type_number : List LinearPredictor → Content → ℕ
+abbrev pub type_number : List LinearPredictor → ContentKind → ℕ
 type_number ps Constant = 0
 type_number ps Verbatim = 1
 type_number ps (Predicted (Fixed order)) = 8 + order

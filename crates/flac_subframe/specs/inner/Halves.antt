@@ -7,7 +7,7 @@ use Rattle.flac_subframe.specs.declared.tables.Tables.{Tables}
 use Rattle.flac_subframe.specs.declared.tables.SearchArrays.{SearchArrays}
 use Rattle.flac_subframe.specs.Spelling.{FitsWidth, folded}
 
--- where the partition j begins, behind the warm-up samples
+-- the index at which the partition j begins, after the warm-up samples
 abbrev pub start : ℕ → ℕ → ℕ → ℕ → ℕ
 start order block p j = j * (block / 2 ^ p) - order
 
@@ -18,12 +18,13 @@ segment a b rs = take (b - a) (drop a rs)
 unfoldable pub part : ℕ → List ℤ → ℕ → ℕ → List ℤ
 part order rs p j = segment (start order (length rs + order) p j) (start order (length rs + order) p (j + 1)) rs
 
--- the block can be halved p times
+-- the block may have the partition order p
 pub record Halves (order : ℕ) (rs : List ℤ) (p : ℕ) : Type 0 where
   pub even : (length rs + order) % 2 ^ p ≡ 0
   pub room : order < (length rs + order) / 2 ^ p
 
--- A Rice parameter and the bits that it takes, in one number: of two, the lesser is the one of fewer bits, and of equals the one of the lower parameter.
+-- A Rice parameter and the bits that it takes, in one number: the smaller of two has fewer bits, or as many and the
+-- smaller parameter.
 abbrev pub priced : ℕ → ℕ → ℕ
 priced parameter bits = 32 * bits + parameter
 
@@ -31,39 +32,40 @@ priced parameter bits = 32 * bits + parameter
 abbrev pub entry : List ℕ → ℕ → ℕ → ℕ
 entry table p j = slice_index table (2 ^ p + j)
 
--- the number is the least of the Rice parameters below k; before the first it is the greatest
+-- the number is the smallest of the Rice parameters below k; before the first it is the largest, 2^64 - 1
 pub record LeastBelow (k : ℕ) (rs : List ℤ) (e : ℕ) : Type 0 where
   pub none : k ≡ 0 → e ≡ 2 ^ 64 - 1
   pub some : 0 < k → (n : ℕ) × (n < k) × (e ≡ priced n (sum_by (value_cost n) rs))
   pub least : (n : ℕ) → n < k → e ≤ priced n (sum_by (value_cost n) rs)
 
--- the numbers for the partitions at each partition order up to the greatest
+-- the numbers for the partitions at each partition order up to `high`
 abbrev pub HasEntries : ℕ → ℕ → List ℤ → ℕ → List ℕ → Type 0
 HasEntries k order rs high table = (p j : ℕ) → p ≤ high → j < 2 ^ p → LeastBelow k (part order rs p j) (entry table p j)
 
--- just the numbers of bits from w on hold each value
+-- exactly the widths from w on hold each value
 abbrev pub IsWidth : List ℤ → ℕ → Type 0
 IsWidth rs w = (n : ℕ) → (All (FitsWidth n) rs ↔ (w ≤ n))
 
--- the widths of the partitions at the partition orders from one to another, each at its place
+-- the widths of the partitions at the partition orders from `low` to `high`, each at its index
 abbrev pub HasWidths : ℕ → List ℤ → ℕ → ℕ → List ℕ → Type 0
 HasWidths order rs low high widths = (p j : ℕ) → low ≤ p → p ≤ high → j < 2 ^ p → IsWidth (part order rs p j) (slice_index widths (2 ^ p + j)) × (slice_index widths (2 ^ p + j) ≤ 32)
 
--- the arrays of a search have places for partition orders up to the greatest
+-- the arrays of a search are long enough for partition orders up to `most`
 pub record HasPlaces (most : ℕ) (t : Tables) : Type 0 where
+  pub leaves : 2 ^ most ≤ length t.leaves.now
   pub sums : 2 ^ most ≤ length t.sums.now
   pub four : 2 * 2 ^ most ≤ length t.four.now
   pub five : 2 * 2 ^ most ≤ length t.five.now
   pub widths : 2 * 2 ^ most ≤ length t.widths.now
   pub codings : 2 ^ most ≤ length t.codings.now
 
--- those for what a predictor leaves have places for n samples
+-- the arrays for a residual are long enough for n samples
 pub record HasRoom (n : ℕ) (a : SearchArrays) : Type 0 where
   pub wide : n ≤ length a.wide.now
   pub values : n ≤ length a.values.now
   pub folds : n ≤ length a.folds.now
 
--- arrays begin with a residual, and with the same as unsigned numbers
+-- arrays begin with a residual, and with its folded numbers
 pub record HasResidual (rs values : List ℤ) (folds : List ℕ) : Type 0 where
   pub begins : take (length rs) values ≡ rs
   pub unsigned : take (length rs) folds ≡ map folded rs

@@ -1,10 +1,11 @@
--- For proofs of restoration: the sums of a linear predictor, made one product after another for all samples (RFC 9639, section 9.2.6).
+-- For proofs of restoration: the sums of a linear predictor, made one product after another for all samples (RFC 9639,
+-- section 9.2.6).
 use Rattle.std.specs.Prelude.{ℕ, ℤ, ◌≡◌, ◌+◌, ◌<◌, ◌*ℤ◌, List, length, take}
 use Rattle.std.specs.Int.RustNames.{unsigned_abs}
 use Rattle.flac_subframe.specs.Numbers.{sample_at}
 use Rattle.flac_subframe.specs.Prediction.{weighted}
 
--- each is the sum of the first k products for the sample of its place after the warm-up samples
+-- each is the sum of the first k products for the sample at its index after the warm-up samples
 abbrev pub HasSums : ℕ → List ℤ → List ℤ → List ℤ → Type 0
 HasSums k cs s sums = (j : ℕ) → j < length sums → sample_at sums j ≡ weighted (take k cs) s (length cs + j)
 

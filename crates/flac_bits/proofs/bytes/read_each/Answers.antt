@@ -6,8 +6,7 @@ use Rattle.flac_bits.specs.Layout.{bits, run, and_then, number_at, Reason}
 use Rattle.flac_bits.specs.Lists.{list_of, behind}
 use Rattle.flac_bits.proofs.Loops.{goes_on}
 use Rattle.flac_bits.proofs.Lists.{list_more, list_end}
-use Rattle.std.proofs.lemmas.Result.{err_from_is_err_and}
-use Rattle.flac_bits.proofs.Counting.{gone, failed_then}
+use Rattle.flac_bits.proofs.Counting.{gone}
 use Rattle.flac_bits.proofs.bytes.read_each.Goals as goal
 
 pub loop-i-preserved : goal.loop-i-preserved

@@ -1,7 +1,6 @@
-use Rattle.std.proofs.Common.{rules, refl, arith}
+use Rattle.std.proofs.Common.{rules, arith}
 use Rattle.flac_bits.proofs.Numbers.{six_more}
-use Rattle.std.proofs.lemmas.Result.{err_from_is_err_and}
-use Rattle.flac_bits.proofs.Counting.{gone, answered_then, failed_then, refused_then}
+use Rattle.flac_bits.proofs.Counting.{gone}
 use Rattle.flac_bits.proofs.number.continued.Goals as goal
 
 pub overflow_mul-value : goal.overflow_mul-value

@@ -11,12 +11,12 @@ returns-clause-more c = λ bytes before long is.
     let places : List ℤ = c.deref_mut.result.now in
     let written : List ℤ = c.put_samples.new.places in
     let many : front ≡ length old = omega (arith, c.len-front.ensures, c.args.samples.now.ok.0) in
-    let kept : take (front + c.args.column.rows) old ≡ old = take_all (front + c.args.column.rows) old (omega (arith, many)) in
+    let kept : take (front + c.args.column.count) old ≡ old = take_all (front + c.args.column.count) old (omega (arith, many)) in
     let lent = length-take (length places - front) (drop front places) in
     let left = length-drop front places in
-    let rows : length (take (length places - front) (drop front places)) ≡ c.args.column.rows = omega (arith, lent, left, c.deref_mut.ensures.len, c.in_ok-resize.ensures.len) in
-    let put : IsChannel c.args.piece.now c.args.column.rows c.args.column.row c.args.column.start c.args.width written = subst (λ n. IsChannel c.args.piece.now n c.args.column.row c.args.column.start c.args.width written) rows c.put_samples.ensures in
-    let sized = grown old c.resize.new.self.items (take (front + c.args.column.rows) old) _ c.resize.result c.in_ok-resize.field-0 c.in_ok-resize.was c.resize.ensures.items kept in
-    let all = places_behind c.resize.new.self.len front old _ places c.resize.new.self.items written many sized c.deref_mut.ensures.value (omega (arith, c.in_ok-resize.ensures.len, rows, c.put_samples.auto.places)) (omega (arith, c.put_samples.auto.places, lent, left)) in
-    subst (λ l. IsChannel (bytes ++ c.args.piece.now) (before + c.args.column.rows) c.args.column.row c.args.column.start c.args.width l) (sym all)
-    (channel_more bytes c.args.piece.now before c.args.column.rows c.args.column.row c.args.column.start c.args.width old written long c.requires.within is put)
+    let many_more : length (take (length places - front) (drop front places)) ≡ c.args.column.count = omega (arith, lent, left, c.deref_mut.ensures.len, c.in_ok-resize.ensures.len) in
+    let put : IsChannel c.args.piece.now c.args.column.count c.args.column.stride c.args.column.start c.args.width written = subst (λ n. IsChannel c.args.piece.now n c.args.column.stride c.args.column.start c.args.width written) many_more c.put_samples.ensures in
+    let sized = grown old c.resize.new.self.items (take (front + c.args.column.count) old) _ c.resize.result c.in_ok-resize.field-0 c.in_ok-resize.was c.resize.ensures.items kept in
+    let all = places_behind c.resize.new.self.len front old _ places c.resize.new.self.items written many sized c.deref_mut.ensures.value (omega (arith, c.in_ok-resize.ensures.len, many_more, c.put_samples.auto.places)) (omega (arith, c.put_samples.auto.places, lent, left)) in
+    subst (λ l. IsChannel (bytes ++ c.args.piece.now) (before + c.args.column.count) c.args.column.stride c.args.column.start c.args.width l) (sym all)
+    (channel_more bytes c.args.piece.now before c.args.column.count c.args.column.stride c.args.column.start c.args.width old written long c.requires.within is put)

@@ -6,7 +6,7 @@ use Rattle.flac_cli.proofs.Rows.{no_samples, sample_pushed}
 use Rattle.flac_cli.proofs.raw.put_samples.Goals as goal
 
 pub loop-i-init : goal.loop-i-init
-loop-i-init c = no_samples c.args.piece.now c.args.row c.args.start c.args.width
+loop-i-init c = no_samples c.args.piece.now c.args.stride c.args.start c.args.width
 
 pub loop-i-preserved : goal.loop-i-preserved
 loop-i-preserved c =
@@ -14,12 +14,12 @@ loop-i-preserved c =
     let i = c.loop-i.i in
     let places = c.loop-i.places in
     let lt : i < length places = omega (arith, c.loop-i-test.true, c.loop-i.auto.places) in
-    sample_pushed c.args.piece.now i (length c.args.places.now) c.args.row c.args.start c.args.width _ (take i places) _ c.sample.result _ c.loop-i.invariant
+    sample_pushed c.args.piece.now i (length c.args.places.now) c.args.stride c.args.start c.args.width _ (take i places) _ c.sample.result _ c.loop-i.invariant
     (omega (arith, c.loop-i-test.true)) c.requires.within c.requires.whole (omega arith) c.sample.ensures.number c.sample.ensures.bytes c.sample.ensures.fits (to_z-of_z w32 c.sample.result fits) (take_more_set places i _ lt)
 
 pub returns : goal.returns
 returns c =
     let all : c.loop-i.i ≡ length c.args.places.now = omega (arith, c.loop-i-test.false, c.loop-i.auto.i-end) in
     let whole : take c.loop-i.i c.loop-i.places ≡ c.loop-i.places = take_all c.loop-i.i c.loop-i.places (omega (arith, c.loop-i.auto.places, c.loop-i-test.false)) in
-    subst (λ l. IsChannel c.args.piece.now (length c.args.places.now) c.args.row c.args.start c.args.width l) whole
-    (subst (λ n. IsChannel c.args.piece.now n c.args.row c.args.start c.args.width (take c.loop-i.i c.loop-i.places)) all c.loop-i.invariant)
+    subst (λ l. IsChannel c.args.piece.now (length c.args.places.now) c.args.stride c.args.start c.args.width l) whole
+    (subst (λ n. IsChannel c.args.piece.now n c.args.stride c.args.start c.args.width (take c.loop-i.i c.loop-i.places)) all c.loop-i.invariant)

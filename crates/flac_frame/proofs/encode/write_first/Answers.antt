@@ -4,9 +4,12 @@ use Rattle.flac_frame.specs.Encoding.{block_of}
 use Rattle.flac_frame.specs.Spelling.{subframes_spelling}
 use Rattle.flac_frame.specs.Stereo.{kept_as}
 use Rattle.flac_frame.proofs.Encoded.{failed}
-use Rattle.flac_frame.proofs.Wholes.{header_at, header_stops, parts_stop, ends}
+use Rattle.flac_frame.proofs.Wholes.{header_stops, parts_stop, ends}
 use Rattle.flac_frame.proofs.Written.{frame_written}
 use Rattle.flac_frame.proofs.encode.write_first.Goals as goal
+
+pub header-header-requires-clause-chosen : goal.header-header-requires-clause-chosen
+header-header-requires-clause-chosen g c = (c.requires.chosen.form.header, c.requires.chosen.header)
 
 pub returns-in_err-write_header-clause-wrote : goal.returns-in_err-write_header-clause-wrote
 returns-in_err-write_header-clause-wrote g c =
@@ -14,9 +17,8 @@ returns-in_err-write_header-clause-wrote g c =
     let s = c.args.subject.now in
     let a = s.audio.now in
     let text = subframes_spelling a.bits c.args.choice.now.code 0 (forms_of s.predictors.now c.args.choice.now.subframes.items (kept_as c.args.choice.now.code (block_of s.start s.size a.channels))) in
-    let there = header_at a c.profile.result s.size c.rate.result c.args.choice.now.code c.bits.result s.number c.chosen_in.result c.in-Some.header c.profile.ensures c.rate.ensures c.bits.ensures c.chosen_in.ensures.chosen c.in-Some.is in
-    rw (p.1, p.2) (frame_written s.predictors.now a s.size s.number (block_of s.start s.size a.channels) c.args.choice.now c.requires.chosen c.in-Some.header there c.args.writer.now c.write_header.new.writer (failed c.in_err-write_header.field-0.0) c.requires.whole
-    (header_stops c.in-Some.header text c.args.writer.now c.write_header.new.writer _ c.in_err-write_header.ensures))
+    rw (p.1, p.2) (frame_written s.predictors.now a s.size s.number (block_of s.start s.size a.channels) c.args.choice.now c.requires.chosen c.header-header.result c.header-header.ensures c.args.writer.now c.write_header.new.writer (failed c.in_err-write_header.field-0.0) c.requires.whole
+    (header_stops c.header-header.result text c.args.writer.now c.write_header.new.writer _ c.in_err-write_header.ensures))
 
 pub returns-in_err-write_subframes-clause-wrote : goal.returns-in_err-write_subframes-clause-wrote
 returns-in_err-write_subframes-clause-wrote g c =
@@ -24,15 +26,13 @@ returns-in_err-write_subframes-clause-wrote g c =
     let s = c.args.subject.now in
     let a = s.audio.now in
     let text = subframes_spelling a.bits c.args.choice.now.code 0 (forms_of s.predictors.now c.args.choice.now.subframes.items (kept_as c.args.choice.now.code (block_of s.start s.size a.channels))) in
-    let there = header_at a c.profile.result s.size c.rate.result c.args.choice.now.code c.bits.result s.number c.chosen_in.result c.in-Some.header c.profile.ensures c.rate.ensures c.bits.ensures c.chosen_in.ensures.chosen c.in-Some.is in
-    rw (p.1, p.2) (frame_written s.predictors.now a s.size s.number (block_of s.start s.size a.channels) c.args.choice.now c.requires.chosen c.in-Some.header there c.args.writer.now c.write_subframes.new.writer (failed c.in_err-write_subframes.field-0.0) c.requires.whole
-    (parts_stop c.in-Some.header text c.args.writer.now c.write_header.new.writer c.write_subframes.new.writer _ c.in_ok-write_header.ensures c.in_err-write_subframes.ensures.text))
+    rw (p.1, p.2) (frame_written s.predictors.now a s.size s.number (block_of s.start s.size a.channels) c.args.choice.now c.requires.chosen c.header-header.result c.header-header.ensures c.args.writer.now c.write_subframes.new.writer (failed c.in_err-write_subframes.field-0.0) c.requires.whole
+    (parts_stop c.header-header.result text c.args.writer.now c.write_header.new.writer c.write_subframes.new.writer _ c.in_ok-write_header.ensures c.in_err-write_subframes.ensures.text))
 
 pub returns-clause-wrote : goal.returns-clause-wrote
 returns-clause-wrote g c =
     let s = c.args.subject.now in
     let a = s.audio.now in
     let text = subframes_spelling a.bits c.args.choice.now.code 0 (forms_of s.predictors.now c.args.choice.now.subframes.items (kept_as c.args.choice.now.code (block_of s.start s.size a.channels))) in
-    let there = header_at a c.profile.result s.size c.rate.result c.args.choice.now.code c.bits.result s.number c.chosen_in.result c.in-Some.header c.profile.ensures c.rate.ensures c.bits.ensures c.chosen_in.ensures.chosen c.in-Some.is in
-    frame_written s.predictors.now a s.size s.number (block_of s.start s.size a.channels) c.args.choice.now c.requires.chosen c.in-Some.header there c.args.writer.now c.write_end.new.writer c.write_end.result c.requires.whole
-    (ends c.in-Some.header text c.args.writer.now c.write_header.new.writer c.write_subframes.new.writer c.write_end.new.writer c.write_end.result c.in_ok-write_header.ensures c.in_ok-write_subframes.ensures.text c.write_end.ensures)
+    frame_written s.predictors.now a s.size s.number (block_of s.start s.size a.channels) c.args.choice.now c.requires.chosen c.header-header.result c.header-header.ensures c.args.writer.now c.write_end.new.writer c.write_end.result c.requires.whole
+    (ends c.header-header.result text c.args.writer.now c.write_header.new.writer c.write_subframes.new.writer c.write_end.new.writer c.write_end.result c.in_ok-write_header.ensures c.in_ok-write_subframes.ensures.text c.write_end.ensures)

@@ -1,5 +1,5 @@
 use Rattle.std.proofs.Common.{rules, subst}
-use Rattle.flac_bits.specs.State.{State, started}
+use Rattle.flac_bits.specs.State.{State}
 use Rattle.flac_bits.specs.Reading.{Means}
 use Rattle.flac_bits.proofs.Meaning.{means}
 use Rattle.flac_header.specs.Header.{header}

@@ -1,4 +1,3 @@
-use Rattle.std.proofs.Common.{◌≡◌, ◌++◌, [], sym, ap, ◌∙◌}
 use Rattle.std.proofs.lemmas.Result.{err_from_is_err_and}
 use Rattle.flac_header.proofs.Writes.{started_fails, fields_fail, written}
 use Rattle.flac_header.proofs.write.write_header.Goals as goal

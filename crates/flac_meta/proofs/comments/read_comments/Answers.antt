@@ -2,6 +2,7 @@ use Rattle.std.proofs.Common.{rules}
 use Rattle.flac_meta.specs.Comments.{comments}
 use Rattle.std.proofs.lemmas.Result.{err_from_is_err_and}
 use Rattle.flac_bits.proofs.Counting.{answered_then, failed_then}
+use Rattle.flac_meta.proofs.Short.{part_short}
 use Rattle.flac_meta.proofs.comments.read_comments.Goals as goal
 
 pub returns-in_err-vendor : goal.returns-in_err-vendor
@@ -14,13 +15,13 @@ returns-in_err-vendor g c = record {
   };
 }
 
-pub returns-in_err-skip_bytes : goal.returns-in_err-skip_bytes
-unfolding comments
-returns-in_err-skip_bytes g c = record {
+pub returns-then-rest-lt4 : goal.returns-then-rest-lt4
+unfolding comments Rattle.flac_meta.specs.Fields.sized
+returns-then-rest-lt4 g c = record {
   reading = record {
-    spends = search rules;
-    counts = search rules;
-    reads = search rules;
+    spends = tt;
+    counts = failed_then c.args.bits.now c.read_sized_little.new.bits c.too_short.new.bits c.in_ok-vendor.ensures.reading.counts c.too_short.ensures.counts;
+    reads = search (rules, part_short);
   };
 }
 

@@ -5,14 +5,14 @@ use Rattle.flac_bits.proofs.Telling.{told_fault}
 use Rattle.flac_meta.specs.Picture.{picture}
 use Rattle.flac_meta.proofs.picture.read_picture.Goals as goal
 
-pub returns-in_err-width : goal.returns-in_err-width
+pub returns-in_err-sizes : goal.returns-in_err-sizes
 unfolding picture
-returns-in_err-width g c =
-    let p = err_from_is_err_and c.from_residual-in_err-width.result c.from_residual-in_err-width.ensures.1 in
+returns-in_err-sizes g c =
+    let p = err_from_is_err_and c.from_residual-in_err-sizes.result c.from_residual-in_err-sizes.ensures.1 in
     rw (p.1, p.2) (record {
       reading = record {
         spends = tt;
-        counts = failed_then c.args.bits.now c.read_picture_front.new.bits c.read_sizes.new.bits c.in_ok-kind.ensures.reading.counts c.in_err-width.ensures.reading.counts;
+        counts = failed_then c.args.bits.now c.read_picture_front.new.bits c.read_sizes.new.bits c.in_ok-kind.ensures.reading.counts c.in_err-sizes.ensures.reading.counts;
         reads = search rules;
       };
     })
@@ -24,7 +24,7 @@ returns-in_err-bytes g c =
     rw (p.1, p.2) (record {
       reading = record {
         spends = tt;
-        counts = failed_then c.args.bits.now c.read_picture_front.new.bits c.read_sized.new.bits c.in_ok-kind.ensures.reading.counts (failed_then c.read_picture_front.new.bits c.read_sizes.new.bits c.read_sized.new.bits c.in_ok-width.ensures.reading.counts c.in_err-bytes.ensures.reading.counts);
+        counts = failed_then c.args.bits.now c.read_picture_front.new.bits c.read_sized.new.bits c.in_ok-kind.ensures.reading.counts (failed_then c.read_picture_front.new.bits c.read_sizes.new.bits c.read_sized.new.bits c.in_ok-sizes.ensures.reading.counts c.in_err-bytes.ensures.reading.counts);
         reads = search rules;
       };
     })
@@ -34,7 +34,7 @@ unfolding picture
 returns g c = record {
   reading = record {
     spends = search rules;
-    counts = answered_then c.args.bits.now c.read_picture_front.new.bits c.read_sized.new.bits c.in_ok-kind.ensures.reading.counts (answered_then c.read_picture_front.new.bits c.read_sizes.new.bits c.read_sized.new.bits c.in_ok-width.ensures.reading.counts c.in_ok-bytes.ensures.reading.counts);
+    counts = answered_then c.args.bits.now c.read_picture_front.new.bits c.read_sized.new.bits c.in_ok-kind.ensures.reading.counts (answered_then c.read_picture_front.new.bits c.read_sizes.new.bits c.read_sized.new.bits c.in_ok-sizes.ensures.reading.counts c.in_ok-bytes.ensures.reading.counts);
     reads = search rules;
   };
 }

@@ -5,15 +5,15 @@ use Rattle.flac_bits.proofs.Telling.{told_then, told_fault}
 use Rattle.flac_meta.specs.Info.{stream_info}
 use Rattle.flac_meta.proofs.stream_info.read_stream_info.Goals as goal
 
-pub returns-in_err-rate : goal.returns-in_err-rate
+pub returns-in_err-format : goal.returns-in_err-format
 unfolding stream_info
-returns-in_err-rate g c =
-    let p = err_from_is_err_and c.from_residual-in_err-rate.result c.from_residual-in_err-rate.ensures.1 in
+returns-in_err-format g c =
+    let p = err_from_is_err_and c.from_residual-in_err-format.result c.from_residual-in_err-format.ensures.1 in
     rw (p.1, p.2) (record {
       reading = record {
         spends = tt;
-        counts = failed_then c.args.bits.now c.read_sizes.new.bits c.read_format.new.bits c.in_ok-least_block.ensures.reading.counts c.in_err-rate.ensures.reading.counts;
-        reads = told_then c.args.bits.now c.read_sizes.new.bits c.read_format.new.bits _ c.in_ok-least_block.ensures.reading.counts c.in_ok-least_block.ensures.reading.reads (told_fault c.read_sizes.new.bits c.read_format.new.bits _ c.in_err-rate.ensures.reading.reads);
+        counts = failed_then c.args.bits.now c.read_sizes.new.bits c.read_format.new.bits c.in_ok-sizes.ensures.reading.counts c.in_err-format.ensures.reading.counts;
+        reads = told_then c.args.bits.now c.read_sizes.new.bits c.read_format.new.bits _ c.in_ok-sizes.ensures.reading.counts c.in_ok-sizes.ensures.reading.reads (told_fault c.read_sizes.new.bits c.read_format.new.bits _ c.in_err-format.ensures.reading.reads);
       };
     })
 
@@ -24,8 +24,8 @@ returns-in_err-read_bytes g c =
     rw (p.1, p.2) (record {
       reading = record {
         spends = tt;
-        counts = failed_then c.args.bits.now c.read_sizes.new.bits c.read_bytes.new.bits c.in_ok-least_block.ensures.reading.counts (failed_then c.read_sizes.new.bits c.read_format.new.bits c.read_bytes.new.bits c.in_ok-rate.ensures.reading.counts c.in_err-read_bytes.ensures.reading.counts);
-        reads = told_then c.args.bits.now c.read_sizes.new.bits c.read_bytes.new.bits _ c.in_ok-least_block.ensures.reading.counts c.in_ok-least_block.ensures.reading.reads (told_then c.read_sizes.new.bits c.read_format.new.bits c.read_bytes.new.bits _ c.in_ok-rate.ensures.reading.counts c.in_ok-rate.ensures.reading.reads (told_fault c.read_format.new.bits c.read_bytes.new.bits _ c.in_err-read_bytes.ensures.reading.reads));
+        counts = failed_then c.args.bits.now c.read_sizes.new.bits c.read_bytes.new.bits c.in_ok-sizes.ensures.reading.counts (failed_then c.read_sizes.new.bits c.read_format.new.bits c.read_bytes.new.bits c.in_ok-format.ensures.reading.counts c.in_err-read_bytes.ensures.reading.counts);
+        reads = told_then c.args.bits.now c.read_sizes.new.bits c.read_bytes.new.bits _ c.in_ok-sizes.ensures.reading.counts c.in_ok-sizes.ensures.reading.reads (told_then c.read_sizes.new.bits c.read_format.new.bits c.read_bytes.new.bits _ c.in_ok-format.ensures.reading.counts c.in_ok-format.ensures.reading.reads (told_fault c.read_format.new.bits c.read_bytes.new.bits _ c.in_err-read_bytes.ensures.reading.reads));
       };
     })
 
@@ -34,19 +34,19 @@ unfolding stream_info
 returns g c = record {
   reading = record {
     spends = search rules;
-    counts = answered_then c.args.bits.now c.read_sizes.new.bits c.read_bytes.new.bits c.in_ok-least_block.ensures.reading.counts (answered_then c.read_sizes.new.bits c.read_format.new.bits c.read_bytes.new.bits c.in_ok-rate.ensures.reading.counts c.in_ok-read_bytes.ensures.reading.counts);
+    counts = answered_then c.args.bits.now c.read_sizes.new.bits c.read_bytes.new.bits c.in_ok-sizes.ensures.reading.counts (answered_then c.read_sizes.new.bits c.read_format.new.bits c.read_bytes.new.bits c.in_ok-format.ensures.reading.counts c.in_ok-read_bytes.ensures.reading.counts);
     reads = search rules;
   };
 }
 
-pub returns-in_err-least_block : goal.returns-in_err-least_block
+pub returns-in_err-sizes : goal.returns-in_err-sizes
 unfolding stream_info
-returns-in_err-least_block g c =
+returns-in_err-sizes g c =
     let p = err_from_is_err_and c.from_residual.result c.from_residual.ensures.1 in
     rw (p.1, p.2) (record {
       reading = record {
         spends = tt;
         counts = search rules;
-        reads = told_fault c.args.bits.now c.read_sizes.new.bits _ c.in_err-least_block.ensures.reading.reads;
+        reads = told_fault c.args.bits.now c.read_sizes.new.bits _ c.in_err-sizes.ensures.reading.reads;
       };
     })

@@ -1,4 +1,4 @@
-use Rattle.std.proofs.Common.{arith, [], ◌∷◌, ◌≡◌, ◌∙◌, ◌++◌, map, take}
+use Rattle.std.proofs.Common.{arith, [], ◌∷◌, ◌≡◌, ◌∙◌, ◌*◌, ◌++◌, length, map, take}
 use Rattle.std.proofs.lemmas.List.{take_all, append-nil}
 use Rattle.flac_subframe.specs.Bodies.{fixed}
 use Rattle.flac_subframe.specs.Chosen.{fixed_below}
@@ -6,6 +6,7 @@ use Rattle.flac_subframe.specs.Handed.{predictor_of}
 use Rattle.flac_subframe.specs.inner.Chosen.{IsBest, way_of}
 use Rattle.flac_subframe.proofs.Best.{next_tried, first_tried, all_tried, one_linear_more}
 use Rattle.flac_subframe.proofs.Complete.{among}
+use Rattle.flac_subframe.proofs.Counts.{counted_first, counted_more, counted_same, one_more}
 use Rattle.flac_subframe.proofs.choice.search.Goals as goal
 use Rattle.flac_subframe.proofs.choice.search.Goals.{then-order-first, else-order-first}
 
@@ -21,6 +22,8 @@ loop-order-init c =
       arrays = new.arrays;
       tables = new.tables;
       same = new.same;
+      coarse = λ few. counted_first c.likely_order-first.result (32 * length c.args.subject.now.samples.now) c.args.tables.now.priced c.improve.new.tables.priced (new.coarse few);
+      priced = counted_first c.likely_order-first.result (93 * length c.args.subject.now.samples.now) c.args.tables.now.priced c.improve.new.tables.priced new.priced;
     }
 
 pub loop-order-preserved : goal.loop-order-preserved
@@ -37,6 +40,8 @@ loop-order-preserved c =
             arrays = rw w.arrays-is new.arrays;
             tables = rw w.tables-is new.tables;
             same = rw w.tables-is (new.same ∙ so.same);
+            coarse = λ few. rw w.tables-is (counted_more first order (32 * length s) c.args.tables.now.priced c.loop-order.tables.priced w.improve-then-order-first.new.tables.priced w.if-order-first.true (so.coarse few) (new.coarse few));
+            priced = rw w.tables-is (counted_more first order (93 * length s) c.args.tables.now.priced c.loop-order.tables.priced w.improve-then-order-first.new.tables.priced w.if-order-first.true so.priced new.priced);
           }
       | else-order-first w ↦
           let e : order ≡ first = omega arith in
@@ -47,6 +52,8 @@ loop-order-preserved c =
             arrays = rw w.arrays-is so.arrays;
             tables = rw w.tables-is so.tables;
             same = rw w.tables-is so.same;
+            coarse = λ few. rw w.tables-is (counted_same first order (32 * length s) c.args.tables.now.priced c.loop-order.tables.priced e (so.coarse few));
+            priced = rw w.tables-is (counted_same first order (93 * length s) c.args.tables.now.priced c.loop-order.tables.priced e so.priced);
           }
     ]
 
@@ -57,7 +64,15 @@ loop-index-init c =
     let five : c.loop-order.order ≡ 5 = omega arith in
     let so : IsBest hs most bits s (fixed first ∷ fixed_below 5) way = rw five at c.loop-order.invariant.best in
     let was = c.loop-order.invariant in
-    record { best = rw append-nil (all_tried hs most bits s way first (among first [] c.likely_order-first.ensures) so); within = was.within; arrays = was.arrays; tables = was.tables; same = was.same }
+    record {
+      best = rw append-nil (all_tried hs most bits s way first (among first [] c.likely_order-first.ensures) so);
+      within = was.within;
+      arrays = was.arrays;
+      tables = was.tables;
+      same = was.same;
+      coarse = λ few. (rw five at (was.coarse few)).after (omega arith);
+      priced = (rw five at was.priced).after (omega arith);
+    }
 
 pub loop-index-preserved : goal.loop-index-preserved
 loop-index-preserved c =
@@ -71,6 +86,8 @@ loop-index-preserved c =
       arrays = new.arrays;
       tables = new.tables;
       same = new.same ∙ so.same;
+      coarse = λ few. one_more i (32 * length c.args.subject.now.samples.now) c.args.tables.now.priced c.loop-index.tables.priced c.improve-in-loop-index.new.tables.priced (so.coarse few) (new.coarse few);
+      priced = one_more i (93 * length c.args.subject.now.samples.now) c.args.tables.now.priced c.loop-index.tables.priced c.improve-in-loop-index.new.tables.priced so.priced new.priced;
     }
 
 pub improve-requires-then-order-first-clause-small : goal.improve-requires-then-order-first-clause-small
@@ -81,3 +98,13 @@ improve-requires-in-loop-index-clause-small c = c.loop-index.invariant.best.smal
 
 pub returns-clause-best : goal.returns-clause-best
 returns-clause-best c = rw (take_all c.loop-index.index c.args.subject.now.predictors.now (omega (arith, c.loop-index-test.false))) at c.loop-index.invariant.best
+
+pub returns-clause-coarse : goal.returns-clause-coarse
+returns-clause-coarse c = λ few.
+    let e : c.loop-index.index ≡ length c.args.subject.now.predictors.now = omega arith in
+    rw e at (c.loop-index.invariant.coarse few)
+
+pub returns-clause-priced : goal.returns-clause-priced
+returns-clause-priced c =
+    let e : c.loop-index.index ≡ length c.args.subject.now.predictors.now = omega arith in
+    rw e at c.loop-index.invariant.priced

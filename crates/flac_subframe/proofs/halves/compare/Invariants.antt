@@ -4,5 +4,5 @@ use Rattle.flac_subframe.proofs.halves.compare.Given as goal
 
 abbrev pub invariant-loop-parameter : goal.invariant-loop-parameter
 invariant-loop-parameter l = record {
-  entries : (p j : ℕ) → p ≤ l.residual.halvings → j < 2 ^ p → LeastBelow l.parameter (part l.residual.order l.residual.values.now p j) (entry l.table p j);
+  entries : (p j : ℕ) → p ≤ l.residual.partition_order → j < 2 ^ p → LeastBelow l.parameter (part l.residual.order l.residual.values.now p j) (entry l.table p j);
 }

@@ -22,7 +22,7 @@ loop-low-preserved c =
 pub returns-then-not-pass-clause-entries : goal.returns-then-not-pass-clause-entries
 returns-then-not-pass-clause-entries c = λ p j le b.
     let k : ℕ = c.loop-low.low - 1 in
-    let rs = c.args.residual.now.values.now in let order = c.args.residual.now.order in let h = c.args.residual.now.halvings in
+    let rs = c.args.residual.now.values.now in let order = c.args.residual.now.order in let h = c.args.residual.now.partition_order in
     let so = c.loop-low.invariant in
     let e : k + 1 ≡ c.loop-low.low = omega arith in
     rw (c.if-not-pass.ensures.same refl) (fallen order h k rs c.args.residual.now.halves (omega arith) (omega arith) c.args.residual.now.range c.loop-low.table (c.if-not-pass.ensures.none refl) c.args.from (λ i d. rw e (so.entries h i (omega arith) d)) p j _ le b (omega arith)

@@ -9,7 +9,7 @@ room : (a b : ℕ) → 0 < a → a ≤ b → 2 * 2 ^ (a - 1) ≤ 2 ^ b
 room a b h le = omega (arith, power_more a h, pow-le-pow_right {n = 2} (omega arith) {i = a} {j = b} le)
 
 pub pair-requires-clause-room : goal.pair-requires-clause-room
-pair-requires-clause-room c = omega (arith, room c.loop-level.level c.args.residual.now.halvings c.loop-level-test.true c.loop-level.invariant.within)
+pair-requires-clause-room c = omega (arith, room c.loop-level.level c.args.residual.now.partition_order c.loop-level-test.true c.loop-level.invariant.within)
 
 pub pair-requires-clause-small : goal.pair-requires-clause-small
 pair-requires-clause-small c = λ j h.
@@ -17,27 +17,27 @@ pair-requires-clause-small c = λ j h.
     rw (c.loop-level.invariant.costs j b) (part_small c.args.residual.now.order c.args.parameter c.args.residual.now.values.now c.loop-level.level j c.requires.parameter (omega arith) c.args.residual.now.range)
 
 pub note_level-requires-in-loop-level-clause-sums : goal.note_level-requires-in-loop-level-clause-sums
-note_level-requires-in-loop-level-clause-sums c = omega (arith, room c.loop-level.level c.args.residual.now.halvings c.loop-level-test.true c.loop-level.invariant.within)
+note_level-requires-in-loop-level-clause-sums c = omega (arith, room c.loop-level.level c.args.residual.now.partition_order c.loop-level-test.true c.loop-level.invariant.within)
 
 pub note_level-requires-in-loop-level-clause-table : goal.note_level-requires-in-loop-level-clause-table
-note_level-requires-in-loop-level-clause-table c = omega (arith, room c.loop-level.level c.args.residual.now.halvings c.loop-level-test.true c.loop-level.invariant.within)
+note_level-requires-in-loop-level-clause-table c = omega (arith, room c.loop-level.level c.args.residual.now.partition_order c.loop-level-test.true c.loop-level.invariant.within)
 
 pub gains-requires-clause-small : goal.gains-requires-clause-small
 gains-requires-clause-small c = λ j h.
     let n : ℕ = c.power-first.result in
-    let b : j < 2 ^ c.args.residual.now.halvings = omega (arith, h, length-take (2 * n - n) (drop n c.args.table.now), c.power-first.ensures) in
-    rw (c.price.ensures.costs j b) (part_small c.args.residual.now.order c.args.parameter c.args.residual.now.values.now c.args.residual.now.halvings j c.requires.parameter (omega arith) c.args.residual.now.range)
+    let b : j < 2 ^ c.args.residual.now.partition_order = omega (arith, h, length-take (2 * n - n) (drop n c.args.table.now), c.power-first.ensures) in
+    rw (c.requires.costs j b) (part_small c.args.residual.now.order c.args.parameter c.args.residual.now.values.now c.args.residual.now.partition_order j c.requires.parameter (omega arith) c.args.residual.now.range)
 
 pub note_level-requires-clause-small : goal.note_level-requires-clause-small
 note_level-requires-clause-small c = λ j h.
-    rw (c.price.ensures.costs j h) (part_small c.args.residual.now.order c.args.parameter c.args.residual.now.values.now c.args.residual.now.halvings j c.requires.parameter (omega arith) c.args.residual.now.range)
+    rw (c.requires.costs j h) (part_small c.args.residual.now.order c.args.parameter c.args.residual.now.values.now c.args.residual.now.partition_order j c.requires.parameter (omega arith) c.args.residual.now.range)
 
 pub note_level-requires-in-loop-level-clause-small : goal.note_level-requires-in-loop-level-clause-small
 note_level-requires-in-loop-level-clause-small c = λ j h.
     let l = c.loop-level.level in
     let k = c.args.parameter in let order = c.args.residual.now.order in let rs = c.args.residual.now.values.now in
     let so = c.loop-level.invariant in
-    let half = halves_at order rs c.args.residual.now.halvings l so.within c.args.residual.now.halves in
+    let half = halves_at order rs c.args.residual.now.partition_order l so.within c.args.residual.now.halves in
     rw (paired order k l rs c.loop-level.sums c.pair.new.sums c.loop-level-test.true half so.costs (λ i b. c.pair.ensures i (omega arith)) j h) (part_small order k rs (l - 1) j c.requires.parameter (omega arith) c.args.residual.now.range)
 
 pub loop-level-preserved : goal.loop-level-preserved
@@ -45,7 +45,7 @@ loop-level-preserved c =
     let l = c.loop-level.level in let m = l - 1 in
     let k = c.args.parameter in let order = c.args.residual.now.order in let rs = c.args.residual.now.values.now in
     let so = c.loop-level.invariant in
-    let half = halves_at order rs c.args.residual.now.halvings l so.within c.args.residual.now.halves in
+    let half = halves_at order rs c.args.residual.now.partition_order l so.within c.args.residual.now.halves in
     let twice = power_more l c.loop-level-test.true in
     let costs = paired order k l rs c.loop-level.sums c.pair.new.sums c.loop-level-test.true half so.costs (λ i b. c.pair.ensures i (omega arith)) in
     let n = c.note_level-in-loop-level.ensures in

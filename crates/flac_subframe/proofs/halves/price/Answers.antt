@@ -9,7 +9,7 @@ use Rattle.flac_subframe.proofs.halves.price.Goals as goal
 
 pub loop-sum-init : goal.loop-sum-init
 loop-sum-init c = record {
-  rest = start_none c.args.residual.now.order (length c.args.residual.now.values.now + c.args.residual.now.order) c.args.residual.now.halvings c.args.residual.now.folds.now;
+  rest = start_none c.args.residual.now.order (length c.args.residual.now.values.now + c.args.residual.now.order) c.args.residual.now.partition_order c.args.residual.now.folds.now;
   long = omega arith;
   done = λ j h. absurd (omega arith);
 }
@@ -28,7 +28,7 @@ pub loop-sum-preserved : goal.loop-sum-preserved
 unfolding part
 loop-sum-preserved c =
     let i = c.loop-sum.sum-index in let so = c.loop-sum.invariant in
-    let order = c.args.residual.now.order in let h = c.args.residual.now.halvings in
+    let order = c.args.residual.now.order in let h = c.args.residual.now.partition_order in
     let n = length c.args.residual.now.values.now + order in
     let ns = c.args.residual.now.folds.now in
     let next : start order n h i + c.loop-sum.long ≡ start order n h (i + 1) = omega (arith, so.long, start_rises order n h i) in

@@ -16,8 +16,8 @@ loop-sample-preserved c = λ h.
     let x : ℤ = get_or xs i (pos 0) in
     let fit : FitsSigned w64 x = search rules in
     let same : to_z w64 (of_z w64 x) ≡ x = omega (arith, ints, fit) in
-    let one = rw same at c.moved-all.ensures in
-    step.1 (c.loop-sample.invariant (omega (arith, h, le_or_l c.loop-sample.all c.moved-all.result)), one.0 (omega (arith, h, le_or_r c.loop-sample.all c.moved-all.result)))
+    let one = rw same at c.offset_binary-all.ensures in
+    step.1 (c.loop-sample.invariant (omega (arith, h, le_or_l c.loop-sample.all c.offset_binary-all.result)), one.0 (omega (arith, h, le_or_r c.loop-sample.all c.offset_binary-all.result)))
 
 pub returns : goal.returns
 returns c = λ t.

@@ -1,16 +1,17 @@
-use Rattle.std.proofs.Common.{◌≡◌, ◌≤◌, ◌<◌, length}
+use Rattle.std.proofs.Common.{◌≡◌, ◌≤◌, ◌<◌, ◌+◌, ◌-◌, ◌*◌, length}
 use Rattle.flac_subframe.specs.Cost.{Codings, MayWrite}
 use Rattle.flac_subframe.specs.inner.Cost.{residual_cost}
 use Rattle.flac_subframe.proofs.pruning.finest_in_doubt.Given as goal
 
-abbrev pub invariant-loop-halvings : goal.invariant-loop-halvings
-invariant-loop-halvings l = record {
-  some : 8 ≤ l.halvings;
-  within : l.halvings ≤ l.residual.halvings;
-  dear : (f : Codings) → MayWrite l.residual.halvings l.residual.order l.residual.values.now f → l.halvings < f.halvings → l.below ≤ residual_cost l.residual.order l.residual.values.now f;
+abbrev pub invariant-loop-partition_order : goal.invariant-loop-partition_order
+invariant-loop-partition_order l = record {
+  some : 8 ≤ l.partition_order;
+  within : l.partition_order ≤ l.residual.partition_order;
+  dear : (f : Codings) → MayWrite l.residual.partition_order l.residual.order l.residual.values.now f → l.partition_order < f.partition_order → l.below ≤ residual_cost l.residual.order l.residual.values.now f;
   sums : length l.sums ≡ length l.fn.sums;
   widths : length l.widths ≡ length l.fn.widths;
+  priced : l.priced ≤ (1 + 4 * (l.residual.partition_order - l.partition_order)) * length l.residual.values.now;
 }
 
-abbrev pub decreases-loop-halvings : goal.decreases-loop-halvings
-decreases-loop-halvings l = l.halvings
+abbrev pub decreases-loop-partition_order : goal.decreases-loop-partition_order
+decreases-loop-partition_order l = l.partition_order

@@ -4,26 +4,26 @@ use Rattle.flac_subframe.proofs.Finer.{up_to}
 use Rattle.flac_subframe.proofs.Places.{power_le}
 use Rattle.flac_subframe.proofs.pruning.is_order_too_dear.Goals as goal
 
-pub returns-then-bound-below : goal.returns-then-bound-below
-returns-then-bound-below c = λ yes f m e. omega (arith, c.bound_by_digits-bound.ensures f m e, c.if-bound-below.true)
+pub returns-then-bound-below-clause-dear : goal.returns-then-bound-below-clause-dear
+returns-then-bound-below-clause-dear c = λ yes f m e. omega (arith, c.bound_by_digits-bound.ensures f m e, c.if-bound-below.true)
 
 pub lowest-requires-clause-places : goal.lowest-requires-clause-places
-lowest-requires-clause-places c = rw c.at-coarser.ensures.halvings (omega (arith, power_le c.args.halvings c.args.residual.now.halvings c.requires.within, c.requires.widths))
+lowest-requires-clause-places c = rw c.at-coarser.ensures.partition_order (omega (arith, power_le c.args.partition_order c.args.residual.now.partition_order c.requires.within, c.requires.widths))
 
 pub lowest-requires-clause-sums : goal.lowest-requires-clause-sums
-lowest-requires-clause-sums c = rw c.at-coarser.ensures.halvings (omega (arith, power_le c.args.halvings c.args.residual.now.halvings c.requires.within, c.requires.sums))
+lowest-requires-clause-sums c = rw c.at-coarser.ensures.partition_order (omega (arith, power_le c.args.partition_order c.args.residual.now.partition_order c.requires.within, c.requires.sums))
 
-pub bound_parts-bound-requires-clause-places : goal.bound_parts-bound-requires-clause-places
-bound_parts-bound-requires-clause-places c = rw c.at-coarser.ensures.halvings (omega (arith, power_le c.args.halvings c.args.residual.now.halvings c.requires.within, c.requires.sums, c.lowest.auto.sums))
+pub bound_parts-close-requires-clause-places : goal.bound_parts-close-requires-clause-places
+bound_parts-close-requires-clause-places c = rw c.at-coarser.ensures.partition_order (omega (arith, power_le c.args.partition_order c.args.residual.now.partition_order c.requires.within, c.requires.sums, c.lowest.auto.sums))
 
-pub bound_parts-bound-requires-clause-widths_long : goal.bound_parts-bound-requires-clause-widths_long
-bound_parts-bound-requires-clause-widths_long c = rw c.at-coarser.ensures.halvings (omega (arith, power_le c.args.halvings c.args.residual.now.halvings c.requires.within, c.requires.widths, c.lowest.ensures.long))
+pub bound_parts-close-requires-clause-widths_long : goal.bound_parts-close-requires-clause-widths_long
+bound_parts-close-requires-clause-widths_long c = rw c.at-coarser.ensures.partition_order (omega (arith, power_le c.args.partition_order c.args.residual.now.partition_order c.requires.within, c.requires.widths, c.lowest.ensures.long))
 
-pub returns : goal.returns
-returns c = λ yes f m e.
-    let few : f.halvings ≤ c.args.halvings = omega (arith, e) in
+pub returns-clause-dear : goal.returns-clause-dear
+returns-clause-dear c = λ yes f m e.
+    let few : f.partition_order ≤ c.args.partition_order = omega (arith, e) in
     let is = c.at-coarser.ensures in
-    let last = rw (is.values, is.order, is.halvings) at c.bound_parts-bound.ensures.last in
-    let least = last f (up_to c.args.residual.now.order c.args.halvings c.args.residual.now.halvings c.args.residual.now.values.now f m few) e in
-    let reached : c.saturating_sub-rest.result ≤ c.bound_parts-bound.result = grind (arith, nat_tests, yes) in
+    let last = rw (is.values, is.order, is.partition_order) at c.bound_parts-close.ensures.last in
+    let least = last f (up_to c.args.residual.now.order c.args.partition_order c.args.residual.now.partition_order c.args.residual.now.values.now f m few) e in
+    let reached : c.saturating_sub-rest.result ≤ c.bound_parts-close.result.bits = grind (arith, nat_tests, yes) in
     omega (arith, least, reached)

@@ -1,6 +1,7 @@
 use Rattle.std.proofs.Common.{rules}
 use Rattle.std.proofs.lemmas.Result.{err_from_is_err_and}
 use Rattle.flac_bits.proofs.Counting.{answered_then, failed_then}
+use Rattle.flac_bits.specs.Layout as L
 use Rattle.flac_subframe.specs.Residual.{partition, escaped, coded}
 use Rattle.flac_subframe.proofs.residual.read_partition.Goals as goal
 
@@ -14,25 +15,25 @@ pub returns-in_err-width : goal.returns-in_err-width
 unfolding partition escaped coded
 returns-in_err-width g c =
     let p = err_from_is_err_and c.from_residual-in_err-width.result c.from_residual-in_err-width.ensures.1 in
-    rw (p.1, p.2) (record { fits = tt; reading = record { spends = tt; counts = failed_then c.args.bits.now c.take.new.self c.take-then-parameter-parameter_bits.new.self c.in_ok-parameter.ensures.reading.counts c.in_err-width.ensures.reading.counts; memory = c.in_err-width.ensures.reading.memory; reads = search rules } })
+    rw (p.1, p.2) (record { fits = tt; reading = record { spends = tt; counts = failed_then c.args.bits.now c.take.new.self c.take-then-parameter-escape.new.self c.in_ok-parameter.ensures.reading.counts c.in_err-width.ensures.reading.counts; memory = c.in_err-width.ensures.reading.memory; reads = search rules } })
 
 pub returns-in_err-signed_partition : goal.returns-in_err-signed_partition
 unfolding partition escaped coded
 returns-in_err-signed_partition g c =
     let p = err_from_is_err_and c.from_residual-in_err-signed_partition.result c.from_residual-in_err-signed_partition.ensures.1 in
-    rw (p.1, p.2) (record { fits = tt; reading = record { spends = tt; counts = failed_then c.args.bits.now c.take.new.self c.signed_partition.new.self c.in_ok-parameter.ensures.reading.counts (failed_then c.take.new.self c.take-then-parameter-parameter_bits.new.self c.signed_partition.new.self c.in_ok-width.ensures.reading.counts c.in_err-signed_partition.ensures.reading.counts); memory = c.in_err-signed_partition.ensures.reading.memory; reads = search rules } })
+    rw (p.1, p.2) (record { fits = tt; reading = record { spends = tt; counts = failed_then c.args.bits.now c.take.new.self c.signed_partition.new.self c.in_ok-parameter.ensures.reading.counts (failed_then c.take.new.self c.take-then-parameter-escape.new.self c.signed_partition.new.self c.in_ok-width.ensures.reading.counts c.in_err-signed_partition.ensures.reading.counts); memory = c.in_err-signed_partition.ensures.reading.memory; reads = search rules } })
 
 pub returns-in_err-rice_partition : goal.returns-in_err-rice_partition
-unfolding partition escaped coded
+unfolding partition escaped coded L.number_at
 returns-in_err-rice_partition g c =
     let p = err_from_is_err_and c.from_residual-in_err-rice_partition.result c.from_residual-in_err-rice_partition.ensures.1 in
     rw (p.1, p.2) (record { fits = tt; reading = record { spends = tt; counts = failed_then c.args.bits.now c.take.new.self c.rice_partition.new.self c.in_ok-parameter.ensures.reading.counts c.in_err-rice_partition.ensures.reading.counts; memory = c.in_err-rice_partition.ensures.reading.memory; reads = search rules } })
 
-pub returns-then-parameter-parameter_bits-clause-reading : goal.returns-then-parameter-parameter_bits-clause-reading
+pub returns-then-parameter-escape-clause-reading : goal.returns-then-parameter-escape-clause-reading
 unfolding partition escaped coded
-returns-then-parameter-parameter_bits-clause-reading g c = record {
+returns-then-parameter-escape-clause-reading g c = record {
   spends = search rules;
-  counts = answered_then c.args.bits.now c.take.new.self c.signed_partition.new.self c.in_ok-parameter.ensures.reading.counts (answered_then c.take.new.self c.take-then-parameter-parameter_bits.new.self c.signed_partition.new.self c.in_ok-width.ensures.reading.counts c.in_ok-signed_partition.ensures.reading.counts);
+  counts = answered_then c.args.bits.now c.take.new.self c.signed_partition.new.self c.in_ok-parameter.ensures.reading.counts (answered_then c.take.new.self c.take-then-parameter-escape.new.self c.signed_partition.new.self c.in_ok-width.ensures.reading.counts c.in_ok-signed_partition.ensures.reading.counts);
   memory = search rules;
   reads = search rules;
 }

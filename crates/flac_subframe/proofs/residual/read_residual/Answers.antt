@@ -2,6 +2,7 @@ use Rattle.std.proofs.Common.{rules, sym, ◌∙◌, ◌+◌, length, ℕ}
 use Rattle.std.proofs.lemmas.Result.{err_from_is_err_and}
 use Rattle.flac_bits.proofs.Counting.{answered_then, failed_then}
 use Rattle.flac_subframe.specs.inner.Codes.{method_code}
+use Rattle.flac_subframe.proofs.Bodies.{bits_of_code}
 use Rattle.flac_subframe.proofs.Predicted.{residual_run, residual_fails}
 use Rattle.flac_subframe.proofs.residual.read_residual.Goals as goal
 
@@ -23,7 +24,7 @@ returns-in_err-read_partitions g c =
         memory = c.in_err-read_partitions.ensures.reading.memory;
         reads = λ known same.
             residual_run c.args.limit c.args.order (length c.args.out.now + c.args.order) h c.args.bits.now.cursor c.read_residual_header.new.bits.cursor (c.in_ok-method.ensures.reading.reads known counts.1)
-            ∙ (rw (c.power-count.ensures, c.parameter_bits-parameter_bits.ensures.value) at (c.in_err-read_partitions.ensures.reading.reads (counts.0 known) (same ∙ sym counts.1)));
+            ∙ (rw (c.power-count.ensures, bits_of_code c.in_ok-method.method) at (c.in_err-read_partitions.ensures.reading.reads (counts.0 known) (same ∙ sym counts.1)));
       };
     })
 
@@ -36,5 +37,5 @@ returns-clause-reading g c = record {
       let counts = c.in_ok-method.ensures.reading.counts in
       let h : ℕ × ℕ = (method_code c.in_ok-method.method, c.in_ok-method.times) in
       residual_run c.args.limit c.args.order (length c.args.out.now + c.args.order) h c.args.bits.now.cursor c.read_residual_header.new.bits.cursor (c.in_ok-method.ensures.reading.reads known counts.1)
-      ∙ (rw (c.power-count.ensures, c.parameter_bits-parameter_bits.ensures.value) at (c.in_ok-read_partitions.ensures.reading.reads (counts.0 known) (same ∙ sym counts.1))));
+      ∙ (rw (c.power-count.ensures, bits_of_code c.in_ok-method.method) at (c.in_ok-read_partitions.ensures.reading.reads (counts.0 known) (same ∙ sym counts.1))));
 }

@@ -8,7 +8,7 @@ use Rattle.flac_subframe.proofs.survey.best_order.Goals.{then-bits-best, else-bi
 
 pub loop-p-init : goal.loop-p-init
 loop-p-init c =
-    let w = parameter_bits_of c.args.method in let rs = c.args.residual.now.values.now in let order = c.args.residual.now.order in let h = c.args.residual.now.halvings in
+    let w = parameter_bits_of c.args.method in let rs = c.args.residual.now.values.now in let order = c.args.residual.now.order in let h = c.args.residual.now.partition_order in
     let halves = halves_at order rs h 0 (omega arith) c.args.residual.now.halves in
     let here = halved_cost w 0 h order rs (four_or_five c.args.method) (omega arith) halves c.total.result c.total.ensures.least in
     record {
@@ -21,7 +21,7 @@ loop-p-init c =
 
 pub loop-p-preserved : goal.loop-p-preserved
 loop-p-preserved c =
-    let w = parameter_bits_of c.args.method in let rs = c.args.residual.now.values.now in let order = c.args.residual.now.order in let h = c.args.residual.now.halvings in
+    let w = parameter_bits_of c.args.method in let rs = c.args.residual.now.values.now in let order = c.args.residual.now.order in let h = c.args.residual.now.partition_order in
     let p = c.loop-p.p in let so = c.loop-p.invariant in
     let halves = halves_at order rs h p (omega arith) c.args.residual.now.halves in
     let here = halved_cost w p h order rs (four_or_five c.args.method) (omega arith) halves c.total-bits.result c.total-bits.ensures.least in
@@ -43,4 +43,4 @@ loop-p-preserved c =
     ]
 
 pub returns-clause-least : goal.returns-clause-least
-returns-clause-least c = all_orders (parameter_bits_of c.args.method) c.args.residual.now.halvings c.args.residual.now.order c.args.residual.now.values.now c.loop-p.best.bits 0 c.loop-p.p (omega arith) c.loop-p.invariant.least
+returns-clause-least c = all_orders (parameter_bits_of c.args.method) c.args.residual.now.partition_order c.args.residual.now.order c.args.residual.now.values.now c.loop-p.best.bits 0 c.loop-p.p (omega arith) c.loop-p.invariant.least

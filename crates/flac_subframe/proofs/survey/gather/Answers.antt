@@ -13,12 +13,12 @@ use Rattle.flac_subframe.proofs.survey.gather.Goals as goal
 
 pub overflow_sub-long : goal.overflow_sub-long
 overflow_sub-long c =
-    omega (arith, (halves_at c.args.residual.now.order c.args.residual.now.values.now c.args.residual.now.halvings c.args.halvings c.requires.within c.args.residual.now.halves).room)
+    omega (arith, (halves_at c.args.residual.now.order c.args.residual.now.values.now c.args.residual.now.partition_order c.args.partition_order c.requires.within c.args.residual.now.halves).room)
 
 pub loop-j-init : goal.loop-j-init
 loop-j-init c =
-    let order = c.args.residual.now.order in let rs = c.args.residual.now.values.now in let p = c.args.halvings in
-    let halves = halves_at order rs c.args.residual.now.halvings p c.requires.within c.args.residual.now.halves in
+    let order = c.args.residual.now.order in let rs = c.args.residual.now.values.now in let p = c.args.partition_order in
+    let halves = halves_at order rs c.args.residual.now.partition_order p c.requires.within c.args.residual.now.halves in
     let first : 0 ≡ start order (length rs + order) p 0 = omega arith in
     record {
       priced = priced_start (parameter_bits_of c.args.method) order p c.power-count.result _ rs halves c.args.residual.now.range c.power-count.ensures (omega arith);
@@ -29,13 +29,13 @@ loop-j-init c =
 
 pub bounds-table-count : goal.bounds-table-count
 bounds-table-count c =
-    let b : c.loop-j.j < 2 ^ c.args.halvings = omega arith in
-    omega (arith, place_within c.args.halvings c.loop-j.j c.args.residual.now.halvings c.requires.within b, c.requires.table, c.power-count.ensures)
+    let b : c.loop-j.j < 2 ^ c.args.partition_order = omega arith in
+    omega (arith, place_within c.args.partition_order c.loop-j.j c.args.residual.now.partition_order c.requires.within b, c.requires.table, c.power-count.ensures)
 
 pub bounds-widths-count : goal.bounds-widths-count
 bounds-widths-count c =
-    let b : c.loop-j.j < 2 ^ c.args.halvings = omega arith in
-    omega (arith, place_within c.args.halvings c.loop-j.j c.args.residual.now.halvings c.requires.within b, c.requires.places, c.power-count.ensures)
+    let b : c.loop-j.j < 2 ^ c.args.partition_order = omega arith in
+    omega (arith, place_within c.args.partition_order c.loop-j.j c.args.residual.now.partition_order c.requires.within b, c.requires.places, c.power-count.ensures)
 
 pub finish-best-requires-clause-range : goal.finish-best-requires-clause-range
 finish-best-requires-clause-range c =
@@ -46,20 +46,20 @@ pub finish-best-requires-clause-best : goal.finish-best-requires-clause-best
 unfolding part
 finish-best-requires-clause-best c =
     let so = c.loop-j.invariant in
-    let b : c.loop-j.j < 2 ^ c.args.halvings = omega arith in
-    rw (c.split_at.ensures.front, so.rest, so.long, c.power-count.ensures) (c.requires.entries c.args.halvings c.loop-j.j c.requires.within b)
+    let b : c.loop-j.j < 2 ^ c.args.partition_order = omega arith in
+    rw (c.split_at.ensures.front, so.rest, so.long, c.power-count.ensures) (c.requires.entries c.args.partition_order c.loop-j.j c.requires.within b)
 
 pub finish-best-requires-clause-width : goal.finish-best-requires-clause-width
 unfolding part
 finish-best-requires-clause-width c =
     let so = c.loop-j.invariant in
-    let b : c.loop-j.j < 2 ^ c.args.halvings = omega arith in
-    rw (c.split_at.ensures.front, so.rest, so.long, c.power-count.ensures) (c.requires.widths c.args.halvings c.loop-j.j (omega arith) c.requires.within b).0
+    let b : c.loop-j.j < 2 ^ c.args.partition_order = omega arith in
+    rw (c.split_at.ensures.front, so.rest, so.long, c.power-count.ensures) (c.requires.widths c.args.partition_order c.loop-j.j (omega arith) c.requires.within b).0
 
 pub finish-best-requires-clause-small_width : goal.finish-best-requires-clause-small_width
 finish-best-requires-clause-small_width c =
-    let b : c.loop-j.j < 2 ^ c.args.halvings = omega arith in
-    rw c.power-count.ensures (c.requires.widths c.args.halvings c.loop-j.j (omega arith) c.requires.within b).1
+    let b : c.loop-j.j < 2 ^ c.args.partition_order = omega arith in
+    rw c.power-count.ensures (c.requires.widths c.args.partition_order c.loop-j.j (omega arith) c.requires.within b).1
 
 pub loop-j-preserved : goal.loop-j-preserved
 loop-j-preserved c =
@@ -68,27 +68,27 @@ loop-j-preserved c =
     let n = length c.args.residual.now.values.now + c.args.residual.now.order in
     let m = c.power-count.result - (j + 1) in
     let e : c.power-count.result - j ≡ suc m = omega arith in
-    let halves = halves_at c.args.residual.now.order c.args.residual.now.values.now c.args.residual.now.halvings c.args.halvings c.requires.within c.args.residual.now.halves in
+    let halves = halves_at c.args.residual.now.order c.args.residual.now.values.now c.args.residual.now.partition_order c.args.partition_order c.requires.within c.args.residual.now.halves in
     let priced = rw e at so.priced in
     let front = c.split_at.ensures.front in
-    let next : start c.args.residual.now.order n c.args.halvings j + c.loop-j.long ≡ start c.args.residual.now.order n c.args.halvings (j + 1) = omega (arith, start_rises c.args.residual.now.order n c.args.halvings j) in
+    let next : start c.args.residual.now.order n c.args.partition_order j + c.loop-j.long ≡ start c.args.residual.now.order n c.args.partition_order (j + 1) = omega (arith, start_rises c.args.residual.now.order n c.args.partition_order j) in
     record {
       priced = rw (one_coding_more j c.loop-j.codings c.byte.result c.finish-best.result.coding (omega arith) c.byte.ensures, c.from-parameter_bits.ensures, c.parameter_bits.ensures.bits, c.split_at.ensures.back)
           (priced_more _ _ _ _ _ _ _ _ m _ _ _ (four_or_five c.args.method) priced
           (rw front at c.finish-best.ensures.least) (rw front at c.finish-best.ensures.bits) (rw front at c.finish-best.ensures.small));
       places = length-set c.loop-j.codings j c.byte.result ∙ so.places;
-      rest = c.split_at.ensures.back ∙ rw so.rest (drop-drop c.loop-j.long (start c.args.residual.now.order n c.args.halvings j) c.args.residual.now.values.now) ∙ ap (λ (k : ℕ). drop k c.args.residual.now.values.now) next;
-      long = omega (arith, start_next c.args.residual.now.order n c.args.halvings j halves.room, start_rises c.args.residual.now.order n c.args.halvings (j + 1));
+      rest = c.split_at.ensures.back ∙ rw so.rest (drop-drop c.loop-j.long (start c.args.residual.now.order n c.args.partition_order j) c.args.residual.now.values.now) ∙ ap (λ (k : ℕ). drop k c.args.residual.now.values.now) next;
+      long = omega (arith, start_next c.args.residual.now.order n c.args.partition_order j halves.room, start_rises c.args.residual.now.order n c.args.partition_order (j + 1));
     }
 
 pub returns-clause-least : goal.returns-clause-least
 returns-clause-least c =
     let none : c.power-count.result - c.loop-j.j ≡ 0 = omega arith in
-    let all : c.loop-j.j ≡ 2 ^ c.args.halvings = omega (arith, c.power-count.ensures) in
+    let all : c.loop-j.j ≡ 2 ^ c.args.partition_order = omega (arith, c.power-count.ensures) in
     rw (c.power-count.ensures, all) at (priced_least _ _ _ _ _ _ _ _ _ _ none c.loop-j.invariant.priced)
 
 pub returns-clause-bits : goal.returns-clause-bits
 returns-clause-bits c =
     let none : c.power-count.result - c.loop-j.j ≡ 0 = omega arith in
-    let all : c.loop-j.j ≡ 2 ^ c.args.halvings = omega (arith, c.power-count.ensures) in
+    let all : c.loop-j.j ≡ 2 ^ c.args.partition_order = omega (arith, c.power-count.ensures) in
     rw all at (priced_bits _ _ _ _ _ _ _ _ _ _ none c.loop-j.invariant.priced)

@@ -9,7 +9,7 @@ returns-then-finest-le-COARSE-clause-none c = λ f m b. c.finest_in_doubt-finest
 pub returns-clause-least : goal.returns-clause-least
 returns-clause-least c =
     let r = c.args.residual.now in let doubt = c.finest_in_doubt-finest in let found = c.least_up_to in
-    found_still r.order doubt.result r.halvings r.values.now doubt.ensures.within.1 c.args.below doubt.ensures.dear found.result _ found.ensures.least found.ensures.bits (IfSome_then found.result found.ensures.less (λ f b. omega (arith, b)))
+    found_still r.order doubt.result.0 r.partition_order r.values.now doubt.ensures.within.1 c.args.below doubt.ensures.dear found.result _ found.ensures.least found.ensures.bits (IfSome_then found.result found.ensures.less (λ f b. omega (arith, b)))
 
 pub returns-clause-within : goal.returns-clause-within
 returns-clause-within c = IfSome_then c.least_up_to.result c.least_up_to.ensures.within (λ f b. omega (arith, b, c.finest_in_doubt-finest.ensures.within))
@@ -17,4 +17,4 @@ returns-clause-within c = IfSome_then c.least_up_to.result c.least_up_to.ensures
 pub returns-clause-none : goal.returns-clause-none
 returns-clause-none c =
     let r = c.args.residual.now in let doubt = c.finest_in_doubt-finest in
-    none_finer r.order doubt.result r.halvings r.values.now doubt.ensures.within.1 c.args.below doubt.ensures.dear c.least_up_to.result c.least_up_to.ensures.none
+    none_finer r.order doubt.result.0 r.partition_order r.values.now doubt.ensures.within.1 c.args.below doubt.ensures.dear c.least_up_to.result c.least_up_to.ensures.none

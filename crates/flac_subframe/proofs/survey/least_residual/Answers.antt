@@ -6,7 +6,7 @@ use Rattle.flac_subframe.proofs.survey.least_residual.Goals as goal
 pub returns-in-None-clause-least : goal.returns-in-None-clause-least
 returns-in-None-clause-least c =
     let r = c.args.residual.now in let first = c.least_up_to-first in
-    rw c.in-None.ensures.kept (found_still r.order 8 r.halvings r.values.now (omega arith) c.bits_to_beat-limit.result c.in-None.ensures.none first.result _ first.ensures.least first.ensures.bits c.bits_to_beat-limit.ensures.some)
+    rw c.in-None.ensures.kept (found_still r.order 8 r.partition_order r.values.now (omega arith) c.bits_to_beat-limit.result c.in-None.ensures.none first.result _ first.ensures.least first.ensures.bits c.bits_to_beat-limit.ensures.some)
 
 pub returns-in-None-clause-bits : goal.returns-in-None-clause-bits
 returns-in-None-clause-bits c = rw c.in-None.ensures.kept c.least_up_to-first.ensures.bits
@@ -20,4 +20,4 @@ returns-in-None-clause-kept c = rw c.in-None.ensures.kept c.least_up_to-first.en
 pub returns-in-None-clause-none : goal.returns-in-None-clause-none
 returns-in-None-clause-none c =
     let r = c.args.residual.now in let first = c.least_up_to-first in
-    none_after r.order 8 r.halvings r.values.now (omega arith) c.bits_to_beat-limit.result c.in-None.ensures.none first.result c.args.below c.bits_to_beat-limit.ensures.none first.ensures.none
+    none_after r.order 8 r.partition_order r.values.now (omega arith) c.bits_to_beat-limit.result c.in-None.ensures.none first.result c.args.below c.bits_to_beat-limit.ensures.none first.ensures.none

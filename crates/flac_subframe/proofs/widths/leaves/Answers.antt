@@ -9,7 +9,7 @@ use Rattle.flac_subframe.proofs.widths.leaves.Goals as goal
 
 pub loop-j-init : goal.loop-j-init
 loop-j-init c = record {
-  rest = start_none c.args.residual.now.order (length c.args.residual.now.values.now + c.args.residual.now.order) c.args.residual.now.halvings c.args.residual.now.folds.now;
+  rest = start_none c.args.residual.now.order (length c.args.residual.now.values.now + c.args.residual.now.order) c.args.residual.now.partition_order c.args.residual.now.folds.now;
   long = omega arith;
   done = λ j h. absurd (omega arith);
   small = λ j h. absurd (omega arith);
@@ -33,7 +33,7 @@ pub loop-j-preserved : goal.loop-j-preserved
 unfolding part
 loop-j-preserved c =
     let i = c.loop-j.j in let so = c.loop-j.invariant in
-    let order = c.args.residual.now.order in let h = c.args.residual.now.halvings in
+    let order = c.args.residual.now.order in let h = c.args.residual.now.partition_order in
     let n = length c.args.residual.now.values.now + order in
     let rs = c.args.residual.now.values.now in
     let ns = c.args.residual.now.folds.now in

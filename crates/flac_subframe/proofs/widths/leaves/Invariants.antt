@@ -6,9 +6,9 @@ use Rattle.flac_subframe.proofs.widths.leaves.Given as goal
 
 abbrev pub invariant-loop-j : goal.invariant-loop-j
 invariant-loop-j l = record {
-  rest : l.rest ≡ drop (start l.residual.order (length l.residual.values.now + l.residual.order) l.residual.halvings l.j) l.residual.folds.now;
-  long : l.long ≡ start l.residual.order (length l.residual.values.now + l.residual.order) l.residual.halvings (l.j + 1) - start l.residual.order (length l.residual.values.now + l.residual.order) l.residual.halvings l.j;
-  done : (j : ℕ) → j < l.j → IsWidth (part l.residual.order l.residual.values.now l.residual.halvings j) (get_or l.widths j 0);
+  rest : l.rest ≡ drop (start l.residual.order (length l.residual.values.now + l.residual.order) l.residual.partition_order l.j) l.residual.folds.now;
+  long : l.long ≡ start l.residual.order (length l.residual.values.now + l.residual.order) l.residual.partition_order (l.j + 1) - start l.residual.order (length l.residual.values.now + l.residual.order) l.residual.partition_order l.j;
+  done : (j : ℕ) → j < l.j → IsWidth (part l.residual.order l.residual.values.now l.residual.partition_order j) (get_or l.widths j 0);
   small : (j : ℕ) → j < l.j → get_or l.widths j 0 ≤ 32;
-  costs : (j : ℕ) → j < l.j → get_or l.sums j 0 ≡ sum_by (value_cost 0) (part l.residual.order l.residual.values.now l.residual.halvings j);
+  costs : (j : ℕ) → j < l.j → get_or l.sums j 0 ≡ sum_by (value_cost 0) (part l.residual.order l.residual.values.now l.residual.partition_order j);
 }

@@ -4,7 +4,7 @@ use Rattle.flac_subframe.proofs.widths.lowest.Goals as goal
 
 pub returns-clause-widths : goal.returns-clause-widths
 returns-clause-widths c = λ p j low high b.
-    let e : p ≡ c.args.residual.now.halvings = omega arith in
-    let b' : j < 2 ^ c.args.residual.now.halvings = rw e at b in
-    let is : 2 ^ c.args.residual.now.halvings + j ≡ c.power-first.result + j = omega arith in
-    rw (e, at_place c.power-first.result (2 ^ c.args.residual.now.halvings + j) j c.args.widths.now c.leaves.new.widths _ (omega arith) is (omega arith)) (c.leaves.ensures.widths j b', c.leaves.ensures.small j b')
+    let e : p ≡ c.args.residual.now.partition_order = omega arith in
+    let b' : j < 2 ^ c.args.residual.now.partition_order = rw e at b in
+    let is : 2 ^ c.args.residual.now.partition_order + j ≡ c.power-first.result + j = omega arith in
+    rw (e, at_place c.power-first.result (2 ^ c.args.residual.now.partition_order + j) j c.args.widths.now c.leaves.new.widths _ (omega arith) is (omega arith)) (c.leaves.ensures.widths j b', c.leaves.ensures.small j b')

@@ -6,19 +6,19 @@ use Rattle.flac_subframe.proofs.widths.measure.Goals as goal
 pub loop-at-init : goal.loop-at-init
 loop-at-init c = record {
   within = omega arith;
-  some = omega (arith, pow_pos c.args.residual.now.halvings);
-  widths = rw c.power-at.ensures (widths_lowest c.args.residual.now.order c.args.residual.now.values.now c.args.residual.now.halvings c.lowest.new.widths c.lowest.ensures.widths);
+  some = omega (arith, pow_pos c.args.residual.now.partition_order);
+  widths = rw c.power-at.ensures (widths_lowest c.args.residual.now.order c.args.residual.now.values.now c.args.residual.now.partition_order c.lowest.new.widths c.lowest.ensures.widths);
 }
 
 pub loop-at-preserved : goal.loop-at-preserved
 loop-at-preserved c =
     let i : ℕ = c.loop-at.at - 1 in
     let e : c.loop-at.at ≡ i + 1 = omega arith in
-    let so = subst (λ (n : ℕ). WidthsFrom c.args.residual.now.order c.args.residual.now.values.now c.args.residual.now.halvings n c.loop-at.widths) e c.loop-at.invariant.widths in
+    let so = subst (λ (n : ℕ). WidthsFrom c.args.residual.now.order c.args.residual.now.values.now c.args.residual.now.partition_order n c.loop-at.widths) e c.loop-at.invariant.widths in
     record {
       within = omega arith;
       some = omega arith;
-      widths = rw c.max.ensures (widths_more c.args.residual.now.order c.args.residual.now.values.now c.args.residual.now.halvings c.loop-at.widths i (omega arith) (omega arith) (omega arith) c.args.residual.now.halves so);
+      widths = rw c.max.ensures (widths_more c.args.residual.now.order c.args.residual.now.values.now c.args.residual.now.partition_order c.loop-at.widths i (omega arith) (omega arith) (omega arith) c.args.residual.now.halves so);
     }
 
 pub returns-clause-widths : goal.returns-clause-widths

@@ -5,7 +5,7 @@ use Rattle.std.proofs.lemmas.Result.{err_from_is_err_and}
 use Rattle.flac_bits.specs.Rice.{IsResidual}
 use Rattle.flac_bits.proofs.Writing.{towards_start, towards_fail, towards_end}
 use Rattle.flac_subframe.specs.Bodies.{cut}
-use Rattle.flac_subframe.specs.Cost.{coding_of}
+use Rattle.flac_subframe.specs.Cost.{coding_of, parameter_bits_of}
 use Rattle.flac_subframe.specs.Spelling.{coding_spelling, partition_spelling}
 use Rattle.flac_subframe.proofs.Bytes.{next_coding}
 use Rattle.flac_subframe.proofs.WriteSteps.{writing_more, writing_within, nothing_left}
@@ -22,7 +22,7 @@ split_at-requires g c =
 pub write_partition-requires : goal.write_partition-requires
 write_partition-requires g c =
     let so = rw (next_coding c.args.codings.now c.loop-byte.byte-index 0 c.loop-byte-test.true) at c.loop-byte.invariant in
-    record { method = c.requires.method; may = rw (c.of_byte.ensures, c.split_at.ensures.front) so.may.0; range = rw c.split_at.ensures.front (All-take IsResidual c.loop-byte.long c.loop-byte.rest.now so.range) }
+    record { may = rw (c.of_byte.ensures, c.split_at.ensures.front) so.may.0; range = rw c.split_at.ensures.front (All-take IsResidual c.loop-byte.long c.loop-byte.rest.now so.range) }
 
 pub loop-byte-preserved : goal.loop-byte-preserved
 loop-byte-preserved g c =
@@ -34,7 +34,7 @@ unfolding cut
 returns-in_err-write_partition g c =
     let i = c.loop-byte.byte-index in
     let cs = map coding_of c.args.codings.now in
-    let w = c.args.parameter_bits in
+    let w = (parameter_bits_of c.args.method) in
     let rest = c.loop-byte.rest.now in
     let long = c.loop-byte.long in
     let so = rw (next_coding c.args.codings.now i 0 c.loop-byte-test.true) at c.loop-byte.invariant in
@@ -46,4 +46,4 @@ pub returns : goal.returns
 returns g c =
     let cs = map coding_of c.args.codings.now in
     let i = c.loop-byte.byte-index in
-    towards_end (nothing_left c.args.parameter_bits c.loop-byte.long c.args.size c.loop-byte.rest.now (drop i cs) (omega (arith, length-drop i cs, length-map c.args.codings.now coding_of, c.loop-byte-test.false))) c.loop-byte.invariant.towards
+    towards_end (nothing_left (parameter_bits_of c.args.method) c.loop-byte.long c.args.size c.loop-byte.rest.now (drop i cs) (omega (arith, length-drop i cs, length-map c.args.codings.now coding_of, c.loop-byte-test.false))) c.loop-byte.invariant.towards

@@ -10,8 +10,7 @@ use Rattle.flac_bits.specs.Signed.{FitsBits}
 use Rattle.flac_bits.proofs.Loops.{goes_on}
 use Rattle.flac_bits.proofs.Lists.{list_more, list_end, list_start}
 use Rattle.flac_bits.proofs.Signs.{signed_kept}
-use Rattle.std.proofs.lemmas.Result.{err_from_is_err_and}
-use Rattle.flac_bits.proofs.Counting.{gone, failed_then}
+use Rattle.flac_bits.proofs.Counting.{gone}
 use Rattle.flac_bits.proofs.reader.BitReader.signed_partition.Goals as goal
 
 pub loop-i-preserved : goal.loop-i-preserved

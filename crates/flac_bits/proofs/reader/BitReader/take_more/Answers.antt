@@ -1,7 +1,6 @@
 use Rattle.std.proofs.Common.{rules, refl, arith}
 use Rattle.flac_bits.proofs.Loops.{number_halves, halves_fit, halves_joined}
-use Rattle.std.proofs.lemmas.Result.{err_from_is_err_and}
-use Rattle.flac_bits.proofs.Counting.{answered_then, failed_then}
+use Rattle.flac_bits.proofs.Counting.{answered_then}
 use Rattle.flac_bits.proofs.reader.BitReader.take_more.Goals as goal
 
 pub returns-clause-small : goal.returns-clause-small

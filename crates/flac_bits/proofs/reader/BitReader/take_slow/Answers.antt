@@ -1,6 +1,5 @@
 use Rattle.std.proofs.Common.{rules}
-use Rattle.std.proofs.lemmas.Result.{err_from_is_err_and}
-use Rattle.flac_bits.proofs.Counting.{gone, failed_then}
+use Rattle.flac_bits.proofs.Counting.{gone}
 use Rattle.flac_bits.proofs.reader.BitReader.take_slow.Goals as goal
 
 pub returns-clause-reading : goal.returns-clause-reading

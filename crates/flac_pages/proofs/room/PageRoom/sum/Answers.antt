@@ -7,4 +7,4 @@ same : (p : Page) (h : Head) (l b : List ℕ) → h ≡ p.head → l ≡ p.lacin
 same p h l b e f g = rw (e, f, g) refl
 
 pub returns : goal.returns
-returns c = c.sum_of_page.ensures ∙ same c.args.self.now _ _ _ (ap (λ (p : Page). p.head) c.self.view_is) c.lacing.ensures.values c.body.ensures.bytes
+returns c = c.page_checksum.ensures ∙ same c.args.self.now _ _ _ (ap (λ (p : Page). p.head) c.self.view_is) c.lacing.ensures.values c.body.ensures.bytes

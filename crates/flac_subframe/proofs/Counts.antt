@@ -1,0 +1,50 @@
+-- How often values are priced: at most b times for each predictor.
+use Rattle.std.proofs.Common.{◌≡◌, ℕ, ◌+◌, ◌*◌, ◌≤◌, ◌<◌, arith, inl, inr, suc}
+use Rattle.std.proofs.lemmas.Bool.{cases_lt}
+use Rattle.std.proofs.lemmas.Nat.{mul-le}
+use Rattle.std.proofs.Math.Nat.{suc-mul}
+
+-- one predictor: the width and the bits under parameter 0, a bound that is not asked for where the width is large, and t parameters
+pub within_limit : (n w v t old mid new : ℕ) → v ≤ 2 * n → (28 < w → v ≡ 0) → t ≤ 30 → t ≤ w → mid ≤ old + (2 * n + v) → new ≤ mid + t * n → new ≤ old + 32 * n
+within_limit n w v t old mid new few none most narrow a b = elim (cases_lt 28 w) [
+  | inl wide ↦ omega (arith, none wide, mul-le t n 30 n most (omega arith), a, b)
+  | inr not ↦ omega (arith, few, mul-le t n 28 n (omega (arith, narrow, not)) (omega arith), a, b)
+]
+
+-- one of the finer partition orders more
+pub order_more : (n d old v : ℕ) → old ≤ (1 + 4 * d) * n → v ≤ 4 * n → old + v ≤ (1 + 4 * (d + 1)) * n
+order_more n d old v so few =
+    let k : ℕ = 1 + 4 * d in
+    let e : 1 + 4 * (d + 1) ≡ suc (suc (suc (suc k))) = omega arith in
+    rw e (omega (arith, so, few, suc-mul k n, suc-mul (suc k) n, suc-mul (suc (suc k)) n, suc-mul (suc (suc (suc k))) n))
+
+pub orders_all : (n d old : ℕ) → d ≤ 7 → old ≤ (1 + 4 * d) * n → old ≤ 29 * n
+orders_all n d old few so = omega (arith, so, mul-le (1 + 4 * d) n 29 n (omega (arith, few)) (omega arith))
+
+-- one predictor more
+pub one_more : (i b old new next : ℕ) → new ≤ old + (5 + i) * b → next ≤ new + b → next ≤ old + (5 + (i + 1)) * b
+one_more i b old new next so more =
+    let e : 5 + (i + 1) ≡ suc (5 + i) = omega arith in
+    rw e (omega (arith, so, more, suc-mul (5 + i) b))
+
+-- the first predictor was priced, and each fixed one below i
+pub record Counted (first i b old new : ℕ) : Type 0 where
+  pub before : i ≤ first → new ≤ old + (i + 1) * b
+  pub after : first < i → new ≤ old + i * b
+
+next : (i b old new more : ℕ) → new ≤ old + i * b → more ≤ new + b → more ≤ old + (i + 1) * b
+next i b old new more so less =
+    let e : i + 1 ≡ suc i = omega arith in
+    rw e (omega (arith, so, less, suc-mul i b))
+
+pub counted_first : (first b old new : ℕ) → new ≤ old + b → Counted first 0 b old new
+counted_first first b old new le = record { before = λ h. omega (arith, le); after = λ h. absurd (omega (arith, h)) }
+
+pub counted_more : (first i b old new more : ℕ) → (i ≡ first → ⊥) → Counted first i b old new → more ≤ new + b → Counted first (i + 1) b old more
+counted_more first i b old new more not so less = record {
+  before = λ h. next (i + 1) b old new more (so.before (omega (arith, h))) less;
+  after = λ h. next i b old new more (so.after (omega (arith, h, not))) less;
+}
+
+pub counted_same : (first i b old new : ℕ) → i ≡ first → Counted first i b old new → Counted first (i + 1) b old new
+counted_same first i b old new is so = record { before = λ h. absurd (omega (arith, h, is)); after = λ h. so.before (omega (arith, is)) }
