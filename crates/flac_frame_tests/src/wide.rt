@@ -331,3 +331,21 @@ fn one_place_for_all(rt: HostRuntime) -> Result<(), Fail> {
     assert!(rt; writer.into_target().bytes() == [0x10, 0x03, 0xC0].as_slice());
     Ok(())
 }
+
+/// How often a value is priced for a single sample: before there is a choice, for the choice, and what a copy of it
+/// says.
+fn priced_of_one(alloc: Global) -> Result<(u64, u64, u64), Why> {
+    let limits = limits(8);
+    let mut workspace = Workspace::new(alloc, 1, &limits)?;
+    let mut choice = WideChoice::new(alloc, &limits)?;
+    let before = choice.priced();
+    choose_in(&[25587], 16, &limits, &[], &mut workspace, &mut choice);
+    let copied = choice.kept(alloc)?.priced();
+    Ok((before, choice.priced(), copied))
+}
+
+/// A single sample is priced under parameter 0 and by its width, as it is for a choice of its own.
+#[test]
+fn counts_in_its_place(rt: HostRuntime) {
+    assert!(rt; priced_of_one(rt.alloc()) == Ok((0, 2, 2)));
+}
