@@ -1,13 +1,9 @@
 //! The program `flac`: tests, decodes, lists, encodes and retags FLAC streams (RFC 9639).
 #![tactic(auto)]
 
-mod files;
-mod list;
-
-use crate::files::{Known, Output, Replacement, create};
-use crate::list::List;
 use flac_bits::Counted;
 use flac_cli::{Task, run};
+use flac_files::{Known, List, Output, Replacement, create};
 use flac_jobs::{Job, LineFault};
 use flac_words::job;
 use std::fs::File;

@@ -8,7 +8,7 @@ use std::path::PathBuf;
 
 /// What a job writes to.
 #[derive(Drop)]
-pub(crate) enum Output {
+pub enum Output {
     /// A file or a device, opened for the job.
     File(File),
     /// Standard output, from its current position on.
@@ -51,7 +51,7 @@ impl Write for Output {
 /// A new file beside one that has bytes. It takes the place of the old one when the job is done. Until then, and if the
 /// job fails, the old file stays as it was.
 #[derive(Drop)]
-pub(crate) struct Replacement {
+pub struct Replacement {
     part: String,
     path: PathBuf,
 }
@@ -63,7 +63,7 @@ impl Replacement {
     /// # Errors
     /// The new file cannot be stored, or cannot take the place of the old one: it stays beside it. After a job that
     /// failed: an empty new file cannot be removed.
-    pub(crate) fn end(self, rt: &HostRuntime, output: Output, status: u8) -> io::Result<()> {
+    pub fn end(self, rt: &HostRuntime, output: Output, status: u8) -> io::Result<()> {
         let Replacement { part, path } = self;
         if status == 0 {
             output.store()?;
@@ -78,7 +78,7 @@ impl Replacement {
 
 /// A file that the job reads, which it must not write.
 #[derive(Drop)]
-pub(crate) struct Known<'a> {
+pub struct Known<'a> {
     path: &'a str,
     found: Metadata,
 }
@@ -88,7 +88,7 @@ impl<'a> Known<'a> {
     ///
     /// # Errors
     /// That of the system.
-    pub(crate) fn of(path: &'a str, file: &File) -> io::Result<Known<'a>> {
+    pub fn of(path: &'a str, file: &File) -> io::Result<Known<'a>> {
         Ok(Known {
             path,
             found: file.metadata()?,
@@ -116,7 +116,7 @@ impl<'a> Known<'a> {
 ///
 /// # Errors
 /// The file cannot be created, or it is one that the job reads.
-pub(crate) fn create(
+pub fn create(
     rt: &HostRuntime,
     path: &str,
     input: &Known<'_>,

@@ -1,5 +1,8 @@
 //! The list of predictors of a job.
 
+ghost use Rattle.std.specs.Prelude.{◌≡◌, ◌≤◌, [], Some, None, length, IfOk, IfErr};
+ghost use Rattle.flac_jobs.specs.Asks.{list_of};
+
 use crate::files::Known;
 use flac_jobs::Job;
 use std::fs::File;
@@ -11,17 +14,20 @@ const MOST: u64 = 1 << 20;
 
 /// The text of a job's list of predictors, and its file.
 #[derive(Drop)]
-pub(crate) struct List<'a> {
-    /// Empty if the job has no list.
-    pub(crate) text: Vec<u8>,
-    pub(crate) file: Option<Known<'a>>,
+pub struct List<'a> {
+    /// Its bytes, at most 1 MiB; empty if the job has no list.
+    pub text: Vec<u8>,
+    /// The file that it was read from, which the job must not write.
+    pub file: Option<Known<'a>>,
 }
 
 /// Why the list of a job cannot be used: its path, and what cannot be done with it.
 #[derive(Clone, Copy)]
-pub(crate) struct ListRefused<'a> {
-    pub(crate) path: &'a str,
-    pub(crate) what: &'static str,
+pub struct ListRefused<'a> {
+    /// The path of the list.
+    pub path: &'a str,
+    /// What cannot be done with it: `opened` or `read`.
+    pub what: &'static str,
 }
 
 impl<'a> List<'a> {
@@ -30,7 +36,11 @@ impl<'a> List<'a> {
     /// # Errors
     /// The file cannot be opened, or it cannot be read: the system returns an error, it has more than 1 MiB, or memory
     /// ran out.
-    pub(crate) fn of(rt: &HostRuntime, job: &Job<'a>) -> Result<List<'a>, ListRefused<'a>> {
+    pub fn of(rt: &HostRuntime, job: &Job<'a>) -> Result<List<'a>, ListRefused<'a>>
+        ensures few { IfOk result (λ list. length list.text.items ≤ 1048576) }
+        ensures none { list_of job.now ≡ None → IfOk result (λ list. list.text.items ≡ []) }
+        ensures refused { IfErr result (λ refused. list_of job.now ≡ Some refused.path.now) }
+    {
         let Some(path) = job.predictors() else {
             return Ok(List {
                 text: Vec::new(rt.alloc()),
@@ -47,7 +57,9 @@ impl<'a> List<'a> {
     }
 
     /// Reads a list.
-    fn read(rt: &HostRuntime, path: &'a str, file: File) -> io::Result<List<'a>> {
+    fn read(rt: &HostRuntime, path: &'a str, file: File) -> io::Result<List<'a>>
+        ensures few { IfOk result (λ list. length list.text.items ≤ 1048576) }
+    {
         let known = Known::of(path, &file)?;
         let mut text = Vec::new(rt.alloc());
         file.take(MOST + 1).read_to_end(&mut text)?;
