@@ -11,19 +11,20 @@ use flac_meta::{Block, Comments, CueSheet, CueTrack, Picture, SeekPoint, SeekTab
 fn write_name<W: Target>(lines: &mut Lines<W>, block: &Block) -> Result<(), Why>
     ensures { Prints W.Target lines.old.target lines.new.target result }
 {
-    match block {
-        Block::StreamInfo(_) => lines.put_parts(&[Part::Text("STREAMINFO")]),
-        Block::Padding(_) => lines.put_parts(&[Part::Text("PADDING")]),
-        Block::Application { .. } => lines.put_parts(&[Part::Text("APPLICATION")]),
-        Block::SeekTable(_) => lines.put_parts(&[Part::Text("SEEKTABLE")]),
-        Block::VorbisComment(_) => lines.put_parts(&[Part::Text("VORBIS_COMMENT")]),
-        Block::CueSheet(_) => lines.put_parts(&[Part::Text("CUESHEET")]),
-        Block::Picture(_) => lines.put_parts(&[Part::Text("PICTURE")]),
+    let name = match block {
+        Block::StreamInfo(_) => "STREAMINFO",
+        Block::Padding(_) => "PADDING",
+        Block::Application { .. } => "APPLICATION",
+        Block::SeekTable(_) => "SEEKTABLE",
+        Block::VorbisComment(_) => "VORBIS_COMMENT",
+        Block::CueSheet(_) => "CUESHEET",
+        Block::Picture(_) => "PICTURE",
         Block::Other { kind, .. } => {
             let kind = Part::Number(u64::from(*kind));
-            lines.put_parts(&[Part::Text("TYPE_"), kind])
+            return lines.put_parts(&[Part::Text("TYPE_"), kind]);
         }
-    }
+    };
+    lines.put_parts(&[Part::Text(name)])
 }
 
 /// Writes the first line of a block.

@@ -32,10 +32,15 @@ use std::marker::Model;
 pub struct BlockEncoder {
     alloc: Global,
     format: StreamFormat,
+    /// The linear predictors that are tried.
     predictors: Vec<LinearPredictor>,
+    /// How many frames are in the container.
     number: u64,
+    /// How many samples of each channel these have.
     samples: u64,
+    /// Whether a block shorter than the block size was pushed, after which none may follow.
     ended: bool,
+    /// Whether a frame could not be put into the container.
     spent: bool,
     buffers: EncodeBuffers,
 }

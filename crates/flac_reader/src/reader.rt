@@ -42,11 +42,17 @@ use std::time::Duration;
 #[derive(Drop)]
 pub struct Reader<C: Container> {
     pub(crate) decoder: Decoder<C>,
+    /// The STREAMINFO.
     pub(crate) info: StreamInfo,
+    /// The metadata blocks that are kept.
     pub(crate) blocks: Vec<Block>,
+    /// Whether the decoder has read a frame that was not given yet: opening reads the first one.
     pub(crate) ahead: bool,
+    /// How many bytes of a native stream are before its first frame.
     pub(crate) start: u64,
+    /// The number of the first sample of the last frame that was given.
     pub(crate) first: u64,
+    /// The number of the first sample after it, which the next frame begins with.
     pub(crate) behind: u64,
 }
 
