@@ -98,6 +98,17 @@ class Sources:
         # (an impl for some of the type's arguments alone adds these, as Decoder+BitReader+R)
         return bool(own and of) and (parts[-2] == own + of * function.in_trait or parts[-2].startswith(f"{own}+") and not function.in_trait)
 
+    def place(self, function):
+        """Where below proofs/ the prover looks for this function's proof; where it looks elsewhere, it says that there is no such function,
+        and goes on. None for a trait's own method."""
+        names = [*function.module]
+        if function.block:
+            own, of = (self.made.named(it)[0] for it in (function.block.ty or [], function.block.trait or ["Self"]))
+            if function.block.is_trait or not own:
+                return None
+            names.append(own + of * function.in_trait)
+        return "/".join([*names, function.name])
+
     def changed(self, path, text):
         """The functions whose bodies this text of the file changes, or None if it changes more than bodies, or a body that has items of
         its own, or that of a constant, a trait or a cycle of calls."""
@@ -239,12 +250,23 @@ def cited(crate, room):
     return found
 
 
+def with_no_proof(folder):
+    """Puts into the folder of a function's proof a file that has none."""
+    os.makedirs(folder, exist_ok=True)
+    with open(f"{folder}/Proof.antt", "w", encoding="utf-8") as it:
+        it.write("-- not asked for here\n")
+
+
 @contextlib.contextmanager
 def without_proofs(rt, crate, sources, edits):
     """A copy of the crate in which the functions that no edit changes have no proof, so that a check from nothing does not spend its time
-    on them. It says nothing of them, and of the others what it says with these proofs: they are proved from contracts alone, but for
-    those that cite the proof of another, which keeps it."""
+    on them: in place of the files of their proofs, or where they have none, stands one with no proof. It says nothing of them, and of the
+    others what it says with these proofs: they are proved from contracts alone, but for those that cite the proof of another, which keeps it."""
     changed = {it for edit in edits for it in edit.functions}
+
+    def is_changed(symbol):
+        return any(sources.may_be(it, crate.name, symbol) for it in changed)
+
     with tempfile.TemporaryDirectory(prefix="flac-bare-") as room:
         for part in rt.rtlib.PARTS:
             if os.path.isdir(f"{crate.folder}/{part}"):
@@ -252,11 +274,14 @@ def without_proofs(rt, crate, sources, edits):
         kept = cited(crate, room)
         for folder, _, names in [*os.walk(f"{room}/proofs")]:
             symbol = "::".join([crate.name, *os.path.relpath(folder, f"{room}/proofs").split(os.sep)])
-            if folder not in kept and not PROOFS.isdisjoint(names) and "+" not in symbol and not any(sources.may_be(it, crate.name, symbol) for it in changed):
+            if folder not in kept and not PROOFS.isdisjoint(names) and "+" not in symbol and not is_changed(symbol):
                 for name in PROOFS.intersection(names):
                     os.remove(f"{folder}/{name}")
-                with open(f"{folder}/Proof.antt", "w", encoding="utf-8") as it:
-                    it.write("-- not asked for here\n")
+                with_no_proof(folder)
+        for place in {sources.place(it) for it in sources.functions if it not in changed} - {None}:
+            symbol = "::".join([crate.name, *place.split("/")])
+            if not os.path.isdir(f"{room}/proofs/{place}") and not is_changed(symbol):
+                with_no_proof(f"{room}/proofs/{place}")
         bare = copy.copy(crate)
         bare.folder = room
         yield bare
