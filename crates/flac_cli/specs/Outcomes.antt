@@ -65,7 +65,8 @@ IsOutOfMemory outcome = (at : Place) × (outcome ≡ Some (Some at, why.Memory))
 abbrev pub IsRetagOutOfMemory : Outcome → Type 0
 IsRetagOutOfMemory outcome = (at : Option Place) × (outcome ≡ Some (at, why.Memory))
 
--- memory ran out, or a block could not be listed, since standard output failed, of which `printed` says that it did not
+-- memory ran out at some place; or, which is so only if standard output failed, a block could not be listed: `printed`
+-- says that standard output did not fail
 abbrev pub IsUnlisted : (printed : Type 0) → Outcome → Type 0
 IsUnlisted printed outcome = IsOutOfMemory outcome ⊎ ((printed → ⊥) × ((at : Place) × (outcome ≡ Some (Some at, why.Sink))))
 

@@ -40,7 +40,7 @@ stream_spelling serial ps = flat_map page_spelling (stream_pages serial ps)
 
 -- ---- packets that lie one after another in memory
 
--- each packet ends at the end of the one before or after it, and none after the bytes' end
+-- no packet ends before the one before it ends, the first none before `from`, and none ends after the place `most`
 abbrev pub AreInOrder : (from most : ℕ) → List PacketAt → Type 0
 AreInOrder from most [] = ⊤
 AreInOrder from most (p ∷ ps) = (from ≤ p.end) × (p.end ≤ most) × AreInOrder p.end most ps

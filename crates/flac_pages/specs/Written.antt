@@ -23,8 +23,8 @@ abbrev pub granule_at : PacketKind → (ends : Bool) → ℕ
 granule_at Header ends = 0
 granule_at (Frame end) ends = cond ends end (2 ^ 64 - 1)
 
--- The fixed fields of a packet's page k, counted from 0: only the first begins no part of a packet, and may be the
--- stream's first; only the last may be the stream's last.
+-- The fixed fields of a packet's page k, counted from 0: each page but the first goes on with the packet. Only the
+-- first may be the stream's first page, and only the last the stream's last.
 abbrev pub head_at : PacketMarks → (last k : ℕ) → Head
 head_at m last k = record {
   flags = cond (nat_eq k 0) (cond m.first 2 0) 1 + cond (nat_eq k last && m.last) 4 0;

@@ -1,11 +1,12 @@
 -- What an entry of the table says of a partition.
-use Rattle.std.proofs.Common.{◌≡◌, ◌⊎◌, inl, inr, ℕ, ◌+◌, ◌-◌, ◌*◌, ◌/◌, ◌%◌, ◌^◌, ◌≤◌, ◌<◌, arith, ℤ, List, length, All}
+use Rattle.std.proofs.Common.{◌≡◌, ◌⊎◌, inl, inr, ℕ, ◌+◌, ◌-◌, ◌*◌, ◌^◌, ◌≤◌, ◌<◌, arith, ℤ, List, length, All}
 use Rattle.std.specs.List.{sum_by}
 use Rattle.std.proofs.lemmas.List.Sums.{sum_by-le}
 use Rattle.std.proofs.lemmas.List.Elements.{All-weaker}
 use Rattle.flac_subframe.specs.declared.coding.Coding.TheVariants.{Rice}
 use Rattle.flac_subframe.specs.Cost.{MayCode}
 use Rattle.flac_subframe.specs.inner.Cost.{value_cost, coding_cost}
+use Rattle.flac_subframe.specs.inner.Entry.{parameter_in, bits_in}
 use Rattle.flac_subframe.specs.inner.Halves.{LeastBelow}
 use Rattle.flac_subframe.proofs.Splits.{value_small}
 use Rattle.flac_bits.specs.Rice.{IsResidual}
@@ -17,22 +18,22 @@ module _ (w : ℕ) (rs : List ℤ) (e : ℕ) (method : (w ≡ 4) ⊎ (w ≡ 5)) 
   few : 2 ^ w - 1 ≤ 31
   few = elim method [ inl h ↦ rw h (omega arith) | inr h ↦ rw h (omega arith) ]
 
-  parameter : e % 32 ≡ (so.some some).0
+  parameter : parameter_in e ≡ (so.some some).0
   parameter = let was = so.some some in omega (arith, was.1, was.2, few)
 
-  bits : e / 32 ≡ sum_by (value_cost (so.some some).0) rs
+  bits : bits_in e ≡ sum_by (value_cost (so.some some).0) rs
   bits = let was = so.some some in omega (arith, was.1, was.2, few)
 
-  pub entry_member : MayCode w rs (Rice (e % 32))
+  pub entry_member : MayCode w rs (Rice (parameter_in e))
   entry_member = let was = so.some some in rw parameter (omega (arith, was.1))
 
-  pub entry_bits : e / 32 ≡ coding_cost (Rice (e % 32)) rs
+  pub entry_bits : bits_in e ≡ coding_cost (Rice (parameter_in e)) rs
   entry_bits = rw parameter bits
 
-  pub entry_least : (k : ℕ) → k + 1 < 2 ^ w → coding_cost (Rice (e % 32)) rs ≤ coding_cost (Rice k) rs
+  pub entry_least : (k : ℕ) → k + 1 < 2 ^ w → coding_cost (Rice (parameter_in e)) rs ≤ coding_cost (Rice k) rs
   entry_least k h = rw (← entry_bits) (omega (arith, h, few, so.least k (omega arith)))
 
-  pub entry_small : All IsResidual rs → e / 32 ≤ 2 ^ 33 * length rs
+  pub entry_small : All IsResidual rs → bits_in e ≤ 2 ^ 33 * length rs
   entry_small all =
       let was = so.some some in
       let k : ℕ = was.0 in

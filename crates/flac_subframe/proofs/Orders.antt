@@ -7,6 +7,7 @@ use Rattle.flac_subframe.specs.Cost.{MayWrite, MayCodeEach}
 use Rattle.flac_subframe.specs.inner.Cost.{HalvedTo, ByMethod}
 use Rattle.flac_subframe.specs.inner.Cost.{partitions_cost, residual_cost, Partitioned}
 use Rattle.std.proofs.Math.Nat.{pow-le-pow_right}
+use Rattle.flac_subframe.specs.inner.Entry.{no_entry}
 use Rattle.flac_subframe.specs.inner.Halves.{Halves, LeastBelow}
 use Rattle.flac_subframe.specs.inner.Least.{IsLeastCost}
 use Rattle.flac_subframe.specs.Cost.{Codings}
@@ -79,7 +80,7 @@ module _ (w most order : ℕ) (rs : List ℤ) (n m i : ℕ) where
   }
 
 -- an entry before any parameter is compared
-pub least_none : (rs : List ℤ) (e : ℕ) → e ≡ 2 ^ 64 - 1 → LeastBelow 0 rs e
+pub least_none : (rs : List ℤ) (e : ℕ) → e ≡ no_entry → LeastBelow 0 rs e
 least_none rs e is = record { none = λ _. is; some = λ h. absurd (omega arith); least = λ n h. absurd (omega arith) }
 
 -- the place of an entry

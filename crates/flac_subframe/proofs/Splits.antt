@@ -11,7 +11,8 @@ use Rattle.std.proofs.Math.Nat.{zero-mod, div-add-mod}
 use Rattle.std.proofs.lemmas.Bool.{cases_eq, cases_lt}
 use Rattle.std.proofs.lemmas.List.Sums.{sum_by-append, sum_by-le}
 use Rattle.flac_subframe.specs.inner.Cost.{value_cost}
-use Rattle.flac_subframe.specs.inner.Halves.{start, segment, part, Halves, entry, priced, LeastBelow}
+use Rattle.flac_subframe.specs.inner.Entry.{entry_number}
+use Rattle.flac_subframe.specs.inner.Halves.{start, segment, part, Halves, entry, LeastBelow}
 use Rattle.std.proofs.Math.Nat.{pow-le-pow_right}
 use Rattle.flac_bits.specs.Rice.{IsResidual}
 
@@ -114,13 +115,13 @@ entry_kept old new m p j others h = others (2 ^ p + j) (inr (let e : 2 ^ (m + 1)
     one n = omega arith
 
 -- one parameter more
-pub least_more : (k : ℕ) (rs : List ℤ) (old : ℕ) → sum_by (value_cost k) rs < 2 ^ 50 → LeastBelow k rs old → LeastBelow (k + 1) rs (min old (priced k (sum_by (value_cost k) rs)))
+pub least_more : (k : ℕ) (rs : List ℤ) (old : ℕ) → sum_by (value_cost k) rs < 2 ^ 50 → LeastBelow k rs old → LeastBelow (k + 1) rs (min old (entry_number k (sum_by (value_cost k) rs)))
 least_more k rs old small so =
     let n = sum_by (value_cost k) rs in
-    let same : (m : ℕ) → k ≤ m → m < k + 1 → priced m (sum_by (value_cost m) rs) ≡ priced k n = λ m g h. let e : m ≡ k = omega arith in rw e refl in
-    elim (cases_lt (priced k n) old) [
+    let same : (m : ℕ) → k ≤ m → m < k + 1 → entry_number m (sum_by (value_cost m) rs) ≡ entry_number k n = λ m g h. let e : m ≡ k = omega arith in rw e refl in
+    elim (cases_lt (entry_number k n) old) [
       | inl b ↦
-          let e : min old (priced k n) ≡ priced k n = omega (arith, b) in
+          let e : min old (entry_number k n) ≡ entry_number k n = omega (arith, b) in
           rw e (record {
             none = λ z. absurd (omega arith);
             some = λ _. (k, omega arith, refl);
@@ -128,7 +129,7 @@ least_more k rs old small so =
           })
       | inr b ↦
           let some : 0 < k = elim (cases_lt 0 k) [ inl c ↦ c | inr c ↦ absurd (omega (arith, b, small, so.none (omega arith))) ] in
-          let e : min old (priced k n) ≡ old = omega (arith, b) in
+          let e : min old (entry_number k n) ≡ old = omega (arith, b) in
           rw e (record {
             none = λ z. absurd (omega arith);
             some = λ _. let was = so.some some in (was.0, omega (arith, was.1), was.2);

@@ -35,7 +35,7 @@ module _ (limit order block : ℕ) (m : Mark) where
   method_tie : Ties (residual_header limit order block) m (IsHeaderOf limit order block) method_spelling
   unfolding residual_header
   method_tie = tie (residual_header limit order block) m (IsHeaderOf limit order block) method_spelling
-      (λ method small kept times field allowed. ((omega (arith, ltb-false 1 method kept.0), field, ltb-false limit times allowed.0, not_false (can_halve block times order) allowed.1.0), refl))
+      (λ method small kept partition_order field allowed. ((omega (arith, ltb-false 1 method kept.0), field, ltb-false limit partition_order allowed.0, not_false (can_halve block partition_order order) allowed.1.0), refl))
       (λ h v. (h.0, omega (arith, v.0), ((le-ltb 1 h.0 (omega (arith, v.0)), tt), (h.1, v.1, ((le-ltb limit h.1 v.2, (not_true (can_halve block h.1 order) v.3, tt)), (refl, refl))))))
 
   pub residual_tie : Ties (residual limit order block) m (MayLeave limit order block) residual_spelling

@@ -9,18 +9,19 @@ use Rattle.std.proofs.Math.Nat.{div-lt_iff_lt-mul}
 use Rattle.flac_bits.specs.Rice.{IsResidual}
 use Rattle.flac_subframe.specs.Spelling.{folded}
 use Rattle.flac_subframe.specs.inner.Cost.{folded_cost, value_cost}
-use Rattle.flac_subframe.specs.inner.Halves.{part, start, Halves, entry, priced, LeastBelow}
+use Rattle.flac_subframe.specs.inner.Entry.{entry_number, no_entry}
+use Rattle.flac_subframe.specs.inner.Halves.{part, start, Halves, entry, LeastBelow}
 use Rattle.flac_subframe.proofs.Folds.{segment_cost}
 use Rattle.flac_subframe.proofs.Convex.{no_less_after, more_before, last_no_more, next_less}
 use Rattle.flac_subframe.proofs.Splits.{part_splits, coarser, part_small, power_more}
 
 -- the number is the least of the Rice parameters from low on and below high; where there are none it is the greatest
 pub record LeastWithin (low high : ℕ) (rs : List ℤ) (e : ℕ) : Type 0 where
-  pub none : high ≤ low → e ≡ 2 ^ 64 - 1
-  pub some : low < high → (n : ℕ) × (low ≤ n) × (n < high) × (e ≡ priced n (sum_by (value_cost n) rs))
-  pub least : (n : ℕ) → low ≤ n → n < high → e ≤ priced n (sum_by (value_cost n) rs)
+  pub none : high ≤ low → e ≡ no_entry
+  pub some : low < high → (n : ℕ) × (low ≤ n) × (n < high) × (e ≡ entry_number n (sum_by (value_cost n) rs))
+  pub least : (n : ℕ) → low ≤ n → n < high → e ≤ entry_number n (sum_by (value_cost n) rs)
 
-pub within_none : (k : ℕ) (rs : List ℤ) (e : ℕ) → e ≡ 2 ^ 64 - 1 → LeastWithin k k rs e
+pub within_none : (k : ℕ) (rs : List ℤ) (e : ℕ) → e ≡ no_entry → LeastWithin k k rs e
 within_none k rs e is = record { none = λ h. is; some = λ h. absurd (omega arith); least = λ n h g. absurd (omega arith) }
 
 pub within_all : (high : ℕ) (rs : List ℤ) (e : ℕ) → LeastWithin 0 high rs e → LeastBelow high rs e
@@ -31,13 +32,13 @@ within_all high rs e so = record {
 }
 
 -- one parameter more, below those that were tried
-pub within_more : (k high : ℕ) (rs : List ℤ) (old : ℕ) → k < high → sum_by (value_cost k) rs < 2 ^ 50 → k < 32 → LeastWithin (k + 1) high rs old → LeastWithin k high rs (min old (priced k (sum_by (value_cost k) rs)))
+pub within_more : (k high : ℕ) (rs : List ℤ) (old : ℕ) → k < high → sum_by (value_cost k) rs < 2 ^ 50 → k < 32 → LeastWithin (k + 1) high rs old → LeastWithin k high rs (min old (entry_number k (sum_by (value_cost k) rs)))
 within_more k high rs old lt small few so =
     let c = sum_by (value_cost k) rs in
-    let same : (m : ℕ) → k ≤ m → m < k + 1 → priced m (sum_by (value_cost m) rs) ≡ priced k c = λ m g h. let e : m ≡ k = omega arith in rw e refl in
-    elim (cases_lt (priced k c) old) [
+    let same : (m : ℕ) → k ≤ m → m < k + 1 → entry_number m (sum_by (value_cost m) rs) ≡ entry_number k c = λ m g h. let e : m ≡ k = omega arith in rw e refl in
+    elim (cases_lt (entry_number k c) old) [
       | inl b ↦
-          let e : min old (priced k c) ≡ priced k c = omega (arith, b) in
+          let e : min old (entry_number k c) ≡ entry_number k c = omega (arith, b) in
           rw e (record {
             none = λ z. absurd (omega arith);
             some = λ _. (k, omega arith, lt, refl);
@@ -45,7 +46,7 @@ within_more k high rs old lt small few so =
           })
       | inr b ↦
           let some : k + 1 < high = elim (cases_lt (k + 1) high) [ inl d ↦ d | inr d ↦ absurd (omega (arith, b, small, few, so.none d)) ] in
-          let e : min old (priced k c) ≡ old = omega (arith, b) in
+          let e : min old (entry_number k c) ≡ old = omega (arith, b) in
           rw e (record {
             none = λ z. absurd (omega arith);
             some = λ _. let was = so.some some in (was.0, omega (arith, was.1), was.2, was.3);
@@ -76,7 +77,7 @@ module _ (order : ℕ) (rs : List ℤ) (P : List ℤ → Type 0) (joins : (xs ys
       up_to (h - p) p (rw e half) (rw e leaves)
 
 module _ (order h k : ℕ) (rs : List ℤ) (half : Halves order rs h) (few : length rs ≤ 65535) (small : k < 31) (all : All IsResidual rs) (old : List ℕ)
-    (kept : (j : ℕ) → j < 2 ^ h → entry old h j ≤ priced k (sum_by (value_cost k) (part order rs h j))) where
+    (kept : (j : ℕ) → j < 2 ^ h → entry old h j ≤ entry_number k (sum_by (value_cost k) (part order rs h j))) where
   below : (p j : ℕ) → sum_by (value_cost k) (part order rs p j) < 2 ^ 50
   below p j = part_small order k rs p j small few all
 
@@ -190,7 +191,7 @@ costs_above w k (n ∷ ns) le all =
     omega (arith, sum_by-cons (folded_cost w) n ns, sum_by-cons (folded_cost k) n ns, none_above n w k le first, costs_above w k ns le (All-tail (λ m. m < 2 ^ w) n ns all))
 
 -- so the number for a partition, if the width was tried, is not above any of theirs
-pub kept_above : (order h w k : ℕ) (rs : List ℤ) (ns : List ℕ) → ns ≡ map folded rs → All (λ n. n < 2 ^ w) ns → w < k → (j e : ℕ) → LeastBelow k (part order rs h j) e → e ≤ priced k (sum_by (value_cost k) (part order rs h j))
+pub kept_above : (order h w k : ℕ) (rs : List ℤ) (ns : List ℕ) → ns ≡ map folded rs → All (λ n. n < 2 ^ w) ns → w < k → (j e : ℕ) → LeastBelow k (part order rs h j) e → e ≤ entry_number k (sum_by (value_cost k) (part order rs h j))
 unfolding part
 kept_above order h w k rs ns is all lt j e so =
     let a : ℕ = start order (length rs + order) h j in
@@ -201,6 +202,6 @@ kept_above order h w k rs ns is all lt j e so =
 pub settled_above : (order h w k m : ℕ) (rs : List ℤ) (ns : List ℕ) → Halves order rs h → length rs ≤ 65535 → k < 31 → All IsResidual rs → ns ≡ map folded rs → All (λ n. n < 2 ^ w) ns → w < k → k < m → (old : List ℕ)
     → ((p j : ℕ) → p ≤ h → j < 2 ^ p → LeastBelow k (part order rs p j) (entry old p j)) → (p j : ℕ) → p ≤ h → j < 2 ^ p → LeastBelow m (part order rs p j) (entry old p j)
 settled_above order h w k m rs ns half few small range is all above more old so p j le b =
-    let none : (i : ℕ) → i < 2 ^ h → entry old h i ≤ priced k (sum_by (value_cost k) (part order rs h i)) = λ i d. kept_above order h w k rs ns is all above i (entry old h i) (so h i (omega arith) d) in
+    let none : (i : ℕ) → i < 2 ^ h → entry old h i ≤ entry_number k (sum_by (value_cost k) (part order rs h i)) = λ i d. kept_above order h w k rs ns is all above i (entry old h i) (so h i (omega arith) d) in
     let leaves : (i : ℕ) → i < 2 ^ h → LeastBelow k (part order rs h i) (entry old h i) = λ i d. so h i (omega arith) d in
     settled order h k rs half few small range old none leaves p j (entry old p j) m le b more (kept_by order h k rs half few small range old none leaves p j le b (so p j le b))

@@ -43,16 +43,16 @@ partitions parameter_bits first size (suc n) = do
 
 -- the partition order cuts the block into equal parts, each longer than the predictor's order (section 9.2.7)
 abbrev pub can_halve : ℕ → ℕ → ℕ → Bool
-can_halve block times order = nat_eq (block % 2 ^ times) 0 && nat_lt order (block / 2 ^ times)
+can_halve block partition_order order = nat_eq (block % 2 ^ partition_order) 0 && nat_lt order (block / 2 ^ partition_order)
 
 -- The coding method, 0 or 1, and the partition order, with a limit on it (section 9.2.7).
 unfoldable pub residual_header : ℕ → ℕ → ℕ → Layout (ℕ × ℕ)
 residual_header limit order block = do
   method ← bits 2
   _ ← judge (record { broken = nat_lt 1 method; why = BadPartition } ∷ [])
-  times ← bits 4
-  _ ← judge (record { broken = nat_lt limit times; why = NotSubset } ∷ record { broken = not (can_halve block times order); why = BadPartition } ∷ [])
-  done (method, times)
+  partition_order ← bits 4
+  _ ← judge (record { broken = nat_lt limit partition_order; why = NotSubset } ∷ record { broken = not (can_halve block partition_order order); why = BadPartition } ∷ [])
+  done (method, partition_order)
 
 -- The residual of a predictor of an order in a block: the method gives the bits of a parameter, 4 or 5; the first
 -- partition lacks the values of the warm-up samples (section 9.2.7).

@@ -3,6 +3,7 @@ pub mod Sums
 pub mod Least
 pub mod Cost
 pub mod Halves
+pub mod Entry
 pub mod Chosen
 pub mod Family
 pub mod Products

@@ -16,6 +16,7 @@ ghost use Rattle.flac_subframe.specs.inner.Halves.{HasPlaces, HasResidual, HasRo
 ghost use Rattle.flac_subframe.specs.declared.linear.LinearPredictor.{LinearPredictor};
 
 use crate::content::{ContentKind, PredictorKind, SubframeForm};
+use crate::entry::Entry;
 use crate::folding::fold_each;
 use crate::leaving::{take_differences, take_weighed};
 use crate::linear::LinearPredictor;
@@ -360,17 +361,19 @@ fn search(subject: &SampleView<'_>, arrays: &mut SearchArrays<'_>, tables: &mut 
     best
 }
 
-/// The same by tables that are one after another in an array, and how often a value was priced.
+/// The same by tables that are one after another in two arrays, and how often a value was priced.
 fn search_within(
     subject: &SampleView<'_>,
     arrays: &mut SearchArrays<'_>,
-    tables: &mut [u64],
+    costs: &mut [u64],
+    entries: &mut [Entry],
     widths: &mut [u8],
     codings: &mut [u8],
 ) -> (Best, u64)
     requires some { 0 < length subject.now.samples.now }
     requires arrays { HasRoom (length subject.now.samples.now) arrays.old }
-    requires tables { 6 * 2 ^ subject.now.most ≤ length tables.old }
+    requires costs { 2 * 2 ^ subject.now.most ≤ length costs.old }
+    requires entries { 4 * 2 ^ subject.now.most ≤ length entries.old }
     requires widths { 2 * 2 ^ subject.now.most ≤ length widths.old }
     requires codings { 2 ^ subject.now.most ≤ length codings.old }
     ensures best { IsBest subject.now.predictors.now subject.now.most subject.now.bits subject.now.samples.now (offered subject.now.predictors.now) (way_of result.0 codings.new) }
@@ -379,9 +382,8 @@ fn search_within(
     ensures priced { result.1 ≤ (5 + length subject.now.predictors.now) * (93 * length subject.now.samples.now) }
 {
     let count = power(subject.most);
-    let (leaves, others) = tables.split_at_mut(count);
-    let (sums, rest) = others.split_at_mut(count);
-    let (four, five) = rest.split_at_mut(2 * count);
+    let (leaves, sums) = costs.split_at_mut(count);
+    let (four, five) = entries.split_at_mut(2 * count);
     let mut tables = Tables {
         leaves,
         sums,
@@ -411,13 +413,15 @@ pub(crate) fn choose_in_places(
     longs: &mut [i64],
     shorts: &mut [i32],
     folds: &mut [u32],
-    tables: &mut [u64],
+    costs: &mut [u64],
+    entries: &mut [Entry],
     bytes: &mut [u8],
 ) -> Found
     requires longs { 2 * length task.now.samples.now ≤ length longs.old }
     requires shorts { 2 * length task.now.samples.now ≤ length shorts.old }
     requires folds { length task.now.samples.now ≤ length folds.old }
-    requires tables { 6 * 2 ^ task.now.most ≤ length tables.old }
+    requires costs { 2 * 2 ^ task.now.most ≤ length costs.old }
+    requires entries { 4 * 2 ^ task.now.most ≤ length entries.old }
     requires bytes { 3 * 2 ^ task.now.most ≤ length bytes.old }
     ensures least { IsLeast (λ f. Stands task.now.most (offered task.now.predictors.now) f task.now.samples.now) (λ f. length (subframe_spelling task.now.depth f)) (form_as task.now.predictors.now result.form (take (2 ^ result.form.residual.partition_order) bytes.new) task.now.samples.now) }
     ensures bits { result.bits ≡ length (subframe_spelling task.now.depth (form_as task.now.predictors.now result.form (take (2 ^ result.form.residual.partition_order) bytes.new) task.now.samples.now)) }
@@ -449,7 +453,7 @@ pub(crate) fn choose_in_places(
         folds,
     };
     let (codings, widths) = bytes.split_at_mut(power(task.most));
-    let (best, priced) = search_within(&subject, &mut arrays, tables, widths, codings);
+    let (best, priced) = search_within(&subject, &mut arrays, costs, entries, widths, codings);
     let form = SubframeForm {
         wasted,
         content: best.content,

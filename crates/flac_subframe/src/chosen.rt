@@ -16,6 +16,7 @@ ghost use Rattle.flac_subframe.specs.declared.limits.Limits.{Limits};
 
 use crate::choice::{Found, choose_in_places};
 use crate::content::SubframeForm;
+use crate::entry::Entry;
 use crate::limits::Limits;
 use crate::linear::LinearPredictor;
 use crate::numbers::power;
@@ -103,7 +104,7 @@ impl Eq for Choice {
 }
 
 /// The greatest partition order that is tried, as the subset allows.
-pub const MOST_HALVINGS: u32 = 8;
+pub const MOST_PARTITION_ORDER: u32 = 8;
 
 /// The most samples that a block has.
 pub(crate) const MOST_SAMPLES: usize = 65535;
@@ -130,7 +131,7 @@ pub fn choose(samples: &[i64], depth: u32) -> Choice
     ensures priced { result.priced ≤ 5 * (32 * length samples.now) }
 {
     let limits = Limits {
-        partition: MOST_HALVINGS,
+        partition: MOST_PARTITION_ORDER,
         linear: 0,
     };
     choose_with(samples, depth, &limits, &[])
@@ -170,7 +171,8 @@ pub fn choose_with(
     let mut longs: [i64; 2 * MOST_SAMPLES] = filled(0);
     let mut shorts: [i32; 2 * MOST_SAMPLES] = filled(0);
     let mut folds: [u32; MOST_SAMPLES] = filled(0);
-    let mut tables = [0; 1536];
+    let mut costs = [0; 512];
+    let mut entries: [Entry; 1024] = filled(Entry::none());
     let mut bytes = [0; 768];
     let task = Task {
         samples,
@@ -183,7 +185,8 @@ pub fn choose_with(
         &mut longs,
         &mut shorts,
         &mut folds,
-        &mut tables,
+        &mut costs,
+        &mut entries,
         &mut bytes,
     );
     Choice::gathered(&found, &bytes)

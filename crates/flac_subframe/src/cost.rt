@@ -8,7 +8,7 @@ use crate::coding::Coding;
 
 /// A coding, and how many bits it takes beside its parameter.
 #[derive(Clone, Copy)]
-pub struct Priced {
+pub struct CodingCost {
     pub coding: Coding,
     pub bits: u64,
 }

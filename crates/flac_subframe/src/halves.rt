@@ -4,9 +4,11 @@
 ghost use Rattle.std.specs.Prelude.{◌≡◌, ◌<◌, ◌≤◌, ◌^◌, ◌+◌, ◌-◌, ◌*◌, ◌/◌, ℕ, true, false, length, map, min, All, IsTrue, slice_index, ◌⊎◌};
 ghost use Rattle.std.specs.List.{sum_by};
 ghost use Rattle.flac_subframe.specs.inner.Cost.{value_cost};
-ghost use Rattle.flac_subframe.specs.inner.Halves.{part, priced, entry, HasEntries};
+ghost use Rattle.flac_subframe.specs.inner.Entry.{entry_number, no_entry};
+ghost use Rattle.flac_subframe.specs.inner.Halves.{part, entry, HasEntries};
 
 use crate::cost::rice_bits;
+use crate::entry::Entry;
 use crate::numbers::power;
 use crate::view::ResidualView;
 
@@ -40,25 +42,25 @@ fn pair(sums: &mut [u64], count: usize)
 }
 
 /// Compares the cost of each partition with the best so far.
-fn note(sums: &[u64], best: &mut [u64], parameter: u8)
+fn note(sums: &[u64], best: &mut [Entry], parameter: u8)
     requires few { parameter < 32 }
     requires places { length best.old ≤ length sums.now }
     requires small { (j : ℕ) → j < length best.old → slice_index sums.now j < 2 ^ 50 }
-    ensures { (j : ℕ) → j < length best.old → slice_index best.new j ≡ min (slice_index best.old j) (priced parameter (slice_index sums.now j)) }
+    ensures { (j : ℕ) → j < length best.old → slice_index best.new j ≡ min (slice_index best.old j) (entry_number parameter (slice_index sums.now j)) }
 {
     for (j, entry) in best.iter_mut().enumerate() {
-        *entry = (*entry).min(32 * sums[j] + u64::from(parameter));
+        *entry = (*entry).best(Entry::new(parameter, sums[j]));
     }
 }
 
 /// The same at one partition order, whose entries stand one after another in the table.
-fn note_level(sums: &[u64], table: &mut [u64], partition_order: u8, parameter: u8)
+fn note_level(sums: &[u64], table: &mut [Entry], partition_order: u8, parameter: u8)
     requires few { parameter < 32 }
     requires most { partition_order ≤ 15 }
     requires sums { 2 ^ partition_order ≤ length sums.now }
     requires small { (j : ℕ) → j < 2 ^ partition_order → slice_index sums.now j < 2 ^ 50 }
     requires table { 2 * 2 ^ partition_order ≤ length table.old }
-    ensures level { (j : ℕ) → j < 2 ^ partition_order → entry table.new partition_order j ≡ min (entry table.old partition_order j) (priced parameter (slice_index sums.now j)) }
+    ensures level { (j : ℕ) → j < 2 ^ partition_order → entry table.new partition_order j ≡ min (entry table.old partition_order j) (entry_number parameter (slice_index sums.now j)) }
     ensures others { (i : ℕ) → (i < 2 ^ partition_order) ⊎ (2 * 2 ^ partition_order ≤ i) → slice_index table.new i ≡ slice_index table.old i }
 {
     let first = power(partition_order);
@@ -66,14 +68,14 @@ fn note_level(sums: &[u64], table: &mut [u64], partition_order: u8, parameter: u
 }
 
 /// Whether a parameter lowers the best cost of a partition.
-fn gains(sums: &[u64], best: &[u64], parameter: u8) -> bool
+fn gains(sums: &[u64], best: &[Entry], parameter: u8) -> bool
     requires few { parameter < 32 }
     requires places { length best.now ≤ length sums.now }
     requires small { (j : ℕ) → j < length best.now → slice_index sums.now j < 2 ^ 50 }
-    ensures none { result ≡ false → (j : ℕ) → j < length best.now → slice_index best.now j ≤ priced parameter (slice_index sums.now j) }
+    ensures none { result ≡ false → (j : ℕ) → j < length best.now → slice_index best.now j ≤ entry_number parameter (slice_index sums.now j) }
 {
     for j in 0..best.len() {
-        if 32 * sums[j] + u64::from(parameter) < best[j] {
+        if Entry::new(parameter, sums[j]).is_better_than(best[j]) {
             return true;
         }
     }
@@ -82,15 +84,15 @@ fn gains(sums: &[u64], best: &[u64], parameter: u8) -> bool
 
 /// Compares, at each partition order, each partition's cost under a parameter with the best so far, if it lowers that
 /// of one of the finest. `sums` has the costs of these.
-fn pass(residual: &ResidualView<'_>, parameter: u8, sums: &mut [u64], table: &mut [u64]) -> bool
+fn pass(residual: &ResidualView<'_>, parameter: u8, sums: &mut [u64], table: &mut [Entry]) -> bool
     requires parameter { parameter < 31 }
     requires sums { length sums.old ≡ 2 ^ residual.now.partition_order }
     requires costs { (j : ℕ) → j < 2 ^ residual.now.partition_order → slice_index sums.old j ≡ sum_by (value_cost parameter) (part residual.now.order residual.now.values.now residual.now.partition_order j) }
     requires table { 2 * 2 ^ residual.now.partition_order ≤ length table.old }
     ensures kept { length table.new ≡ length table.old }
-    ensures entries { IsTrue result → (p j : ℕ) → p ≤ residual.now.partition_order → j < 2 ^ p → entry table.new p j ≡ min (entry table.old p j) (priced parameter (sum_by (value_cost parameter) (part residual.now.order residual.now.values.now p j))) }
+    ensures entries { IsTrue result → (p j : ℕ) → p ≤ residual.now.partition_order → j < 2 ^ p → entry table.new p j ≡ min (entry table.old p j) (entry_number parameter (sum_by (value_cost parameter) (part residual.now.order residual.now.values.now p j))) }
     ensures same { result ≡ false → table.new ≡ table.old }
-    ensures none { result ≡ false → (j : ℕ) → j < 2 ^ residual.now.partition_order → entry table.old residual.now.partition_order j ≤ priced parameter (sum_by (value_cost parameter) (part residual.now.order residual.now.values.now residual.now.partition_order j)) }
+    ensures none { result ≡ false → (j : ℕ) → j < 2 ^ residual.now.partition_order → entry table.old residual.now.partition_order j ≤ entry_number parameter (sum_by (value_cost parameter) (part residual.now.order residual.now.values.now residual.now.partition_order j)) }
 {
     let first = power(residual.partition_order);
     if !gains(sums, &table[first..2 * first], parameter) {
@@ -116,7 +118,7 @@ fn take_row(residual: &ResidualView<'_>, width: u8, parameter: u8, leaves: &[u64
     ensures costs { (j : ℕ) → j < 2 ^ residual.now.partition_order → slice_index sums.new j ≡ sum_by (value_cost parameter) (part residual.now.order residual.now.values.now residual.now.partition_order j) }
 {
     if parameter == 0 {
-        copy(leaves, sums, leaves.len());
+        sums.copy_from_slice(leaves);
     } else {
         price(residual, width, parameter, sums);
     }
@@ -130,7 +132,7 @@ pub(crate) fn compare_down(
     from: u8,
     leaves: &[u64],
     sums: &mut [u64],
-    table: &mut [u64],
+    table: &mut [Entry],
 ) -> u8
     requires bounded { All (λ n. n < 2 ^ width) residual.now.folds.now }
     requires some { 1 ≤ from }
@@ -139,7 +141,7 @@ pub(crate) fn compare_down(
     requires known { (j : ℕ) → j < 2 ^ residual.now.partition_order → slice_index leaves.now j ≡ sum_by (value_cost 0) (part residual.now.order residual.now.values.now residual.now.partition_order j) }
     requires sums { length sums.old ≡ 2 ^ residual.now.partition_order }
     requires table { 2 * 2 ^ residual.now.partition_order ≤ length table.old }
-    requires start { (p j : ℕ) → p ≤ residual.now.partition_order → j < 2 ^ p → entry table.old p j ≡ 2 ^ 64 - 1 }
+    requires start { (p j : ℕ) → p ≤ residual.now.partition_order → j < 2 ^ p → entry table.old p j ≡ no_entry }
     ensures entries { HasEntries from residual.now.order residual.now.values.now residual.now.partition_order table.new }
     ensures long { length table.new ≡ length table.old }
     ensures few { result ≤ from - 1 }
@@ -162,15 +164,16 @@ pub(crate) struct Tried {
     pub(crate) settled: bool,
 }
 
-/// Goes on with a table of the parameters below one, upwards, as long as one of the finest partitions gains by it:
-/// whether none gains by any above. None gains by one above the width of the residual, so these are not tried.
+/// Goes on with a table of the parameters below one, upwards, as long as one of the finest partitions gains by it. It
+/// returns how many were priced, and whether no partition gains by any above. None gains by one above the width of the
+/// residual, so these are not tried.
 pub(crate) fn compare(
     residual: &ResidualView<'_>,
     width: u8,
     from: u8,
     parameters: u8,
     sums: &mut [u64],
-    table: &mut [u64],
+    table: &mut [Entry],
 ) -> Tried
     requires bounded { All (λ n. n < 2 ^ width) residual.now.folds.now }
     requires small_width { width ≤ 32 }
@@ -204,17 +207,17 @@ pub(crate) fn compare(
 }
 
 /// Makes the first entries of a table ready, before any parameter is compared.
-pub(crate) fn clear(table: &mut [u64], count: usize)
+pub(crate) fn clear(table: &mut [Entry], count: usize)
     requires { count ≤ length table.old }
-    ensures { (i : ℕ) → i < count → slice_index table.new i ≡ 2 ^ 64 - 1 }
+    ensures { (i : ℕ) → i < count → slice_index table.new i ≡ no_entry }
 {
     for i in 0..count {
-        table[i] = 0xFFFF_FFFF_FFFF_FFFF;
+        table[i] = Entry::none();
     }
 }
 
 /// The first entries of a table, in another.
-pub(crate) fn copy(from: &[u64], to: &mut [u64], count: usize)
+pub(crate) fn copy(from: &[Entry], to: &mut [Entry], count: usize)
     requires from { count ≤ length from.now }
     requires to { count ≤ length to.old }
     ensures { (i : ℕ) → i < count → slice_index to.new i ≡ slice_index from.now i }

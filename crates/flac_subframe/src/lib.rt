@@ -7,6 +7,7 @@ mod coding;
 mod coding_method;
 mod content;
 mod cost;
+mod entry;
 mod folding;
 mod halves;
 mod leaving;

@@ -128,7 +128,7 @@ struct Bound {
     seen: usize,
 }
 
-/// Whether lower bounds show that a residual takes as many bits as it may not, and how often a value's bits under one
+/// Whether lower bounds show that each form of a residual takes too many bits, and how often a value's bits under one
 /// parameter or its width were computed for them.
 #[derive(Clone, Copy)]
 pub(crate) struct Verdict {

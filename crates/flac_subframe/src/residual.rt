@@ -76,7 +76,7 @@ fn read_residual_header<R: Source>(
     block: usize,
 ) -> Result<(CodingMethod, u32), Why>
     requires limit { limit ≤ 15 }
-    ensures times { IfOk result (λ h. h.1 ≤ 15) }
+    ensures partition_order { IfOk result (λ h. h.1 ≤ 15) }
     ensures whole { IfOk result (λ h. block ≡ 2 ^ h.1 * (block / 2 ^ h.1)) }
     ensures room { IfOk result (λ h. order < block / 2 ^ h.1) }
     ensures reading { CallInPlace 0 (Reads (λ h. (method_code h.0, h.1)) (residual_header limit order block)) bits.old bits.new result }
@@ -85,15 +85,15 @@ fn read_residual_header<R: Source>(
     let Some(method) = CodingMethod::of_code(code) else {
         return Err(Why::BadPartition);
     };
-    let times = bits.take(4)? as u32;
-    if times > limit {
+    let partition_order = bits.take(4)? as u32;
+    if partition_order > limit {
         return Err(Why::NotSubset);
     }
-    let count = power(times as u8);
+    let count = power(partition_order as u8);
     if block % count != 0 || block / count <= order {
         return Err(Why::BadPartition);
     }
-    Ok((method, times))
+    Ok((method, partition_order))
 }
 
 /// Reads the residual of a predictor of this order, to the places after the warm-up samples of a block (RFC 9639,
@@ -111,8 +111,8 @@ pub(crate) fn read_residual<R: Source>(
     ensures reading { CallInPlace 0 (Reads (λ _. out.new) (bind (residual limit order (length out.old + order)) (λ r. done (residual_values r)))) bits.old bits.new result }
 {
     let block = out.len() + order;
-    let (method, times) = read_residual_header(bits, limit, order, block)?;
-    let count = power(times as u8);
+    let (method, partition_order) = read_residual_header(bits, limit, order, block)?;
+    let count = power(partition_order as u8);
     read_partitions(bits, method, order, block / count, count, out)?;
     Ok(())
 }

@@ -13,7 +13,8 @@ ghost use Rattle.flac_subframe.specs.inner.Halves.{Halves, HasEntries, HasPlaces
 
 use crate::coding::Coding;
 use crate::coding_method::CodingMethod;
-use crate::cost::Priced;
+use crate::cost::CodingCost;
+use crate::entry::Entry;
 use crate::halves::{Tried, clear, compare, compare_down, copy};
 use crate::numbers::power;
 use crate::pruning::{COARSE, finest_in_doubt, is_too_dear};
@@ -41,7 +42,7 @@ pub(crate) fn greatest_partition_order(values: &[i32], order: usize, most: u8) -
 }
 
 /// The coding of a partition with the fewest bits, from its entry in the table and its width.
-fn finish(values: &[i32], method: CodingMethod, best: u64, width: u8) -> Priced
+fn finish(values: &[i32], method: CodingMethod, best: Entry, width: u8) -> CodingCost
     requires few { length values.now ≤ 65535 }
     requires range { All IsResidual values.now }
     requires best { LeastBelow (2 ^ parameter_bits_of method - 1) values.now best }
@@ -52,15 +53,15 @@ fn finish(values: &[i32], method: CodingMethod, best: u64, width: u8) -> Priced
     ensures small { result.bits ≤ 2 ^ 33 * length values.now + 5 }
 {
     let bits = 5 + u64::from(width) * values.len() as u64;
-    let least = best / 32;
+    let least = best.bits();
     if width < 32 && bits < least {
-        Priced {
+        CodingCost {
             coding: Coding::Escape(width),
             bits,
         }
     } else {
-        Priced {
-            coding: Coding::Rice((best % 32) as u8),
+        CodingCost {
+            coding: Coding::Rice(best.parameter()),
             bits: least,
         }
     }
@@ -71,7 +72,7 @@ fn total(
     residual: &ResidualView<'_>,
     partition_order: u8,
     method: CodingMethod,
-    table: &[u64],
+    table: &[Entry],
     widths: &[u8],
 ) -> u64
     requires within { partition_order ≤ residual.now.partition_order }
@@ -103,7 +104,7 @@ fn gather(
     residual: &ResidualView<'_>,
     partition_order: u8,
     method: CodingMethod,
-    table: &[u64],
+    table: &[Entry],
     widths: &[u8],
     codings: &mut [u8],
 ) -> u64
@@ -138,7 +139,7 @@ fn gather(
 fn best_order(
     residual: &ResidualView<'_>,
     method: CodingMethod,
-    table: &[u64],
+    table: &[Entry],
     widths: &[u8],
 ) -> ResidualForm
     requires table { 2 * 2 ^ residual.now.partition_order ≤ length table.now }
@@ -156,12 +157,12 @@ fn best_order(
         partition_order: 0,
         bits: 6 + total(residual, 0, method, table, widths),
     };
-    for p in 1..residual.partition_order + 1 {
-        let bits = 6 + total(residual, p, method, table, widths);
+    for partition_order in 1..residual.partition_order + 1 {
+        let bits = 6 + total(residual, partition_order, method, table, widths);
         if bits < best.bits {
             best = ResidualForm {
                 method,
-                partition_order: p,
+                partition_order,
                 bits,
             };
         }
@@ -192,8 +193,8 @@ fn tabulate(
     width: u8,
     leaves: &[u64],
     sums: &mut [u64],
-    four: &mut [u64],
-    five: &mut [u64],
+    four: &mut [Entry],
+    five: &mut [Entry],
 ) -> Tried
     requires bounded { All (λ n. n < 2 ^ width) residual.now.folds.now }
     requires small_width { width ≤ 32 }
@@ -236,8 +237,8 @@ fn survey(
     residual: &ResidualView<'_>,
     leaves: &[u64],
     sums: &mut [u64],
-    four: &mut [u64],
-    five: &mut [u64],
+    four: &mut [Entry],
+    five: &mut [Entry],
     widths: &[u8],
 ) -> (ResidualForm, u8)
     requires leaves { 2 ^ residual.now.partition_order ≤ length leaves.now }
@@ -273,7 +274,7 @@ fn survey(
 fn take_up(
     residual: &ResidualView<'_>,
     form: ResidualForm,
-    table: &[u64],
+    table: &[Entry],
     widths: &[u8],
     codings: &mut [u8],
 ) -> u64
@@ -301,8 +302,8 @@ fn take_up(
 fn take_found(
     residual: &ResidualView<'_>,
     form: ResidualForm,
-    four: &[u64],
-    five: &[u64],
+    four: &[Entry],
+    five: &[Entry],
     widths: &[u8],
     codings: &mut [u8],
 ) -> u64

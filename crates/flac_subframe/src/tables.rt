@@ -1,5 +1,7 @@
 //! The working arrays of a search.
 
+use crate::entry::Entry;
+
 /// The working arrays of a search for the codings of a residual, for partition orders up to some greatest: the cost of
 /// each of the finest partitions under parameter 0 and under another, the best parameter of each partition by the first
 /// and by the second coding method, and the width of each; and the codings of the best residual so far, each as a byte.
@@ -8,8 +10,8 @@
 pub(crate) struct Tables<'a> {
     pub(crate) leaves: &'a mut [u64],
     pub(crate) sums: &'a mut [u64],
-    pub(crate) four: &'a mut [u64],
-    pub(crate) five: &'a mut [u64],
+    pub(crate) four: &'a mut [Entry],
+    pub(crate) five: &'a mut [Entry],
     pub(crate) widths: &'a mut [u8],
     pub(crate) codings: &'a mut [u8],
     pub(crate) priced: u64,

@@ -27,8 +27,8 @@ pub(crate) struct Task<'a> {
     ghost halved: { most ≤ 15 },
 }
 
-/// A residual whose codings are searched: its values, the same as unsigned numbers, the order of its predictor, and how
-/// often its block can be halved.
+/// A residual whose codings are searched: its values, the same as unsigned numbers, the order of its predictor, and the
+/// greatest partition order that is searched, which the block can have.
 #[derive(Drop)]
 pub(crate) struct ResidualView<'a> {
     pub(crate) values: &'a [i32],

@@ -182,7 +182,8 @@ pub fn choose_in(
         &mut workspace.longs,
         &mut workspace.shorts,
         &mut workspace.folds,
-        &mut workspace.tables,
+        &mut workspace.costs,
+        &mut workspace.entries,
         &mut workspace.bytes,
     );
     let count = power(found.form.residual.partition_order);

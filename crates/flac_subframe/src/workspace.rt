@@ -3,6 +3,7 @@
 ghost use Rattle.std.specs.Prelude.{◌≡◌, ◌≤◌, IfOk, IfErr};
 ghost use Rattle.flac_bits.specs.declared.why.Why.{Why};
 
+use crate::entry::Entry;
 use crate::limits::Limits;
 use crate::numbers::power;
 use flac_bits::Why;
@@ -17,7 +18,8 @@ pub struct Workspace {
     pub(crate) longs: Vec<i64>,
     pub(crate) shorts: Vec<i32>,
     pub(crate) folds: Vec<u32>,
-    pub(crate) tables: Vec<u64>,
+    pub(crate) costs: Vec<u64>,
+    pub(crate) entries: Vec<Entry>,
     pub(crate) bytes: Vec<u8>,
     max_block: usize,
     pub(crate) most: u32,
@@ -35,7 +37,8 @@ impl Model for Workspace {
       longs : vec_len w.longs ≡ 2 * w.max_block;
       shorts : vec_len w.shorts ≡ 2 * w.max_block;
       folds : vec_len w.folds ≡ w.max_block;
-      tables : vec_len w.tables ≡ 6 * 2 ^ w.most;
+      costs : vec_len w.costs ≡ 2 * 2 ^ w.most;
+      entries : vec_len w.entries ≡ 4 * 2 ^ w.most;
       bytes : vec_len w.bytes ≡ 3 * 2 ^ w.most;
       block : w.max_block ≤ 65535;
       most : w.most ≤ 15;
@@ -60,13 +63,15 @@ impl Workspace {
         let longs = vec![in alloc; 0i64; 2 * max_block]?;
         let shorts = vec![in alloc; 0i32; 2 * max_block]?;
         let folds = vec![in alloc; 0u32; max_block]?;
-        let tables = vec![in alloc; 0u64; 6 * count]?;
+        let costs = vec![in alloc; 0u64; 2 * count]?;
+        let entries = vec![in alloc; Entry::none(); 4 * count]?;
         let bytes = vec![in alloc; 0u8; 3 * count]?;
         Ok(Workspace {
             longs,
             shorts,
             folds,
-            tables,
+            costs,
+            entries,
             bytes,
             max_block,
             most,

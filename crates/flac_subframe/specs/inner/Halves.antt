@@ -3,6 +3,7 @@ use Rattle.std.specs.Prelude.{ℕ, ℤ, ◌≡◌, ◌+◌, ◌-◌, ◌*◌, �
 use Rattle.std.specs.List.{sum_by}
 use Rattle.flac_bits.specs.Rice.{IsResidual}
 use Rattle.flac_subframe.specs.inner.Cost.{value_cost}
+use Rattle.flac_subframe.specs.inner.Entry.{entry_number, no_entry}
 use Rattle.flac_subframe.specs.declared.tables.Tables.{Tables}
 use Rattle.flac_subframe.specs.declared.tables.SearchArrays.{SearchArrays}
 use Rattle.flac_subframe.specs.Spelling.{FitsWidth, folded}
@@ -23,22 +24,17 @@ pub record Halves (order : ℕ) (rs : List ℤ) (p : ℕ) : Type 0 where
   pub even : (length rs + order) % 2 ^ p ≡ 0
   pub room : order < (length rs + order) / 2 ^ p
 
--- A Rice parameter and the bits that it takes, in one number: the smaller of two has fewer bits, or as many and the
--- smaller parameter.
-abbrev pub priced : ℕ → ℕ → ℕ
-priced parameter bits = 32 * bits + parameter
-
--- the number for the partition j at the partition order p
+-- the entry of the partition j at the partition order p
 abbrev pub entry : List ℕ → ℕ → ℕ → ℕ
 entry table p j = slice_index table (2 ^ p + j)
 
--- the number is the smallest of the Rice parameters below k; before the first it is the largest, 2^64 - 1
+-- the entry is the smallest of those of the Rice parameters below k; for k = 0 it is the one before any is compared
 pub record LeastBelow (k : ℕ) (rs : List ℤ) (e : ℕ) : Type 0 where
-  pub none : k ≡ 0 → e ≡ 2 ^ 64 - 1
-  pub some : 0 < k → (n : ℕ) × (n < k) × (e ≡ priced n (sum_by (value_cost n) rs))
-  pub least : (n : ℕ) → n < k → e ≤ priced n (sum_by (value_cost n) rs)
+  pub none : k ≡ 0 → e ≡ no_entry
+  pub some : 0 < k → (n : ℕ) × (n < k) × (e ≡ entry_number n (sum_by (value_cost n) rs))
+  pub least : (n : ℕ) → n < k → e ≤ entry_number n (sum_by (value_cost n) rs)
 
--- the numbers for the partitions at each partition order up to `high`
+-- the entries of the partitions at each partition order up to `high`
 abbrev pub HasEntries : ℕ → ℕ → List ℤ → ℕ → List ℕ → Type 0
 HasEntries k order rs high table = (p j : ℕ) → p ≤ high → j < 2 ^ p → LeastBelow k (part order rs p j) (entry table p j)
 

@@ -13,8 +13,11 @@ choose_in_places-found-requires-clause-shorts c = omega (arith, c.requires.few)
 pub choose_in_places-found-requires-clause-folds : goal.choose_in_places-found-requires-clause-folds
 choose_in_places-found-requires-clause-folds c = omega (arith, c.requires.few)
 
-pub choose_in_places-found-requires-clause-tables : goal.choose_in_places-found-requires-clause-tables
-choose_in_places-found-requires-clause-tables c = omega (arith, power_le c.args.limits.now.partition 8 c.requires.partition)
+pub choose_in_places-found-requires-clause-costs : goal.choose_in_places-found-requires-clause-costs
+choose_in_places-found-requires-clause-costs c = omega (arith, power_le c.args.limits.now.partition 8 c.requires.partition)
+
+pub choose_in_places-found-requires-clause-entries : goal.choose_in_places-found-requires-clause-entries
+choose_in_places-found-requires-clause-entries c = omega (arith, power_le c.args.limits.now.partition 8 c.requires.partition)
 
 pub choose_in_places-found-requires-clause-bytes : goal.choose_in_places-found-requires-clause-bytes
 choose_in_places-found-requires-clause-bytes c = omega (arith, power_le c.args.limits.now.partition 8 c.requires.partition)

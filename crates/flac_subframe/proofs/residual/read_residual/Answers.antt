@@ -14,7 +14,7 @@ returns-in_err-method g c =
 pub returns-in_err-read_partitions : goal.returns-in_err-read_partitions
 returns-in_err-read_partitions g c =
     let counts = c.in_ok-method.ensures.reading.counts in
-    let h : ℕ × ℕ = (method_code c.in_ok-method.method, c.in_ok-method.times) in
+    let h : ℕ × ℕ = (method_code c.in_ok-method.method, c.in_ok-method.partition_order) in
     let p = err_from_is_err_and c.from_residual-in_err-read_partitions.result c.from_residual-in_err-read_partitions.ensures.1 in
     rw (p.1, p.2) (record {
       fits = tt;
@@ -35,7 +35,7 @@ returns-clause-reading g c = record {
   memory = search rules;
   reads = (λ known same.
       let counts = c.in_ok-method.ensures.reading.counts in
-      let h : ℕ × ℕ = (method_code c.in_ok-method.method, c.in_ok-method.times) in
+      let h : ℕ × ℕ = (method_code c.in_ok-method.method, c.in_ok-method.partition_order) in
       residual_run c.args.limit c.args.order (length c.args.out.now + c.args.order) h c.args.bits.now.cursor c.read_residual_header.new.bits.cursor (c.in_ok-method.ensures.reading.reads known counts.1)
       ∙ (rw (c.power-count.ensures, bits_of_code c.in_ok-method.method) at (c.in_ok-read_partitions.ensures.reading.reads (counts.0 known) (same ∙ sym counts.1))));
 }

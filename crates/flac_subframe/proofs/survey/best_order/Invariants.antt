@@ -6,11 +6,11 @@ use Rattle.flac_subframe.specs.inner.Least.{IsLeastCost}
 use Rattle.flac_subframe.proofs.Orders.{BelowOrder}
 use Rattle.flac_subframe.proofs.survey.best_order.Given as goal
 
-abbrev pub invariant-loop-p : goal.invariant-loop-p
-invariant-loop-p l = record {
+abbrev pub invariant-loop-partition_order : goal.invariant-loop-partition_order
+invariant-loop-partition_order l = record {
   method : l.best.method ≡ l.method;
   within : l.best.partition_order ≤ l.residual.partition_order;
-  least : IsLeastCost (BelowOrder (parameter_bits_of l.method) l.residual.partition_order l.residual.order l.residual.values.now l.p) (residual_cost l.residual.order l.residual.values.now) l.best.bits;
+  least : IsLeastCost (BelowOrder (parameter_bits_of l.method) l.residual.partition_order l.residual.order l.residual.values.now l.partition_order) (residual_cost l.residual.order l.residual.values.now) l.best.bits;
   here : IsLeastCost (HalvedTo (parameter_bits_of l.method) l.best.partition_order l.residual.partition_order l.residual.order l.residual.values.now) (residual_cost l.residual.order l.residual.values.now) l.best.bits;
   small : l.best.bits ≤ 2 ^ 33 * 2 ^ 16;
 }

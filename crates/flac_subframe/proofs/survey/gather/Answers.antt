@@ -1,5 +1,5 @@
 use Rattle.std.proofs.Common.{arith, ◌≡◌, ◌∙◌, ◌+◌, ◌-◌, ◌<◌, ◌^◌, ℕ, suc, ap, refl, length, drop}
-use Rattle.std.proofs.lemmas.List.{drop-drop, length-set}
+use Rattle.std.proofs.lemmas.List.{drop-drop, get_or_default, length-set}
 use Rattle.std.proofs.lemmas.List.Elements.{All-take}
 use Rattle.flac_bits.specs.Rice.{IsResidual}
 use Rattle.flac_subframe.proofs.Bytes.{one_coding_more}
@@ -47,7 +47,10 @@ unfolding part
 finish-best-requires-clause-best c =
     let so = c.loop-j.invariant in
     let b : c.loop-j.j < 2 ^ c.args.partition_order = omega arith in
-    rw (c.split_at.ensures.front, so.rest, so.long, c.power-count.ensures) (c.requires.entries c.args.partition_order c.loop-j.j c.requires.within b)
+    let place : ℕ = 2 ^ c.args.partition_order + c.loop-j.j in
+    let within : place < length c.args.table.now = omega (arith, place_within c.args.partition_order c.loop-j.j c.args.residual.now.partition_order c.requires.within b, c.requires.table) in
+    let read = rw c.power-count.ensures at c.index-table-count.is in
+    rw (c.split_at.ensures.front, so.rest, so.long, read ∙ get_or_default c.args.table.now place c.index-table-count.result 0 within) (c.requires.entries c.args.partition_order c.loop-j.j c.requires.within b)
 
 pub finish-best-requires-clause-width : goal.finish-best-requires-clause-width
 unfolding part
