@@ -1,17 +1,16 @@
 -- Samples that are computed from a form that was read.
-use Rattle.std.proofs.Common.{◌≡◌, ℕ, zero, suc, ◌-◌, List, [], ◌∷◌, true, Some, Ok, refl, sym, ◌∙◌, ℤ, All, arith, ◌<◌, ◌^◌, pos, negsuc, ◌≤◌, length, replicate}
+use Rattle.std.proofs.Common.{◌≡◌, ℕ, zero, suc, ◌-◌, List, [], ◌∷◌, true, Some, Ok, refl, sym, ◌∙◌, ℤ, All, arith, ◌^◌, pos, negsuc, replicate}
 use Rattle.flac_bits.specs.State.{Cursor}
 use Rattle.flac_bits.specs.Lists.{list_of}
 use Rattle.flac_bits.specs.Layout.{number_at, number_from, run, and_then, bind, done}
 use Rattle.flac_subframe.specs.declared.limits.Limits.{Limits}
 use Rattle.flac_bits.specs.Signed.{FitsBits}
-use Rattle.flac_subframe.specs.Numbers.{sample_at, fits, all_fit}
+use Rattle.flac_subframe.specs.Numbers.{fits, all_fit}
 use Rattle.flac_bits.specs.Signed.{signed_field}
 use Rattle.flac_subframe.specs.Subframe.{Content, Constant, header, content, constant, subframe, scaled, fitting, restored_samples, content_samples, subframe_samples}
 use Rattle.flac_subframe.proofs.Steps.{and_then_and_then, same_then}
 use Rattle.std.proofs.lemmas.Int.{ints}
 use Rattle.std.proofs.lemmas.Bool.{lt-ltb}
-use Rattle.std.proofs.lemmas.List.{ext_get_or, length-replicate, get_or-replicate}
 use Rattle.std.proofs.lemmas.List.Elements.{All-head, All-tail, All-replicate}
 
 -- the form and its samples in one step
@@ -39,10 +38,6 @@ unfolding fitting
 fitting_is depth block c h = rw (all_fit_is depth (restored_samples block c) h) refl
 
 -- one sample in each place
-pub repeated : (x : ℤ) (s : List ℤ) (i : ℕ) → length s ≤ i → ((k : ℕ) → k < i → sample_at s k ≡ x) → s ≡ replicate (length s) x
-repeated x s i over h =
-    ext_get_or (pos 0) s (replicate (length s) x) (sym (length-replicate (length s) x)) (λ k lt. h k (omega arith) ∙ sym (get_or-replicate (length s) k x (pos 0) lt))
-
 pub constant_read : (depth block : ℕ) (c d : Cursor) (v : ℤ) → FitsBits depth v → run (signed_field depth) c ≡ Ok (v, d) → run (bind (constant depth) (λ x. done (fitting depth block x))) c ≡ Ok (Some (replicate block v), d)
 unfolding constant
 constant_read depth block c d v fit reads =

@@ -205,24 +205,3 @@ pub(crate) fn compare(
     let settled = end < parameters;
     Tried { count, settled }
 }
-
-/// Makes the first entries of a table ready, before any parameter is compared.
-pub(crate) fn clear(table: &mut [Entry], count: usize)
-    requires { count ≤ length table.old }
-    ensures { (i : ℕ) → i < count → slice_index table.new i ≡ no_entry }
-{
-    for i in 0..count {
-        table[i] = Entry::none();
-    }
-}
-
-/// The first entries of a table, in another.
-pub(crate) fn copy(from: &[Entry], to: &mut [Entry], count: usize)
-    requires from { count ≤ length from.now }
-    requires to { count ≤ length to.old }
-    ensures { (i : ℕ) → i < count → slice_index to.new i ≡ slice_index from.now i }
-{
-    for i in 0..count {
-        to[i] = from[i];
-    }
-}

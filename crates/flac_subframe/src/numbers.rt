@@ -1,6 +1,6 @@
 //! Signed numbers of a given number of bits.
 
-ghost use Rattle.std.specs.Prelude.{◌≡◌, ◌<◌, ◌≤◌, ◌^◌, ◌↔◌, pos, length, replicate, IsTrue};
+ghost use Rattle.std.specs.Prelude.{◌≡◌, ◌<◌, ◌≤◌, ◌^◌, ◌↔◌, pos, IsTrue};
 ghost use Rattle.flac_bits.specs.Signed.{FitsBits};
 
 /// A number in offset binary of `bits` bits, 1 to 63: moved up by half the range, 2^(bits - 1). It is below 2^bits
@@ -48,13 +48,4 @@ pub(crate) fn power_of_two(exponent: u32) -> i64
     ensures { result ≡ pos (2 ^ exponent) }
 {
     1 << exponent
-}
-
-/// Writes one number to all places.
-pub(crate) fn repeat(number: i64, places: &mut [i64])
-    ensures { places.new ≡ replicate (length places.old) number }
-{
-    for place in places.iter_mut() {
-        *place = number;
-    }
 }

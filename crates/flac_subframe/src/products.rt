@@ -1,7 +1,7 @@
 //! What linear predictors leave of narrow samples: the sums of products are made for all samples at once, a few
 //! coefficients at a time, by loops that the compiler makes lanes of.
 
-ghost use Rattle.std.specs.Prelude.{ℕ, ◌≡◌, ◌<◌, ◌≤◌, ◌^◌, ◌*◌, ◌+◌, ◌+ℤ◌, ◌-ℤ◌, ◌*ℤ◌, pos, IsTrue, length, map, All};
+ghost use Rattle.std.specs.Prelude.{ℕ, ◌≡◌, ◌<◌, ◌≤◌, ◌^◌, ◌*◌, ◌+◌, ◌+ℤ◌, ◌-ℤ◌, ◌*ℤ◌, IsTrue, length, map, All};
 ghost use Rattle.std.specs.Int.RustNames.{unsigned_abs};
 ghost use Rattle.std.specs.Int.{int_shr};
 ghost use Rattle.std.specs.List.{sum_by};
@@ -103,16 +103,6 @@ fn leave(order: usize, shift: u32, samples: &[i32], values: &mut [i32], folds: &
     }
 }
 
-/// Makes all sums those of no product.
-fn clear(sums: &mut [i32])
-    ensures cleared { (j : ℕ) → j < length sums.new → sample_at sums.new j ≡ pos 0 }
-    ensures long { length sums.new ≡ length sums.old }
-{
-    for index in 0..sums.len() {
-        sums[index] = 0;
-    }
-}
-
 /// Whether no sum of products with samples that are at most `peak` from 0 comes near the end of 32 bits.
 fn are_small(coefficients: &[i32], peak: u32) -> bool
     requires few { length coefficients.now ≤ 32 }
@@ -149,7 +139,7 @@ pub(crate) fn take_products(
     if !are_small(coefficients, peak) {
         return false;
     }
-    clear(values);
+    values.fill(0);
     add_all(coefficients, samples, values);
     leave(coefficients.len(), shift, samples, values, folds);
     true

@@ -11,7 +11,7 @@ ghost use Rattle.flac_subframe.specs.inner.Codes.{method_code};
 ghost use Rattle.flac_subframe.specs.Residual.{partition, partitions, residual_header, residual, all_values, residual_values, can_halve};
 
 use crate::coding_method::CodingMethod;
-use crate::numbers::{power, repeat};
+use crate::numbers::power;
 use flac_bits::{BitReader, Source, Why};
 
 /// Reads the values of one partition.
@@ -28,7 +28,7 @@ fn read_partition<R: Source>(
     if parameter == method.escape() {
         let width = bits.take(5)? as u32;
         if width == 0 {
-            repeat(0, out);
+            out.fill(0);
             return Ok(());
         }
         bits.signed_partition(width, out)?;

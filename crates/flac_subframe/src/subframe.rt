@@ -8,7 +8,7 @@ ghost use Rattle.flac_subframe.specs.Subframe.{constant, verbatim, fixed, predic
 ghost use Rattle.flac_bits.specs.Layout.{bind, done, zeros_at};
 
 use crate::limits::Limits;
-use crate::numbers::{power_of_two, repeat};
+use crate::numbers::power_of_two;
 use crate::residual::read_residual;
 use crate::restoration::{restore_fixed, restore_linear};
 use crate::subframe_type::SubframeType;
@@ -86,7 +86,7 @@ fn read_constant<R: Source>(
     ensures reading { CallInPlace 0 (Reads (λ fits. cond fits (Some samples.new) None) (bind (constant depth) (λ c. done (fitting depth (length samples.old) c)))) bits.old bits.new result }
 {
     let sample = bits.take_signed(depth)?;
-    repeat(sample, samples);
+    samples.fill(sample);
     Ok(true)
 }
 

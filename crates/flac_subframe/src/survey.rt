@@ -15,7 +15,7 @@ use crate::coding::Coding;
 use crate::coding_method::CodingMethod;
 use crate::cost::CodingCost;
 use crate::entry::Entry;
-use crate::halves::{Tried, clear, compare, compare_down, copy};
+use crate::halves::{Tried, compare, compare_down};
 use crate::numbers::power;
 use crate::pruning::{COARSE, finest_in_doubt, is_too_dear};
 use crate::residual_form::ResidualForm;
@@ -213,7 +213,7 @@ fn tabulate(
     let leaves = &leaves[..count];
     let row = &mut sums[..count];
     let middle = middle(leaves, residual.values.len(), width);
-    clear(four, 2 * count);
+    four[..2 * count].fill(Entry::none());
     let down = compare_down(residual, width, middle, leaves, row, four);
     let up = compare(residual, width, middle, 15, row, four);
     let first = down + up.count;
@@ -223,7 +223,7 @@ fn tabulate(
             settled: true,
         };
     }
-    copy(four, five, 2 * count);
+    five[..2 * count].copy_from_slice(&four[..2 * count]);
     let more = compare(residual, width, 15, 31, row, five);
     Tried {
         count: first + more.count,

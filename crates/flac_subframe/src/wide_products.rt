@@ -2,7 +2,7 @@
 //! for all samples at once, a few coefficients at a time. The loops are those of `products.rt` written out for another
 //! width: there each lane has 32 bits, so that the processor works out twice as many sums at once.
 
-ghost use Rattle.std.specs.Prelude.{ℕ, ◌≡◌, ◌<◌, ◌≤◌, ◌^◌, ◌+◌, ◌+ℤ◌, ◌-ℤ◌, ◌*ℤ◌, pos, IsTrue, ◌↔◌, length, All};
+ghost use Rattle.std.specs.Prelude.{ℕ, ◌≡◌, ◌<◌, ◌≤◌, ◌^◌, ◌+◌, ◌+ℤ◌, ◌-ℤ◌, ◌*ℤ◌, IsTrue, ◌↔◌, length, All};
 ghost use Rattle.std.specs.Int.{int_shr};
 ghost use Rattle.std.specs.Int.RustNames.{unsigned_abs};
 ghost use Rattle.flac_bits.specs.Rice.{IsResidual};
@@ -84,16 +84,6 @@ fn add_all(coefficients: &[i32], samples: &[i32], sums: &mut [i64])
     }
 }
 
-/// Makes all sums those of no product.
-fn clear(sums: &mut [i64])
-    ensures cleared { (j : ℕ) → j < length sums.new → sample_at sums.new j ≡ pos 0 }
-    ensures long { length sums.new ≡ length sums.old }
-{
-    for index in 0..sums.len() {
-        sums[index] = 0;
-    }
-}
-
 /// What the predictor leaves, from the sums, in their places.
 fn leave(order: usize, shift: u32, samples: &[i32], values: &mut [i64])
     requires shift { shift < 16 }
@@ -123,7 +113,7 @@ pub(crate) fn take_wide_products(
     ensures all { values.new ≡ differences coefficients.now shift samples.now }
     ensures range { IsTrue result ↔ All IsResidual (differences coefficients.now shift samples.now) }
 {
-    clear(values);
+    values.fill(0);
     add_all(coefficients, samples, values);
     leave(coefficients.len(), shift, samples, values);
     are_residual(values)

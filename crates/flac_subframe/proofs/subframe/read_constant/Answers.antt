@@ -15,7 +15,7 @@ returns-clause-reading g c = record {
   memory = search rules;
   reads = (λ known same.
       let kept = stored c.args.depth c.in_ok-sample.sample (omega (arith, c.requires.depth.1)) c.in_ok-sample.ensures.fits in
-      rw (c.repeat.ensures, kept) (constant_read c.args.depth (length c.args.samples.now) c.args.bits.now.cursor c.take_signed.new.self.cursor c.in_ok-sample.sample c.in_ok-sample.ensures.fits (c.in_ok-sample.ensures.reading.reads known same)));
+      rw (c.fill.ensures.after (λ y is. is), kept) (constant_read c.args.depth (length c.args.samples.now) c.args.bits.now.cursor c.take_signed.new.self.cursor c.in_ok-sample.sample c.in_ok-sample.ensures.fits (c.in_ok-sample.ensures.reading.reads known same)));
 }
 
 constant_fails : (depth block : ℕ) (c : Cursor) (w : Reason) → run (signed_field depth) c ≡ Err w → run (bind (constant depth) (λ x. done (fitting depth block x))) c ≡ Err w

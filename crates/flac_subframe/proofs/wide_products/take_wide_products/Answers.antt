@@ -1,4 +1,5 @@
-use Rattle.std.proofs.Common.{◌≡◌, ◌^◌, length, arith}
+use Rattle.std.proofs.Common.{◌≡◌, ◌^◌, length, pos, arith}
+use Rattle.std.proofs.lemmas.List.{get_or-replicate}
 use Rattle.flac_subframe.specs.Bodies.{differences}
 use Rattle.flac_subframe.proofs.Lanes.{stays_below_wide, peak_of, no_sums, sums_below, differences_from}
 use Rattle.flac_subframe.proofs.wide_products.take_wide_products.Goals as goal
@@ -7,7 +8,7 @@ pub add_all-requires-clause-small : goal.add_all-requires-clause-small
 add_all-requires-clause-small c = stays_below_wide c.args.coefficients.now c.args.samples.now c.requires.few c.requires.small (peak_of c.args.samples.now c.requires.fits)
 
 pub add_all-requires-clause-before : goal.add_all-requires-clause-before
-add_all-requires-clause-before c = no_sums c.args.coefficients.now c.args.samples.now c.clear.new.sums c.clear.ensures.cleared
+add_all-requires-clause-before c = no_sums c.args.coefficients.now c.args.samples.now c.fill.new.self (λ j h. rw (c.fill.ensures.after (λ y is. is)) (get_or-replicate _ j (pos 0) (pos 0) (omega (arith, h, c.fill.ensures.len))))
 
 pub leave-requires-clause-small : goal.leave-requires-clause-small
 leave-requires-clause-small c = λ j h.
