@@ -247,9 +247,9 @@ fn sample_of(sum: i64, shift: u32, residual: i64) -> i64
 }
 
 /// Restores by a linear predictor of an order. The sums of products for the next samples are held beside the slice:
-/// each sample is multiplied by all coefficients once it is known, and is not read again. For orders of 9 to 12 this is
-/// faster than [`restore_by`], whose loop reads the last samples again, and on processors with AVX2 by far: there the
-/// compiler makes lanes of that loop, which wait for the samples that were just stored.
+/// each sample is multiplied by all coefficients once it is known, and is not read again. This is faster than
+/// [`restore_by`], whose loop reads the last samples again, and on processors with AVX2 by far: there the compiler
+/// makes lanes of that loop, which wait for the samples that were just stored.
 #[inline(always)]
 fn restore_summed(
     order: usize,
@@ -310,14 +310,14 @@ pub(crate) fn restore_linear(
     ensures only { (s : List ℤ) → Restored coefficients.now shift samples.old s → All (FitsBits bits) s → IsTrue result }
 {
     match coefficients.len() {
-        1 => restore_by(1, coefficients, shift, bits, samples),
-        2 => restore_by(2, coefficients, shift, bits, samples),
-        3 => restore_by(3, coefficients, shift, bits, samples),
-        4 => restore_by(4, coefficients, shift, bits, samples),
-        5 => restore_by(5, coefficients, shift, bits, samples),
-        6 => restore_by(6, coefficients, shift, bits, samples),
-        7 => restore_by(7, coefficients, shift, bits, samples),
-        8 => restore_by(8, coefficients, shift, bits, samples),
+        1 => restore_summed(1, coefficients, shift, bits, samples),
+        2 => restore_summed(2, coefficients, shift, bits, samples),
+        3 => restore_summed(3, coefficients, shift, bits, samples),
+        4 => restore_summed(4, coefficients, shift, bits, samples),
+        5 => restore_summed(5, coefficients, shift, bits, samples),
+        6 => restore_summed(6, coefficients, shift, bits, samples),
+        7 => restore_summed(7, coefficients, shift, bits, samples),
+        8 => restore_summed(8, coefficients, shift, bits, samples),
         9 => restore_summed(9, coefficients, shift, bits, samples),
         10 => restore_summed(10, coefficients, shift, bits, samples),
         11 => restore_summed(11, coefficients, shift, bits, samples),
