@@ -14,19 +14,24 @@ use Rattle.flac_bits.proofs.Slicing.{entry, eight_is, fed_mixed, times_is, byte_
 use Rattle.flac_bits.proofs.Entries.{behind_0, behind_1, behind_2, behind_3, behind_4, behind_5, behind_6, behind_7, low_0, low_1, low_2, low_3, low_4, low_5, low_6, low_7, high_0, high_1, high_2, high_3, high_4, high_5, high_6, high_7}
 use Rattle.flac_bits.proofs.Entries32.{behind32_0, behind32_1, behind32_2, behind32_3, behind32_4, behind32_5, behind32_6, behind32_7, is32_0, is32_1, is32_2, is32_3, is32_4, is32_5, is32_6, is32_7}
 
--- the loops over bytes
-pub fed_eight : (w g c i : ℕ) (bytes : List ℕ) → 8 * i + 8 ≤ length bytes → fed w g c (bits_of (take (8 * (i + 1)) bytes)) ≡ fed w g (fed w g c (bits_of (take (8 * i) bytes))) (bits_of (slice_range bytes (8 * i) (8 * i + 8)))
-fed_eight w g c i bytes le =
-    let k : 8 * (i + 1) ≡ 8 * i + 8 = omega arith in
-    let n : 8 * i + 8 - 8 * i ≡ 8 = omega arith in
-    ap (λ j. fed w g c (bits_of (take j bytes))) k ∙ ap (λ xs. fed w g c (bits_of xs)) (take-add (8 * i) 8 bytes) ∙ ap (fed w g c) (bits_of-append (take (8 * i) bytes) (take 8 (drop (8 * i) bytes)))
-    ∙ fed-append w g c (bits_of (take (8 * i) bytes)) (bits_of (take 8 (drop (8 * i) bytes))) ∙ ap (λ j. fed w g (fed w g c (bits_of (take (8 * i) bytes))) (bits_of (take j (drop (8 * i) bytes)))) (sym n)
+-- the loops over parts of k bytes
+pub fed_part : (w g c k i : ℕ) (bytes : List ℕ) → k * (i + 1) ≡ k * i + k → k * i + k ≤ length bytes → fed w g c (bits_of (take (k * (i + 1)) bytes)) ≡ fed w g (fed w g c (bits_of (take (k * i) bytes))) (bits_of (slice_range bytes (k * i) (k * i + k)))
+fed_part w g c k i bytes more le =
+    let m = k * i in
+    let n : m + k - m ≡ k = omega arith in
+    ap (λ j. fed w g c (bits_of (take j bytes))) more ∙ ap (λ xs. fed w g c (bits_of xs)) (take-add m k bytes) ∙ ap (fed w g c) (bits_of-append (take m bytes) (take k (drop m bytes)))
+    ∙ fed-append w g c (bits_of (take m bytes)) (bits_of (take k (drop m bytes))) ∙ ap (λ j. fed w g (fed w g c (bits_of (take m bytes))) (bits_of (take j (drop m bytes)))) (sym n)
 
-pub fed_rest : (w g c i : ℕ) (bytes : List ℕ) → i ≡ length bytes / 8 → fed w g (fed w g c (bits_of (take (8 * i) bytes))) (bits_of (slice_range bytes (8 * (length bytes / 8)) (length bytes))) ≡ fed w g c (bits_of bytes)
-fed_rest w g c i bytes e =
-    let k = 8 * i in
-    let all : take (length bytes - k) (drop k bytes) ≡ drop k bytes = take_all (length bytes - k) (drop k bytes) (omega (arith, length-drop k bytes)) in
-    rw (← e, all) (sym (fed-append w g c (bits_of (take k bytes)) (bits_of (drop k bytes))) ∙ ap (fed w g c) (sym (bits_of-append (take k bytes) (drop k bytes)) ∙ ap bits_of (take-append-drop k bytes)))
+pub fed_two_parts : (w g c n : ℕ) (bytes : List ℕ) → n ≤ length bytes → fed w g (fed w g c (bits_of (take n bytes))) (bits_of (slice_range bytes n (length bytes))) ≡ fed w g c (bits_of bytes)
+fed_two_parts w g c n bytes le =
+    let all : take (length bytes - n) (drop n bytes) ≡ drop n bytes = take_all (length bytes - n) (drop n bytes) (omega (arith, length-drop n bytes)) in
+    rw all (sym (fed-append w g c (bits_of (take n bytes)) (bits_of (drop n bytes))) ∙ ap (fed w g c) (sym (bits_of-append (take n bytes) (drop n bytes)) ∙ ap bits_of (take-append-drop n bytes)))
+
+pub fed_rest : (w g c k i : ℕ) (bytes : List ℕ) → i ≡ length bytes / k → fed w g (fed w g c (bits_of (take (k * i) bytes))) (bits_of (slice_range bytes (k * (length bytes / k)) (length bytes))) ≡ fed w g c (bits_of bytes)
+fed_rest w g c k i bytes e =
+    let m = k * i in
+    let all : take (length bytes - m) (drop m bytes) ≡ drop m bytes = take_all (length bytes - m) (drop m bytes) (omega (arith, length-drop m bytes)) in
+    rw (← e, all) (sym (fed-append w g c (bits_of (take m bytes)) (bits_of (drop m bytes))) ∙ ap (fed w g c) (sym (bits_of-append (take m bytes) (drop m bytes)) ∙ ap bits_of (take-append-drop m bytes)))
 
 -- eight numbers are a list of them
 eight_list : (xs : List ℕ) → length xs ≡ 8 → xs ≡ get_or xs 0 0 ∷ get_or xs 1 0 ∷ get_or xs 2 0 ∷ get_or xs 3 0 ∷ get_or xs 4 0 ∷ get_or xs 5 0 ∷ get_or xs 6 0 ∷ get_or xs 7 0 ∷ []

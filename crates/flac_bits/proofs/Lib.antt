@@ -40,3 +40,4 @@ pub mod Telling
 pub mod LittleNumbers
 pub mod Unchecked
 pub mod Pulled
+pub mod Dividing

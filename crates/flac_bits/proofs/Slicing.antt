@@ -123,7 +123,7 @@ unfoldable pub run_of : (ℕ → ℕ) → ℕ → ℕ → List ℕ
 run_of f s zero = []
 run_of f s (suc n) = f s ∷ run_of f (s + 1) n
 
-run_at : (f : ℕ → ℕ) (s n i : ℕ) → i < n → get_or (run_of f s n) i 0 ≡ f (s + i)
+pub run_at : (f : ℕ → ℕ) (s n i : ℕ) → i < n → get_or (run_of f s n) i 0 ≡ f (s + i)
 unfolding run_of
 run_at f s zero i lt = absurd (omega (arith, lt))
 run_at f s (suc n) zero lt = ap f (omega arith)

@@ -8,3 +8,4 @@ pub mod Handing
 pub mod Stretches
 pub mod Pulling
 pub mod Unchecked
+pub mod Divided

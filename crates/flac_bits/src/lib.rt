@@ -5,6 +5,8 @@
 mod bytes;
 mod coded;
 mod counted;
+mod divided;
+mod divided32;
 mod failing;
 mod held;
 mod little;

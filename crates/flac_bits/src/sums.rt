@@ -5,7 +5,9 @@ ghost use Rattle.flac_bits.specs.Bits.{unsigned, bits_of};
 ghost use Rattle.flac_bits.specs.State.{feed};
 ghost use Rattle.flac_bits.specs.Check.{fed, remainder, ChecksAreRemainders};
 
-use crate::{remainders, remainders32};
+use crate::divided::{PERIOD, both_divided};
+use crate::divided32::crc32_divided;
+use crate::{divided, divided32, remainders, remainders32};
 
 /// The CRC-8 after one more bit.
 fn fed8(check: u8, bit: bool) -> u8
@@ -120,6 +122,34 @@ fn each_checked(checks: (u8, u16), bytes: &[u8]) -> (u8, u16)
     checks
 }
 
+/// Both checks after more bytes, eight at a time.
+#[tactic(auto, unfolding(crate::specs::Check::fed))]
+pub(crate) fn both_by_eights(checks: (u8, u16), bytes: &[u8]) -> (u8, u16)
+    ensures eight { result.0 ≡ fed 8 7 checks.0 (bits_of bytes.now) }
+    ensures sixteen { result.1 ≡ fed 16 32773 checks.1 (bits_of bytes.now) }
+{
+    let eights = bytes.len() / 8;
+    let mut checks = checks;
+    for i in 0..eights {
+        checks = eight_checked(checks, &bytes[8 * i..8 * i + 8]);
+    }
+    each_checked(checks, &bytes[8 * eights..])
+}
+
+/// Both checks after more bytes, of which most can be divided at once. The division is faster if they are many.
+fn both_at_once(checks: (u8, u16), bytes: &[u8]) -> (u8, u16)
+    requires { length bytes.now < 4066 }
+    ensures eight { result.0 ≡ fed 8 7 checks.0 (bits_of bytes.now) }
+    ensures sixteen { result.1 ≡ fed 16 32773 checks.1 (bits_of bytes.now) }
+{
+    if bytes.len() < 640 {
+        return both_by_eights(checks, bytes);
+    }
+    let most = (bytes.len() - 2) / PERIOD * PERIOD + 2;
+    let checks = both_divided(checks, &bytes[..most]);
+    both_by_eights(checks, &bytes[most..])
+}
+
 /// The CRC-8 (generator x^8 + x^2 + x + 1) and the CRC-16 (x^16 + x^15 + x^2 + 1) after more bytes, in one pass over
 /// them.
 #[tactic(auto, unfolding(crate::specs::Check::fed))]
@@ -127,12 +157,13 @@ pub(crate) fn both_checked(check8: u8, check16: u16, bytes: &[u8]) -> (u8, u16)
     ensures eight { result.0 ≡ fed 8 7 check8 (bits_of bytes.now) }
     ensures sixteen { result.1 ≡ fed 16 32773 check16 (bits_of bytes.now) }
 {
-    let eights = bytes.len() / 8;
+    let parts = bytes.len() / divided::MOST_DIVIDED;
     let mut checks = (check8, check16);
-    for i in 0..eights {
-        checks = eight_checked(checks, &bytes[8 * i..8 * i + 8]);
+    for i in 0..parts {
+        let from = divided::MOST_DIVIDED * i;
+        checks = both_divided(checks, &bytes[from..from + divided::MOST_DIVIDED]);
     }
-    each_checked(checks, &bytes[8 * eights..])
+    both_at_once(checks, &bytes[divided::MOST_DIVIDED * parts..])
 }
 
 /// The CRC-8 after more bytes.
@@ -185,10 +216,9 @@ fn crc32_byte_by_byte(check: u32, bytes: &[u8]) -> u32
     check
 }
 
-/// The CRC-32 after more bytes, as [`crc32`] has it, from the CRC-32 `check` of the bytes before. It is for a page
-/// whose parts are in several places.
+/// The CRC-32 after more bytes, eight at a time.
 #[tactic(auto, unfolding(crate::specs::Check::fed))]
-pub fn crc32_after(check: u32, bytes: &[u8]) -> u32
+pub(crate) fn crc32_by_eights(check: u32, bytes: &[u8]) -> u32
     ensures { result ≡ fed 32 79764919 check (bits_of bytes.now) }
 {
     let eights = bytes.len() / 8;
@@ -197,6 +227,32 @@ pub fn crc32_after(check: u32, bytes: &[u8]) -> u32
         check = crc32_after_eight(check, &bytes[8 * i..8 * i + 8]);
     }
     crc32_byte_by_byte(check, &bytes[8 * eights..])
+}
+
+/// The CRC-32 after more bytes, which can be divided at once. The division is faster if they are many.
+fn crc32_at_once(check: u32, bytes: &[u8]) -> u32
+    requires { length bytes.now ≤ 8192 }
+    ensures { result ≡ fed 32 79764919 check (bits_of bytes.now) }
+{
+    if bytes.len() < 800 {
+        return crc32_by_eights(check, bytes);
+    }
+    crc32_divided(check, bytes)
+}
+
+/// The CRC-32 after more bytes, as [`crc32`] has it, from the CRC-32 `check` of the bytes before. It is for a page
+/// whose parts are in several places.
+#[tactic(auto, unfolding(crate::specs::Check::fed))]
+pub fn crc32_after(check: u32, bytes: &[u8]) -> u32
+    ensures { result ≡ fed 32 79764919 check (bits_of bytes.now) }
+{
+    let parts = bytes.len() / divided32::MOST_DIVIDED;
+    let mut check = check;
+    for i in 0..parts {
+        let from = divided32::MOST_DIVIDED * i;
+        check = crc32_divided(check, &bytes[from..from + divided32::MOST_DIVIDED]);
+    }
+    crc32_at_once(check, &bytes[divided32::MOST_DIVIDED * parts..])
 }
 
 /// The CRC-8 of bytes, as a frame header has it (RFC 9639, section 9.1.8): generator x^8 + x^2 + x + 1, from 0. It is

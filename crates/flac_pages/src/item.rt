@@ -1,9 +1,10 @@
 //! One item in one packet.
 
-ghost use Rattle.std.specs.Prelude.{◌≡◌, ◌≢◌, ◌≤◌, ◌+◌, ◌*◌, ◌∷◌, ◌++◌, true, false, length, OnOk, IfOk, IfErr, IfSome, None, Ok, Err};
+ghost use Rattle.std.specs.Prelude.{◌≡◌, ◌≢◌, ◌≤◌, ◌+◌, ◌*◌, [], ◌∷◌, ◌++◌, true, false, length, OnOk, IfOk, IfErr, IfSome, None, Ok, Err};
 ghost use Rattle.flac_bits.specs.Bits.{is_nil};
 ghost use Rattle.flac_bits.specs.Layout.{bits as number};
 ghost use Rattle.flac_bits.specs.Lists.{list_of};
+ghost use Rattle.flac_bits.specs.Reading.{Counts};
 ghost use Rattle.flac_bits.specs.State.{short_of};
 ghost use Rattle.flac_pages.specs.Items.{end_of, behind_item, packet_of, packet_mark, TellsItem, Meets, TellsPages, numbers_of, GivesBack, IsAtPacket, JudgesPacket, GoesBehind, HasBehind, CountsSo, HasItsPage};
 ghost use Rattle.flac_pages.specs.Packets.{on_page};
@@ -38,6 +39,20 @@ fn why_in(fault: Option<PageFault>, why: Why) -> PacketFault
     }
 }
 
+/// Whether no bit of a packet is left. The checks restart first: the item was judged, so none is computed of the bytes
+/// that are dropped here.
+fn at_end<R: Source>(bits: &mut BitReader<R>) -> Result<bool, Why>
+    ensures spends { OnOk result (bits.new.most ≤ bits.old.most) }
+    ensures counts { Counts bits.old bits.new result }
+    ensures memory { IfErr result (λ e. e ≢ Why.Memory) }
+    ensures over { IfOk result (λ over. bits.old.known ≡ true → over ≡ is_nil bits.old.cursor.left) }
+    ensures ended { result ≡ Ok true → bits.old.known ≡ true → bits.old.cursor.mark.short ≡ Why.Read → ⊥ }
+    ensures read { IfErr result (λ e. (e ≡ Why.Read) × (bits.old.known ≡ true → bits.new.errors ≡ bits.old.errors → (bits.old.cursor.left ≡ []) × (bits.old.cursor.mark.short ≡ Why.Read))) }
+{
+    bits.start_checks();
+    bits.at_end()
+}
+
 /// Checks that the packet ends after a whole item.
 fn end_behind<'a, R: Source>(
     bits: BitReader<PacketBytes<'a, R>>,
@@ -51,7 +66,7 @@ fn end_behind<'a, R: Source>(
     ensures behind { OnOk result.0 (GoesBehind bits.entry result.1.now) }
 {
     let mut bits = bits;
-    let over = bits.at_end();
+    let over = at_end(&mut bits);
     let packet = bits.into_source();
     let fault = packet.why();
     let pages = packet.into_pages();

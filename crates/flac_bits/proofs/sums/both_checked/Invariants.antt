@@ -5,6 +5,6 @@ use Rattle.flac_bits.proofs.sums.both_checked.Given as goal
 
 abbrev pub invariant-loop-i : goal.invariant-loop-i
 invariant-loop-i l = record {
-  eight : l.checks.0 ≡ fed 8 7 l.check8 (bits_of (take (8 * l.i) l.bytes));
-  sixteen : l.checks.1 ≡ fed 16 32773 l.check16 (bits_of (take (8 * l.i) l.bytes));
+  eight : l.checks.0 ≡ fed 8 7 l.check8 (bits_of (take (4066 * l.i) l.bytes));
+  sixteen : l.checks.1 ≡ fed 16 32773 l.check16 (bits_of (take (4066 * l.i) l.bytes));
 }

@@ -30,7 +30,7 @@ pub returns-in-Err-clause-page : goal.returns-in-Err-clause-page
 returns-in-Err-clause-page g c = λ none.
     let packet = c.into_source-packet.result in
     told_of packet.fault c.why-fault.result packet.errors packet.pages.now c.into_pages-pages.result.now c.in-Err.why c.why_in.result c.why_in.ensures.value c.why-fault.ensures.fault c.into_pages-pages.ensures.pages packet.quiet packet.page packet.memory
-    (rose_read c.args.bits.raised c.at_end-over.new.self.raised packet.errors c.in-Err.why none c.in-Err.ensures.counts.4 c.into_source-packet.ensures.raised)
+    (rose_read c.args.bits.raised c.at_end-over.new.bits.raised packet.errors c.in-Err.why none c.in-Err.ensures.counts.4 c.into_source-packet.ensures.raised)
 
 pub returns-in-Ok-false-clause-back : goal.returns-in-Ok-false-clause-back
 returns-in-Ok-false-clause-back g c =
@@ -46,4 +46,4 @@ returns-in-Err-clause-back g c =
     told_back c.args.bits _ packet.lent.value.raised (on_page packet.lent.value) packet.fault c.why-fault.result packet.errors packet.pages.now c.into_pages-pages.result.now _ c.in-Err.why c.why_in.result c.why_in.ensures.value c.why-fault.ensures.fault
     (sym (tells.names ∙ c.in-Err.ensures.counts.3) ∙ ap (λ (k : GName). k ∷ packet.lent.value.raised ∷ (numbers_of (on_page packet.lent.value) ++ packet.pages.now.names)) (sym c.into_pages-pages.ensures.same)) c.into_pages-pages.ensures.pages
     packet.quiet packet.met (λ f is known. packet.breaks f is (known_there packet.lent.value known))
-    (λ none. (rose_read c.args.bits.raised c.at_end-over.new.self.raised packet.errors c.in-Err.why none c.in-Err.ensures.counts.4 tells.raised, c.in-Err.ensures.counts.5))
+    (λ none. (rose_read c.args.bits.raised c.at_end-over.new.bits.raised packet.errors c.in-Err.why none c.in-Err.ensures.counts.4 tells.raised, c.in-Err.ensures.counts.5))
