@@ -1,4 +1,4 @@
-use Rattle.std.proofs.Common.{arith, ◌≡◌, ◌/◌, ◌<◌, ◌≤◌, ◌^◌, ℕ, length, get_or}
+use Rattle.std.proofs.Common.{arith, ◌/◌, ◌<◌, ◌≤◌, ◌^◌, ℕ, length, get_or}
 use Rattle.std.proofs.lemmas.List.{take_all}
 use Rattle.std.proofs.lemmas.List.Sums.{sum_by_more}
 use Rattle.std.proofs.lemmas.Nat.{or_lt, le_or_l, le_or_r}
