@@ -277,11 +277,12 @@ impl Channels for Audio {
     }
 }
 
-/// The samples of two channels, lent by themselves, so that the loop over them keeps where they are.
+/// The samples of two channels of one length, lent by themselves, so that the loop over them keeps where they are.
 #[derive(Drop)]
 struct Pair<'a> {
     left: &'a [i32],
     right: &'a [i32],
+    ghost long: { length right.now ≡ length left.now },
 }
 
 impl<'a> Channels for Pair<'a> {
@@ -292,9 +293,9 @@ impl<'a> Channels for Pair<'a> {
     #[inline(always)]
     fn sample(&self, channel: usize, index: usize) -> i32 {
         if channel == 0 {
-            return sample_or_zero(self.left, index);
+            return self.left[index];
         }
-        sample_or_zero(self.right, index)
+        self.right[index]
     }
 }
 

@@ -1,5 +1,5 @@
 -- What the fixed predictors leave of samples of few bits is in the range of a residual.
-use Rattle.std.proofs.Common.{inl, inr, refl, ℕ, zero, suc, ◌+◌, ◌-◌, ◌^◌, ◌≤◌, arith, ℤ, pos, ◌≡◌, ◌-ℤ◌, List, [], ◌∷◌, length, All, to_z, of_z, w32, w64}
+use Rattle.std.proofs.Common.{inl, inr, refl, ℕ, zero, suc, ◌+◌, ◌-◌, ◌^◌, ◌≤◌, arith, ℤ, pos, ◌≡◌, ◌-ℤ◌, List, [], ◌∷◌, length, All, to_z, of_z, w32, w64, FitsSigned}
 use Rattle.std.specs.List.{range_with_len}
 use Rattle.std.specs.Int.RustNames.{unsigned_abs}
 use Rattle.std.proofs.lemmas.Int.{ints}
@@ -53,6 +53,12 @@ narrow_differences o s few all =
 -- what casts to 32 bits and back leave of a narrow sample
 pub narrow_is : (x : ℤ) → FitsBits 27 x → to_z w32 (of_z w32 (to_z w64 (of_z w64 x))) ≡ x
 narrow_is x fit = omega (arith, ints, fit.low, fit.high)
+
+pub narrow_fits : (x : ℤ) → FitsBits 27 x → FitsSigned w32 x
+narrow_fits x fit =
+    let low = fit.low in
+    let high = fit.high in
+    omega (arith, ints)
 
 pub same_narrow : (x : ℤ) → FitsBits 27 x → to_z w32 (of_z w32 x) ≡ x
 same_narrow x fit = omega (arith, ints, fit.low, fit.high)

@@ -64,24 +64,31 @@ fn limit(best: &Best, kind: PredictorKind) -> u64
     }
 }
 
-/// Adds to each fixed predictor's sum the absolute values of its residual in a run, from the run's fifth sample on.
-fn add_left(run: &[i64], sums: &mut [u64; 5]) {
-    let mut last = [0i64; 4];
-    for (at, sample) in run.iter().enumerate() {
-        let mut left = *sample;
-        let mut lefts = [left; 5];
-        for order in 0..4 {
-            let next = left.wrapping_sub(last[order]);
-            last[order] = left;
-            left = next;
-            lefts[order + 1] = left;
-        }
-        if at >= 4 {
-            for (sum, left) in sums.iter_mut().zip(lefts.iter()) {
-                *sum = sum.wrapping_add(left.unsigned_abs());
-            }
-        }
+/// For each fixed predictor the sum of the absolute values of its residual in a run, from the run's fifth sample on.
+fn sums_left(run: &[i64]) -> [u64; 5] {
+    let mut sum0: u64 = 0;
+    let mut sum1: u64 = 0;
+    let mut sum2: u64 = 0;
+    let mut sum3: u64 = 0;
+    let mut sum4: u64 = 0;
+    for at in 4..run.len() {
+        // the differences of five samples, the last first, then the differences of these, and so on
+        let one = run[at].wrapping_sub(run[at - 1]);
+        let one_before = run[at - 1].wrapping_sub(run[at - 2]);
+        let one_earlier = run[at - 2].wrapping_sub(run[at - 3]);
+        let one_first = run[at - 3].wrapping_sub(run[at - 4]);
+        let two = one.wrapping_sub(one_before);
+        let two_before = one_before.wrapping_sub(one_earlier);
+        let two_first = one_earlier.wrapping_sub(one_first);
+        let three = two.wrapping_sub(two_before);
+        let four = three.wrapping_sub(two_before.wrapping_sub(two_first));
+        sum0 = sum0.wrapping_add(run[at].unsigned_abs());
+        sum1 = sum1.wrapping_add(one.unsigned_abs());
+        sum2 = sum2.wrapping_add(two.unsigned_abs());
+        sum3 = sum3.wrapping_add(three.unsigned_abs());
+        sum4 = sum4.wrapping_add(four.unsigned_abs());
     }
+    [sum0, sum1, sum2, sum3, sum4]
 }
 
 /// The order of the fixed predictor whose residual has the smallest sum of absolute values over eight short runs of the
@@ -91,7 +98,10 @@ fn likely_order(samples: &[i64]) -> usize
 {
     let mut sums = [0u64; 5];
     for part in samples.chunks((samples.len() / 8).max(1)) {
-        add_left(&part[..part.len().min(68)], &mut sums);
+        let lefts = sums_left(&part[..part.len().min(36)]);
+        for (sum, left) in sums.iter_mut().zip(lefts.iter()) {
+            *sum = sum.wrapping_add(*left);
+        }
     }
     let mut likely = 0;
     for order in 1..5 {

@@ -5,16 +5,13 @@ ghost use Rattle.flac_subframe.specs.Spelling.{folded};
 ghost use Rattle.flac_bits.specs.Rice.{IsResidual};
 
 /// The folded number of a residual value r: 2r if r is not negative, else -2r - 1 (RFC 9639, section 9.2.7.2).
+#[inline(always)]
 pub(crate) fn fold(value: i64) -> u64
     requires { IsResidual value }
     ensures value { result ≡ folded value }
     ensures small { result < 2 ^ 32 }
 {
-    if value >= 0 {
-        value as u64 * 2
-    } else {
-        (-(value + 1)) as u64 * 2 + 1
-    }
+    u64::from(fold_narrow(value as i32))
 }
 
 /// The same in 32 bits: the double, or its complement if the value is negative. The compiler makes three operations of

@@ -1,6 +1,7 @@
 //! Samples of few bits in 32 bits each, and what the fixed predictors leave of them.
 
-ghost use Rattle.std.specs.Prelude.{◌∷◌, [], ◌≡◌, ◌<◌, ◌≤◌, ◌^◌, ◌-◌, ◌+◌, ℕ, length, map, All, IsTrue, ◌↔◌};
+ghost use Rattle.std.specs.Prelude.{◌∷◌, [], ◌≡◌, ◌<◌, ◌≤◌, ◌^◌, ◌-◌, ◌+◌, ℕ, length, map, All, IsTrue, FitsSigned};
+ghost use Rattle.std.specs.Int.{w32};
 ghost use Rattle.std.specs.Int.RustNames.{unsigned_abs};
 ghost use Rattle.flac_bits.specs.Signed.{FitsBits};
 ghost use Rattle.flac_subframe.specs.Numbers.{sample_at};
@@ -11,26 +12,12 @@ ghost use Rattle.flac_subframe.specs.Bodies.{differences};
 use crate::folding::fold_narrow;
 use crate::numbers::offset_binary;
 
-/// Whether each sample has so few bits that what a fixed predictor leaves is in the range of a residual.
-fn are_narrow(samples: &[i64]) -> bool
-    ensures { IsTrue result → All (FitsBits 27) samples.now }
+/// The lowest 32 bits of a sample, which are the sample if it fits them.
+#[inline(always)]
+fn lowest(sample: i64) -> i32
+    ensures { FitsSigned w32 sample → result ≡ sample }
 {
-    let mut all: u64 = 0;
-    for sample in samples {
-        all |= offset_binary(*sample, 27);
-    }
-    all < 0x800_0000
-}
-
-/// The same samples in 32 bits each.
-fn narrow_each(samples: &[i64], narrowed: &mut [i32])
-    requires fits { All (FitsBits 27) samples.now }
-    requires places { length narrowed.old ≡ length samples.now }
-    ensures { narrowed.new ≡ samples.now }
-{
-    for i in 0..samples.len() {
-        narrowed[i] = samples[i] as i32;
-    }
+    ((sample.cast_unsigned() & 0xFFFF_FFFF) as u32).cast_signed()
 }
 
 /// Whether each sample has so few bits that what a fixed predictor leaves is in the range of a residual; if so, the
@@ -40,11 +27,14 @@ pub(crate) fn narrow(samples: &[i64], narrowed: &mut [i32]) -> bool
     ensures fits { IsTrue result → All (FitsBits 27) samples.now }
     ensures same { IsTrue result → narrowed.new ≡ samples.now }
 {
-    if !are_narrow(samples) {
-        return false;
+    // no exit inside, so that the compiler takes several samples at once
+    let mut all: u64 = 0;
+    for i in 0..samples.len() {
+        let sample = samples[i];
+        all |= offset_binary(sample, 27);
+        narrowed[i] = lowest(sample);
     }
-    narrow_each(samples, narrowed);
-    true
+    all < 0x800_0000
 }
 
 /// How far from 0 narrow samples are at most, or, if that is not asked, how far they can be.

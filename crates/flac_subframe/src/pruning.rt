@@ -1,6 +1,6 @@
 //! Lower bounds on the bits of a residual, known before its parameters are tried.
 
-ghost use Rattle.std.specs.Prelude.{◌≡◌, ◌<◌, ◌≤◌, ◌^◌, ◌+◌, ◌-◌, ◌*◌, ℕ, length, map, All, IsTrue, slice_index};
+ghost use Rattle.std.specs.Prelude.{◌≡◌, ◌<◌, ◌≤◌, ◌^◌, ◌+◌, ◌-◌, ◌*◌, ℕ, length, map, All, IsTrue, slice_index, false};
 ghost use Rattle.std.specs.Int.Count.{count_leading_zeros};
 ghost use Rattle.std.specs.List.{sum_by};
 ghost use Rattle.flac_subframe.specs.Cost.{MayWrite, Codings};
@@ -11,13 +11,14 @@ ghost use Rattle.flac_subframe.specs.inner.Halves.{part, IsWidth, HasWidths};
 use crate::cost::quotients;
 use crate::numbers::power;
 use crate::view::ResidualView;
-use crate::widths::lowest;
+use crate::widths::{lowest, measure};
 
 /// The greatest partition order whose tables are made at once. Above it a partition is often so short that its
 /// parameter takes more than it saves, so finer partitions are tried only if no bound rules them out.
 pub(crate) const COARSE: u8 = 8;
 
 /// A shift that brings the number of bits near the number of values.
+#[inline(always)]
 fn shift_to(count: u64, bits: u64) -> u32
     ensures { result ≤ 40 }
 {
@@ -49,9 +50,31 @@ fn bound_sixteen(values: &[i32], bits: u64, width: u8) -> u64
     rice.min(16 * u64::from(width))
 }
 
+/// What [`bound_part`] does, for any number of values. It is a call of its own, as `quotients_of_any` is.
+#[inline(never)]
+fn bound_any(values: &[i32], bits: u64, width: u8) -> u64
+    requires few { length values.now ≤ 65535 }
+    requires bits { bits ≡ sum_by (value_cost 0) values.now }
+    requires small_width { width ≤ 32 }
+    requires width { IsWidth values.now width }
+    ensures rice { (k : ℕ) → result ≤ sum_by (value_cost k) values.now }
+    ensures escape { (n : ℕ) → All (FitsWidth n) values.now → result ≤ n * length values.now }
+    ensures small { result ≤ 2 ^ 21 }
+{
+    let count = values.len() as u64;
+    let shift = shift_to(count, bits);
+    let quotient = bits >> shift;
+    if quotient < count || quotient >= 2 * count {
+        return 0;
+    }
+    let rice = count * u64::from(shift) + quotient;
+    rice.min(count * u64::from(width))
+}
+
 /// A lower bound on the bits of a partition's values under any coding, from their bits under parameter 0 and their
 /// width.
-fn bound_part(values: &[i32], bits: u64, width: u8) -> u64
+#[inline(always)]
+pub(crate) fn bound_part(values: &[i32], bits: u64, width: u8) -> u64
     requires few { length values.now ≤ 65535 }
     requires bits { bits ≡ sum_by (value_cost 0) values.now }
     requires small_width { width ≤ 32 }
@@ -63,19 +86,13 @@ fn bound_part(values: &[i32], bits: u64, width: u8) -> u64
     if values.len() == 16 {
         return bound_sixteen(values, bits, width);
     }
-    let count = values.len() as u64;
-    let shift = shift_to(count, bits);
-    let quotient = bits >> shift;
-    if quotient < count || quotient >= 2 * count {
-        return 0;
-    }
-    let rice = count * u64::from(shift) + quotient;
-    rice.min(count * u64::from(width))
+    bound_any(values, bits, width)
 }
 
-/// A closer lower bound, from the values' exact bits under two parameters: the best is one of these if the sum of the
-/// quotients is the number of values or more under the first, and at most that under the second.
-fn bound_closely(values: &[i32], folds: &[u32], bits: u64, width: u8) -> u64
+/// [`bound_closely`] for a number of values that its callers fix.
+#[inline(always)]
+fn bound_closely_of(values: &[i32], folds: &[u32], count: usize, bits: u64, width: u8) -> u64
+    requires count { count ≡ length values.now }
     requires few { length values.now ≤ 65535 }
     requires folded { folds.now ≡ map folded values.now }
     requires long { length folds.now ≡ length values.now }
@@ -87,7 +104,7 @@ fn bound_closely(values: &[i32], folds: &[u32], bits: u64, width: u8) -> u64
     ensures escape { (n : ℕ) → All (FitsWidth n) values.now → result ≤ n * length values.now }
     ensures small { result ≤ 2 ^ 21 }
 {
-    let count = values.len() as u64;
+    let count = count as u64;
     let least = count + count / 2;
     let shift = shift_to(least, bits).min(29) as u8;
     let low = quotients(folds, shift, width);
@@ -100,9 +117,9 @@ fn bound_closely(values: &[i32], folds: &[u32], bits: u64, width: u8) -> u64
     under.min(over).min(count * u64::from(width))
 }
 
-/// A lower bound on the bits of a partition's values, the closer or the rougher one.
-#[inline(always)]
-fn bound_values(values: &[i32], folds: &[u32], bits: u64, width: u8, closely: bool) -> u64
+/// What [`bound_closely`] does, for any number of values.
+#[inline(never)]
+fn bound_any_closely(values: &[i32], folds: &[u32], bits: u64, width: u8) -> u64
     requires few { length values.now ≤ 65535 }
     requires folded { folds.now ≡ map folded values.now }
     requires long { length folds.now ≡ length values.now }
@@ -114,11 +131,28 @@ fn bound_values(values: &[i32], folds: &[u32], bits: u64, width: u8, closely: bo
     ensures escape { (n : ℕ) → All (FitsWidth n) values.now → result ≤ n * length values.now }
     ensures small { result ≤ 2 ^ 21 }
 {
-    if closely {
-        bound_closely(values, folds, bits, width)
-    } else {
-        bound_part(values, bits, width)
+    bound_closely_of(values, folds, values.len(), bits, width)
+}
+
+/// A closer lower bound, from the values' exact bits under two parameters: the best is one of these if the sum of the
+/// quotients is the number of values or more under the first, and at most that under the second.
+#[inline(always)]
+fn bound_closely(values: &[i32], folds: &[u32], bits: u64, width: u8) -> u64
+    requires few { length values.now ≤ 65535 }
+    requires folded { folds.now ≡ map folded values.now }
+    requires long { length folds.now ≡ length values.now }
+    requires small_folds { All (λ n. n < 2 ^ 32) folds.now }
+    requires bits { bits ≡ sum_by (value_cost 0) values.now }
+    requires small_width { width ≤ 32 }
+    requires width { IsWidth values.now width }
+    ensures rice { (k : ℕ) → result ≤ sum_by (value_cost k) values.now }
+    ensures escape { (n : ℕ) → All (FitsWidth n) values.now → result ≤ n * length values.now }
+    ensures small { result ≤ 2 ^ 21 }
+{
+    if values.len() == 16 {
+        return bound_closely_of(values, folds, 16, bits, width);
     }
+    bound_any_closely(values, folds, bits, width)
 }
 
 /// A lower bound, and of how many values it was made.
@@ -136,14 +170,8 @@ pub(crate) struct Verdict {
     pub(crate) priced: u64,
 }
 
-/// The sum of the lower bounds of the finest partitions, or of the first of them once they reach `below`.
-fn bound_parts(
-    residual: &ResidualView<'_>,
-    sums: &[u64],
-    widths: &[u8],
-    closely: bool,
-    below: u64,
-) -> Bound
+/// The sum of the closer lower bounds of the finest partitions, or of the first of them once they reach `below`.
+fn bound_parts(residual: &ResidualView<'_>, sums: &[u64], widths: &[u8], below: u64) -> Bound
     requires places { 2 ^ residual.now.partition_order ≤ length sums.now }
     requires costs { (j : ℕ) → j < 2 ^ residual.now.partition_order → slice_index sums.now j ≡ sum_by (value_cost 0) (part residual.now.order residual.now.values.now residual.now.partition_order j) }
     requires widths { HasWidths residual.now.order residual.now.values.now residual.now.partition_order residual.now.partition_order widths.now }
@@ -165,7 +193,7 @@ fn bound_parts(
         }
         let (front, after) = rest.split_at(long);
         let (first, others) = left.split_at(long);
-        bits += bound_values(front, first, sums[j], widths[count + j], closely);
+        bits += bound_closely(front, first, sums[j], widths[count + j]);
         rest = after;
         left = others;
         long = size;
@@ -198,37 +226,39 @@ fn reaches(
             priced: 0,
         };
     }
-    let close = bound_parts(residual, sums, widths, true, below);
+    let close = bound_parts(residual, sums, widths, below);
     Verdict {
         dear: close.bits >= below,
         priced: 2 * close.seen as u64,
     }
 }
 
-/// Whether lower bounds show that the residual takes `below` bits or more in any form. `sums` has what the finest
-/// partitions take under parameter 0.
+/// Whether lower bounds show that the residual takes `below` bits or more in any form. `sums` then has what the finest
+/// partitions take under parameter 0, and if the bounds do not show it, `widths` has the width of each partition at each
+/// partition order.
 pub(crate) fn is_too_dear(
     residual: &ResidualView<'_>,
-    sums: &[u64],
-    widths: &[u8],
+    sums: &mut [u64],
+    widths: &mut [u8],
     below: u64,
 ) -> Verdict
-    requires sums { 2 ^ residual.now.partition_order ≤ length sums.now }
-    requires costs { (j : ℕ) → j < 2 ^ residual.now.partition_order → slice_index sums.now j ≡ sum_by (value_cost 0) (part residual.now.order residual.now.values.now residual.now.partition_order j) }
-    requires widths { HasWidths residual.now.order residual.now.values.now 0 residual.now.partition_order widths.now }
-    requires places { 2 * 2 ^ residual.now.partition_order ≤ length widths.now }
+    requires sums { 2 ^ residual.now.partition_order ≤ length sums.old }
+    requires places { 2 * 2 ^ residual.now.partition_order ≤ length widths.old }
     ensures dear { IsTrue result.dear → (f : Codings) → MayWrite residual.now.partition_order residual.now.order residual.now.values.now f → below ≤ residual_cost residual.now.order residual.now.values.now f }
+    ensures costs { (j : ℕ) → j < 2 ^ residual.now.partition_order → slice_index sums.new j ≡ sum_by (value_cost 0) (part residual.now.order residual.now.values.now residual.now.partition_order j) }
+    ensures widths { result.dear ≡ false → HasWidths residual.now.order residual.now.values.now 0 residual.now.partition_order widths.new }
+    ensures long { length widths.new ≡ length widths.old }
     ensures few { result.priced ≤ 2 * length residual.now.values.now }
-    ensures none { 28 < slice_index widths.now 1 → result.priced ≡ 0 }
+    ensures none { 28 < slice_index widths.new 1 → result.priced ≡ 0 }
 {
-    let rough = bound_parts(residual, sums, widths, false, below);
-    if rough.bits >= below {
+    let rough = measure(residual, widths, sums, below);
+    if rough >= below {
         return Verdict {
             dear: true,
             priced: 0,
         };
     }
-    reaches(residual, sums, widths, rough.bits, below)
+    reaches(residual, sums, widths, rough, below)
 }
 
 /// The sum of how many digits numbers have.
@@ -289,7 +319,7 @@ fn is_order_too_dear(
     lowest(&coarser, widths, sums);
     let fields = 6 + 4 * power(partition_order) as u64;
     let rest = below.saturating_sub(fields);
-    let close = bound_parts(&coarser, sums, widths, true, rest);
+    let close = bound_parts(&coarser, sums, widths, rest);
     Verdict {
         dear: close.bits >= rest,
         priced: 2 * (residual.values.len() + close.seen) as u64,

@@ -21,7 +21,6 @@ use crate::pruning::{COARSE, finest_in_doubt, is_too_dear};
 use crate::residual_form::ResidualForm;
 use crate::tables::Tables;
 use crate::view::ResidualView;
-use crate::widths::measure;
 
 /// The largest partition order that fits the block, at most `most`.
 pub(crate) fn greatest_partition_order(values: &[i32], order: usize, most: u8) -> u8
@@ -350,7 +349,6 @@ fn least_at_once(
     let widths = &mut *tables.widths;
     let codings = &mut *tables.codings;
     let count = residual.values.len() as u64;
-    measure(residual, widths, leaves);
     let verdict = is_too_dear(residual, leaves, widths, below);
     tables.priced = tables.priced.saturating_add(2 * count + verdict.priced);
     if verdict.dear {

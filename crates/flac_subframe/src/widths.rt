@@ -2,60 +2,83 @@
 
 ghost use Rattle.std.specs.Prelude.{◌≡◌, ◌<◌, ◌≤◌, ◌^◌, ◌+◌, ◌*◌, ℕ, length, map, All, slice_index};
 ghost use Rattle.std.specs.List.{sum_by};
-ghost use Rattle.flac_subframe.specs.inner.Cost.{value_cost};
+ghost use Rattle.flac_subframe.specs.Cost.{MayWrite, Codings};
+ghost use Rattle.flac_subframe.specs.inner.Cost.{value_cost, residual_cost};
 ghost use Rattle.flac_subframe.specs.inner.Halves.{part, IsWidth, HasWidths};
 
-use crate::cost::{rice_bits, width};
+use crate::cost::weigh;
 use crate::numbers::power;
+use crate::pruning::bound_part;
 use crate::view::ResidualView;
 
-/// The width of each partition at the finest partition order, and its bits under parameter 0.
-fn leaves(residual: &ResidualView<'_>, widths: &mut [u8], sums: &mut [u64])
+/// The width of each partition at the finest partition order, and its bits under parameter 0; and a lower bound on the
+/// bits of the residual in any form, the sum of one for each partition.
+fn leaves(residual: &ResidualView<'_>, widths: &mut [u8], sums: &mut [u64]) -> u64
     requires places { length widths.old ≡ 2 ^ residual.now.partition_order }
     requires sums { length sums.old ≡ 2 ^ residual.now.partition_order }
     ensures widths { (j : ℕ) → j < 2 ^ residual.now.partition_order → IsWidth (part residual.now.order residual.now.values.now residual.now.partition_order j) (slice_index widths.new j) }
     ensures small { (j : ℕ) → j < 2 ^ residual.now.partition_order → slice_index widths.new j ≤ 32 }
     ensures costs { (j : ℕ) → j < 2 ^ residual.now.partition_order → slice_index sums.new j ≡ sum_by (value_cost 0) (part residual.now.order residual.now.values.now residual.now.partition_order j) }
+    ensures bound { (f : Codings) → MayWrite residual.now.partition_order residual.now.order residual.now.values.now f → result ≤ residual_cost residual.now.order residual.now.values.now f }
 {
     let size = (residual.values.len() + residual.order) >> residual.partition_order;
-    let mut rest = residual.folds;
+    let count = power(residual.partition_order);
+    let mut bound = 0;
+    let mut rest = residual.values;
+    let mut left = residual.folds;
     let mut long = size - residual.order;
-    for j in 0..widths.len() {
+    for j in 0..count {
         let (front, after) = rest.split_at(long);
-        let bits = width(front);
-        widths[j] = bits;
-        sums[j] = rice_bits(front, 0, bits);
+        let (first, others) = left.split_at(long);
+        let leaf = weigh(first);
+        widths[j] = leaf.0;
+        sums[j] = leaf.1;
+        bound += bound_part(front, leaf.1, leaf.0);
         rest = after;
+        left = others;
         long = size;
     }
+    bound
 }
 
 /// The same, with each width at its place after those of the coarser partitions.
-pub(crate) fn lowest(residual: &ResidualView<'_>, widths: &mut [u8], sums: &mut [u64])
+pub(crate) fn lowest(residual: &ResidualView<'_>, widths: &mut [u8], sums: &mut [u64]) -> u64
     requires places { 2 * 2 ^ residual.now.partition_order ≤ length widths.old }
     requires sums { 2 ^ residual.now.partition_order ≤ length sums.old }
     ensures widths { HasWidths residual.now.order residual.now.values.now residual.now.partition_order residual.now.partition_order widths.new }
     ensures long { length widths.new ≡ length widths.old }
     ensures costs { (j : ℕ) → j < 2 ^ residual.now.partition_order → slice_index sums.new j ≡ sum_by (value_cost 0) (part residual.now.order residual.now.values.now residual.now.partition_order j) }
+    ensures bound { (f : Codings) → MayWrite residual.now.partition_order residual.now.order residual.now.values.now f → result ≤ residual_cost residual.now.order residual.now.values.now f }
 {
     let first = power(residual.partition_order);
     let row = &mut sums[..first];
-    leaves(residual, &mut widths[first..2 * first], row);
+    leaves(residual, &mut widths[first..2 * first], row)
 }
 
-/// The width of each partition at each partition order, the larger of its two halves', and the bits of each of the
-/// finest under parameter 0.
-pub(crate) fn measure(residual: &ResidualView<'_>, widths: &mut [u8], sums: &mut [u64])
+/// The bits of each of the finest partitions under parameter 0, and a lower bound on the bits of the residual in any
+/// form. If the bound is less than `below`, also the width of each partition at each partition order, the larger of its
+/// two halves'.
+pub(crate) fn measure(
+    residual: &ResidualView<'_>,
+    widths: &mut [u8],
+    sums: &mut [u64],
+    below: u64,
+) -> u64
     requires places { 2 * 2 ^ residual.now.partition_order ≤ length widths.old }
     requires sums { 2 ^ residual.now.partition_order ≤ length sums.old }
-    ensures widths { HasWidths residual.now.order residual.now.values.now 0 residual.now.partition_order widths.new }
+    ensures widths { result < below → HasWidths residual.now.order residual.now.values.now 0 residual.now.partition_order widths.new }
     ensures long { length widths.new ≡ length widths.old }
     ensures costs { (j : ℕ) → j < 2 ^ residual.now.partition_order → slice_index sums.new j ≡ sum_by (value_cost 0) (part residual.now.order residual.now.values.now residual.now.partition_order j) }
+    ensures bound { (f : Codings) → MayWrite residual.now.partition_order residual.now.order residual.now.values.now f → result ≤ residual_cost residual.now.order residual.now.values.now f }
 {
-    lowest(residual, widths, sums);
+    let bound = lowest(residual, widths, sums);
+    if bound >= below {
+        return bound;
+    }
     let mut at = power(residual.partition_order);
     while at > 1 {
         at -= 1;
         widths[at] = widths[2 * at].max(widths[2 * at + 1]);
     }
+    bound
 }

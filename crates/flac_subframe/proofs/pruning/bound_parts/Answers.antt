@@ -9,27 +9,27 @@ use Rattle.flac_subframe.specs.inner.Halves.{part, start}
 use Rattle.flac_subframe.proofs.Splits.{start_next, start_rises}
 use Rattle.flac_subframe.proofs.pruning.bound_parts.Goals as goal
 
-pub bound_values-bits-requires-clause-bits : goal.bound_values-bits-requires-clause-bits
+pub bound_closely-bits-requires-clause-bits : goal.bound_closely-bits-requires-clause-bits
 unfolding part
-bound_values-bits-requires-clause-bits c =
+bound_closely-bits-requires-clause-bits c =
     let so = c.loop-j.invariant in
     let b : c.loop-j.j < 2 ^ c.args.residual.now.partition_order = omega arith in
     rw (c.split_at.ensures.front, so.rest, so.long) (c.requires.costs c.loop-j.j b)
 
-pub bound_values-bits-requires-clause-width : goal.bound_values-bits-requires-clause-width
+pub bound_closely-bits-requires-clause-width : goal.bound_closely-bits-requires-clause-width
 unfolding part
-bound_values-bits-requires-clause-width c =
+bound_closely-bits-requires-clause-width c =
     let so = c.loop-j.invariant in
     let b : c.loop-j.j < 2 ^ c.args.residual.now.partition_order = omega arith in
     rw (c.split_at.ensures.front, so.rest, so.long, c.power-count.ensures) (c.requires.widths c.args.residual.now.partition_order c.loop-j.j (omega arith) (omega arith) b).0
 
-pub bound_values-bits-requires-clause-small_width : goal.bound_values-bits-requires-clause-small_width
-bound_values-bits-requires-clause-small_width c =
+pub bound_closely-bits-requires-clause-small_width : goal.bound_closely-bits-requires-clause-small_width
+bound_closely-bits-requires-clause-small_width c =
     let b : c.loop-j.j < 2 ^ c.args.residual.now.partition_order = omega arith in
     rw c.power-count.ensures (c.requires.widths c.args.residual.now.partition_order c.loop-j.j (omega arith) (omega arith) b).1
 
-pub bound_values-bits-requires-clause-small_folds : goal.bound_values-bits-requires-clause-small_folds
-bound_values-bits-requires-clause-small_folds c =
+pub bound_closely-bits-requires-clause-small_folds : goal.bound_closely-bits-requires-clause-small_folds
+bound_closely-bits-requires-clause-small_folds c =
     let so = c.loop-j.invariant in
     let from : ℕ = start c.args.residual.now.order (length c.args.residual.now.values.now + c.args.residual.now.order) c.args.residual.now.partition_order c.loop-j.j in
     let rest = drop from c.args.residual.now.values.now in
@@ -47,11 +47,11 @@ loop-j-preserved c =
     let front = c.split_at.ensures.front in
     let next : start c.args.residual.now.order n c.args.residual.now.partition_order j + c.loop-j.long ≡ start c.args.residual.now.order n c.args.residual.now.partition_order (j + 1) = omega (arith, start_rises c.args.residual.now.order n c.args.residual.now.partition_order j) in
     record {
-      bound = λ w. rw c.split_at.ensures.back (bound_more w _ _ _ _ _ _ m _ _ (rw front at c.bound_values-bits.ensures.rice) (rw front at c.bound_values-bits.ensures.escape) (bound w));
+      bound = λ w. rw c.split_at.ensures.back (bound_more w _ _ _ _ _ _ m _ _ (rw front at c.bound_closely-bits.ensures.rice) (rw front at c.bound_closely-bits.ensures.escape) (bound w));
       rest = c.split_at.ensures.back ∙ rw so.rest (drop-drop c.loop-j.long (start c.args.residual.now.order n c.args.residual.now.partition_order j) c.args.residual.now.values.now) ∙ ap (λ (k : ℕ). drop k c.args.residual.now.values.now) next;
       left = c.split_at-in-loop-j.ensures.back ∙ rw so.left (drop-map folded c.loop-j.long c.loop-j.rest.now) ∙ ap (λ (l : List ℤ). map folded l) (sym c.split_at.ensures.back);
       long = omega (arith, start_next c.args.residual.now.order n c.args.residual.now.partition_order j c.args.residual.now.halves.room, start_rises c.args.residual.now.order n c.args.residual.now.partition_order (j + 1));
-      small = omega (arith, so.small, c.bound_values-bits.ensures.small);
+      small = omega (arith, so.small, c.bound_closely-bits.ensures.small);
     }
 
 pub returns-clause-all : goal.returns-clause-all

@@ -3,7 +3,7 @@ use Rattle.std.specs.List.{sum_by}
 use Rattle.std.proofs.lemmas.Nat.{mul-le}
 use Rattle.flac_subframe.specs.inner.Cost.{value_cost}
 use Rattle.flac_subframe.proofs.LowerBounds.{rice_at_least}
-use Rattle.flac_subframe.proofs.pruning.bound_part.Goals as goal
+use Rattle.flac_subframe.proofs.pruning.bound_any.Goals as goal
 
 pub returns-clause-rice : goal.returns-clause-rice
 returns-clause-rice c = λ k.
