@@ -218,6 +218,28 @@ fn checks(rt: HostRuntime) {
     assert!(rt; checks_of(&[1]) == (0x07, 0x8005, 0x04C1_1DB7));
 }
 
+/// Numbers that repeat themselves after 65536.
+fn put_numbers(bytes: &mut [u8]) {
+    for i in 0..bytes.len() {
+        bytes[i] = ((i % 256 * 7 + i / 256) % 256) as u8;
+    }
+}
+
+/// Bytes that are divided at once in part, in one piece, and in several. The checks are those of a program that goes
+/// bit by bit.
+#[test]
+fn checks_of_many(rt: HostRuntime) -> Result<(), Fail> {
+    let mut bytes = vec![in rt.alloc(); 0u8; 9000]?;
+    put_numbers(bytes.as_mut_slice());
+    let bytes = bytes.as_slice();
+    assert!(rt; checks_of(&bytes[..639]) == (0xC4, 0x80A6, 0xBC4F_12B9));
+    assert!(rt; checks_of(&bytes[..640]) == (0x34, 0x2419, 0x0CDF_799C));
+    assert!(rt; checks_of(&bytes[..4066]) == (0x4F, 0x7819, 0x3470_AEE0));
+    assert!(rt; checks_of(&bytes[..4096]) == (0x09, 0x7133, 0xE03B_F1FE));
+    assert!(rt; checks_of(bytes) == (0x92, 0x411C, 0x27A7_78D8));
+    Ok(())
+}
+
 /// A reader of one byte, which then fails once.
 #[derive(Drop)]
 struct Once {
