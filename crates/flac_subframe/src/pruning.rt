@@ -251,7 +251,7 @@ fn reaches(
 }
 
 /// Whether lower bounds show that the residual takes `below` bits or more in any form. `sums` then has what the finest
-/// partitions take under parameter 0, and if the bounds do not show it, `widths` has the width of each partition at each
+/// partitions take under parameter 0. If the bounds do not show it, `widths` has the width of each partition at each
 /// partition order.
 pub(crate) fn is_too_dear(
     residual: &ResidualView<'_>,
