@@ -31,9 +31,8 @@ fn quotients_of_few(folds: &[u32], count: usize, parameter: u8, width: u8) -> u3
     sum
 }
 
-/// What [`quotients`] does, for any number of numbers. It is a call of its own, so that the loops over partitions of
-/// sixteen values test for no other length.
-#[inline(never)]
+/// What [`quotients`] does, for any number of numbers.
+#[inline(always)]
 fn quotients_of_any(folds: &[u32], parameter: u8, width: u8) -> u64
     requires few { length folds.now ≤ 65535 }
     requires bounded { All (λ n. n < 2 ^ width) folds.now }
@@ -147,7 +146,7 @@ fn width(folds: &[u32]) -> u8
 }
 
 /// What [`weigh`] does, for any number of values.
-#[inline(never)]
+#[inline(always)]
 fn weigh_any(folds: &[u32]) -> (u8, u64)
     requires few { length folds.now ≤ 65535 }
     requires small { All (λ n. n < 2 ^ 32) folds.now }
@@ -160,9 +159,23 @@ fn weigh_any(folds: &[u32]) -> (u8, u64)
     (width, rice_bits(folds, 0, width))
 }
 
-/// The width of values, and how many bits they take under parameter 0, by their folded numbers.
+/// The same as a call of its own, so that a loop over partitions of sixteen values tests for no other length.
+#[inline(never)]
+fn weigh_apart(folds: &[u32]) -> (u8, u64)
+    requires few { length folds.now ≤ 65535 }
+    requires small { All (λ n. n < 2 ^ 32) folds.now }
+    ensures narrow { result.0 ≤ 32 }
+    ensures least { (n : ℕ) → All (λ k. k < 2 ^ n) folds.now ↔ (result.0 ≤ n) }
+    ensures value { result.1 ≡ sum_by (folded_cost 0) folds.now }
+    ensures small { result.1 ≤ 2 ^ 33 * length folds.now }
+{
+    weigh_any(folds)
+}
+
+/// The width of values, and how many bits they take under parameter 0, by their folded numbers. Their number is mostly
+/// sixteen, or it is not: it is compiled anew for each, since its callers fix `sixteen`.
 #[inline(always)]
-pub(crate) fn weigh(folds: &[u32]) -> (u8, u64)
+pub(crate) fn weigh(folds: &[u32], sixteen: bool) -> (u8, u64)
     requires few { length folds.now ≤ 65535 }
     requires small { All (λ n. n < 2 ^ 32) folds.now }
     ensures narrow { result.0 ≤ 32 }
@@ -175,6 +188,9 @@ pub(crate) fn weigh(folds: &[u32]) -> (u8, u64)
         if bits < 0x1000_0000 {
             return (width_of_bits(bits), u64::from(sum) + 16);
         }
+    }
+    if sixteen {
+        return weigh_apart(folds);
     }
     weigh_any(folds)
 }

@@ -50,8 +50,8 @@ fn bound_sixteen(values: &[i32], bits: u64, width: u8) -> u64
     rice.min(16 * u64::from(width))
 }
 
-/// What [`bound_part`] does, for any number of values. It is a call of its own, as `quotients_of_any` is.
-#[inline(never)]
+/// What [`bound_part`] does, for any number of values.
+#[inline(always)]
 fn bound_any(values: &[i32], bits: u64, width: u8) -> u64
     requires few { length values.now ≤ 65535 }
     requires bits { bits ≡ sum_by (value_cost 0) values.now }
@@ -71,10 +71,24 @@ fn bound_any(values: &[i32], bits: u64, width: u8) -> u64
     rice.min(count * u64::from(width))
 }
 
+/// The same as a call of its own, so that a loop over partitions of sixteen values tests for no other length.
+#[inline(never)]
+fn bound_apart(values: &[i32], bits: u64, width: u8) -> u64
+    requires few { length values.now ≤ 65535 }
+    requires bits { bits ≡ sum_by (value_cost 0) values.now }
+    requires small_width { width ≤ 32 }
+    requires width { IsWidth values.now width }
+    ensures rice { (k : ℕ) → result ≤ sum_by (value_cost k) values.now }
+    ensures escape { (n : ℕ) → All (FitsWidth n) values.now → result ≤ n * length values.now }
+    ensures small { result ≤ 2 ^ 21 }
+{
+    bound_any(values, bits, width)
+}
+
 /// A lower bound on the bits of a partition's values under any coding, from their bits under parameter 0 and their
-/// width.
+/// width. Its callers fix whether the number of values is mostly sixteen.
 #[inline(always)]
-pub(crate) fn bound_part(values: &[i32], bits: u64, width: u8) -> u64
+pub(crate) fn bound_part(values: &[i32], bits: u64, width: u8, sixteen: bool) -> u64
     requires few { length values.now ≤ 65535 }
     requires bits { bits ≡ sum_by (value_cost 0) values.now }
     requires small_width { width ≤ 32 }
@@ -85,6 +99,9 @@ pub(crate) fn bound_part(values: &[i32], bits: u64, width: u8) -> u64
 {
     if values.len() == 16 {
         return bound_sixteen(values, bits, width);
+    }
+    if sixteen {
+        return bound_apart(values, bits, width);
     }
     bound_any(values, bits, width)
 }
@@ -110,7 +127,7 @@ fn bound_closely_of(values: &[i32], folds: &[u32], count: usize, bits: u64, widt
     let low = quotients(folds, shift, width);
     let high = quotients(folds, shift + 1, width);
     if low < count || high > count {
-        return bound_part(values, bits, width);
+        return bound_part(values, bits, width, true);
     }
     let under = low + count * (1 + u64::from(shift));
     let over = high + count * (2 + u64::from(shift));
@@ -234,7 +251,7 @@ fn reaches(
 }
 
 /// Whether lower bounds show that the residual takes `below` bits or more in any form. `sums` then has what the finest
-/// partitions take under parameter 0, and if the bounds do not show it, `widths` has the width of each partition at each
+/// partitions take under parameter 0. If the bounds do not show it, `widths` has the width of each partition at each
 /// partition order.
 pub(crate) fn is_too_dear(
     residual: &ResidualView<'_>,

@@ -11,9 +11,9 @@ use crate::numbers::power;
 use crate::pruning::bound_part;
 use crate::view::ResidualView;
 
-/// The width of each partition at the finest partition order, and its bits under parameter 0; and a lower bound on the
-/// bits of the residual in any form, the sum of one for each partition.
-fn leaves(residual: &ResidualView<'_>, widths: &mut [u8], sums: &mut [u64]) -> u64
+/// [`leaves`] for partitions of sixteen values or of another number, which its callers fix.
+#[inline(always)]
+fn leaves_of(residual: &ResidualView<'_>, sixteen: bool, widths: &mut [u8], sums: &mut [u64]) -> u64
     requires places { length widths.old ≡ 2 ^ residual.now.partition_order }
     requires sums { length sums.old ≡ 2 ^ residual.now.partition_order }
     ensures widths { (j : ℕ) → j < 2 ^ residual.now.partition_order → IsWidth (part residual.now.order residual.now.values.now residual.now.partition_order j) (slice_index widths.new j) }
@@ -30,15 +30,31 @@ fn leaves(residual: &ResidualView<'_>, widths: &mut [u8], sums: &mut [u64]) -> u
     for j in 0..count {
         let (front, after) = rest.split_at(long);
         let (first, others) = left.split_at(long);
-        let leaf = weigh(first);
+        let leaf = weigh(first, sixteen);
         widths[j] = leaf.0;
         sums[j] = leaf.1;
-        bound += bound_part(front, leaf.1, leaf.0);
+        bound += bound_part(front, leaf.1, leaf.0, sixteen);
         rest = after;
         left = others;
         long = size;
     }
     bound
+}
+
+/// The width of each partition at the finest partition order, and its bits under parameter 0; and a lower bound on the
+/// bits of the residual in any form, the sum of one for each partition.
+fn leaves(residual: &ResidualView<'_>, widths: &mut [u8], sums: &mut [u64]) -> u64
+    requires places { length widths.old ≡ 2 ^ residual.now.partition_order }
+    requires sums { length sums.old ≡ 2 ^ residual.now.partition_order }
+    ensures widths { (j : ℕ) → j < 2 ^ residual.now.partition_order → IsWidth (part residual.now.order residual.now.values.now residual.now.partition_order j) (slice_index widths.new j) }
+    ensures small { (j : ℕ) → j < 2 ^ residual.now.partition_order → slice_index widths.new j ≤ 32 }
+    ensures costs { (j : ℕ) → j < 2 ^ residual.now.partition_order → slice_index sums.new j ≡ sum_by (value_cost 0) (part residual.now.order residual.now.values.now residual.now.partition_order j) }
+    ensures bound { (f : Codings) → MayWrite residual.now.partition_order residual.now.order residual.now.values.now f → result ≤ residual_cost residual.now.order residual.now.values.now f }
+{
+    if (residual.values.len() + residual.order) >> residual.partition_order == 16 {
+        return leaves_of(residual, true, widths, sums);
+    }
+    leaves_of(residual, false, widths, sums)
 }
 
 /// The same, with each width at its place after those of the coarser partitions.

@@ -3,7 +3,7 @@ use Rattle.std.specs.List.{sum_by}
 use Rattle.flac_subframe.specs.inner.Cost.{value_cost}
 use Rattle.flac_subframe.specs.inner.Halves.{part, start, IsWidth}
 use Rattle.flac_subframe.proofs.LowerBounds.{BoundTo}
-use Rattle.flac_subframe.proofs.widths.leaves.Given as goal
+use Rattle.flac_subframe.proofs.widths.leaves_of.Given as goal
 
 abbrev pub invariant-loop-j : goal.invariant-loop-j
 invariant-loop-j l = record {

@@ -6,7 +6,7 @@ use Rattle.flac_subframe.specs.inner.Halves.{part, start}
 use Rattle.flac_subframe.proofs.LowerBounds.{bound_more, bound_end, bound_of_all}
 use Rattle.flac_subframe.proofs.Splits.{start_next, start_rises}
 use Rattle.flac_subframe.proofs.Folds.{segment_cost, segment_width}
-use Rattle.flac_subframe.proofs.widths.leaves.Goals as goal
+use Rattle.flac_subframe.proofs.widths.leaves_of.Goals as goal
 
 pub weigh-leaf-requires-clause-small : goal.weigh-leaf-requires-clause-small
 weigh-leaf-requires-clause-small c =
