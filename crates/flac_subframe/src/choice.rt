@@ -416,62 +416,64 @@ pub(crate) struct Found {
     pub(crate) priced: u64,
 }
 
-/// The subframe of the fewest bits and how many it takes. The codings of its residual are the first of the bytes; the
-/// places behind those for the codings are for the widths of partitions.
-pub(crate) fn choose_in_places(
-    task: &Task<'_>,
-    longs: &mut [i64],
-    shorts: &mut [i32],
-    folds: &mut [u32],
-    costs: &mut [u64],
-    entries: &mut [Entry],
-    bytes: &mut [u8],
-) -> Found
-    requires longs { 2 * length task.now.samples.now ≤ length longs.old }
-    requires shorts { 2 * length task.now.samples.now ≤ length shorts.old }
-    requires folds { length task.now.samples.now ≤ length folds.old }
-    requires costs { 2 * 2 ^ task.now.most ≤ length costs.old }
-    requires entries { 4 * 2 ^ task.now.most ≤ length entries.old }
-    requires bytes { 3 * 2 ^ task.now.most ≤ length bytes.old }
-    ensures least { IsLeast (λ f. Stands task.now.most (offered task.now.predictors.now) f task.now.samples.now) (λ f. length (subframe_spelling task.now.depth f)) (form_as task.now.predictors.now result.form (take (2 ^ result.form.residual.partition_order) bytes.new) task.now.samples.now) }
-    ensures bits { result.bits ≡ length (subframe_spelling task.now.depth (form_as task.now.predictors.now result.form (take (2 ^ result.form.residual.partition_order) bytes.new) task.now.samples.now)) }
-    ensures made { IsMadeAs task.now.most task.now.predictors.now result.form (take (2 ^ result.form.residual.partition_order) bytes.new) task.now.samples.now }
-    ensures some { result.form.wasted < task.now.depth }
-    ensures within { result.form.residual.partition_order ≤ task.now.most }
-    ensures small { result.bits ≤ 2 ^ 61 }
-    ensures coarse { task.now.most ≤ 8 → result.priced ≤ (5 + length task.now.predictors.now) * (32 * length task.now.samples.now) }
-    ensures priced { result.priced ≤ (5 + length task.now.predictors.now) * (93 * length task.now.samples.now) }
-{
-    let samples = task.samples;
-    let (shortened, wide) = longs.split_at_mut(samples.len());
-    let wasted = drop_wasted(samples, task.depth, shortened);
-    let (narrowed, values) = shorts.split_at_mut(samples.len());
-    let narrow = narrow(shortened, narrowed);
-    let peak = peak(narrowed, narrow, !task.predictors.is_empty());
-    let subject = SampleView {
-        samples: shortened,
-        narrowed,
-        bits: task.depth - wasted,
-        most: task.most,
-        predictors: task.predictors,
-        narrow,
-        peak,
-    };
-    let mut arrays = SearchArrays {
-        wide,
-        values,
-        folds,
-    };
-    let (codings, widths) = bytes.split_at_mut(power(task.most));
-    let (best, priced) = search_within(&subject, &mut arrays, costs, entries, widths, codings);
-    let form = SubframeForm {
-        wasted,
-        content: best.content,
-        residual: best.residual,
-    };
-    Found {
-        form,
-        bits: 8 + u64::from(wasted) + best.bits,
-        priced,
+impl Task<'_> {
+    /// The subframe of the fewest bits and how many it takes. The codings of its residual are the first of the bytes;
+    /// the places behind those for the codings are for the widths of partitions.
+    pub(crate) fn choose_in_places(
+        &self,
+        longs: &mut [i64],
+        shorts: &mut [i32],
+        folds: &mut [u32],
+        costs: &mut [u64],
+        entries: &mut [Entry],
+        bytes: &mut [u8],
+    ) -> Found
+        requires longs { 2 * length self.now.samples.now ≤ length longs.old }
+        requires shorts { 2 * length self.now.samples.now ≤ length shorts.old }
+        requires folds { length self.now.samples.now ≤ length folds.old }
+        requires costs { 2 * 2 ^ self.now.most ≤ length costs.old }
+        requires entries { 4 * 2 ^ self.now.most ≤ length entries.old }
+        requires bytes { 3 * 2 ^ self.now.most ≤ length bytes.old }
+        ensures least { IsLeast (λ f. Stands self.now.most (offered self.now.predictors.now) f self.now.samples.now) (λ f. length (subframe_spelling self.now.depth f)) (form_as self.now.predictors.now result.form (take (2 ^ result.form.residual.partition_order) bytes.new) self.now.samples.now) }
+        ensures bits { result.bits ≡ length (subframe_spelling self.now.depth (form_as self.now.predictors.now result.form (take (2 ^ result.form.residual.partition_order) bytes.new) self.now.samples.now)) }
+        ensures made { IsMadeAs self.now.most self.now.predictors.now result.form (take (2 ^ result.form.residual.partition_order) bytes.new) self.now.samples.now }
+        ensures some { result.form.wasted < self.now.depth }
+        ensures within { result.form.residual.partition_order ≤ self.now.most }
+        ensures small { result.bits ≤ 2 ^ 61 }
+        ensures coarse { self.now.most ≤ 8 → result.priced ≤ (5 + length self.now.predictors.now) * (32 * length self.now.samples.now) }
+        ensures priced { result.priced ≤ (5 + length self.now.predictors.now) * (93 * length self.now.samples.now) }
+    {
+        let samples = self.samples;
+        let (shortened, wide) = longs.split_at_mut(samples.len());
+        let wasted = drop_wasted(samples, self.depth, shortened);
+        let (narrowed, values) = shorts.split_at_mut(samples.len());
+        let narrow = narrow(shortened, narrowed);
+        let peak = peak(narrowed, narrow, !self.predictors.is_empty());
+        let subject = SampleView {
+            samples: shortened,
+            narrowed,
+            bits: self.depth - wasted,
+            most: self.most,
+            predictors: self.predictors,
+            narrow,
+            peak,
+        };
+        let mut arrays = SearchArrays {
+            wide,
+            values,
+            folds,
+        };
+        let (codings, widths) = bytes.split_at_mut(power(self.most));
+        let (best, priced) = search_within(&subject, &mut arrays, costs, entries, widths, codings);
+        let form = SubframeForm {
+            wasted,
+            content: best.content,
+            residual: best.residual,
+        };
+        Found {
+            form,
+            bits: 8 + u64::from(wasted) + best.bits,
+            priced,
+        }
     }
 }

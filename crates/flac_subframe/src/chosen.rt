@@ -14,7 +14,7 @@ ghost use Rattle.flac_subframe.specs.Spelling.{subframe_spelling, IsSubframe};
 ghost use Rattle.flac_subframe.specs.Subframe.{samples_of};
 ghost use Rattle.flac_subframe.specs.declared.limits.Limits.{Limits};
 
-use crate::choice::{Found, choose_in_places};
+use crate::choice::Found;
 use crate::content::SubframeForm;
 use crate::entry::Entry;
 use crate::limits::Limits;
@@ -180,8 +180,7 @@ pub fn choose_with(
         most: limits.partition as u8,
         predictors,
     };
-    let found = choose_in_places(
-        &task,
+    let found = task.choose_in_places(
         &mut longs,
         &mut shorts,
         &mut folds,

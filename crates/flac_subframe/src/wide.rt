@@ -13,7 +13,6 @@ ghost use Rattle.flac_subframe.specs.Subframe.{samples_of};
 ghost use Rattle.flac_subframe.specs.declared.limits.Limits.{Limits};
 ghost use Rattle.flac_subframe.specs.declared.linear.LinearPredictor.{LinearPredictor};
 
-use crate::choice::choose_in_places;
 use crate::content::{ContentKind, SubframeForm};
 use crate::limits::Limits;
 use crate::linear::LinearPredictor;
@@ -177,8 +176,7 @@ pub fn choose_in(
         most: limits.partition as u8,
         predictors,
     };
-    let found = choose_in_places(
-        &task,
+    let found = task.choose_in_places(
         &mut workspace.longs,
         &mut workspace.shorts,
         &mut workspace.folds,
