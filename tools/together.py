@@ -26,6 +26,8 @@ NOTE = re.compile(r"note: (?:\./)?(src/\S+?):(\d+):\d+: .* \(`[^`]+`\)")
 ERROR = re.compile(r"(?:\./)?proofs/(\S+)/(?:Answers|Invariants|Proof)\.antt:\d+:\d+: error: ")
 PLACE = re.compile(r"(?:note: )?(?:\./)?(src/\S+?|proofs/\S+?):(\d+):\d+: ")
 VERDICT = re.compile(r"(\w+) (\S+::\S+): (.+)")
+# the prover has a proof of its own there, and stops
+TAKEN = re.compile(r"^(?:\./)?proofs/(\S+)/Proof\.antt: error\[reserved-name\]", re.MULTILINE)
 # a proof file that names what an edit took away: little is known of the contract, so the edit is tried alone
 NAMES = re.compile(r"has no field|is not in scope|has no `|was not admitted")
 # what is taken of the kit's script: with another kit each edit is tried alone
@@ -258,10 +260,11 @@ def with_no_proof(folder):
 
 
 @contextlib.contextmanager
-def without_proofs(rt, crate, sources, edits):
+def without_proofs(rt, crate, sources, edits, taken=()):
     """A copy of the crate in which the functions that no edit changes have no proof, so that a check from nothing does not spend its time
     on them: in place of the files of their proofs, or where they have none, stands one with no proof. It says nothing of them, and of the
-    others what it says with these proofs: they are proved from contracts alone, but for those that cite the proof of another, which keeps it."""
+    others what it says with these proofs: they are proved from contracts alone, but for those that cite the proof of another, which keeps it.
+    Nothing is put into the places that are taken."""
     changed = {it for edit in edits for it in edit.functions}
 
     def is_changed(symbol):
@@ -278,7 +281,7 @@ def without_proofs(rt, crate, sources, edits):
                 for name in PROOFS.intersection(names):
                     os.remove(f"{folder}/{name}")
                 with_no_proof(folder)
-        for place in {sources.place(it) for it in sources.functions if it not in changed} - {None}:
+        for place in {sources.place(it) for it in sources.functions if it not in changed} - {None, *taken}:
             symbol = "::".join([crate.name, *place.split("/")])
             if not os.path.isdir(f"{room}/proofs/{place}") and not is_changed(symbol):
                 with_no_proof(f"{room}/proofs/{place}")
@@ -293,8 +296,12 @@ def refused(rt, crate, sources, edits, flags, kept):
     if len(edits) < 2:
         return {}
     texts = applied(sources, edits)
-    with kept() as folder, contextlib.nullcontext(crate) if folder else without_proofs(rt, crate, sources, edits) as copied:
-        ran = rt.checked(copied, texts, flags, folder)
+    with kept() as folder:
+        ran, taken = None, set()
+        while ran is None or not folder and not taken.issuperset(TAKEN.findall(ran.stdout)):
+            taken.update(TAKEN.findall(ran.stdout) if ran else [])
+            with contextlib.nullcontext(crate) if folder else without_proofs(rt, crate, sources, edits, taken) as copied:
+                ran = rt.checked(copied, texts, flags, folder)
     lines = ran.stdout.rstrip("\n").split("\n")
     unread = [it for it in lines if rt.unread(it, texts)]
     if ran.returncode == 0:
