@@ -217,24 +217,6 @@ fn plus(sum: i64, coefficient: i64, sample: i64) -> i64
     sum + coefficient * sample
 }
 
-/// The coefficient at an index, taken from 64, 32 and 16 bits by turns from order 7 on. On processors with AVX2 the
-/// compiler makes lanes of products that are all of one kind, and these are slower here.
-#[inline(always)]
-fn coefficient_at(order: usize, coefficients: &[i64], k: usize) -> i64
-    requires small { All (FitsBits 15) coefficients.now }
-    requires within { k < length coefficients.now }
-    ensures value { result ≡ sample_at coefficients.now k }
-    ensures small { FitsBits 15 result }
-{
-    if order < 7 || k % 3 == 0 {
-        return coefficients[k];
-    }
-    if k % 3 == 1 {
-        return i64::from(coefficients[k] as i32);
-    }
-    i64::from(coefficients[k] as i16)
-}
-
 /// Adds the products of one more sample to the sums for the samples to come, each of which moves one place forward.
 #[inline(always)]
 fn add_sample(order: usize, coefficients: &[i64], sample: i64, sums: &mut [i64])
@@ -249,8 +231,7 @@ fn add_sample(order: usize, coefficients: &[i64], sample: i64, sums: &mut [i64])
     ensures long { length sums.new ≡ length sums.old }
 {
     for k in 0..order {
-        let coefficient = coefficient_at(order, coefficients, k);
-        sums[k] = plus(sums[k + 1], coefficient, sample);
+        sums[k] = plus(sums[k + 1], coefficients[k], sample);
     }
 }
 

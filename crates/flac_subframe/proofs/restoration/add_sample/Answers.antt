@@ -21,7 +21,7 @@ loop-k-preserved c =
         | inr b ↦
             let e : j ≡ l.k = omega (arith, h, b) in
             let next = l.invariant.rest (l.k + 1) (omega arith) in
-            rw (e, same) (here ∙ added_is c.args.order c.args.coefficients.now c.args.sums.now c.args.sample v l.k (rw (next, same, c.coefficient_at-coefficient.ensures.value) at c.plus.ensures) c.requires.few c.requires.before (omega arith) (c.requires.small l.k (pos 0) (omega arith)))
+            rw (e, same) (here ∙ added_is c.args.order c.args.coefficients.now c.args.sums.now c.args.sample v l.k (rw (next, same) at c.plus.ensures) c.requires.few c.requires.before (omega arith) (c.requires.small l.k (pos 0) (omega arith)))
       ]);
       rest = λ j h. rw kept (other j (λ e. omega (arith, e, h)) ∙ l.invariant.rest j (omega (arith, h)));
     }
