@@ -35,6 +35,7 @@ pub mod Entries
 pub mod Entries32
 pub mod Eights
 pub mod Stretches
+pub mod Runs
 pub mod Counting
 pub mod Telling
 pub mod LittleNumbers

@@ -16,6 +16,7 @@ mod reader;
 mod remainders;
 mod remainders32;
 mod rest;
+mod run;
 mod send;
 mod signed;
 mod source;

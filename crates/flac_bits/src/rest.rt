@@ -56,6 +56,17 @@ impl Rest {
         Rest { word: 0, count: 0 }
     }
 
+    /// A copy.
+    #[inline(always)]
+    pub(crate) fn copied(&self) -> Rest
+        ensures { result ≡ self.now }
+    {
+        Rest {
+            word: self.word,
+            count: self.count,
+        }
+    }
+
     /// How many bits are held.
     #[inline(always)]
     pub(crate) fn count(&self) -> u32

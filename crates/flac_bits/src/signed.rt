@@ -1,7 +1,7 @@
 //! Signed numbers made of unsigned ones.
 
 ghost use Rattle.std.specs.Prelude.{◌≡◌, ◌<◌, ◌≤◌, ◌^◌, ◌-◌, ◌+◌, ◌/◌};
-ghost use Rattle.flac_bits.specs.Rice.{unfolded as unfolded_value, IsResidual};
+ghost use Rattle.flac_bits.specs.Rice.{folded as folded_value, unfolded as unfolded_value, IsResidual};
 ghost use Rattle.flac_bits.specs.Signed.{to_signed as signed_value, FitsBits};
 
 /// The largest folded number of a residual value: 2^32 - 2, of -2^31 + 1 (RFC 9639, section 9.2.7.3).
@@ -16,6 +16,18 @@ pub(crate) fn unfolded(folded: u64) -> i64
 {
     let half = (folded >> 1) as i64;
     if folded % 2 == 0 { half } else { -1 - half }
+}
+
+/// Folds a residual value: r is 2r if it is not negative, else -2r - 1 (RFC 9639, section 9.2.7.2). The compiler makes
+/// three operations of it: the double, or its complement if the value is negative.
+#[inline(always)]
+pub(crate) fn folded(value: i64) -> u64
+    requires { IsResidual value }
+    ensures { result ≡ folded_value value }
+{
+    let bits = value.cast_unsigned();
+    let twice = bits.wrapping_add(bits);
+    if value < 0 { u64::MAX - twice } else { twice }
 }
 
 /// The number that n bits are in two's complement.

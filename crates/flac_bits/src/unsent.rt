@@ -1,15 +1,16 @@
 //! Bits that were written and not sent yet.
 
-ghost use Rattle.std.specs.Prelude.{◌≡◌, ◌<◌, ◌≤◌, ◌+◌, ◌-◌, ◌%◌, ◌^◌, ◌++◌, [], true, false, length, take, drop, min, IfErr};
-ghost use Rattle.std.specs.Int.{bytes_high_first};
+ghost use Rattle.std.specs.Prelude.{◌≡◌, ◌<◌, ◌≤◌, ◌+◌, ◌-◌, ◌%◌, ◌^◌, ◌++◌, [], true, false, List, Bool, All, length, take, drop, min, flat_map, IfErr};
 ghost use Rattle.flac_bits.specs.declared.why.Why.TheVariants.{Truncated};
 ghost use Rattle.flac_bits.specs.Bits.{unsigned, bits_of};
+ghost use Rattle.flac_bits.specs.Rice.{IsResidual, value_bits};
 ghost use Rattle.flac_bits.specs.State.{past};
 ghost use Rattle.flac_bits.specs.Unsent.{Unsent, Puts, KeepsBits};
 ghost use Rattle.flac_bits.specs.Sending.{Sends};
 
 use crate::HOLD;
 use crate::rest::Rest;
+use crate::run::{put_codes, put_word};
 use crate::send::send_all;
 use crate::sums::{both_checked, checked8, checked16};
 use crate::target::Target;
@@ -44,15 +45,6 @@ impl Model for Unsent {
     } };
 
     ghost invariant = { λ u. (u.from ≤ u.end) × (u.end ≤ 4096) × (length u.bytes ≡ 4096) };
-}
-
-/// Writes a word at an index, its highest byte first.
-#[inline(always)]
-fn put_word(bytes: &mut [u8], place: usize, word: u64)
-    requires { place + 8 ≤ length bytes.old }
-    ensures { take (place + 8) bytes.new ≡ take place bytes.old ++ bytes_high_first 8 word }
-{
-    bytes[place..place + 8].copy_from_slice(&word.to_be_bytes());
 }
 
 impl Unsent {
@@ -105,6 +97,23 @@ impl Unsent {
         let word = self.rest.fill(n, value);
         put_word(&mut self.bytes, self.end, word);
         self.end += 8;
+    }
+
+    /// Adds the Rice codes of values from the index `from` on, as far as there is room for them and their quotients are
+    /// at most 30, and returns where it stopped.
+    #[inline(always)]
+    pub(crate) fn put_codes(&mut self, k: u32, values: &[i64], from: usize) -> usize
+        requires k { k ≤ 32 }
+        requires range { All IsResidual values.now }
+        requires from { from ≤ length values.now }
+        ensures within { (from ≤ result) × (result ≤ length values.now) }
+        ensures put { (text : List Bool) × (flat_map (value_bits k) (drop from values.now) ≡ text ++ flat_map (value_bits k) (drop result values.now)) × Puts text self.old self.new }
+    {
+        let mut rest = self.rest.copied();
+        let (end, next) = put_codes(&mut rest, &mut self.bytes, self.end, k, values, from);
+        self.rest = rest;
+        self.end = end;
+        next
     }
 
     /// How many bits the current byte still lacks.

@@ -1,13 +1,15 @@
 //! Writing of bits to a target of bytes.
 
-ghost use Rattle.std.specs.Prelude.{◌≡◌, ◌<◌, ◌≤◌, ◌+◌, ◌-◌, ◌*◌, ◌/◌, ◌%◌, ◌^◌, ◌++◌, [], true, length, IfOk, OnOk, IfErr};
+ghost use Rattle.std.specs.Prelude.{◌≡◌, ◌<◌, ◌≤◌, ◌+◌, ◌-◌, ◌*◌, ◌/◌, ◌%◌, ◌^◌, ◌++◌, [], true, List, Bool, All, length, drop, flat_map, IfOk, OnOk, IfErr};
 ghost use Rattle.flac_bits.specs.Bits.{unsigned, bits_of};
 ghost use Rattle.flac_bits.specs.Meaning.{unary_bits};
+ghost use Rattle.flac_bits.specs.Rice.{IsResidual, value_bits};
 ghost use Rattle.flac_bits.specs.Signed.{signed, modulo};
 ghost use Rattle.flac_bits.specs.Standing.{standing};
-ghost use Rattle.flac_bits.specs.Written.{Written, Writes, Starts};
+ghost use Rattle.flac_bits.specs.Written.{Written, Adds, Writes, Starts};
 ghost use Rattle.flac_bits.specs.declared.why.Why.TheVariants.{Truncated};
 
+use crate::signed::folded;
 use crate::target::{Collected, Target};
 use crate::unsent::Unsent;
 use crate::why::Why;
@@ -182,6 +184,36 @@ impl<W: Target> BitWriter<W> {
     {
         self.put_unary(zeros)?;
         self.put(k, low)
+    }
+
+    /// Writes the codes of values from the index `from` on, as far as this needs no sending, and returns where it stopped.
+    #[inline(never)]
+    fn put_ready(&mut self, k: u32, values: &[i64], from: usize) -> usize
+        requires k { k ≤ 32 }
+        requires range { All IsResidual values.now }
+        requires from { from ≤ length values.now }
+        ensures within { (from ≤ result) × (result ≤ length values.now) }
+        ensures put { (text : List Bool) × (flat_map (value_bits k) (drop from values.now) ≡ text ++ flat_map (value_bits k) (drop result values.now)) × Adds text self.old self.new }
+    {
+        self.held.put_codes(k, values, from)
+    }
+
+    /// Writes residual values one after another, each under a Rice code with the parameter k, at most 32: the values of
+    /// a partition (RFC 9639, sections 9.2.7.2 and 9.2.7.3). Each value lies strictly between -2^31 and 2^31.
+    ///
+    /// # Errors
+    /// [`Why::Write`] if the target fails.
+    pub fn put_rice_partition(&mut self, k: u32, values: &[i64]) -> Result<(), Why>
+        requires k { k ≤ 32 }
+        requires range { All IsResidual values.now }
+        ensures { Writes (flat_map (value_bits k) values.now) self.old self.new result }
+    {
+        let mut i = self.put_ready(k, values, 0);
+        while i < values.len() {
+            self.put_rice(k, folded(values[i]))?;
+            i = self.put_ready(k, values, i + 1);
+        }
+        Ok(())
     }
 
     /// Writes zeros up to the next whole byte, 0 to 7 of them.

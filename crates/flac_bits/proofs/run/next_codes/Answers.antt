@@ -1,0 +1,15 @@
+use Rattle.std.proofs.Common.{◌+◌, ◌++◌, drop, get_or, flat_map, pos, ap, ◌∙◌, arith, sym}
+use Rattle.flac_bits.specs.Rice.{value_bits}
+use Rattle.flac_bits.proofs.Runs.{pair_step}
+use Rattle.flac_bits.proofs.Signs.{residual_kept}
+use Rattle.flac_bits.proofs.run.next_codes.Goals as goal
+
+pub returns-in-Some : goal.returns-in-Some
+returns-in-Some c =
+    let i = c.args.i in
+    let k = c.args.k in
+    let xs = c.args.values.now in
+    let x = get_or xs i (pos 0) in
+    let y = get_or xs (i + 1) (pos 0) in
+    let some = rw (residual_kept x (c.requires.range i (pos 0) (omega (arith, c.requires.i))), residual_kept y (c.requires.range (i + 1) (pos 0) c.if-i-values.true)) at c.in-Some.ensures in
+    (some.0, some.1, omega arith, omega (arith, c.if-i-values.true), pair_step k xs i c.if-i-values.true ∙ ap (λ bs. bs ++ flat_map (value_bits k) (drop (i + 2) xs)) (sym some.2))
