@@ -3,7 +3,7 @@ use Rattle.std.proofs.Common.{◌≡◌, ℕ, ◌+◌, ◌-◌, ◌*◌, ◌/◌
 use Rattle.std.proofs.lemmas.List.{take_all}
 use Rattle.std.proofs.lemmas.Nat.{pow-add, pow_pos}
 use Rattle.std.proofs.Math.Nat.{div-lt_iff_lt-mul, pow-le-pow_right}
-use Rattle.flac_subframe.specs.Spelling.{folded}
+use Rattle.flac_bits.specs.Rice.{folded}
 use Rattle.flac_subframe.specs.inner.Halves.{part, start, Halves, IsWidth}
 use Rattle.flac_subframe.proofs.Folds.{below_of}
 use Rattle.flac_subframe.proofs.Splits.{start_last}

@@ -6,7 +6,7 @@ use Rattle.std.proofs.lemmas.Nat.{shr-shr, mul-le}
 use Rattle.std.proofs.lemmas.Bool.{cases_lt}
 use Rattle.std.proofs.Math.Nat.{mul_comm}
 use Rattle.flac_subframe.specs.inner.Cost.{folded_cost, value_cost}
-use Rattle.flac_subframe.specs.Spelling.{folded}
+use Rattle.flac_bits.specs.Rice.{folded}
 use Rattle.flac_subframe.proofs.Folds.{cost_split, costs_folded}
 
 abbrev quotients : ℕ → List ℕ → ℕ

@@ -5,7 +5,7 @@ use Rattle.std.proofs.lemmas.List.Sums.{sum_by-cons}
 use Rattle.std.proofs.lemmas.Nat.{shr-shr}
 use Rattle.std.proofs.lemmas.Bool.{cases_lt}
 use Rattle.flac_subframe.specs.inner.Cost.{value_cost}
-use Rattle.flac_subframe.specs.Spelling.{folded}
+use Rattle.flac_bits.specs.Rice.{folded}
 
 quotients : (x k : ℕ) → 2 * (x / 2 ^ (k + 1) + 1 + (k + 1)) ≤ x / 2 ^ k + 1 + k + (x / 2 ^ (k + 2) + 1 + (k + 2))
 quotients x k =

@@ -7,12 +7,12 @@ use Rattle.std.proofs.lemmas.List.Elements.{All-head, All-tail, All-take, All-dr
 use Rattle.std.proofs.lemmas.List.Sums.{sum_by-cons, sum_by-append}
 use Rattle.std.proofs.lemmas.Nat.{pow-add, pow_pos, mul-le}
 use Rattle.std.proofs.Math.Nat.{lt-div-mul-add, suc-mul}
-use Rattle.flac_bits.specs.Rice.{IsResidual}
+use Rattle.flac_bits.specs.Rice.{IsResidual, folded}
 use Rattle.flac_subframe.specs.declared.coding.Coding.{Coding}
 use Rattle.flac_subframe.specs.declared.coding.Coding.TheVariants.{Rice, Escape}
 use Rattle.flac_subframe.specs.Cost.{Codings, MayCode, MayCodeEach, MayWrite}
 use Rattle.flac_subframe.specs.inner.Cost.{value_cost, coding_cost, partitions_cost, residual_cost}
-use Rattle.flac_subframe.specs.Spelling.{folded, FitsWidth}
+use Rattle.flac_subframe.specs.Spelling.{FitsWidth}
 use Rattle.flac_subframe.proofs.Cuts.{cuts}
 use Rattle.flac_subframe.proofs.Digits.{below_from_fits, digits_least}
 use Rattle.flac_subframe.proofs.Folds.{fold_small}

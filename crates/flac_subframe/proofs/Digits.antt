@@ -7,8 +7,8 @@ use Rattle.std.proofs.lemmas.Nat.{leading_length}
 use Rattle.std.proofs.lemmas.List.Elements.{All-more, All-from_get_or}
 use Rattle.std.proofs.lemmas.List.{get_or-take, length-take}
 use Rattle.std.proofs.Math.Nat.{pow-le-pow_right}
-use Rattle.flac_subframe.specs.Spelling.{folded, FitsWidth}
-use Rattle.flac_bits.specs.Rice.{IsResidual}
+use Rattle.flac_subframe.specs.Spelling.{FitsWidth}
+use Rattle.flac_bits.specs.Rice.{IsResidual, folded}
 
 half : (n : ℕ) → 2 ^ (suc n - 1) ≡ 2 ^ n
 half n = let e : suc n - 1 ≡ n = omega arith in ap (λ k. 2 ^ k) e
@@ -53,10 +53,6 @@ All_step P xs i d within = (
   ),
   λ both. All-more P xs i d within both.0 both.1,
 )
-
--- what a cast to 64 bits and back leaves of a residual value
-pub back : (z : ℤ) → IsResidual z → to_z w64 (of_z w64 z) ≡ z
-back z r = omega (arith, ints, r.low, r.high)
 
 -- what casts to 64 bits, to 32 and back leave of a residual value
 pub back_narrow : (z : ℤ) → IsResidual z → to_z w32 (of_z w32 (to_z w64 (of_z w64 z))) ≡ z

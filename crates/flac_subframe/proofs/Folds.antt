@@ -7,10 +7,10 @@ use Rattle.std.proofs.lemmas.List.Elements.{All-map, All-weaker, All-from_get_or
 use Rattle.std.proofs.lemmas.List.FromFn.{map-range_with_len_more}
 use Rattle.std.proofs.lemmas.List.Sums.{sum_by-cons}
 use Rattle.std.proofs.Math.Nat.{suc-mul}
-use Rattle.flac_bits.specs.Rice.{IsResidual}
+use Rattle.flac_bits.specs.Rice.{IsResidual, folded}
 use Rattle.flac_subframe.specs.inner.Cost.{folded_cost, value_cost}
 use Rattle.flac_subframe.specs.inner.Halves.{segment, IsWidth}
-use Rattle.flac_subframe.specs.Spelling.{folded, FitsWidth}
+use Rattle.flac_subframe.specs.Spelling.{FitsWidth}
 use Rattle.flac_subframe.proofs.Digits.{below_from_fits, fits_from_below}
 
 -- one number more

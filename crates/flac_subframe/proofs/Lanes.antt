@@ -13,9 +13,8 @@ use Rattle.std.proofs.lemmas.List.Elements.{All-from_get_or}
 use Rattle.std.proofs.lemmas.List.Sums.{sum_by-cons, sum_by-take-le}
 use Rattle.std.proofs.lemmas.Nat.{mul-le, shr_le}
 use Rattle.std.proofs.lemmas.List.FromFn.{get_or-map-range_with_len, length-map-range_with_len}
-use Rattle.flac_bits.specs.Rice.{IsResidual}
+use Rattle.flac_bits.specs.Rice.{IsResidual, folded}
 use Rattle.flac_subframe.specs.Bodies.{difference, differences}
-use Rattle.flac_subframe.specs.Spelling.{folded}
 use Rattle.flac_subframe.specs.Numbers.{sample_at}
 use Rattle.flac_subframe.specs.Prediction.{weighted}
 use Rattle.flac_subframe.specs.inner.Products.{HasSums, StayBelow}

@@ -10,7 +10,8 @@ use Rattle.flac_bits.specs.Meaning.{unary_bits}
 use Rattle.flac_bits.specs.Forms.{joined}
 use Rattle.flac_subframe.specs.declared.coding.Coding.{Coding}
 use Rattle.flac_subframe.specs.declared.coding.Coding.TheVariants.{Rice, Escape}
-use Rattle.flac_subframe.specs.Spelling.{folded, value_spelling, coding_spelling, partition_spelling, residual_spelling, predictor_spelling}
+use Rattle.flac_bits.specs.Rice.{folded}
+use Rattle.flac_subframe.specs.Spelling.{value_spelling, coding_spelling, partition_spelling, residual_spelling, predictor_spelling}
 use Rattle.flac_subframe.specs.Subframe.{Predictor}
 use Rattle.flac_subframe.specs.Cost.{Codings}
 use Rattle.flac_subframe.specs.inner.Cost.{value_cost, coding_cost, partitions_cost, residual_cost}

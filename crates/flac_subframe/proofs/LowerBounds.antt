@@ -12,7 +12,8 @@ use Rattle.flac_subframe.specs.declared.coding.Coding.TheVariants.{Rice, Escape}
 use Rattle.flac_subframe.specs.Cost.{Codings, MayCode, MayCodeEach, MayWrite}
 use Rattle.flac_subframe.specs.inner.Cost.{value_cost, coding_cost, partitions_cost, residual_cost}
 use Rattle.flac_subframe.specs.inner.Halves.{Halves}
-use Rattle.flac_subframe.specs.Spelling.{folded, FitsWidth}
+use Rattle.flac_bits.specs.Rice.{folded}
+use Rattle.flac_subframe.specs.Spelling.{FitsWidth}
 use Rattle.flac_subframe.proofs.Splits.{coarser, power_more, twice}
 
 -- ---- the values of one partition under a Rice parameter

@@ -12,13 +12,13 @@ use Rattle.flac_bits.specs.Lists.{list_of}
 use Rattle.flac_bits.specs.Forms.{joined}
 use Rattle.flac_bits.specs.inner.Forms.{Ties}
 use Rattle.flac_bits.specs.Meaning.{unary_bits, zeros_bits, IsWithin}
-use Rattle.flac_bits.specs.Rice.{rice, rice_value, unfolded, within, IsResidual}
+use Rattle.flac_bits.specs.Rice.{rice, rice_value, unfolded, within, IsResidual, folded}
 use Rattle.flac_bits.specs.Signed.{signed, signed_field}
 use Rattle.flac_bits.proofs.Ties.{ForEach, ForSome, tie, each_tied, some_tied, choose_each, choose_true, choose_false}
 use Rattle.flac_subframe.specs.declared.coding.Coding.{Coding}
 use Rattle.flac_subframe.specs.declared.coding.Coding.TheVariants.{Rice, Escape}
 use Rattle.flac_subframe.specs.Residual.{Partition, partition, partitions, escaped, coded}
-use Rattle.flac_subframe.specs.Spelling.{folded, value_spelling, coding_spelling, partition_spelling, FitsWidth, IsCoded, ArePartitions}
+use Rattle.flac_subframe.specs.Spelling.{value_spelling, coding_spelling, partition_spelling, FitsWidth, IsCoded, ArePartitions}
 use Rattle.flac_subframe.proofs.FieldTies.{signed_tie, list_tie, Many}
 
 pub unfolded-folded : (z : ℤ) → unfolded (folded z) ≡ z

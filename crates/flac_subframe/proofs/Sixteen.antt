@@ -7,7 +7,7 @@ use Rattle.std.proofs.lemmas.List.{length-map}
 use Rattle.std.proofs.lemmas.Nat.{leading_length, pow-add, pow_pos}
 use Rattle.std.proofs.Math.Nat.{pow-le-pow_right, le-div_iff_mul-le, div-lt_iff_lt-mul}
 use Rattle.flac_subframe.specs.inner.Cost.{value_cost}
-use Rattle.flac_subframe.specs.Spelling.{folded}
+use Rattle.flac_bits.specs.Rice.{folded}
 use Rattle.flac_subframe.proofs.Folds.{cost_split, costs_folded}
 
 module _ (n : ℕ) (some : 16 ≤ n) (within : n < 2 ^ 64) where

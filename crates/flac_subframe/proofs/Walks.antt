@@ -6,8 +6,7 @@ use Rattle.std.proofs.lemmas.List.Elements.{All-take, All-drop, All-get_or, All-
 use Rattle.std.proofs.lemmas.List.Sums.{sum_by-append, sum_by-cons}
 use Rattle.std.proofs.lemmas.Nat.{pow_pos}
 use Rattle.std.proofs.Math.Nat.{div-lt_iff_lt-mul}
-use Rattle.flac_bits.specs.Rice.{IsResidual}
-use Rattle.flac_subframe.specs.Spelling.{folded}
+use Rattle.flac_bits.specs.Rice.{IsResidual, folded}
 use Rattle.flac_subframe.specs.inner.Cost.{folded_cost, value_cost}
 use Rattle.flac_subframe.specs.inner.Entry.{entry_number, no_entry}
 use Rattle.flac_subframe.specs.inner.Halves.{part, start, Halves, entry, LeastBelow}

@@ -6,7 +6,7 @@ use Rattle.std.proofs.lemmas.List.{append-nil, drop_more, drop_all, length-drop}
 use Rattle.std.proofs.lemmas.List.Elements.{All-drop}
 use Rattle.flac_bits.specs.Bits.{unsigned}
 use Rattle.flac_bits.specs.Meaning.{unary_bits}
-use Rattle.flac_bits.specs.Rice.{IsResidual}
+use Rattle.flac_bits.specs.Rice.{IsResidual, folded, value_bits}
 use Rattle.flac_bits.specs.Signed.{signed}
 use Rattle.flac_bits.specs.Written.{Written, Adds}
 use Rattle.flac_bits.proofs.Words.{split, unsigned-mod}
@@ -16,7 +16,7 @@ use Rattle.flac_subframe.specs.declared.coding.Coding.TheVariants.{Rice, Escape}
 use Rattle.flac_subframe.specs.Numbers.{sample_at}
 use Rattle.flac_subframe.specs.Bodies.{cut, residual_of}
 use Rattle.flac_subframe.specs.Cost.{MayCodeEach, Codings}
-use Rattle.flac_subframe.specs.Spelling.{folded, value_spelling, coding_spelling, partition_spelling, residual_spelling, predictor_spelling, flag_of, type_of, wasted_spelling, header_spelling, content_spelling, subframe_spelling}
+use Rattle.flac_subframe.specs.Spelling.{value_spelling, coding_spelling, partition_spelling, residual_spelling, predictor_spelling, flag_of, type_of, wasted_spelling, header_spelling, content_spelling, subframe_spelling}
 use Rattle.flac_subframe.specs.Residual.{Residual}
 use Rattle.flac_subframe.specs.Subframe.{Form, Constant, Verbatim, Fixed, Linear, Predictor}
 
@@ -28,9 +28,13 @@ two_fields n m a b lt =
     let same : unsigned m (a * 2 ^ m + b) ≡ unsigned m b = sym (unsigned-mod m (a * 2 ^ m + b)) ∙ ap (unsigned m) low in
     split n m (a * 2 ^ m + b) ∙ rw (high, same) refl
 
-pub value_text : (k r : ℕ) (x : ℤ) → r ≡ folded x → unary_bits (r / 2 ^ k) ++ unsigned k r ≡ value_spelling k x
+value_text : (k : ℕ) (x : ℤ) → value_bits k x ≡ value_spelling k x
 unfolding value_spelling
-value_text k r x e = rw e (ap (λ t. unary_bits (folded x / 2 ^ k) ++ t) (sym (append-nil (unsigned k (folded x % 2 ^ k)) ∙ unsigned-mod k (folded x))))
+value_text k x = ap (λ t. unary_bits (folded x / 2 ^ k) ++ t) (sym (append-nil (unsigned k (folded x % 2 ^ k)) ∙ unsigned-mod k (folded x)))
+
+values_text : (k : ℕ) (xs : List ℤ) → flat_map (value_bits k) xs ≡ flat_map (value_spelling k) xs
+values_text k [] = refl
+values_text k (x ∷ xs) = ap (λ t. t ++ flat_map (value_bits k) xs) (value_text k x) ∙ ap (λ t. value_spelling k x ++ t) (values_text k xs)
 
 pub each_step : (f : ℤ → List Bool) (xs : List ℤ) (i : ℕ) → i < length xs → flat_map f (drop i xs) ≡ f (sample_at xs i) ++ flat_map f (drop (i + 1) xs)
 each_step f xs i lt = rw (drop_more xs i (pos 0) lt) refl
@@ -42,9 +46,9 @@ pub none_signed : (xs : List ℤ) → flat_map (signed 0) xs ≡ []
 none_signed [] = refl
 none_signed (x ∷ xs) = none_signed xs
 
-pub rice_text : (w k : ℕ) (vs : List ℤ) → coding_spelling w (Rice k) vs ≡ unsigned w k ++ flat_map (value_spelling k) vs
+pub rice_text : (w k : ℕ) (vs : List ℤ) → coding_spelling w (Rice k) vs ≡ unsigned w k ++ flat_map (value_bits k) vs
 unfolding coding_spelling
-rice_text w k vs = ap (λ t. unsigned w k ++ t) (append-nil (flat_map (value_spelling k) vs))
+rice_text w k vs = ap (λ t. unsigned w k ++ t) (append-nil (flat_map (value_spelling k) vs) ∙ sym (values_text k vs))
 
 pub escape_text : (w n field : ℕ) (vs : List ℤ) → n < 32 → field ≡ (2 ^ w - 1) * 32 + n → coding_spelling w (Escape n) vs ≡ unsigned (w + 5) field ++ flat_map (signed n) vs
 unfolding coding_spelling

@@ -1,20 +1,15 @@
 -- How a subframe is spelled, and which forms may be (RFC 9639, section 9.2).
-use Rattle.std.specs.Prelude.{◌≡◌, ℕ, zero, suc, ◌+◌, ◌-◌, ◌*◌, ◌/◌, ◌%◌, ◌^◌, ◌<◌, ◌≤◌, Bool, true, List, [], ◌∷◌, length, flat_map, ℤ, pos, negsuc, All}
+use Rattle.std.specs.Prelude.{◌≡◌, ℕ, zero, suc, ◌+◌, ◌-◌, ◌/◌, ◌%◌, ◌^◌, ◌<◌, ◌≤◌, Bool, true, List, [], ◌∷◌, length, flat_map, ℤ, pos, All}
 use Rattle.flac_bits.specs.Bits.{unsigned}
 use Rattle.flac_bits.specs.Forms.{joined}
 use Rattle.flac_bits.specs.Meaning.{unary_bits}
-use Rattle.flac_bits.specs.Rice.{IsResidual}
+use Rattle.flac_bits.specs.Rice.{IsResidual, folded}
 use Rattle.flac_bits.specs.Signed.{signed, FitsBits}
 use Rattle.flac_subframe.specs.declared.limits.Limits.{Limits}
 use Rattle.flac_subframe.specs.declared.coding.Coding.{Coding}
 use Rattle.flac_subframe.specs.declared.coding.Coding.TheVariants.{Rice, Escape}
 use Rattle.flac_subframe.specs.Residual.{Partition, Residual, can_halve}
 use Rattle.flac_subframe.specs.Subframe.{Content, Constant, Verbatim, Fixed, Linear, Predictor, Form}
-
--- The folded number: 2r if r is not negative, else -2r - 1 (section 9.2.7.3).
-abbrev pub folded : ℤ → ℕ
-folded (pos n) = 2 * n
-folded (negsuc n) = 2 * n + 1
 
 -- A value under a Rice parameter: its quotient in zeros, a one, and its lowest bits (section 9.2.7.3).
 unfoldable pub value_spelling : ℕ → ℤ → List Bool

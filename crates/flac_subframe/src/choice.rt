@@ -3,13 +3,13 @@ ghost use Rattle.std.specs.Prelude.{◌≡◌, ◌<◌, ◌≤◌, ◌^◌, ◌+
 ghost use Rattle.flac_bits.specs.Signed.{FitsBits};
 ghost use Rattle.flac_subframe.specs.Numbers.{sample_at};
 ghost use Rattle.flac_subframe.specs.Prediction.{fixed_coefficients};
-ghost use Rattle.flac_bits.specs.Rice.{IsResidual};
+ghost use Rattle.flac_bits.specs.Rice.{IsResidual, folded};
 ghost use Rattle.flac_subframe.specs.Bodies.{Chooses, coefficients_of, differences};
 ghost use Rattle.flac_subframe.specs.Chosen.{IsNamed, fixed_below, offered, predictor_named};
 ghost use Rattle.flac_subframe.specs.Cost.{MayWrite, Codings, codings_in};
 ghost use Rattle.flac_subframe.specs.Family.{IsMadeAs, Stands, form_as};
 ghost use Rattle.flac_subframe.specs.Least.{IsLeast};
-ghost use Rattle.flac_subframe.specs.Spelling.{folded, subframe_spelling};
+ghost use Rattle.flac_subframe.specs.Spelling.{subframe_spelling};
 ghost use Rattle.flac_subframe.specs.inner.Chosen.{IsBest, residual_by, way_of};
 ghost use Rattle.flac_subframe.specs.inner.Cost.{residual_cost};
 ghost use Rattle.flac_subframe.specs.inner.Halves.{HasPlaces, HasResidual, HasRoom};

@@ -1,21 +1,10 @@
 //! Signed residual values as unsigned numbers (RFC 9639, section 9.2.7.2).
 
 ghost use Rattle.std.specs.Prelude.{◌≡◌, ◌<◌, ◌+◌, ◌^◌, neg_ℤ, pos, ◌<ℤ◌, length, map, All};
-ghost use Rattle.flac_subframe.specs.Spelling.{folded};
-ghost use Rattle.flac_bits.specs.Rice.{IsResidual};
+ghost use Rattle.flac_bits.specs.Rice.{IsResidual, folded};
 
-/// The folded number of a residual value r: 2r if r is not negative, else -2r - 1 (RFC 9639, section 9.2.7.2).
-#[inline(always)]
-pub(crate) fn fold(value: i64) -> u64
-    requires { IsResidual value }
-    ensures value { result ≡ folded value }
-    ensures small { result < 2 ^ 32 }
-{
-    u64::from(fold_narrow(value as i32))
-}
-
-/// The same in 32 bits: the double, or its complement if the value is negative. The compiler makes three operations of
-/// it.
+/// The folded number of a residual value r: 2r if r is not negative, else -2r - 1 (RFC 9639, section 9.2.7.2), as the
+/// double, or its complement if the value is negative. The compiler makes three operations of it.
 #[inline(always)]
 pub(crate) fn fold_narrow(value: i32) -> u32
     requires { IsResidual value }

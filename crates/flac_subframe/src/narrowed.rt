@@ -5,7 +5,7 @@ ghost use Rattle.std.specs.Int.{w32};
 ghost use Rattle.std.specs.Int.RustNames.{unsigned_abs};
 ghost use Rattle.flac_bits.specs.Signed.{FitsBits};
 ghost use Rattle.flac_subframe.specs.Numbers.{sample_at};
-ghost use Rattle.flac_subframe.specs.Spelling.{folded};
+ghost use Rattle.flac_bits.specs.Rice.{folded};
 ghost use Rattle.flac_subframe.specs.Prediction.{prediction, fixed_coefficients};
 ghost use Rattle.flac_subframe.specs.Bodies.{differences};
 

@@ -5,12 +5,11 @@ ghost use Rattle.std.specs.Prelude.{ℕ, ◌≡◌, ◌<◌, ◌≤◌, ◌^◌,
 ghost use Rattle.std.specs.Int.RustNames.{unsigned_abs};
 ghost use Rattle.std.specs.Int.{int_shr};
 ghost use Rattle.std.specs.List.{sum_by};
-ghost use Rattle.flac_bits.specs.Rice.{IsResidual};
+ghost use Rattle.flac_bits.specs.Rice.{IsResidual, folded};
 ghost use Rattle.flac_bits.specs.Signed.{FitsBits};
 ghost use Rattle.flac_subframe.specs.Bodies.{differences};
 ghost use Rattle.flac_subframe.specs.Numbers.{sample_at};
 ghost use Rattle.flac_subframe.specs.inner.Products.{HasSums, StayBelow};
-ghost use Rattle.flac_subframe.specs.Spelling.{folded};
 
 use crate::folding::fold_narrow;
 

@@ -5,7 +5,8 @@ ghost use Rattle.std.specs.Int.Count.{count_leading_zeros};
 ghost use Rattle.std.specs.List.{sum_by};
 ghost use Rattle.flac_subframe.specs.Cost.{MayWrite, Codings};
 ghost use Rattle.flac_subframe.specs.inner.Cost.{value_cost, residual_cost};
-ghost use Rattle.flac_subframe.specs.Spelling.{folded, FitsWidth};
+ghost use Rattle.flac_bits.specs.Rice.{folded};
+ghost use Rattle.flac_subframe.specs.Spelling.{FitsWidth};
 ghost use Rattle.flac_subframe.specs.inner.Halves.{part, IsWidth, HasWidths};
 
 use crate::cost::quotients;

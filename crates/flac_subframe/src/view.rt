@@ -3,9 +3,8 @@
 ghost use Rattle.std.specs.Prelude.{◌≡◌, ◌<◌, ◌≤◌, ◌^◌, ◌+◌, ℕ, length, map, All, IsTrue};
 ghost use Rattle.std.specs.Int.RustNames.{unsigned_abs};
 ghost use Rattle.flac_bits.specs.Signed.{FitsBits};
-ghost use Rattle.flac_bits.specs.Rice.{IsResidual};
+ghost use Rattle.flac_bits.specs.Rice.{IsResidual, folded};
 ghost use Rattle.flac_subframe.specs.Numbers.{sample_at};
-ghost use Rattle.flac_subframe.specs.Spelling.{folded};
 ghost use Rattle.flac_subframe.specs.inner.Halves.{Halves};
 
 use crate::content::{PredictorKind, SubframeForm};

@@ -12,13 +12,12 @@ ghost use Rattle.flac_subframe.specs.inner.Family.{type_number};
 ghost use Rattle.flac_subframe.specs.Handed.{predictor_of, handed};
 ghost use Rattle.flac_subframe.specs.Cost.{MayCode, MayCodeEach, MayWrite, coding_of, parameter_bits_of};
 ghost use Rattle.flac_subframe.specs.inner.Cost.{codings_lent};
-ghost use Rattle.flac_subframe.specs.Spelling.{value_spelling, coding_spelling, partition_spelling, residual_spelling, predictor_spelling, content_spelling, header_spelling, subframe_spelling};
+ghost use Rattle.flac_subframe.specs.Spelling.{coding_spelling, partition_spelling, residual_spelling, predictor_spelling, content_spelling, header_spelling, subframe_spelling};
 
 use crate::chosen::{Choice, MOST_SAMPLES};
 use crate::coding::Coding;
 use crate::coding_method::CodingMethod;
 use crate::content::{ContentKind, PredictorKind};
-use crate::folding::fold;
 use crate::leaving::{take_fixed, take_linear};
 use crate::linear::LinearPredictor;
 use crate::numbers::power;
@@ -28,22 +27,6 @@ use crate::tables::filled;
 use crate::view::ChoiceView;
 use crate::wasted::drop_wasted;
 use flac_bits::{BitWriter, Target, Why};
-
-/// Writes values under a Rice parameter.
-fn write_values<W: Target>(
-    writer: &mut BitWriter<W>,
-    parameter: u32,
-    values: &[i64],
-) -> Result<(), Why>
-    requires parameter { parameter ≤ 30 }
-    requires range { All IsResidual values.now }
-    ensures { Writes (flat_map (value_spelling parameter) values.now) writer.old writer.new result }
-{
-    for value in values {
-        writer.put_rice(parameter, fold(*value))?;
-    }
-    Ok(())
-}
 
 /// Writes signed numbers of n bits; of none nothing.
 fn write_signed<W: Target>(writer: &mut BitWriter<W>, n: u32, values: &[i64]) -> Result<(), Why>
@@ -74,7 +57,7 @@ fn write_partition<W: Target>(
     match coding {
         Coding::Rice(parameter) => {
             writer.put(method.parameter_bits(), parameter as u64)?;
-            write_values(writer, parameter as u32, values)
+            writer.put_rice_partition(parameter as u32, values)
         }
         Coding::Escape(width) => {
             let field = u64::from(method.escape()) * 32 + width as u64;

@@ -4,7 +4,7 @@ use Rattle.std.specs.List.{sum_by}
 use Rattle.flac_subframe.specs.declared.coding.Coding.{Coding}
 use Rattle.flac_subframe.specs.declared.coding.Coding.TheVariants.{Rice, Escape}
 use Rattle.flac_subframe.specs.declared.view.ChoiceView.{ChoiceView}
-use Rattle.flac_subframe.specs.Spelling.{folded}
+use Rattle.flac_bits.specs.Rice.{folded}
 use Rattle.flac_subframe.specs.Cost.{MayCodeEach, Codings, MayWrite, codings_of}
 
 -- a folded number under a Rice parameter: its quotient in zeros, a one, and k bits

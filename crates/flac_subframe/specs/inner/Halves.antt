@@ -1,12 +1,12 @@
 -- For proofs of the search: the partitions of a residual at each partition order, and the best coding of each so far.
 use Rattle.std.specs.Prelude.{ℕ, ℤ, ◌≡◌, ◌+◌, ◌-◌, ◌*◌, ◌/◌, ◌%◌, ◌^◌, ◌<◌, ◌≤◌, List, length, take, drop, map, slice_index, All, ◌↔◌}
 use Rattle.std.specs.List.{sum_by}
-use Rattle.flac_bits.specs.Rice.{IsResidual}
+use Rattle.flac_bits.specs.Rice.{IsResidual, folded}
 use Rattle.flac_subframe.specs.inner.Cost.{value_cost}
 use Rattle.flac_subframe.specs.inner.Entry.{entry_number, no_entry}
 use Rattle.flac_subframe.specs.declared.tables.Tables.{Tables}
 use Rattle.flac_subframe.specs.declared.tables.SearchArrays.{SearchArrays}
-use Rattle.flac_subframe.specs.Spelling.{FitsWidth, folded}
+use Rattle.flac_subframe.specs.Spelling.{FitsWidth}
 
 -- the index at which the partition j begins, after the warm-up samples
 abbrev pub start : ℕ → ℕ → ℕ → ℕ → ℕ

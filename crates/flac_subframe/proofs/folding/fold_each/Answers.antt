@@ -1,5 +1,5 @@
 use Rattle.std.proofs.Common.{arith, ◌≡◌, ◌∙◌, ℤ, pos, length, get_or, ap}
-use Rattle.flac_subframe.specs.Spelling.{folded}
+use Rattle.flac_bits.specs.Rice.{folded}
 use Rattle.flac_subframe.proofs.Digits.{back_narrow}
 use Rattle.flac_subframe.proofs.Folds.{same_more, fold_more}
 use Rattle.flac_subframe.proofs.folding.fold_each.Goals as goal

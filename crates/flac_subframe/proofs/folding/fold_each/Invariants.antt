@@ -1,5 +1,5 @@
 use Rattle.std.proofs.Common.{◌≡◌, take, map}
-use Rattle.flac_subframe.specs.Spelling.{folded}
+use Rattle.flac_bits.specs.Rice.{folded}
 use Rattle.flac_subframe.proofs.folding.fold_each.Given as goal
 
 abbrev pub invariant-loop-i : goal.invariant-loop-i

@@ -5,7 +5,7 @@ use Rattle.std.proofs.lemmas.List.FromFn.{map-range_with_len_more}
 use Rattle.flac_subframe.specs.Numbers.{sample_at}
 use Rattle.flac_subframe.specs.Prediction.{fixed_coefficients}
 use Rattle.flac_subframe.specs.Bodies.{difference}
-use Rattle.flac_subframe.specs.Spelling.{folded}
+use Rattle.flac_bits.specs.Rice.{folded}
 use Rattle.flac_subframe.proofs.Bounds.{fits_more}
 use Rattle.flac_subframe.proofs.Folds.{fold_next}
 use Rattle.flac_subframe.proofs.Narrow.{narrow_at, narrow_residual, same_narrow}

@@ -1,8 +1,7 @@
 use Rattle.std.proofs.Common.{arith, ◌≡◌, ◌∙◌, ◌+◌, ◌-◌, ◌<◌, ◌^◌, ℤ, List, ℕ, suc, ap, sym, length, drop, take, map, All}
 use Rattle.std.proofs.lemmas.List.{drop-drop, drop-map}
 use Rattle.std.proofs.lemmas.List.Elements.{All-take, All-drop}
-use Rattle.flac_bits.specs.Rice.{IsResidual}
-use Rattle.flac_subframe.specs.Spelling.{folded}
+use Rattle.flac_bits.specs.Rice.{IsResidual, folded}
 use Rattle.flac_subframe.proofs.Folds.{folds_small}
 use Rattle.flac_subframe.proofs.LowerBounds.{bound_more, bound_end, bound_of_all, bound_of_last}
 use Rattle.flac_subframe.specs.inner.Halves.{part, start}

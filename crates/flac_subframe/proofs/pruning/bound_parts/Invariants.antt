@@ -1,6 +1,6 @@
 use Rattle.std.proofs.Common.{◌≡◌, ◌+◌, ◌-◌, ◌*◌, ◌^◌, ◌≤◌, ℕ, drop, length, map}
 use Rattle.flac_subframe.proofs.LowerBounds.{BoundTo}
-use Rattle.flac_subframe.specs.Spelling.{folded}
+use Rattle.flac_bits.specs.Rice.{folded}
 use Rattle.flac_subframe.specs.inner.Halves.{start}
 use Rattle.flac_subframe.proofs.pruning.bound_parts.Given as goal
 
