@@ -69,7 +69,7 @@ pub(crate) fn quotients(folds: &[u32], parameter: u8, width: u8) -> u64
 
 /// How many bits values take under a Rice parameter, by their folded numbers, which are of a width.
 #[inline(always)]
-pub(crate) fn rice_bits(folds: &[u32], parameter: u8, width: u8) -> u64
+fn rice_bits(folds: &[u32], parameter: u8, width: u8) -> u64
     requires few { length folds.now ≤ 65535 }
     requires bounded { All (λ n. n < 2 ^ width) folds.now }
     requires small { All (λ n. n < 2 ^ 32) folds.now }
@@ -78,6 +78,38 @@ pub(crate) fn rice_bits(folds: &[u32], parameter: u8, width: u8) -> u64
     ensures small { result ≤ 2 ^ 33 * length folds.now }
 {
     quotients(folds, parameter, width) + folds.len() as u64 * (1 + u64::from(parameter))
+}
+
+/// The same as a call of its own, so that a loop over partitions of sixteen values tests for no other length.
+#[inline(never)]
+fn rice_bits_apart(folds: &[u32], parameter: u8, width: u8) -> u64
+    requires few { length folds.now ≤ 65535 }
+    requires bounded { All (λ n. n < 2 ^ width) folds.now }
+    requires small { All (λ n. n < 2 ^ 32) folds.now }
+    requires parameter { parameter < 31 }
+    ensures { result ≡ sum_by (folded_cost parameter) folds.now }
+{
+    rice_bits(folds, parameter, width)
+}
+
+/// What [`rice_bits`] does. The number of values is mostly sixteen, or it is not: it is compiled anew for each, since
+/// its callers fix `sixteen`.
+#[inline(always)]
+pub(crate) fn rice_bits_of(folds: &[u32], parameter: u8, width: u8, sixteen: bool) -> u64
+    requires few { length folds.now ≤ 65535 }
+    requires bounded { All (λ n. n < 2 ^ width) folds.now }
+    requires small { All (λ n. n < 2 ^ 32) folds.now }
+    requires parameter { parameter < 31 }
+    ensures { result ≡ sum_by (folded_cost parameter) folds.now }
+{
+    if !sixteen {
+        return rice_bits(folds, parameter, width);
+    }
+    if folds.len() == 16 && width <= 28 + parameter {
+        let sum = quotients_of_few(folds, 16, parameter, width);
+        return u64::from(sum) + 16 * (1 + u64::from(parameter));
+    }
+    rice_bits_apart(folds, parameter, width)
 }
 
 /// A number that has each bit that one of `count` numbers has, by a loop of fixed length.

@@ -7,13 +7,14 @@ ghost use Rattle.flac_subframe.specs.inner.Cost.{value_cost};
 ghost use Rattle.flac_subframe.specs.inner.Entry.{entry_number, no_entry};
 ghost use Rattle.flac_subframe.specs.inner.Halves.{part, entry, HasEntries};
 
-use crate::cost::rice_bits;
+use crate::cost::rice_bits_of;
 use crate::entry::Entry;
 use crate::numbers::power;
 use crate::view::ResidualView;
 
-/// What each partition costs under a parameter, at the finest partition order.
-pub(crate) fn price(residual: &ResidualView<'_>, width: u8, parameter: u8, sums: &mut [u64])
+/// [`price`] for partitions of sixteen values or of another number, which its callers fix.
+#[inline(always)]
+fn price_of(residual: &ResidualView<'_>, width: u8, parameter: u8, sixteen: bool, sums: &mut [u64])
     requires bounded { All (λ n. n < 2 ^ width) residual.now.folds.now }
     requires parameter { parameter < 31 }
     requires places { length sums.old ≡ 2 ^ residual.now.partition_order }
@@ -24,10 +25,23 @@ pub(crate) fn price(residual: &ResidualView<'_>, width: u8, parameter: u8, sums:
     let mut long = size - residual.order;
     for sum in sums.iter_mut() {
         let (front, after) = rest.split_at(long);
-        *sum = rice_bits(front, parameter, width);
+        *sum = rice_bits_of(front, parameter, width, sixteen);
         rest = after;
         long = size;
     }
+}
+
+/// What each partition costs under a parameter, at the finest partition order.
+pub(crate) fn price(residual: &ResidualView<'_>, width: u8, parameter: u8, sums: &mut [u64])
+    requires bounded { All (λ n. n < 2 ^ width) residual.now.folds.now }
+    requires parameter { parameter < 31 }
+    requires places { length sums.old ≡ 2 ^ residual.now.partition_order }
+    ensures costs { (j : ℕ) → j < 2 ^ residual.now.partition_order → slice_index sums.new j ≡ sum_by (value_cost parameter) (part residual.now.order residual.now.values.now residual.now.partition_order j) }
+{
+    if (residual.values.len() + residual.order) >> residual.partition_order == 16 {
+        return price_of(residual, width, parameter, true, sums);
+    }
+    price_of(residual, width, parameter, false, sums)
 }
 
 /// From the costs of partitions to those of the next coarser ones, in place.

@@ -2,7 +2,7 @@ use Rattle.std.proofs.Common.{◌≡◌, ◌+◌, ◌-◌, ◌<◌, ℕ, get_or,
 use Rattle.std.specs.List.{sum_by}
 use Rattle.flac_subframe.specs.inner.Cost.{value_cost}
 use Rattle.flac_subframe.specs.inner.Halves.{part, start}
-use Rattle.flac_subframe.proofs.halves.price.Given as goal
+use Rattle.flac_subframe.proofs.halves.price_of.Given as goal
 
 abbrev pub invariant-loop-sum : goal.invariant-loop-sum
 invariant-loop-sum l = record {
