@@ -20,7 +20,8 @@ pub mod CodedTie
 pub mod CodedLength
 pub mod Fences
 pub mod Items
-pub mod Appending
+mod Aheads
+mod Appending
 pub mod Putting
 pub mod Signs
 pub mod Back

@@ -1,6 +1,6 @@
 //! Signed numbers made of unsigned ones.
 
-ghost use Rattle.std.specs.Prelude.{◌≡◌, ◌<◌, ◌≤◌, ◌^◌, ◌-◌, ◌+◌, ◌/◌};
+ghost use Rattle.std.specs.Prelude.{◌≡◌, ◌<◌, ◌≤◌, ◌^◌, ◌-◌, ◌+◌, ◌*◌, ◌/◌};
 ghost use Rattle.flac_bits.specs.Rice.{unfolded as unfolded_value, IsResidual};
 ghost use Rattle.flac_bits.specs.Signed.{to_signed as signed_value, FitsBits};
 
@@ -16,6 +16,36 @@ pub(crate) fn unfolded(folded: u64) -> i64
 {
     let half = (folded >> 1) as i64;
     if folded % 2 == 0 { half } else { -1 - half }
+}
+
+/// Unfolds a residual value of which the half is known, and whether it is odd (RFC 9639, section 9.2.7.2).
+#[inline(always)]
+fn unfolded_half(half: u64, odd: u64) -> i64
+    requires odd { odd < 2 }
+    requires fits { 2 * half + odd ≤ 0xFFFF_FFFE }
+    ensures value { result ≡ unfolded_value (2 * half + odd) }
+    ensures fits { IsResidual result }
+{
+    let half = half as i64;
+    if odd == 0 { half } else { -1 - half }
+}
+
+/// The residual value whose code is these zeros, a one and k bits, of which the one and the bits are one number (RFC
+/// 9639, sections 9.2.7.2 and 9.2.7.3).
+#[inline(always)]
+pub(crate) fn value_of_code(zeros: u32, one_and_low: u64, k: u32) -> i64
+    requires few { zeros ≤ 62 }
+    requires k { k ≤ 26 }
+    requires one { (2 ^ k ≤ one_and_low) × (one_and_low < 2 * 2 ^ k) }
+    ensures value { result ≡ unfolded_value (zeros * 2 ^ k + (one_and_low - 2 ^ k)) }
+    ensures fits { IsResidual result }
+{
+    if k == 0 {
+        return unfolded(u64::from(zeros));
+    }
+    // half of each part, which takes a step less than half of their sum
+    let half = (u64::from(zeros) << (k - 1)) + ((one_and_low >> 1) - (1 << (k - 1)));
+    unfolded_half(half, one_and_low % 2)
 }
 
 /// The number that n bits are in two's complement.
