@@ -20,8 +20,8 @@ pub mod CodedTie
 pub mod CodedLength
 pub mod Fences
 pub mod Items
-mod Aheads
-mod Appending
+pub mod Aheads
+pub mod Appending
 pub mod Putting
 pub mod Signs
 pub mod Back

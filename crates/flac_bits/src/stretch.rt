@@ -6,10 +6,14 @@ ghost use Rattle.flac_bits.specs.Rice.{IsResidual};
 ghost use Rattle.flac_bits.specs.inner.Store.{four_at};
 ghost use Rattle.flac_bits.specs.inner.Stretches.{IsRead, top_bits, Agrees};
 
-use crate::word::{Ahead, Word};
+use crate::word::{Ahead, Word, code_of};
 
 /// The largest Rice parameter under which each value whose whole code the word has is in its range.
 pub const MOST_READY: u32 = 26;
+
+/// The least Rice parameter under which the codes of a filled word are so few that it is faster to ask once whether they
+/// are all there.
+const AT_ONCE: u32 = 8;
 
 /// Four bytes as a number, the first of them highest.
 #[inline(always)]
@@ -63,6 +67,40 @@ fn values_held(word: &mut Ahead, k: u32, values: &mut [i64], from: usize, to: us
     i
 }
 
+/// What [`values_held`] does, but under large parameters it is asked once whether the word has all the codes, after the
+/// last of them. If it has not, they are read again, one by one.
+#[inline(always)]
+fn values_at_once(word: &mut Ahead, k: u32, values: &mut [i64], from: usize, to: usize) -> usize
+    requires few { word.old.count ≤ 63 }
+    requires k { k ≤ 26 }
+    requires from { from ≤ to }
+    requires to { to ≤ length values.old }
+    requires few_values { to ≤ from + 56 }
+    ensures within { (from ≤ result) × (result ≤ to) }
+    ensures few { word.new.count ≤ 63 }
+    ensures next { (eight : ℕ) → Agrees word.old.word word.old.count eight → Agrees word.new.word word.new.count eight }
+    ensures read { (text : List Bool) × (top_bits word.old.word word.old.count ≡ text ++ top_bits word.new.word word.new.count) × IsRead k text values.old from values.new result }
+    ensures fits { ((j : ℕ) → j < from → IsResidual (get_or values.old j (pos 0))) → (j : ℕ) → j < result → IsResidual (get_or values.new j (pos 0)) }
+{
+    if k < AT_ONCE {
+        return values_held(word, k, values, from, to);
+    }
+    let mut rest = word.word;
+    let mut taken = 0;
+    for i in from..to {
+        let (bits, value, behind) = code_of(rest, k);
+        values[i] = value;
+        taken += bits;
+        rest = behind;
+    }
+    if taken <= word.count {
+        word.word = rest;
+        word.count -= taken;
+        return to;
+    }
+    values_held(word, k, values, from, to)
+}
+
 /// Fills `values` from the index `from` on with residual values, as far as the word and the bytes after it have them.
 /// Returns how many bytes went into the word, and where it stopped.
 #[inline(always)]
@@ -90,7 +128,7 @@ fn values_in(
     while bytes.len() - used >= 8 && i < values.len() {
         used += word.fill(eight_bytes(bytes, used)) as usize;
         let to = i + at_once.min(values.len() - i);
-        let next = values_held(word, k, values, i, to);
+        let next = values_at_once(word, k, values, i, to);
         if next == i {
             return (used, i);
         }

@@ -158,12 +158,30 @@ impl Word {
     }
 }
 
+/// The code of a residual value under the Rice parameter k at the front of a word, if all of it is there: how many bits
+/// it has, the value, and the word behind it. If it has more bits than are held, nothing is said.
+#[inline(always)]
+pub(crate) fn code_of(word: u64, k: u32) -> (u32, i64, u64)
+    requires { k ≤ 26 }
+    ensures bits { result.0 ≤ 91 }
+    ensures read { (count : ℕ) → count ≤ 63 → result.0 ≤ count → (q : ℕ) × (low : ℕ) × (q ≤ 62) × (low < 2 ^ k) × (result.1 ≡ unfolded (q * 2 ^ k + low)) × (top_bits word count ≡ (unary_bits q ++ unsigned k low) ++ top_bits result.2 (count - result.0)) }
+    ensures fits { result.0 ≤ 63 → IsResidual result.1 }
+    ensures next { (count eight : ℕ) → count ≤ 63 → result.0 ≤ count → Agrees word count eight → Agrees result.2 (count - result.0) eight }
+{
+    // 64 if no bit is set: too many in any case
+    let zeros = word.leading_zeros();
+    // so that only one shift is by an unknown number if k is known
+    let ahead = word << (zeros % 64);
+    let value = value_of_code(zeros, ahead >> (63 - k), k);
+    (zeros + 1 + k, value, ahead << (k + 1))
+}
+
 /// At most 63 bits, the first of them highest in the word. Below them are the first of the bits that come next, as far
 /// as these were read: what is put there again changes nothing.
 #[derive(Clone, Copy)]
 pub(crate) struct Ahead {
-    word: u64,
-    count: u32,
+    pub(crate) word: u64,
+    pub(crate) count: u32,
 }
 
 impl Ahead {
@@ -204,16 +222,11 @@ impl Ahead {
         ensures next { (eight : ℕ) → Agrees self.old.word self.old.count eight → Agrees self.new.word self.new.count eight }
         ensures none { result ≡ None → self.new ≡ self.old }
     {
-        // 64 if no one is held: too many in any case
-        let zeros = self.word.leading_zeros();
-        let used = zeros + 1 + k;
-        if used <= self.count {
-            // so that only one shift is by an unknown number if k is known
-            let ahead = self.word << zeros;
-            let one_and_low = ahead >> (63 - k);
-            self.word = ahead << (k + 1);
-            self.count -= used;
-            Some(value_of_code(zeros, one_and_low, k))
+        let (bits, value, rest) = code_of(self.word, k);
+        if bits <= self.count {
+            self.word = rest;
+            self.count -= bits;
+            Some(value)
         } else {
             None
         }

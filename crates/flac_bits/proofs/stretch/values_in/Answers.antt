@@ -1,5 +1,6 @@
 use Rattle.std.proofs.Common.{◌+◌, ◌≤◌, ◌++◌, length, arith, List, Bool, []}
 use Rattle.std.proofs.lemmas.List.{append-nil}
+use Rattle.std.proofs.Math.Nat.{div-le_self}
 use Rattle.flac_bits.specs.declared.word.Ahead.{Ahead}
 use Rattle.flac_bits.specs.inner.Stretches.{top_bits}
 use Rattle.flac_bits.proofs.Aheads.{clean_agrees, next_at}
@@ -12,7 +13,7 @@ bits a = top_bits a.word a.count
 pub returns-then-next-i-clause-read : goal.returns-then-next-i-clause-read
 returns-then-next-i-clause-read c =
     let inv = c.loop-used.invariant in
-    let held = c.values_held-next in
+    let held = c.values_at_once-next in
     let room : c.loop-used.used + 8 ≤ length c.args.bytes.now = omega (arith, c.loop-used-test.true, inv.used) in (
       inv.read.0 ++ held.ensures.read.0,
       came_taken c.args.bytes.now c.loop-used.used c.fill.result c.eight_bytes.result (bits c.args.word.now) (bits c.loop-used.word) (bits c.fill.new.self) (bits held.new.word) inv.read.0 held.ensures.read.0 c.fill.ensures.few.0 room c.eight_bytes.ensures inv.read.1 c.fill.ensures.put held.ensures.read.1,
@@ -22,7 +23,7 @@ returns-then-next-i-clause-read c =
 pub loop-used-preserved : goal.loop-used-preserved
 loop-used-preserved c =
     let inv = c.loop-used.invariant in
-    let held = c.values_held-next in
+    let held = c.values_at_once-next in
     let room : c.loop-used.used + 8 ≤ length c.args.bytes.now = omega (arith, c.loop-used-test.true, inv.used) in
     record {
       from = omega (arith, inv.from, held.ensures.within.0);
@@ -50,4 +51,7 @@ loop-used-init c = record {
 }
 
 pub returns-then-next-i-clause-fits : goal.returns-then-next-i-clause-fits
-returns-then-next-i-clause-fits c = λ before. rw c.if-next-i.true at (c.values_held-next.ensures.fits (c.loop-used.invariant.fits before))
+returns-then-next-i-clause-fits c = λ before. rw c.if-next-i.true at (c.values_at_once-next.ensures.fits (c.loop-used.invariant.fits before))
+
+pub values_at_once-next-requires-clause-few_values : goal.values_at_once-next-requires-clause-few_values
+values_at_once-next-requires-clause-few_values c = omega (arith, c.min.ensures, div-le_self 56 (c.args.k + 3))
