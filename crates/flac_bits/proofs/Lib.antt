@@ -20,6 +20,7 @@ pub mod CodedTie
 pub mod CodedLength
 pub mod Fences
 pub mod Items
+pub mod Aheads
 pub mod Appending
 pub mod Putting
 pub mod Signs

@@ -15,7 +15,7 @@ residual_kept z fits = omega (arith, ints, fits.low, fits.high)
 half_below : (n : ℕ) → 1 ≤ n → n ≤ 64 → 2 ^ (n - 1) ≤ 2 ^ 63
 half_below n some few = pow_mono {i = n - 1} {j = 63} (omega (arith, some, few))
 
-double : (n : ℕ) → 1 ≤ n → 2 ^ n ≡ 2 * 2 ^ (n - 1)
+pub double : (n : ℕ) → 1 ≤ n → 2 ^ n ≡ 2 * 2 ^ (n - 1)
 double zero some = absurd (omega (arith, some))
 double (suc n) some = let e : suc n - 1 ≡ n = omega arith in rw (e, pow-suc) (omega arith)
 

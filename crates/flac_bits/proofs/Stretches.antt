@@ -70,26 +70,32 @@ eight_bits bytes place high low v room lt is first second =
     ap (unsigned 64) is ∙ split 32 32 (high * 2 ^ 32 + low) ∙ ap (λ x. unsigned 32 x ++ unsigned 32 (high * 2 ^ 32 + low)) (shr_high high 32 low lt) ∙ ap (λ bs. unsigned 32 high ++ bs) (unsigned_low 32 high 32 low (omega arith))
     ∙ ap (λ bs. bs ++ unsigned 32 low) first ∙ ap (λ bs. bits_of (four_at bytes place) ++ bs) second ∙ sym (bits_of-append (four_at bytes place) (four_at bytes (place + 4))) ∙ sym (ap (λ xs. bits_of (take 8 xs)) parts)
 
--- the first of them
-pub first_bytes : (x n : ℕ) (xs : List ℕ) → n ≤ 7 → 8 ≤ length xs → unsigned 64 x ≡ bits_of (take 8 xs) → unsigned (8 * n) (x / 2 ^ (64 - 8 * n)) ≡ bits_of (take n xs)
-first_bytes x n xs few long is =
+-- the first of them, and the others
+parts_of_eight : (x n : ℕ) (xs : List ℕ) → n ≤ 8 → 8 ≤ length xs → unsigned 64 x ≡ bits_of (take 8 xs) → (unsigned (8 * n) (x / 2 ^ (64 - 8 * n)) ≡ bits_of (take n xs)) × (unsigned (64 - 8 * n) x ≡ bits_of (drop n (take 8 xs)))
+parts_of_eight x n xs few long is =
     let rest = drop n (take 8 xs) in
     let e : 64 ≡ 8 * n + (64 - 8 * n) = omega (arith, few) in
     let low : unsigned (8 * n) (x / 2 ^ (64 - 8 * n)) ++ unsigned (64 - 8 * n) x ≡ bits_of (take n (take 8 xs)) ++ bits_of rest =
     sym (split (8 * n) (64 - 8 * n) x) ∙ ap (λ k. unsigned k x) (sym e) ∙ is ∙ sym (ap bits_of (take-append-drop n (take 8 xs))) ∙ bits_of-append (take n (take 8 xs)) rest in
     let same : length (unsigned (64 - 8 * n) x) ≡ length (bits_of rest) = omega (arith, length-unsigned (64 - 8 * n) x, length-bits_of rest, length-drop n (take 8 xs), length-take 8 xs, long, few) in
     let parts = same_parts (unsigned (8 * n) (x / 2 ^ (64 - 8 * n))) (unsigned (64 - 8 * n) x) (bits_of (take n (take 8 xs))) (bits_of rest) low same in
-    parts.0 ∙ ap bits_of (inner n 8 xs (omega (arith, few)))
+    (parts.0 ∙ ap bits_of (inner n 8 xs (omega (arith, few))), parts.1)
   where
     inner : (a b : ℕ) (ys : List ℕ) → a ≤ b → take a (take b ys) ≡ take a ys
     inner a b ys le = grind (arith, take-take)
+
+pub first_bytes : (x n : ℕ) (xs : List ℕ) → n ≤ 8 → 8 ≤ length xs → unsigned 64 x ≡ bits_of (take 8 xs) → unsigned (8 * n) (x / 2 ^ (64 - 8 * n)) ≡ bits_of (take n xs)
+first_bytes x n xs few long is = (parts_of_eight x n xs few long is).0
+
+pub last_bytes : (x n : ℕ) (xs : List ℕ) → n ≤ 7 → 8 ≤ length xs → unsigned 64 x ≡ bits_of (take 8 xs) → unsigned (64 - 8 * n) x ≡ bits_of (drop n (take 8 xs))
+last_bytes x n xs few long is = (parts_of_eight x n xs (omega (arith, few)) long is).1
 
 -- bytes came into the word, and a text was taken off it
 pub came_taken : (bytes : List ℕ) (used n x : ℕ) (first word filled last text more : List Bool) → n ≤ 7 → used + 8 ≤ length bytes → unsigned 64 x ≡ bits_of (take 8 (drop used bytes))
     → first ++ bits_of (take used bytes) ≡ text ++ word → filled ≡ word ++ unsigned (8 * n) (x / 2 ^ (64 - 8 * n)) → filled ≡ more ++ last → first ++ bits_of (take (used + n) bytes) ≡ (text ++ more) ++ last
 came_taken bytes used n x first word filled last text more few room is tie put taken =
     let ys = take n (drop used bytes) in
-    let bits = first_bytes x n (drop used bytes) few (omega (arith, length-drop used bytes, room)) is in
+    let bits = first_bytes x n (drop used bytes) (omega (arith, few)) (omega (arith, length-drop used bytes, room)) is in
     ap (λ xs. first ++ bits_of xs) (take-add used n bytes) ∙ ap (λ bs. first ++ bs) (bits_of-append (take used bytes) ys) ∙ sym (append_assoc first (bits_of (take used bytes)) (bits_of ys))
     ∙ ap (λ bs. bs ++ bits_of ys) tie ∙ append_assoc text word (bits_of ys) ∙ ap (λ bs. text ++ bs) (ap (λ bs. word ++ bs) (sym bits) ∙ sym put ∙ taken) ∙ sym (append_assoc text more last)
 

@@ -1,16 +1,19 @@
 //! Reading of values under a Rice code from a word and the bytes after it.
 
-ghost use Rattle.std.specs.Prelude.{◌≡◌, ◌<◌, ◌≤◌, ◌+◌, ◌++◌, ℕ, List, Bool, length, take, drop, get_or, pos};
+ghost use Rattle.std.specs.Prelude.{◌≡◌, ◌<◌, ◌≤◌, ◌+◌, ◌-◌, ◌%◌, ◌^◌, ◌++◌, ℕ, List, Bool, length, take, drop, get_or, pos};
 ghost use Rattle.flac_bits.specs.Bits.{unsigned, bits_of};
 ghost use Rattle.flac_bits.specs.Rice.{IsResidual};
 ghost use Rattle.flac_bits.specs.inner.Store.{four_at};
-ghost use Rattle.flac_bits.specs.inner.Stretches.{IsRead};
+ghost use Rattle.flac_bits.specs.inner.Stretches.{IsRead, top_bits, Agrees};
 
-use crate::signed::unfolded;
-use crate::word::Word;
+use crate::word::{Ahead, Word, code_of};
 
 /// The largest Rice parameter under which each value whose whole code the word has is in its range.
 pub const MOST_READY: u32 = 26;
+
+/// The least Rice parameter under which the codes of a filled word are so few that it is faster to ask once whether they
+/// are all there.
+const AT_ONCE: u32 = 8;
 
 /// Four bytes as a number, the first of them highest.
 #[inline(always)]
@@ -40,19 +43,22 @@ fn eight_bytes(bytes: &[u8], place: usize) -> u64
 /// Fills `values` from the index `from` up to `to` with residual values, as far as the word has them, and returns where
 /// it stopped.
 #[inline(always)]
-fn values_held(word: &mut Word, k: u32, values: &mut [i64], from: usize, to: usize) -> usize
+fn values_held(word: &mut Ahead, k: u32, values: &mut [i64], from: usize, to: usize) -> usize
+    requires few { word.old.count ≤ 63 }
     requires k { k ≤ 26 }
     requires from { from ≤ to }
     requires to { to ≤ length values.old }
     ensures within { (from ≤ result) × (result ≤ to) }
-    ensures read { (text : List Bool) × (word.old ≡ text ++ word.new) × IsRead k text values.old from values.new result }
+    ensures few { word.new.count ≤ 63 }
+    ensures next { (eight : ℕ) → Agrees word.old.word word.old.count eight → Agrees word.new.word word.new.count eight }
+    ensures read { (text : List Bool) × (top_bits word.old.word word.old.count ≡ text ++ top_bits word.new.word word.new.count) × IsRead k text values.old from values.new result }
     ensures fits { ((j : ℕ) → j < from → IsResidual (get_or values.old j (pos 0))) → (j : ℕ) → j < result → IsResidual (get_or values.new j (pos 0)) }
 {
     let mut i = from;
     while i < to {
-        match word.code(k) {
-            Some(folded) => {
-                values[i] = unfolded(folded);
+        match word.value(k) {
+            Some(value) => {
+                values[i] = value;
                 i += 1;
             }
             None => return i,
@@ -61,10 +67,79 @@ fn values_held(word: &mut Word, k: u32, values: &mut [i64], from: usize, to: usi
     i
 }
 
+/// What [`values_held`] does, but under large parameters it is asked once whether the word has all the codes, after the
+/// last of them. If it has not, they are read again, one by one.
+#[inline(always)]
+fn values_at_once(word: &mut Ahead, k: u32, values: &mut [i64], from: usize, to: usize) -> usize
+    requires few { word.old.count ≤ 63 }
+    requires k { k ≤ 26 }
+    requires from { from ≤ to }
+    requires to { to ≤ length values.old }
+    requires few_values { to ≤ from + 56 }
+    ensures within { (from ≤ result) × (result ≤ to) }
+    ensures few { word.new.count ≤ 63 }
+    ensures next { (eight : ℕ) → Agrees word.old.word word.old.count eight → Agrees word.new.word word.new.count eight }
+    ensures read { (text : List Bool) × (top_bits word.old.word word.old.count ≡ text ++ top_bits word.new.word word.new.count) × IsRead k text values.old from values.new result }
+    ensures fits { ((j : ℕ) → j < from → IsResidual (get_or values.old j (pos 0))) → (j : ℕ) → j < result → IsResidual (get_or values.new j (pos 0)) }
+{
+    if k < AT_ONCE {
+        return values_held(word, k, values, from, to);
+    }
+    let mut rest = word.word;
+    let mut taken = 0;
+    for i in from..to {
+        let (bits, value, behind) = code_of(rest, k);
+        values[i] = value;
+        taken += bits;
+        rest = behind;
+    }
+    if taken <= word.count {
+        word.word = rest;
+        word.count -= taken;
+        return to;
+    }
+    values_held(word, k, values, from, to)
+}
+
 /// Fills `values` from the index `from` on with residual values, as far as the word and the bytes after it have them.
 /// Returns how many bytes went into the word, and where it stopped.
 #[inline(always)]
 fn values_in(
+    word: &mut Ahead,
+    bytes: &[u8],
+    k: u32,
+    values: &mut [i64],
+    from: usize,
+) -> (usize, usize)
+    requires few { word.old.count ≤ 63 }
+    requires clean { word.old.word % 2 ^ (64 - word.old.count) ≡ 0 }
+    requires k { k ≤ 26 }
+    requires from { from ≤ length values.old }
+    ensures used { result.0 ≤ length bytes.now }
+    ensures within { (from ≤ result.1) × (result.1 ≤ length values.old) }
+    ensures few { word.new.count ≤ 63 }
+    ensures read { (text : List Bool) × (top_bits word.old.word word.old.count ++ bits_of (take result.0 bytes.now) ≡ text ++ top_bits word.new.word word.new.count) × IsRead k text values.old from values.new result.1 }
+    ensures fits { ((j : ℕ) → j < from → IsResidual (get_or values.old j (pos 0))) → (j : ℕ) → j < result.1 → IsResidual (get_or values.new j (pos 0)) }
+{
+    // as many values as a filled word nearly always has: if it has fewer, a branch is mispredicted
+    let at_once = 56 / (k as usize + 3);
+    let mut used = 0;
+    let mut i = from;
+    while bytes.len() - used >= 8 && i < values.len() {
+        used += word.fill(eight_bytes(bytes, used)) as usize;
+        let to = i + at_once.min(values.len() - i);
+        let next = values_at_once(word, k, values, i, to);
+        if next == i {
+            return (used, i);
+        }
+        i = next;
+    }
+    (used, i)
+}
+
+/// What [`values_in`] does, with a word whose bits stand alone before and after.
+#[inline(always)]
+fn values_of(
     word: &mut Word,
     bytes: &[u8],
     k: u32,
@@ -78,23 +153,13 @@ fn values_in(
     ensures read { (text : List Bool) × (word.old ++ bits_of (take result.0 bytes.now) ≡ text ++ word.new) × IsRead k text values.old from values.new result.1 }
     ensures fits { ((j : ℕ) → j < from → IsResidual (get_or values.old j (pos 0))) → (j : ℕ) → j < result.1 → IsResidual (get_or values.new j (pos 0)) }
 {
-    // as many values as a filled word nearly always has: if it has fewer, a branch is mispredicted
-    let at_once = 56 / (k as usize + 3);
-    let mut used = 0;
-    let mut i = from;
-    while bytes.len() - used >= 8 && i < values.len() {
-        used += word.fill(eight_bytes(bytes, used)) as usize;
-        let to = i + at_once.min(values.len() - i);
-        let next = values_held(word, k, values, i, to);
-        if next == i {
-            return (used, i);
-        }
-        i = next;
-    }
-    (used, i)
+    let mut ahead = word.ahead();
+    let taken = values_in(&mut ahead, bytes, k, values, from);
+    *word = ahead.cut();
+    taken
 }
 
-/// What [`values_in`] does, compiled anew for each of the usual parameters.
+/// What [`values_of`] does, compiled anew for each of the usual parameters.
 #[inline(always)]
 pub(crate) fn values_by(
     word: &mut Word,
@@ -111,23 +176,23 @@ pub(crate) fn values_by(
     ensures fits { ((j : ℕ) → j < from → IsResidual (get_or values.old j (pos 0))) → (j : ℕ) → j < result.1 → IsResidual (get_or values.new j (pos 0)) }
 {
     match k {
-        0 => values_in(word, bytes, 0, values, from),
-        1 => values_in(word, bytes, 1, values, from),
-        2 => values_in(word, bytes, 2, values, from),
-        3 => values_in(word, bytes, 3, values, from),
-        4 => values_in(word, bytes, 4, values, from),
-        5 => values_in(word, bytes, 5, values, from),
-        6 => values_in(word, bytes, 6, values, from),
-        7 => values_in(word, bytes, 7, values, from),
-        8 => values_in(word, bytes, 8, values, from),
-        9 => values_in(word, bytes, 9, values, from),
-        10 => values_in(word, bytes, 10, values, from),
-        11 => values_in(word, bytes, 11, values, from),
-        12 => values_in(word, bytes, 12, values, from),
-        13 => values_in(word, bytes, 13, values, from),
-        14 => values_in(word, bytes, 14, values, from),
-        15 => values_in(word, bytes, 15, values, from),
-        16 => values_in(word, bytes, 16, values, from),
-        k => values_in(word, bytes, k, values, from),
+        0 => values_of(word, bytes, 0, values, from),
+        1 => values_of(word, bytes, 1, values, from),
+        2 => values_of(word, bytes, 2, values, from),
+        3 => values_of(word, bytes, 3, values, from),
+        4 => values_of(word, bytes, 4, values, from),
+        5 => values_of(word, bytes, 5, values, from),
+        6 => values_of(word, bytes, 6, values, from),
+        7 => values_of(word, bytes, 7, values, from),
+        8 => values_of(word, bytes, 8, values, from),
+        9 => values_of(word, bytes, 9, values, from),
+        10 => values_of(word, bytes, 10, values, from),
+        11 => values_of(word, bytes, 11, values, from),
+        12 => values_of(word, bytes, 12, values, from),
+        13 => values_of(word, bytes, 13, values, from),
+        14 => values_of(word, bytes, 14, values, from),
+        15 => values_of(word, bytes, 15, values, from),
+        16 => values_of(word, bytes, 16, values, from),
+        k => values_of(word, bytes, k, values, from),
     }
 }

@@ -3,7 +3,10 @@
 ghost use Rattle.std.specs.Prelude.{◌≡◌, ◌<◌, ◌≤◌, ◌+◌, ◌-◌, ◌*◌, ◌/◌, ◌%◌, ◌^◌, ◌++◌, [], ℕ, List, Bool, length, IfSome, Some, None};
 ghost use Rattle.flac_bits.specs.Bits.{unsigned};
 ghost use Rattle.flac_bits.specs.Meaning.{unary_bits};
+ghost use Rattle.flac_bits.specs.Rice.{unfolded, IsResidual};
+ghost use Rattle.flac_bits.specs.inner.Stretches.{top_bits, Agrees};
 
+use crate::signed::value_of_code;
 use std::marker::Model;
 
 /// At most 63 bits, the first of them highest in the word, and zeros below them.
@@ -105,20 +108,6 @@ impl Word {
         self.count += 32;
     }
 
-    /// Adds the first of eight bytes, as many as there is room for, and returns how many.
-    #[inline(always)]
-    pub(crate) fn fill(&mut self, eight: u64) -> u32
-        ensures few { result ≤ 7 }
-        ensures put { self.new ≡ self.old ++ unsigned (8 * result) (eight / 2 ^ (64 - 8 * result)) }
-    {
-        let n = (63 - self.count) / 8;
-        let rest = 64 - 8 * n - self.count;
-        let value = eight >> self.count >> rest;
-        self.word += value << rest;
-        self.count += 8 * n;
-        n
-    }
-
     /// Takes zeros and a one, if they are held and there are at most `limit` zeros.
     #[inline(always)]
     pub(crate) fn unary(&mut self, limit: u64) -> Option<u64>
@@ -154,24 +143,90 @@ impl Word {
             None
         }
     }
-    /// Takes zeros, a one and k bits, if all are held.
+
+    /// The same bits, for bits that come next to be put below them.
     #[inline(always)]
-    pub(crate) fn code(&mut self, k: u32) -> Option<u64>
-        requires { k ≤ 26 }
-        ensures some { IfSome result (λ v. (q : ℕ) × (low : ℕ) × (q ≤ 62) × (low < 2 ^ k) × (v ≡ q * 2 ^ k + low) × (self.old ≡ (unary_bits q ++ unsigned k low) ++ self.new)) }
-        ensures small { IfSome result (λ v. v ≤ 0xFFFF_FFFE) }
+    pub(crate) fn ahead(&self) -> Ahead
+        ensures same { top_bits result.word result.count ≡ self.now }
+        ensures few { result.count ≤ 63 }
+        ensures clean { result.word % 2 ^ (64 - result.count) ≡ 0 }
+    {
+        Ahead {
+            word: self.word,
+            count: self.count,
+        }
+    }
+}
+
+/// The code of a residual value under the Rice parameter k at the front of a word, if all of it is there: how many bits
+/// it has, the value, and the word behind it. If it has more bits than are held, nothing is said.
+#[inline(always)]
+pub(crate) fn code_of(word: u64, k: u32) -> (u32, i64, u64)
+    requires { k ≤ 26 }
+    ensures bits { result.0 ≤ 91 }
+    ensures read { (count : ℕ) → count ≤ 63 → result.0 ≤ count → (q : ℕ) × (low : ℕ) × (q ≤ 62) × (low < 2 ^ k) × (result.1 ≡ unfolded (q * 2 ^ k + low)) × (top_bits word count ≡ (unary_bits q ++ unsigned k low) ++ top_bits result.2 (count - result.0)) }
+    ensures fits { result.0 ≤ 63 → IsResidual result.1 }
+    ensures next { (count eight : ℕ) → count ≤ 63 → result.0 ≤ count → Agrees word count eight → Agrees result.2 (count - result.0) eight }
+{
+    // 64 if no bit is set: too many in any case
+    let zeros = word.leading_zeros();
+    // so that only one shift is by an unknown number if k is known
+    let ahead = word << (zeros % 64);
+    let value = value_of_code(zeros, ahead >> (63 - k), k);
+    (zeros + 1 + k, value, ahead << (k + 1))
+}
+
+/// At most 63 bits, the first of them highest in the word. Below them are the first of the bits that come next, as far
+/// as these were read: what is put there again changes nothing.
+#[derive(Clone, Copy)]
+pub(crate) struct Ahead {
+    pub(crate) word: u64,
+    pub(crate) count: u32,
+}
+
+impl Ahead {
+    /// The bits alone.
+    #[inline(always)]
+    pub(crate) fn cut(self) -> Word
+        requires { self.count ≤ 63 }
+        ensures { result ≡ top_bits self.word self.count }
+    {
+        Word::of_bits(self.word >> 1 >> (63 - self.count), self.count)
+    }
+
+    /// Adds the first of the eight bytes that come next, as many as there is room for, and returns how many. The other
+    /// bits of the eight come to stand below them: so no bits need to be removed, which would take more steps one
+    /// after another.
+    #[inline(always)]
+    pub(crate) fn fill(&mut self, eight: u64) -> u32
+        requires few { self.old.count ≤ 63 }
+        requires next { Agrees self.old.word self.old.count eight }
+        ensures few { (result ≤ 7) × (self.new.count ≤ 63) }
+        ensures put { top_bits self.new.word self.new.count ≡ top_bits self.old.word self.old.count ++ unsigned (8 * result) (eight / 2 ^ (64 - 8 * result)) }
+        ensures next { (after : ℕ) → eight % 2 ^ (64 - 8 * result) ≡ after / 2 ^ (8 * result) → Agrees self.new.word self.new.count after }
+    {
+        let n = 7 - self.count / 8;
+        self.word |= eight >> self.count;
+        self.count = 56 + self.count % 8;
+        n
+    }
+
+    /// Takes the code of a residual value under the Rice parameter k, if all of it is held.
+    #[inline(always)]
+    pub(crate) fn value(&mut self, k: u32) -> Option<i64>
+        requires few { self.old.count ≤ 63 }
+        requires k { k ≤ 26 }
+        ensures some { IfSome result (λ v. (q : ℕ) × (low : ℕ) × (q ≤ 62) × (low < 2 ^ k) × (v ≡ unfolded (q * 2 ^ k + low)) × (top_bits self.old.word self.old.count ≡ (unary_bits q ++ unsigned k low) ++ top_bits self.new.word self.new.count)) }
+        ensures fits { IfSome result IsResidual }
+        ensures few { self.new.count ≤ 63 }
+        ensures next { (eight : ℕ) → Agrees self.old.word self.old.count eight → Agrees self.new.word self.new.count eight }
         ensures none { result ≡ None → self.new ≡ self.old }
     {
-        // 64 if no one is held: too many in any case
-        let zeros = self.word.leading_zeros();
-        let used = zeros + 1 + k;
-        if used <= self.count {
-            // so that only one shift is by an unknown number if k is known
-            let ahead = self.word << zeros;
-            let one_and_low = ahead >> (63 - k);
-            self.word = ahead << (k + 1);
-            self.count -= used;
-            Some((u64::from(zeros) << k) + (one_and_low - (1 << k)))
+        let (bits, value, rest) = code_of(self.word, k);
+        if bits <= self.count {
+            self.word = rest;
+            self.count -= bits;
+            Some(value)
         } else {
             None
         }
