@@ -26,6 +26,8 @@ NOTE = re.compile(r"note: (?:\./)?(src/\S+?):(\d+):\d+: .* \(`[^`]+`\)")
 ERROR = re.compile(r"(?:\./)?proofs/(\S+)/(?:Answers|Invariants|Proof)\.antt:\d+:\d+: error: ")
 PLACE = re.compile(r"(?:note: )?(?:\./)?(src/\S+?|proofs/\S+?):(\d+):\d+: ")
 VERDICT = re.compile(r"(\w+) (\S+::\S+): (.+)")
+# the last line of a check that came to a verdict
+VERDICTS = re.compile(r"^logic=\S.*\n?\Z", re.MULTILINE)
 # the prover has a proof of its own there, and stops
 TAKEN = re.compile(r"^(?:\./)?proofs/(\S+)/Proof\.antt: error\[reserved-name\]", re.MULTILINE)
 # a proof file that names what an edit took away: little is known of the contract, so the edit is tried alone
@@ -156,7 +158,9 @@ def understood(rt, sources, folder, file):
         if functions is None:
             return None
         edit.functions |= functions
-        edit.lines.update({(path, at): now for at, (was, now) in enumerate(zip(sources.files[path].lines, new)) if was != now})
+        # (elsewhere it changes at most the spaces that make an old text the only one)
+        places = [at for it in functions for first, last in [sources.lines[it]] for at in range(first - 1, last)]
+        edit.lines.update({(path, at): new[at] for at in places if new[at] != sources.files[path].lines[at]})
     return edit if edit.functions and not why else None
 
 
@@ -189,11 +193,14 @@ def batches(rt, crate, files):
     return [[it.file for it in batch] for batch in batched(edits) if len(batch) > 1]
 
 
-def applied(sources, edits):
-    """The texts of the files that these edits change, with all of them."""
-    lines = {path: [*sources.files[path].lines] for edit in edits for path, _ in edit.lines}
+def applied(folder, edits):
+    """The texts of the files of this copy of the crate that these edits change, with all of them."""
+    lines = {}
     for edit in edits:
         for (path, at), text in edit.lines.items():
+            if path not in lines:
+                with open(f"{folder}/{path}", "rb") as it:
+                    lines[path] = it.read().split(b"\n")
             lines[path][at] = text
     return {path: b"\n".join(it).decode() for path, it in lines.items()}
 
@@ -259,12 +266,29 @@ def with_no_proof(folder):
         it.write("-- not asked for here\n")
 
 
+def has_own_use(function, text):
+    """Whether more than the function's contract may matter to others: of a constant one its value, of a trait's own its proof in each type,
+    and in a cycle of calls its proof."""
+    return b"const" in text[function.first : function.opens].split() or function.in_cycle or function.block and function.block.is_trait
+
+
+def emptied(text, functions):
+    """The text with a body that is never reached for each of these functions, on as many lines."""
+    parts, end = [], 0
+    for it in sorted(functions, key=lambda it: it.opens):
+        # (a function within another goes with it)
+        if it.opens >= end:
+            parts += [text[end : it.opens], b"{ unreachable!()", b"\n" * text.count(b"\n", it.opens, it.end), b"}"]
+            end = it.end
+    return b"".join([*parts, text[end:]])
+
+
 @contextlib.contextmanager
-def without_proofs(rt, crate, sources, edits, taken=()):
+def without_proofs(rt, crate, sources, edits, taken=(), bare=True):
     """A copy of the crate in which the functions that no edit changes have no proof, so that a check from nothing does not spend its time
-    on them: in place of the files of their proofs, or where they have none, stands one with no proof. It says nothing of them, and of the
-    others what it says with these proofs: they are proved from contracts alone, but for those that cite the proof of another, which keeps it.
-    Nothing is put into the places that are taken."""
+    on them: in place of the files of their proofs, or where they have none, stands one with no proof, and they have no body if it is to be
+    bare. The check says nothing of them, and of the others what it says with these: they are proved from contracts alone, but for those that
+    cite the proof of another, which keeps it. Nothing is put into the places that are taken."""
     changed = {it for edit in edits for it in edit.functions}
 
     def is_changed(symbol):
@@ -285,23 +309,39 @@ def without_proofs(rt, crate, sources, edits, taken=()):
             symbol = "::".join([crate.name, *place.split("/")])
             if not os.path.isdir(f"{room}/proofs/{place}") and not is_changed(symbol):
                 with_no_proof(f"{room}/proofs/{place}")
-        bare = copy.copy(crate)
-        bare.folder = room
-        yield bare
+        for path, text in sources.data.items() if bare else ():
+            rest = [it for it in sources.of_file(path) if it not in changed and not has_own_use(it, text)]
+            with open(f"{room}/{path}", "wb") as it:
+                it.write(emptied(text, [it for it in rest if f"{room}/proofs/{sources.place(it)}" not in kept]))
+        copied = copy.copy(crate)
+        copied.folder = room
+        yield copied
+
+
+def checked(rt, crate, sources, edits, flags, folder):
+    """Checks the crate with these edits over kept work, or from nothing over a copy that has little more than what they change. Returns what
+    the check printed, and the texts."""
+    taken, bare = set(), not folder
+    while True:
+        with contextlib.nullcontext(crate) if folder else without_proofs(rt, crate, sources, edits, taken, bare) as copied:
+            texts = applied(copied.folder, edits)
+            ran = rt.checked(copied, texts, flags, folder)
+        found = set() if folder else {*TAKEN.findall(ran.stdout)}
+        if taken.issuperset(found) and (ran.returncode in (0, 1) and VERDICTS.search(ran.stdout) or not bare):
+            return ran, texts
+        # (where an empty body is no body of that function, each has its own)
+        bare = bare and not taken.issuperset(found)
+        taken |= found
 
 
 def refused(rt, crate, sources, edits, flags, kept):
     """Tries these edits at once, and returns what is to be said of each that the prover refuses, by its file. kept() gives a new copy of
-    the crate's kept work, for one check, or None."""
-    if len(edits) < 2:
-        return {}
-    texts = applied(sources, edits)
+    the crate's kept work, for one check, or None: then one edit, too, takes less so than alone."""
     with kept() as folder:
-        ran, taken = None, set()
-        while ran is None or not folder and not taken.issuperset(TAKEN.findall(ran.stdout)):
-            taken.update(TAKEN.findall(ran.stdout) if ran else [])
-            with contextlib.nullcontext(crate) if folder else without_proofs(rt, crate, sources, edits, taken) as copied:
-                ran = rt.checked(copied, texts, flags, folder)
+        # (over kept work one is as soon tried alone)
+        if len(edits) < (2 if folder else 1):
+            return {}
+        ran, texts = checked(rt, crate, sources, edits, flags, folder)
     lines = ran.stdout.rstrip("\n").split("\n")
     unread = [it for it in lines if rt.unread(it, texts)]
     if ran.returncode == 0:
@@ -310,8 +350,8 @@ def refused(rt, crate, sources, edits, flags, kept):
     if ran.returncode != 1 or not lines[-1].startswith("logic=not-proved") or unread or rt.rtlib.STALE.search(ran.stdout):
         limits = [it for it in lines if rt.LIMITS.search(it)]
         found = at_fault(sources, edits, unread or limits or [it for it in lines if "error" in it])
-        rest = [it for it in edits if it not in found]
-        halves = [rest] if found else [edits[: len(edits) // 2], edits[len(edits) // 2 :]]
+        rest = [it for it in edits if it not in found and len(edits) > 1]
+        halves = [rest] if found or len(edits) == 1 else [edits[: len(edits) // 2], edits[len(edits) // 2 :]]
         return {file: it for half in halves for file, it in refused(rt, crate, sources, half, flags, kept).items()}
     said, errors, told = verdicts(ran.stdout), {}, {}
     for line in lines:
