@@ -43,7 +43,7 @@ pub(crate) struct Encoding<'a> {
 }
 
 /// Why raw samples are not encoded.
-#[derive(Clone, Copy, Debug, PartialEq, Eq)]
+#[derive(Clone, Copy)]
 pub(crate) enum Refusal {
     /// The input cannot be read, the comments are too long, or an allocation fails.
     Input(Why),

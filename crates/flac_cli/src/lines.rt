@@ -21,7 +21,7 @@ fn last_digit(number: u64) -> u8
 }
 
 /// Where in a file a reason applies.
-#[derive(Clone, Copy, Debug, PartialEq, Eq)]
+#[derive(Clone, Copy)]
 pub(crate) enum At {
     /// To the whole file.
     Whole,

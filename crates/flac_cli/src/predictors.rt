@@ -11,7 +11,7 @@ use flac_subframe::LinearPredictor;
 use std::alloc::{AllocError, AllocFailed, Global};
 
 /// Why a text is no list of predictors.
-#[derive(Clone, Copy, Debug, PartialEq, Eq)]
+#[derive(Clone, Copy)]
 pub(crate) enum ListFault {
     /// An allocation fails.
     Memory,

@@ -21,7 +21,7 @@ use flac_meta::StreamInfo;
 use std::alloc::Global;
 
 /// How far a decoder has read.
-#[derive(Clone, Copy, Debug, PartialEq, Eq)]
+#[derive(Clone, Copy)]
 pub(crate) enum Course {
     /// Nothing was read.
     Begun,

@@ -31,7 +31,7 @@ pub struct Plan {
 }
 
 /// What a plan is made of, but for its predictors.
-#[derive(Clone, Copy, Debug, PartialEq, Eq)]
+#[derive(Clone, Copy, Debug)]
 struct Asked {
     profile: Profile,
     block_size: u32,

@@ -30,7 +30,7 @@ use std::alloc::Global;
 use std::mem;
 
 /// Which kind of part of a stream comes next.
-#[derive(Clone, Copy, Debug, PartialEq, Eq)]
+#[derive(Clone, Copy)]
 pub(crate) enum Phase {
     /// The marker.
     Opening,

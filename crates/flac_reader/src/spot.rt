@@ -7,7 +7,7 @@ ghost use Rattle.flac_reader.specs.Places.{samples_from};
 use flac_native::FrameView;
 
 /// The place of the next sample of a stream.
-#[derive(Clone, Copy, Debug, PartialEq, Eq)]
+#[derive(Clone, Copy)]
 pub(crate) enum Spot {
     /// In the next frame.
     Next,
