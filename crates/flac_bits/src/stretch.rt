@@ -11,9 +11,9 @@ use crate::word::{Ahead, Word, code_of};
 /// The largest Rice parameter under which each value whose whole code the word has is in its range.
 pub const MOST_READY: u32 = 26;
 
-/// The least Rice parameter under which the codes of a filled word are so few that it is faster to ask once whether they
-/// are all there.
-const AT_ONCE: u32 = 8;
+/// The least Rice parameter under which the codes of a filled word are so few that it is as fast or faster to ask once
+/// whether they are all there. That loop is short enough to be fast wherever its jump falls.
+const AT_ONCE: u32 = 5;
 
 /// Four bytes as a number, the first of them highest.
 #[inline(always)]
@@ -67,7 +67,7 @@ fn values_held(word: &mut Ahead, k: u32, values: &mut [i64], from: usize, to: us
     i
 }
 
-/// What [`values_held`] does, but under large parameters it is asked once whether the word has all the codes, after the
+/// What [`values_held`] does, but under most parameters it is asked once whether the word has all the codes, after the
 /// last of them. If it has not, they are read again, one by one.
 #[inline(always)]
 fn values_at_once(word: &mut Ahead, k: u32, values: &mut [i64], from: usize, to: usize) -> usize
