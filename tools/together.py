@@ -248,9 +248,10 @@ def at_fault(sources, edits, lines):
 
 
 def cited(crate, room):
-    """The folders below proofs/ whose answers or invariants a file of another folder imports: there a function's proof rests on that of
-    another."""
-    found, of_a_proof = set(), re.compile(rf"\bRattle\.{crate.name}\.proofs\.([\w.+-]+)\.(?:Answers|Invariants|Proof)\b")
+    """The folders below proofs/ of whose modules a file of another folder imports one, be it written or made of the function's body: there a
+    proof rests on that of another function, or on its body."""
+    modules = "Answers|Invariants|Proof|Goals|Lts|Code|Given|Named|Tie|Layout|Symbol"
+    found, of_a_proof = set(), re.compile(rf"\bRattle\.{crate.name}\.proofs\.([\w.+-]+)\.(?:{modules})\b")
     for folder, _, names in os.walk(f"{room}/proofs"):
         for name in names:
             with open(f"{folder}/{name}", encoding="utf-8") as it:
