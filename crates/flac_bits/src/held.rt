@@ -11,7 +11,7 @@ ghost use Rattle.flac_bits.specs.Store.{Store, passed, allowed, forbidden, hides
 ghost use Rattle.flac_bits.specs.inner.Store.{Takes, Passes, HoldsSame, seen as seen_bytes, room_behind as room_behind_bytes};
 ghost use Rattle.flac_bits.specs.inner.Pulling.{Pulls};
 
-use crate::HOLD;
+use crate::PULL;
 use crate::source::Source;
 use crate::stretch::{four_bytes, values_by};
 use crate::sums::{bits_checked8, bits_checked16, both_checked, checked8, checked16};
@@ -24,7 +24,7 @@ use std::marker::Model;
 #[derive(Drop)]
 pub struct Held {
     word: Word,
-    bytes: [u8; HOLD],
+    bytes: [u8; PULL],
     place: usize,
     end: usize,
     filled: usize,
@@ -51,9 +51,9 @@ impl Model for Held {
       fence = record { room = h.room; hidden = drop h.end (take h.filled h.bytes) };
     } };
 
-    ghost invariant = { λ h. (h.from ≤ h.place) × (h.place ≤ h.end) × (h.end ≤ 4096)
+    ghost invariant = { λ h. (h.from ≤ h.place) × (h.place ≤ h.end) × (h.end ≤ 8192)
         × (passed (drop h.from (take h.place h.bytes)) h.word ++ h.word ≡ bits_of (drop h.from (take h.place h.bytes)))
-        × (length h.bytes ≡ 4096) × (h.end ≤ h.filled) × (h.filled ≤ 4096) × (hides_late h.room h.end h.filled ≡ true) };
+        × (length h.bytes ≡ 8192) × (h.end ≤ h.filled) × (h.filled ≤ 8192) × (hides_late h.room h.end h.filled ≡ true) };
 }
 
 /// How many of n bytes are before a fence.
@@ -83,7 +83,7 @@ impl Held {
     {
         Held {
             word: Word::empty(),
-            bytes: [0; HOLD],
+            bytes: [0; PULL],
             place: 0,
             end: 0,
             filled: 0,

@@ -43,5 +43,8 @@ pub use target::{Collected, Target};
 pub use why::Why;
 pub use writer::BitWriter;
 
-/// How many bytes a reader or a writer holds at most: what a reader pulls at once, and what a writer sends at once.
+/// How many bytes a reader holds at most, and pulls at once.
+pub(crate) const PULL: usize = 8192;
+
+/// How many bytes a writer holds at most, and sends at once.
 pub(crate) const HOLD: usize = 4096;

@@ -23,7 +23,7 @@ use crate::stretch::MOST_READY;
 use crate::why::Why;
 use std::marker::Model;
 
-/// Reads a source bit by bit, the highest bit of a byte first. It pulls up to 4096 bytes at a time from the source.
+/// Reads a source bit by bit, the highest bit of a byte first. It pulls up to 8192 bytes at a time from the source.
 ///
 /// # Errors
 /// A call that needs more bits than are left returns [`Why::Truncated`] if the input ends, [`Why::FrameTooLong`] if a

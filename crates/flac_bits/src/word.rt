@@ -159,7 +159,7 @@ impl Word {
 }
 
 /// The code of a residual value under the Rice parameter k at the front of a word, if all of it is there: how many bits
-/// it has, the value, and the word behind it. If it has more bits than are held, nothing is said.
+/// it has, the value, and the word after it. If it has more bits than are held, nothing is said.
 #[inline(always)]
 pub(crate) fn code_of(word: u64, k: u32) -> (u32, i64, u64)
     requires { k ≤ 26 }
