@@ -6,7 +6,7 @@ abbrev pub mixed_at : List ℕ → (ℕ → ℕ) → ℕ → ℕ
 mixed_at [] f p = 0
 mixed_at (e ∷ es) f p = bit_xor (f (p + e)) (mixed_at es f p)
 
--- the numbers of a list, and zeros behind it
+-- the numbers of a list, and zeros after them
 abbrev pub value_at : List ℕ → ℕ → ℕ
 value_at q k = get_or q k 0
 
