@@ -5,7 +5,7 @@ use Rattle.std.proofs.lemmas.Int.{ints}
 use Rattle.std.specs.Prelude.{bit_or}
 use Rattle.std.specs.List.{list_all}
 use Rattle.std.proofs.lemmas.Bool.Decides.{nat_tests}
-use Rattle.std.proofs.lemmas.Nat.{le_or_l, le_or_r, pow_pos}
+use Rattle.std.proofs.lemmas.Nat.{le_or_l, le_or_r, or_lt, pow_pos}
 use Rattle.std.proofs.lemmas.List.{take_all, take_more, take_more_set}
 use Rattle.std.proofs.Math.Nat.{pow-le-pow_right, div-eq_of_lt, lt-div-mul-add}
 use Rattle.flac_bits.specs.Signed.{FitsBits}
@@ -66,12 +66,19 @@ pub put_more : (xs out : List ℤ) (i : ℕ) (value : ℤ) → i < length xs →
 put_more xs out i value lt long same is =
     take_more_set out i value (omega (arith, long, lt)) ∙ (ap (λ k. k ++ value ∷ []) same ∙ ap (λ z. take i xs ++ z ∷ []) is) ∙ sym (take_more xs i (pos 0) lt)
 
--- of two counts of what is wrong none is left where their union has none
-pub none_left : (a b : ℕ) → bit_or a b ≡ 0 → (a ≡ 0) × (b ≡ 0)
-none_left a b e = (omega (arith, le_or_l a b, e), omega (arith, le_or_r a b, e))
+-- two numbers have no bit from a place on exactly if their union has none
+below : (n a : ℕ) → a / 2 ^ n ≡ 0 → a < 2 ^ n
+below n a e =
+    let lt : a < 0 * 2 ^ n + 2 ^ n = rw e at (lt-div-mul-add {a = a} {b = 2 ^ n} (pow_pos n)) in
+    omega (arith, lt)
 
-pub none_both : (a b : ℕ) → a ≡ 0 → b ≡ 0 → bit_or a b ≡ 0
-none_both a b e f = rw (e, f) refl
+pub none_left : (n a b : ℕ) → bit_or a b / 2 ^ n ≡ 0 → (a / 2 ^ n ≡ 0) × (b / 2 ^ n ≡ 0)
+none_left n a b e =
+    let lt = below n (bit_or a b) e in
+    (div-eq_of_lt (omega (arith, le_or_l a b, lt)), div-eq_of_lt (omega (arith, le_or_r a b, lt)))
+
+pub none_both : (n a b : ℕ) → a / 2 ^ n ≡ 0 → b / 2 ^ n ≡ 0 → bit_or a b / 2 ^ n ≡ 0
+none_both n a b e f = div-eq_of_lt (or_lt n a b (below n a e) (below n b f))
 
 -- one sample more of a channel, where nothing is wrong
 pub side_more : (depth : ℕ) (xs out : List ℤ) (i : ℕ) (x low : ℤ) → depth ≤ 32 → i < length xs → length out ≡ length xs → x ≡ get_or xs i (pos 0) → fits depth x ≡ true → (FitsSigned w32 x → low ≡ x)

@@ -1,6 +1,6 @@
 //! Samples of the stream's depth.
 
-ghost use Rattle.std.specs.Prelude.{◌≡◌, ◌≤◌, map, length, true, nat_eq, FitsSigned};
+ghost use Rattle.std.specs.Prelude.{◌≡◌, ◌≤◌, ◌/◌, ◌^◌, map, length, true, nat_eq, FitsSigned};
 ghost use Rattle.std.specs.Int.{w32};
 ghost use Rattle.std.specs.List.{list_all};
 ghost use Rattle.flac_subframe.specs.Numbers.{fits, all_fit};
@@ -9,14 +9,15 @@ ghost use Rattle.flac_frame.specs.Audio.{samples_each, samples_fault};
 use crate::setup::SetupFault;
 use flac_subframe::offset_binary;
 
-/// A number that is 0 exactly if a sample fits the depth.
+/// A number whose bits from place `depth` on are 0 exactly if a sample fits the depth. In the bitwise or of the numbers
+/// of several samples they are 0 exactly if all of these fit it.
 #[inline(always)]
 pub(crate) fn excess(sample: i64, depth: u32) -> u64
     requires depth { (1 ≤ depth) × (depth ≤ 32) }
-    ensures none { result ≡ 0 → fits depth sample ≡ true }
-    ensures some { fits depth sample ≡ true → result ≡ 0 }
+    ensures none { result / 2 ^ depth ≡ 0 → fits depth sample ≡ true }
+    ensures some { fits depth sample ≡ true → result / 2 ^ depth ≡ 0 }
 {
-    offset_binary(sample, depth) >> depth
+    offset_binary(sample, depth)
 }
 
 /// The lowest 32 bits of a sample, which are the sample if it fits them.
@@ -41,7 +42,7 @@ pub fn samples_fit(samples: &[i32], bits: u32) -> bool
     for i in 0..samples.len() {
         wrong |= excess(samples[i] as i64, bits);
     }
-    wrong == 0
+    wrong >> bits == 0
 }
 
 /// How many samples the first channel has; 0 if there is none.
@@ -102,5 +103,5 @@ pub(crate) fn narrow(samples: &[i64], depth: u32, out: &mut [i32]) -> bool
         wrong |= excess(sample, depth);
         out[i] = lowest(sample);
     }
-    wrong == 0
+    wrong >> depth == 0
 }

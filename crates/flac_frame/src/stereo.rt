@@ -67,7 +67,7 @@ fn join_two(
         left[i] = short_left;
         right[i] = short_right;
     }
-    wrong == 0
+    wrong >> depth == 0
 }
 
 /// Writes the samples of the channels, left and right for decorrelated ones, and returns whether each fits the depth.

@@ -1,4 +1,4 @@
-use Rattle.std.proofs.Common.{rules, ◌≡◌, ℤ, pos, get_or, to_z, of_z, w32, w64, SFits, sym, ap, ◌∙◌}
+use Rattle.std.proofs.Common.{◌/◌, ◌^◌, rules, ◌≡◌, ℤ, pos, get_or, to_z, of_z, w32, w64, SFits, sym, ap, ◌∙◌}
 use Rattle.std.proofs.lemmas.Int.{to_z-of_z}
 use Rattle.flac_subframe.specs.Numbers.{fits}
 use Rattle.flac_frame.proofs.Depths.{fit_more, fit_less, none_left, none_both, none_wrong}
@@ -17,11 +17,11 @@ loop-i-preserved c =
     let wide : SFits w64 y = search rules in
     let same : to_z w64 (of_z w64 y) ≡ x = to_z-of_z w64 y wide ∙ near in
     record {
-      none = λ e. let z = none_left l.wrong c.excess-wrong.result e in
+      none = λ e. let z = none_left bits l.wrong c.excess-wrong.result e in
           fit_more bits xs l.i lt (l.invariant.none z.0) (ap (fits bits) (sym same) ∙ c.excess-wrong.ensures.none z.1);
       some = λ h. let both = fit_less bits xs l.i lt h in
-          none_both l.wrong c.excess-wrong.result (l.invariant.some both.0) (c.excess-wrong.ensures.some (ap (fits bits) same ∙ both.1));
+          none_both bits l.wrong c.excess-wrong.result (l.invariant.some both.0) (c.excess-wrong.ensures.some (ap (fits bits) same ∙ both.1));
     }
 
 pub returns : goal.returns
-returns c = none_wrong c.args.bits c.loop-i.wrong c.loop-i.i c.args.samples.now c.loop-i-test.false c.loop-i.invariant.none c.loop-i.invariant.some
+returns c = none_wrong c.args.bits (c.loop-i.wrong / 2 ^ c.args.bits) c.loop-i.i c.args.samples.now c.loop-i-test.false c.loop-i.invariant.none c.loop-i.invariant.some

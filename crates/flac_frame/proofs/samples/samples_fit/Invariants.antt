@@ -1,9 +1,9 @@
-use Rattle.std.proofs.Common.{◌≡◌, take, true}
+use Rattle.std.proofs.Common.{◌≡◌, ◌/◌, ◌^◌, take, true}
 use Rattle.flac_subframe.specs.Numbers.{all_fit}
 use Rattle.flac_frame.proofs.samples.samples_fit.Given as goal
 
 abbrev pub invariant-loop-i : goal.invariant-loop-i
 invariant-loop-i l = record {
-  none : l.wrong ≡ 0 → all_fit l.bits (take l.i l.samples) ≡ true;
-  some : all_fit l.bits (take l.i l.samples) ≡ true → l.wrong ≡ 0;
+  none : l.wrong / 2 ^ l.bits ≡ 0 → all_fit l.bits (take l.i l.samples) ≡ true;
+  some : all_fit l.bits (take l.i l.samples) ≡ true → l.wrong / 2 ^ l.bits ≡ 0;
 }

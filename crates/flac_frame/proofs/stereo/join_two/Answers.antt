@@ -1,4 +1,4 @@
-use Rattle.std.proofs.Common.{arith, rules, ◌≡◌, ℤ, pos, length, get_or, to_z, of_z, w32, w64, SFits, FitsSigned, true, sym, ap, ◌∙◌}
+use Rattle.std.proofs.Common.{◌/◌, ◌^◌, arith, rules, ◌≡◌, ℤ, pos, length, get_or, to_z, of_z, w32, w64, SFits, FitsSigned, true, sym, ap, ◌∙◌}
 use Rattle.std.specs.Prelude.{bit_or}
 use Rattle.std.specs.Simd.Lanes.{zip2}
 use Rattle.std.proofs.lemmas.Int.{to_z-of_z}
@@ -42,23 +42,23 @@ loop-i-preserved c =
     let v_is : v ≡ get_or rights i (pos 0) = (rw (ps, qs) at c.join_samples-joined_left.ensures.right) ∙ sym (zip_at (right_of (code_of c.args.assignment)) a b i long lt) in
     let e = c.excess-over.result in
     let f = c.excess-above.result in
-    let good_left : e ≡ 0 → fits depth u ≡ true = λ h. ap (fits depth) (sym us) ∙ c.excess-over.ensures.none h in
-    let good_right : f ≡ 0 → fits depth v ≡ true = λ h. ap (fits depth) (sym vs) ∙ c.excess-above.ensures.none h in
+    let good_left : e / 2 ^ depth ≡ 0 → fits depth u ≡ true = λ h. ap (fits depth) (sym us) ∙ c.excess-over.ensures.none h in
+    let good_right : f / 2 ^ depth ≡ 0 → fits depth v ≡ true = λ h. ap (fits depth) (sym vs) ∙ c.excess-above.ensures.none h in
     let x : ℤ = c.lowest-short_left.result in
     let y : ℤ = c.lowest-short_right.result in
     let xf : SFits w32 x = search rules in
     let yf : SFits w32 y = search rules in
     let low_left : FitsSigned w32 u → to_z w32 (of_z w32 x) ≡ u = λ h. to_z-of_z w32 x xf ∙ (c.lowest-short_left.ensures (rw us h) ∙ us) in
     let low_right : FitsSigned w32 v → to_z w32 (of_z w32 y) ≡ v = λ h. to_z-of_z w32 y yf ∙ (c.lowest-short_right.ensures (rw vs h) ∙ vs) in
-    let parts : (z : bit_or l.wrong (bit_or e f) ≡ 0) → (l.wrong ≡ 0) × ((e ≡ 0) × (f ≡ 0)) = λ z. let k = none_left l.wrong (bit_or e f) z in (k.0, none_left e f k.1) in
-    let on_left : (z : bit_or l.wrong (bit_or e f) ≡ 0) → _ = λ z. let k = parts z in side_more depth lefts l.left i u (to_z w32 (of_z w32 x)) few (omega (arith, left_long, lt)) (omega (arith, l.auto.left, c.requires.lefts, left_long)) u_is (good_left k.1.0) low_left ((inv.none k.0).0) (inv.left k.0) in
-    let on_right : (z : bit_or l.wrong (bit_or e f) ≡ 0) → _ = λ z. let k = parts z in side_more depth rights l.right i v (to_z w32 (of_z w32 y)) few (omega (arith, right_long, lt)) (omega (arith, l.auto.right, c.requires.rights, right_long)) v_is (good_right k.1.1) low_right ((inv.none k.0).1) (inv.right k.0) in
+    let parts : (z : bit_or l.wrong (bit_or e f) / 2 ^ depth ≡ 0) → (l.wrong / 2 ^ depth ≡ 0) × ((e / 2 ^ depth ≡ 0) × (f / 2 ^ depth ≡ 0)) = λ z. let k = none_left depth l.wrong (bit_or e f) z in (k.0, none_left depth e f k.1) in
+    let on_left : (z : bit_or l.wrong (bit_or e f) / 2 ^ depth ≡ 0) → _ = λ z. let k = parts z in side_more depth lefts l.left i u (to_z w32 (of_z w32 x)) few (omega (arith, left_long, lt)) (omega (arith, l.auto.left, c.requires.lefts, left_long)) u_is (good_left k.1.0) low_left ((inv.none k.0).0) (inv.left k.0) in
+    let on_right : (z : bit_or l.wrong (bit_or e f) / 2 ^ depth ≡ 0) → _ = λ z. let k = parts z in side_more depth rights l.right i v (to_z w32 (of_z w32 y)) few (omega (arith, right_long, lt)) (omega (arith, l.auto.right, c.requires.rights, right_long)) v_is (good_right k.1.1) low_right ((inv.none k.0).1) (inv.right k.0) in
     record {
       none = λ z. ((on_left z).0, (on_right z).0);
       some = λ g h.
           let m = fit_less depth lefts i (omega (arith, left_long, lt)) g in
           let n = fit_less depth rights i (omega (arith, right_long, lt)) h in
-          none_both l.wrong (bit_or e f) (inv.some m.0 n.0) (none_both e f (c.excess-over.ensures.some (ap (fits depth) (us ∙ u_is) ∙ m.1)) (c.excess-above.ensures.some (ap (fits depth) (vs ∙ v_is) ∙ n.1)));
+          none_both depth l.wrong (bit_or e f) (inv.some m.0 n.0) (none_both depth e f (c.excess-over.ensures.some (ap (fits depth) (us ∙ u_is) ∙ m.1)) (c.excess-above.ensures.some (ap (fits depth) (vs ∙ v_is) ∙ n.1)));
       left = λ z. (on_left z).1;
       right = λ z. (on_right z).1;
     }
@@ -76,7 +76,7 @@ returns-clause-fits c =
     let right_all = take_all l.i rights (omega (arith, right_long, c.loop-i-test.false)) in
     let none = rw (left_all, right_all) at l.invariant.none in
     let some = rw (left_all, right_all) at l.invariant.some in
-    judged l.wrong _ _ none some
+    judged (l.wrong / 2 ^ c.args.depth) _ _ none some
 
 pub returns-clause-left : goal.returns-clause-left
 returns-clause-left c = λ t.
@@ -85,7 +85,7 @@ returns-clause-left c = λ t.
     let b = c.args.second.now in
     let lefts = zip2 (left_of (code_of c.args.assignment)) a b in
     let left_long : length lefts ≡ length a = length-zip2 (left_of (code_of c.args.assignment)) a b (sym c.requires.long) in
-    let z : l.wrong ≡ 0 = search rules in
+    let z : l.wrong / 2 ^ c.args.depth ≡ 0 = search rules in
     sym (take_all l.i l.left (omega (arith, l.auto.left, c.requires.lefts, c.loop-i-test.false))) ∙ l.invariant.left z ∙ take_all l.i lefts (omega (arith, left_long, c.loop-i-test.false))
 
 pub returns-clause-right : goal.returns-clause-right
@@ -95,5 +95,5 @@ returns-clause-right c = λ t.
     let b = c.args.second.now in
     let rights = zip2 (right_of (code_of c.args.assignment)) a b in
     let right_long : length rights ≡ length a = length-zip2 (right_of (code_of c.args.assignment)) a b (sym c.requires.long) in
-    let z : l.wrong ≡ 0 = search rules in
+    let z : l.wrong / 2 ^ c.args.depth ≡ 0 = search rules in
     sym (take_all l.i l.right (omega (arith, l.auto.right, c.requires.rights, c.loop-i-test.false))) ∙ l.invariant.right z ∙ take_all l.i rights (omega (arith, right_long, c.loop-i-test.false))

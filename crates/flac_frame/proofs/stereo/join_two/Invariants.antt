@@ -1,4 +1,4 @@
-use Rattle.std.proofs.Common.{◌≡◌, take, true}
+use Rattle.std.proofs.Common.{◌≡◌, ◌/◌, ◌^◌, take, true}
 use Rattle.std.specs.Simd.Lanes.{zip2}
 use Rattle.flac_header.specs.Assignment.{code_of}
 use Rattle.flac_subframe.specs.Numbers.{all_fit}
@@ -7,8 +7,8 @@ use Rattle.flac_frame.proofs.stereo.join_two.Given as goal
 
 abbrev pub invariant-loop-i : goal.invariant-loop-i
 invariant-loop-i l = record {
-  none : l.wrong ≡ 0 → (all_fit l.depth (take l.i (zip2 (left_of (code_of l.assignment)) l.first l.second)) ≡ true) × (all_fit l.depth (take l.i (zip2 (right_of (code_of l.assignment)) l.first l.second)) ≡ true);
-  some : all_fit l.depth (take l.i (zip2 (left_of (code_of l.assignment)) l.first l.second)) ≡ true → all_fit l.depth (take l.i (zip2 (right_of (code_of l.assignment)) l.first l.second)) ≡ true → l.wrong ≡ 0;
-  left : l.wrong ≡ 0 → take l.i l.left ≡ take l.i (zip2 (left_of (code_of l.assignment)) l.first l.second);
-  right : l.wrong ≡ 0 → take l.i l.right ≡ take l.i (zip2 (right_of (code_of l.assignment)) l.first l.second);
+  none : l.wrong / 2 ^ l.depth ≡ 0 → (all_fit l.depth (take l.i (zip2 (left_of (code_of l.assignment)) l.first l.second)) ≡ true) × (all_fit l.depth (take l.i (zip2 (right_of (code_of l.assignment)) l.first l.second)) ≡ true);
+  some : all_fit l.depth (take l.i (zip2 (left_of (code_of l.assignment)) l.first l.second)) ≡ true → all_fit l.depth (take l.i (zip2 (right_of (code_of l.assignment)) l.first l.second)) ≡ true → l.wrong / 2 ^ l.depth ≡ 0;
+  left : l.wrong / 2 ^ l.depth ≡ 0 → take l.i l.left ≡ take l.i (zip2 (left_of (code_of l.assignment)) l.first l.second);
+  right : l.wrong / 2 ^ l.depth ≡ 0 → take l.i l.right ≡ take l.i (zip2 (right_of (code_of l.assignment)) l.first l.second);
 }
