@@ -10,6 +10,7 @@ use Rattle.flac_subframe.specs.Prediction.{prediction, weighted, fixed_coefficie
 use Rattle.flac_subframe.specs.inner.Sums.{second_of, third_of, fourth_of}
 use Rattle.flac_subframe.proofs.Bounds.{fits_more}
 use Rattle.flac_subframe.proofs.Predicted.{fixed_length}
+use Rattle.flac_subframe.proofs.Restoring.{RestoredTo}
 
 -- a prediction reads as many of the nearest samples as it has coefficients
 pub weighted_nearest : (cs s t : List ℤ) (i j : ℕ) → length cs ≤ i → length cs ≤ j → ((k : ℕ) → k < length cs → sample_at s (i - 1 - k) ≡ sample_at t (j - 1 - k)) → weighted cs s i ≡ weighted cs t j
@@ -91,6 +92,11 @@ module _ (value slope bend v s' b' t' : ℤ) (first : s' ≡ v -ℤ value) (seco
       moved : (order : ℕ) (s : List ℤ) (i : ℕ) (a b c d b₁ c₁ d₁ : ℤ) → b₁ ≡ b → c₁ ≡ c → d₁ ≡ d → HoldsLast order s i a b c d → HoldsLast order s i a b₁ c₁ d₁
       moved order s i a b c d b₁ c₁ d₁ e f g all = rw (e, f, g) all
 
+-- the first i samples are restored by the fixed predictor of an order, and the last of them and its differences are held
+pub record GoesOn (order bits : ℕ) (r s : List ℤ) (i : ℕ) (value slope bend twist : ℤ) : Type 0 where
+  pub so : RestoredTo (fixed_coefficients order) 0 bits r s i
+  pub last : HoldsLast order s i value (second_of value slope) (third_of value slope bend) (fourth_of value slope bend twist)
+
 -- how great the differences are
 pub slope_fits : (v s : ℤ) → FitsBits 33 v → FitsBits 33 (second_of v s) → FitsBits 37 s
 slope_fits v s f g = record { low = omega (arith, ints, f.low, f.high, g.low, g.high); high = omega (arith, ints, f.low, f.high, g.low, g.high) }
@@ -122,8 +128,12 @@ held_40 z f = omega (arith, ints, f.low, f.high)
 pub kept_40 : (z : ℤ) → FitsBits 40 z → FitsBits 40 (to_z w64 (of_z w64 z))
 kept_40 z f = rw (held_40 z f) f
 
-gap_is : (a b d : ℤ) → FitsBits 40 a → FitsBits 40 b → d ≡ to_z w64 (of_z w64 a) -ℤ to_z w64 (of_z w64 b) → d ≡ a -ℤ b
-gap_is a b d f g e = rw (held_40 a f, held_40 b g) at e
+-- a difference of the code, which is known for small numbers alone
+abbrev pub GapOf : ℤ → ℤ → ℤ → Type 0
+GapOf d a b = FitsBits 40 a → FitsBits 40 b → d ≡ a -ℤ b
+
+gap_is : (a b d : ℤ) → FitsBits 40 a → FitsBits 40 b → GapOf d (to_z w64 (of_z w64 a)) (to_z w64 (of_z w64 b)) → d ≡ a -ℤ b
+gap_is a b d f g e = rw (held_40 a f, held_40 b g) at (e (kept_40 a f) (kept_40 b g))
 
 pub wide_38 : (z : ℤ) → FitsBits 33 z → FitsBits 38 z
 wide_38 z f = record { low = omega (arith, ints, f.low, f.high); high = omega (arith, ints, f.low, f.high) }
@@ -135,12 +145,32 @@ twice_fits w v s' s b' e f g h k =
     let is : b' ≡ s' -ℤ s = rw kept at f in
     record { low = omega (arith, ints, is, fit.low, fit.high, k.low, k.high); high = omega (arith, ints, is, fit.low, fit.high, k.low, k.high) }
 
+-- the last samples and their differences after one sample more
+pub held_more : (order : ℕ) (s : List ℤ) (i : ℕ) (value slope bend twist x s' b' t' : ℤ) → order ≤ 4 → order ≤ i → i < length s → HoldsLast order s i value (second_of value slope) (third_of value slope bend) (fourth_of value slope bend twist)
+    → FitsBits 33 x → GapOf s' x value → GapOf b' (to_z w64 (of_z w64 s')) slope → GapOf t' (to_z w64 (of_z w64 b')) bend
+    → HoldsLast order (slice_set s i x) (i + 1) x (second_of x (to_z w64 (of_z w64 s'))) (third_of x (to_z w64 (of_z w64 s')) (to_z w64 (of_z w64 b'))) (fourth_of x (to_z w64 (of_z w64 s')) (to_z w64 (of_z w64 b')) (to_z w64 (of_z w64 t')))
+held_more order s i value slope bend twist x s' b' t' few long within last fit first second third =
+    let slope_37 = slope_fits value slope last.first_fits last.second_fits in
+    let bend_37 = bend_fits value slope bend last.first_fits last.second_fits last.third_fits in
+    let es : s' ≡ x -ℤ value = first (wide_33 x fit) (wide_33 value last.first_fits) in
+    let fs : FitsBits 40 s' = gap_fits x value s' es (wide_38 x fit) (wide_38 value last.first_fits) in
+    let eb : b' ≡ to_z w64 (of_z w64 s') -ℤ slope = second (kept_40 s' fs) (wide_37 slope slope_37) in
+    let fb : FitsBits 40 b' = twice_fits x value s' slope b' es eb fit last.first_fits slope_37 in
+    let et : t' ≡ to_z w64 (of_z w64 b') -ℤ bend = third (kept_40 b' fb) (wide_37 bend bend_37) in
+    sums_more value slope bend x _ _ _ (held_40 s' fs ∙ es) (held_40 b' fb ∙ eb) (third_held bend b' t' fb bend_37 et ∙ et) order _ _ (holds_more order s i _ _ _ _ few long last x within fit)
+  where
+    third_held : (bend b' t' : ℤ) → FitsBits 40 b' → FitsBits 37 bend → t' ≡ to_z w64 (of_z w64 b') -ℤ bend → to_z w64 (of_z w64 t') ≡ t'
+    third_held bend b' t' f g e =
+        let is : t' ≡ b' -ℤ bend = rw (held_40 b' f) at e in
+        omega (arith, ints, is, f.low, f.high, g.low, g.high)
+
 fourth_plain : (a b c d s p q n m t : ℤ) → s ≡ a -ℤ b → p ≡ b -ℤ c → q ≡ c -ℤ d → n ≡ s -ℤ p → m ≡ p -ℤ q → t ≡ n -ℤ m → fourth_of a s n t ≡ d
 fourth_plain a b c d s p q n m t es ep eq en em et = rw (et, en, em, es, ep, eq) (omega (arith, ints))
 
 -- the differences at the first sample that is restored
-module _ (a b c d s p q n m t : ℤ) (fa : FitsBits 33 a) (fb : FitsBits 33 b) (fc : FitsBits 33 c) (fd : FitsBits 33 d) (es : s ≡ to_z w64 (of_z w64 a) -ℤ to_z w64 (of_z w64 b)) (ep : p ≡ to_z w64 (of_z w64 b) -ℤ to_z w64 (of_z w64 c))
-    (eq : q ≡ to_z w64 (of_z w64 c) -ℤ to_z w64 (of_z w64 d)) (en : n ≡ to_z w64 (of_z w64 s) -ℤ to_z w64 (of_z w64 p)) (em : m ≡ to_z w64 (of_z w64 p) -ℤ to_z w64 (of_z w64 q)) (et : t ≡ to_z w64 (of_z w64 n) -ℤ to_z w64 (of_z w64 m)) where
+module _ (a b c d s p q n m t : ℤ) (fa : FitsBits 33 a) (fb : FitsBits 33 b) (fc : FitsBits 33 c) (fd : FitsBits 33 d) (es : GapOf s (to_z w64 (of_z w64 a)) (to_z w64 (of_z w64 b)))
+    (ep : GapOf p (to_z w64 (of_z w64 b)) (to_z w64 (of_z w64 c))) (eq : GapOf q (to_z w64 (of_z w64 c)) (to_z w64 (of_z w64 d))) (en : GapOf n (to_z w64 (of_z w64 s)) (to_z w64 (of_z w64 p)))
+    (em : GapOf m (to_z w64 (of_z w64 p)) (to_z w64 (of_z w64 q))) (et : GapOf t (to_z w64 (of_z w64 n)) (to_z w64 (of_z w64 m))) where
   s_is : s ≡ a -ℤ b
   s_is = gap_is a b s (wide_33 a fa) (wide_33 b fb) es
 
@@ -170,12 +200,6 @@ module _ (a b c d s p q n m t : ℤ) (fa : FitsBits 33 a) (fb : FitsBits 33 b) (
 
   m_fits : FitsBits 40 m
   m_fits = record { low = omega (arith, ints, m_is, q_is, p_is, fd.low, fd.high, fb.low, fb.high, fc.low, fc.high); high = omega (arith, ints, m_is, q_is, p_is, fd.low, fd.high, fb.low, fb.high, fc.low, fc.high) }
-
-  pub bend_held : FitsBits 40 (to_z w64 (of_z w64 n))
-  bend_held = kept_40 n n_fits
-
-  pub past_held : FitsBits 40 (to_z w64 (of_z w64 m))
-  past_held = kept_40 m m_fits
 
   t_is : t ≡ n -ℤ m
   t_is = gap_is n m t n_fits m_fits et

@@ -69,6 +69,10 @@ module _ (cs : List ℤ) (shift bits : ℕ) (r : List ℤ) where
       let e : v ≡ sample_at t i = is ∙ rw same (sym (all.later i long within)) in
       unfit (rw e (fit i (pos 0) (rw all.long within)))
 
+  -- no samples that are restored all fit
+  abbrev pub Hopeless : Type 0
+  Hopeless = (t : List ℤ) → Restored cs shift r t → All (FitsBits bits) t → ⊥
+
   pub done : (s : List ℤ) (i : ℕ) → length s ≡ length r → length s ≤ i → RestoredTo cs shift bits r s i → Restored cs shift r s × All (FitsBits bits) s
   done s i long over so = (
     record { long = long; warm_up = so.warm_up; later = λ k g h. so.later k g (omega arith) },

@@ -21,6 +21,16 @@ pub fn offset_binary(number: i64, bits: u32) -> u64
     number.wrapping_add(half).cast_unsigned()
 }
 
+/// Whether a number is below 2^bits, for 1 to 64 bits.
+#[inline(always)]
+pub(crate) fn is_below(number: u64, bits: u32) -> bool
+    requires positive { 1 ≤ bits }
+    requires small { bits ≤ 64 }
+    ensures { IsTrue result ↔ number < 2 ^ bits }
+{
+    number <= u64::MAX >> (64 - bits)
+}
+
 /// Whether a number has a two's complement form of `bits` bits, by a single comparison, whose limit is the same for
 /// each number of a loop.
 #[inline(always)]
@@ -29,7 +39,7 @@ pub(crate) fn fits_bits(number: i64, bits: u32) -> bool
     requires small { bits ≤ 63 }
     ensures { IsTrue result ↔ FitsBits bits number }
 {
-    offset_binary(number, bits) <= u64::MAX >> (64 - bits)
+    is_below(offset_binary(number, bits), bits)
 }
 
 /// Two to the power of the exponent, as a number of places.

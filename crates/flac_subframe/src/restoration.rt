@@ -10,7 +10,7 @@ ghost use Rattle.std.specs.Int.{int_shr};
 ghost use Rattle.flac_subframe.specs.inner.Sums.{second_of, third_of, fourth_of};
 ghost use Rattle.flac_subframe.specs.inner.Summing.{AreBelow, Added};
 
-use crate::numbers::fits_bits;
+use crate::numbers::{fits_bits, is_below, offset_binary};
 
 /// The prediction of the fixed predictor of an order after four samples, the nearest first (RFC 9639, section 9.2.5).
 #[inline(always)]
@@ -48,38 +48,41 @@ fn warm_up_sample(samples: &[i64], order: usize, back: usize) -> i64
     }
 }
 
-/// By how much a number is greater than another.
+/// By how much a number is greater than another, if both have 40 bits at most; else a number of no use.
 #[inline(always)]
 fn gap(number: i64, other: i64) -> i64
-    requires number { FitsBits 40 number }
-    requires other { FitsBits 40 other }
-    ensures { result ≡ number -ℤ other }
+    ensures { FitsBits 40 number → FitsBits 40 other → result ≡ number -ℤ other }
 {
-    number - other
+    number.wrapping_sub(other)
+}
+
+/// The sum of two numbers, if both have 40 bits at most; else a number of no use.
+#[inline(always)]
+fn total(number: i64, other: i64) -> i64
+    ensures { FitsBits 40 number → FitsBits 40 other → result ≡ number +ℤ other }
+{
+    number.wrapping_add(other)
 }
 
 /// The next sample by the fixed predictor of an order, from the nearest sample and its first three differences. As sums
-/// of differences the samples are one addition after another, and no product.
+/// of differences the samples are one addition after another, and no product. If the numbers are not those of samples
+/// that fit, the result is of no use.
 #[inline(always)]
 fn sample_after(order: usize, residual: i64, value: i64, slope: i64, bend: i64, twist: i64) -> i64
     requires order { order ≤ 4 }
-    requires residual { FitsBits 32 residual }
-    requires value { FitsBits 33 value }
-    requires slope { FitsBits 37 slope }
-    requires bend { FitsBits 37 bend }
-    requires twist { FitsBits 37 twist }
-    ensures { result ≡ prediction (fixed_coefficients order) 0 (fourth_of value slope bend twist ∷ third_of value slope bend ∷ second_of value slope ∷ value ∷ []) 4 +ℤ residual }
+    ensures { FitsBits 32 residual → FitsBits 33 value → FitsBits 37 slope → FitsBits 37 bend → FitsBits 37 twist → result ≡ prediction (fixed_coefficients order) 0 (fourth_of value slope bend twist ∷ third_of value slope bend ∷ second_of value slope ∷ value ∷ []) 4 +ℤ residual }
 {
     match order {
         0 => residual,
-        1 => value + residual,
-        2 => value + (slope + residual),
-        3 => value + (slope + (bend + residual)),
-        _ => value + (slope + (bend + (twist + residual))),
+        1 => total(value, residual),
+        2 => total(value, total(slope, residual)),
+        3 => total(value, total(slope, total(bend, residual))),
+        _ => total(value, total(slope, total(bend, total(twist, residual)))),
     }
 }
 
-/// Restores by the fixed predictor of an order, whose last sample and its differences are held beside the slice.
+/// Restores by the fixed predictor of an order, whose last sample and its differences are held beside the slice. The
+/// loop has no exit, which is faster: after a sample that does not fit it goes on with numbers of no use.
 #[inline(always)]
 fn restore_order(order: usize, bits: u32, samples: &mut [i64]) -> bool
     requires order { order ≤ 4 }
@@ -102,11 +105,10 @@ fn restore_order(order: usize, bits: u32, samples: &mut [i64]) -> bool
     let mut slope = gap(first, second);
     let mut bend = gap(slope, past_slope);
     let mut twist = gap(bend, past_bend);
+    let mut wrong = 0;
     for i in order..samples.len() {
         let sample = sample_after(order, samples[i], value, slope, bend, twist);
-        if !fits_bits(sample, bits) {
-            return false;
-        }
+        wrong |= offset_binary(sample, bits);
         samples[i] = sample;
         let next_slope = gap(sample, value);
         let next_bend = gap(next_slope, slope);
@@ -115,11 +117,11 @@ fn restore_order(order: usize, bits: u32, samples: &mut [i64]) -> bool
         slope = next_slope;
         value = sample;
     }
-    true
+    is_below(wrong, bits)
 }
 
 /// Turns warm-up samples and the residual of the fixed predictor of an order into samples, from the front (RFC 9639,
-/// section 9.2.5). It stops with `false` at a sample that does not fit.
+/// section 9.2.5): whether each of them fits. If one does not, what is in its place and after it is of no use.
 #[inline(never)]
 pub(crate) fn restore_fixed(order: usize, bits: u32, samples: &mut [i64]) -> bool
     requires order { order ≤ 4 }
