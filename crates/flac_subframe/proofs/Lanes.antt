@@ -22,7 +22,7 @@ use Rattle.std.proofs.Math.ListN.{get_or-eq_default}
 use Rattle.flac_bits.specs.Signed.{FitsBits}
 use Rattle.flac_subframe.proofs.Bounds.{abs_product, abs_from_bits_15}
 
-sum_abs : (a b : ℤ) (m n : ℕ) → unsigned_abs a ≤ m → unsigned_abs b ≤ n → unsigned_abs (a +ℤ b) ≤ m + n
+pub sum_abs : (a b : ℤ) (m n : ℕ) → unsigned_abs a ≤ m → unsigned_abs b ≤ n → unsigned_abs (a +ℤ b) ≤ m + n
 sum_abs a b m n p q = omega (arith, ints, p, q)
 
 one_more : (a m : ℕ) → (1 + a) * m ≡ m + a * m
@@ -169,6 +169,11 @@ module _ (order shift : ℕ) (s sums values : List ℤ) (folds : List ℕ) (long
 
 -- ---- the sums are small where the coefficients and the samples are
 
+pub one_below : (cs : List ℤ) (k : ℕ) → unsigned_abs (sample_at cs k) ≤ sum_by unsigned_abs cs
+one_below [] k = omega arith
+one_below (c ∷ cs) zero = rw (sum_by-cons unsigned_abs c cs) (omega arith)
+one_below (c ∷ cs) (suc k) = rw (sum_by-cons unsigned_abs c cs) (omega (arith, one_below cs k))
+
 module _ (s : List ℤ) (m : ℕ) (most : (i : ℕ) → unsigned_abs (sample_at s i) ≤ m) where
   pub weighted_below : (cs : List ℤ) (at : ℕ) → unsigned_abs (weighted cs s at) ≤ sum_by unsigned_abs cs * m
   unfolding weighted
@@ -178,11 +183,6 @@ module _ (s : List ℤ) (m : ℕ) (most : (i : ℕ) → unsigned_abs (sample_at 
       let rest : unsigned_abs (weighted cs s (at - 1)) ≤ sum_by unsigned_abs cs * m = weighted_below cs (at - 1) in
       let both : unsigned_abs ((c *ℤ sample_at s (at - 1)) +ℤ weighted cs s (at - 1)) ≤ unsigned_abs c * m + sum_by unsigned_abs cs * m = sum_abs (c *ℤ sample_at s (at - 1)) (weighted cs s (at - 1)) _ _ one rest in
       rw (sum_by-cons unsigned_abs c cs, right-distrib (unsigned_abs c) (sum_by unsigned_abs cs) m) both
-
-  one_below : (cs : List ℤ) (k : ℕ) → unsigned_abs (sample_at cs k) ≤ sum_by unsigned_abs cs
-  one_below [] k = omega arith
-  one_below (c ∷ cs) zero = rw (sum_by-cons unsigned_abs c cs) (omega arith)
-  one_below (c ∷ cs) (suc k) = rw (sum_by-cons unsigned_abs c cs) (omega (arith, one_below cs k))
 
   pub stays_below : (limit : ℕ) (cs : List ℤ) → (1 + sum_by unsigned_abs cs) * m < limit → StayBelow limit cs s
   stays_below limit cs less = record {

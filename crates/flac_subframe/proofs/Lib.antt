@@ -4,6 +4,8 @@ pub mod FixedSums
 pub mod Nearest
 pub mod Weighing
 pub mod Summing
+pub mod Packing
+pub mod PackedSums
 pub mod Scaling
 pub mod Steps
 pub mod Judged

@@ -13,7 +13,7 @@ use Rattle.flac_subframe.specs.inner.Summing.{known, AreSums, AreBelow, Added}
 use Rattle.flac_subframe.proofs.Bounds.{back, back_15, term_small}
 
 -- a sum reads only the samples before its index
-known_agrees : (cs s t : List ℤ) (i : ℕ) → ((j : ℕ) → j < i → sample_at s j ≡ sample_at t j) → known cs s i ≡ known cs t i
+pub known_agrees : (cs s t : List ℤ) (i : ℕ) → ((j : ℕ) → j < i → sample_at s j ≡ sample_at t j) → known cs s i ≡ known cs t i
 unfolding known
 known_agrees [] s t i same = refl
 known_agrees (c ∷ cs) s t zero same = refl
@@ -36,11 +36,11 @@ unfolding known
 known_none [] s = refl
 known_none (c ∷ cs) s = refl
 
-known_nothing : (s : List ℤ) (i : ℕ) → known [] s i ≡ pos 0
+pub known_nothing : (s : List ℤ) (i : ℕ) → known [] s i ≡ pos 0
 unfolding known
 known_nothing s i = refl
 
-known_more : (c : ℤ) (cs s : List ℤ) (i : ℕ) → known (c ∷ cs) s (i + 1) ≡ (c *ℤ sample_at s i) +ℤ known cs s i
+pub known_more : (c : ℤ) (cs s : List ℤ) (i : ℕ) → known (c ∷ cs) s (i + 1) ≡ (c *ℤ sample_at s i) +ℤ known cs s i
 unfolding known
 known_more c cs s i = let e : i + 1 ≡ suc i = omega arith in rw e refl
 

@@ -9,3 +9,4 @@ pub mod Family
 pub mod Products
 pub mod Codes
 pub mod Summing
+pub mod Packing

@@ -15,6 +15,7 @@ mod limits;
 mod linear;
 mod narrowed;
 mod numbers;
+mod packed;
 mod predictors;
 mod products;
 mod promises;

@@ -1,0 +1,10 @@
+use Rattle.std.proofs.Common.{◌≡◌, ◌+◌, ◌<◌, ℕ, length}
+use Rattle.flac_subframe.specs.Numbers.{sample_at}
+use Rattle.flac_subframe.specs.inner.Packing.{paired}
+use Rattle.flac_subframe.proofs.packed.pairs.Given as goal
+
+abbrev pub invariant-loop-j : goal.invariant-loop-j
+invariant-loop-j l = record {
+  long : length l.factors ≡ 6;
+  each : (k : ℕ) → k < l.j → sample_at l.factors k ≡ paired (sample_at l.coefficients k) (sample_at l.coefficients (k + l.half));
+}

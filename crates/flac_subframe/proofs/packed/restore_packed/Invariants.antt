@@ -1,0 +1,12 @@
+use Rattle.flac_subframe.proofs.Restoring.{RestoredTo}
+use Rattle.flac_subframe.proofs.PackedSums.{Packs}
+use Rattle.flac_subframe.proofs.packed.restore_packed.Given as goal
+
+abbrev pub invariant-loop-i : goal.invariant-loop-i
+invariant-loop-i l = Packs l.half l.coefficients l.samples l.words l.i
+
+abbrev pub invariant-loop-i-2 : goal.invariant-loop-i-2
+invariant-loop-i-2 l = record {
+  so : RestoredTo l.coefficients l.shift l.bits l.fn.samples l.samples l.i;
+  packs : Packs l.half l.coefficients l.samples l.words l.i;
+}

@@ -1,0 +1,158 @@
+//! Restores narrow samples by linear predictors, two products by one multiplication: where the sums of products fit 32
+//! bits, a number of 64 bits, here called a word, holds two of them.
+
+ghost use Rattle.std.specs.Prelude.{ℕ, ℤ, ◌≡◌, ◌+◌, ◌-◌, ◌*◌, ◌<◌, ◌≤◌, ◌^◌, ◌+ℤ◌, ◌*ℤ◌, pos, List, length, All, IsTrue};
+ghost use Rattle.std.specs.List.{AllWithin, sum_by};
+ghost use Rattle.std.specs.Int.{int_shr};
+ghost use Rattle.std.specs.Int.RustNames.{unsigned_abs};
+ghost use Rattle.flac_bits.specs.Signed.{FitsBits};
+ghost use Rattle.flac_subframe.specs.Numbers.{sample_at};
+ghost use Rattle.flac_subframe.specs.Prediction.{Restored};
+ghost use Rattle.flac_subframe.specs.inner.Packing.{packed, paired};
+
+use crate::numbers::fits_bits;
+
+/// Whether each sum of products with samples of `bits` bits, 1 to 33, is less than 2^31 from 0.
+pub(crate) fn are_narrow(coefficients: &[i64], bits: u32) -> bool
+    requires few { length coefficients.now ≤ 32 }
+    requires small { All (FitsBits 15) coefficients.now }
+    requires positive { 1 ≤ bits }
+    requires bits { bits ≤ 33 }
+    ensures { IsTrue result → sum_by unsigned_abs coefficients.now * 2 ^ (bits - 1) < 2 ^ 31 }
+{
+    let mut sum = 0;
+    for coefficient in coefficients {
+        sum += coefficient.unsigned_abs();
+    }
+    sum < 0x8000_0000 >> (bits - 1)
+}
+
+/// The coefficient at an index, 0 past the last.
+#[inline(always)]
+fn coefficient_at(coefficients: &[i64], at: usize) -> i64
+    requires small { All (FitsBits 15) coefficients.now }
+    ensures is { result ≡ sample_at coefficients.now at }
+    ensures fits { FitsBits 15 result }
+{
+    if at < coefficients.len() {
+        coefficients[at]
+    } else {
+        0
+    }
+}
+
+/// The factor for two sums: one coefficient times 2^32, and another.
+#[inline(always)]
+fn pair(high: i64, low: i64) -> i64
+    requires high { FitsBits 15 high }
+    requires low { FitsBits 15 low }
+    ensures { result ≡ paired high low }
+{
+    0x1_0000_0000 * high + low
+}
+
+/// The factors for the first `half` words: for word j the coefficient j, and that `half` places after it.
+#[inline(always)]
+fn pairs(coefficients: &[i64], half: usize) -> [i64; 6]
+    requires half { half ≤ 6 }
+    requires small { All (FitsBits 15) coefficients.now }
+    ensures { (j : ℕ) → j < half → sample_at result j ≡ paired (sample_at coefficients.now j) (sample_at coefficients.now (j + half)) }
+{
+    let mut factors = [0; 6];
+    for j in 0..half {
+        factors[j] = pair(
+            coefficient_at(coefficients, j),
+            coefficient_at(coefficients, j + half),
+        );
+    }
+    factors
+}
+
+/// What comes after the last word, from the first word: the second sum of that as the first one, and 0 as the second.
+#[inline(always)]
+fn word_after(first: i64) -> i64
+    ensures { (high low : ℤ) → unsigned_abs low < 2 ^ 31 → first ≡ packed high low → result ≡ packed low (pos 0) }
+{
+    let low = (first.cast_unsigned() & 0xFFFF_FFFF) as i64;
+    0x1_0000_0000 * (low - 0x8000_0000) + 0x8000_0000
+}
+
+/// The sample of this residual value, from the first word, whose first sum is shifted to the right by `shift`.
+#[inline(always)]
+fn sample_of(first: i64, shift: u32, residual: i64) -> i64
+    requires shift { shift < 16 }
+    requires residual { FitsBits 32 residual }
+    ensures { (high low : ℤ) → unsigned_abs low < 2 ^ 31 → first ≡ packed high low → result ≡ int_shr high shift +ℤ residual }
+{
+    (first >> (32 + shift)) + residual
+}
+
+/// A word and one product more.
+#[inline(always)]
+fn plus(word: i64, factor: i64, sample: i64) -> i64
+    requires product { unsigned_abs (factor *ℤ sample) < 2 ^ 63 }
+    requires sum { unsigned_abs (word +ℤ (factor *ℤ sample)) < 2 ^ 63 }
+    ensures { result ≡ word +ℤ (factor *ℤ sample) }
+{
+    word + factor * sample
+}
+
+/// Adds the products of one more sample to the words, each of which moves one place forward.
+#[inline(always)]
+fn add_sample(half: usize, factors: &[i64], sample: i64, words: &mut [i64])
+    requires factors { half ≤ length factors.now }
+    requires places { half < length words.old }
+    requires products { (j : ℕ) → j < half → unsigned_abs (sample_at factors.now j *ℤ sample) < 2 ^ 63 }
+    requires sums { (j : ℕ) → j < half → unsigned_abs (sample_at words.old (j + 1) +ℤ (sample_at factors.now j *ℤ sample)) < 2 ^ 63 }
+    ensures added { (j : ℕ) → j < half → sample_at words.new j ≡ sample_at words.old (j + 1) +ℤ (sample_at factors.now j *ℤ sample) }
+    ensures long { length words.new ≡ length words.old }
+{
+    for j in 0..half {
+        words[j] = plus(words[j + 1], factors[j], sample);
+    }
+}
+
+/// Restores by a linear predictor of an order, from the front, as [`crate::restoration::restore_linear`] does. The sums
+/// of products for the samples to come are held in words beside the slice: word j holds the sum j, and that half the
+/// order after it. Each sample is multiplied by all factors once it is known.
+#[inline(always)]
+pub(crate) fn restore_packed(
+    order: usize,
+    coefficients: &[i64],
+    shift: u32,
+    bits: u32,
+    samples: &mut [i64],
+) -> bool
+    requires some { 1 ≤ order }
+    requires few { order ≤ 12 }
+    requires order { length coefficients.now ≡ order }
+    requires small { All (FitsBits 15) coefficients.now }
+    requires narrow { sum_by unsigned_abs coefficients.now * 2 ^ (bits - 1) < 2 ^ 31 }
+    requires shift { shift < 16 }
+    requires enough { order ≤ length samples.old }
+    requires positive { 1 ≤ bits }
+    requires bits { bits ≤ 33 }
+    requires warm_up { AllWithin (FitsBits bits) samples.old 0 order }
+    requires residual { AllWithin (FitsBits 32) samples.old order (length samples.old) }
+    ensures restored { IsTrue result → Restored coefficients.now shift samples.old samples.new }
+    ensures fits { IsTrue result → All (FitsBits bits) samples.new }
+    ensures only { (s : List ℤ) → Restored coefficients.now shift samples.old s → All (FitsBits bits) s → IsTrue result }
+{
+    let half = (order + 1) / 2;
+    let factors = pairs(coefficients, half);
+    let mut words = [0x8000_0000; 7];
+    for i in 0..order {
+        words[half] = word_after(words[0]);
+        add_sample(half, &factors, samples[i], &mut words);
+    }
+    for i in order..samples.len() {
+        let sample = sample_of(words[0], shift, samples[i]);
+        if !fits_bits(sample, bits) {
+            return false;
+        }
+        samples[i] = sample;
+        words[half] = word_after(words[0]);
+        add_sample(half, &factors, sample, &mut words);
+    }
+    true
+}
