@@ -52,10 +52,9 @@ fn sample(bytes: &[u8]) -> i32
     LittleEndian::read_int(bytes, bytes.len()) as i32
 }
 
-/// Fills places with the samples of one channel. The piece has as many inter-channel samples of `stride` bytes each, in
-/// which the channel's sample begins at byte `start` and has `width` bytes.
+/// What [`put_samples`] does, compiled anew for each stride that its caller fixes.
 #[inline(always)]
-fn put_samples(piece: &[u8], stride: usize, start: usize, width: usize, places: &mut [i32])
+fn put_each(piece: &[u8], stride: usize, start: usize, width: usize, places: &mut [i32])
     requires whole { length piece.now ≡ length places.old * stride }
     requires width { (1 ≤ width) × (width ≤ 4) }
     requires within { start + width ≤ stride }
@@ -64,6 +63,23 @@ fn put_samples(piece: &[u8], stride: usize, start: usize, width: usize, places: 
     for i in 0..places.len() {
         let at = i * stride + start;
         places[i] = sample(&piece[at..at + width]);
+    }
+}
+
+/// Fills places with the samples of one channel. The piece has as many inter-channel samples of `stride` bytes each, in
+/// which the channel's sample begins at byte `start` and has `width` bytes. Of two channels several samples are taken
+/// at once.
+#[inline(always)]
+fn put_samples(piece: &[u8], stride: usize, start: usize, width: usize, places: &mut [i32])
+    requires whole { length piece.now ≡ length places.old * stride }
+    requires width { (1 ≤ width) × (width ≤ 4) }
+    requires within { start + width ≤ stride }
+    ensures { IsPart stride start width piece.now (length places.old) places.new }
+{
+    if stride == 2 * width {
+        put_each(piece, 2 * width, start, width, places);
+    } else {
+        put_each(piece, stride, start, width, places);
     }
 }
 

@@ -3,7 +3,7 @@ use Rattle.std.proofs.lemmas.Int.{to_z-of_z}
 use Rattle.std.proofs.lemmas.List.{take_more_set, take_all}
 use Rattle.flac_cli.specs.inner.Raw.{IsChannel}
 use Rattle.flac_cli.proofs.Rows.{no_samples, sample_pushed}
-use Rattle.flac_cli.proofs.raw.put_samples.Goals as goal
+use Rattle.flac_cli.proofs.raw.put_each.Goals as goal
 
 pub loop-i-init : goal.loop-i-init
 loop-i-init c = no_samples c.args.piece.now c.args.stride c.args.start c.args.width
