@@ -101,6 +101,28 @@ fn values_at_once(word: &mut Ahead, k: u32, values: &mut [i64], from: usize, to:
     values_held(word, k, values, from, to)
 }
 
+/// Fills at most `most` places of `values` from the index `from` on with residual values, as far as the word has them,
+/// and returns where it stopped. If all these places are there, how many values are read is a fixed number, and the
+/// compiler makes no loop of them.
+#[inline(always)]
+fn next_values(word: &mut Ahead, k: u32, values: &mut [i64], from: usize, most: usize) -> usize
+    requires few { word.old.count ≤ 63 }
+    requires k { k ≤ 26 }
+    requires from { from ≤ length values.old }
+    requires few_values { most ≤ 56 }
+    ensures within { (from ≤ result) × (result ≤ length values.old) }
+    ensures few { word.new.count ≤ 63 }
+    ensures next { (eight : ℕ) → Agrees word.old.word word.old.count eight → Agrees word.new.word word.new.count eight }
+    ensures read { (text : List Bool) × (top_bits word.old.word word.old.count ≡ text ++ top_bits word.new.word word.new.count) × IsRead k text values.old from values.new result }
+    ensures fits { ((j : ℕ) → j < from → IsResidual (get_or values.old j (pos 0))) → (j : ℕ) → j < result → IsResidual (get_or values.new j (pos 0)) }
+{
+    let left = values.len() - from;
+    if k >= AT_ONCE && left >= most {
+        return values_at_once(word, k, values, from, from + most);
+    }
+    values_at_once(word, k, values, from, from + most.min(left))
+}
+
 /// Fills `values` from the index `from` on with residual values, as far as the word and the bytes after it have them.
 /// Returns how many bytes went into the word, and where it stopped.
 #[inline(always)]
@@ -127,8 +149,7 @@ fn values_in(
     let mut i = from;
     while bytes.len() - used >= 8 && i < values.len() {
         used += word.fill(eight_bytes(bytes, used)) as usize;
-        let to = i + at_once.min(values.len() - i);
-        let next = values_at_once(word, k, values, i, to);
+        let next = next_values(word, k, values, i, at_once);
         if next == i {
             return (used, i);
         }

@@ -13,7 +13,7 @@ bits a = top_bits a.word a.count
 pub returns-then-next-i-clause-read : goal.returns-then-next-i-clause-read
 returns-then-next-i-clause-read c =
     let inv = c.loop-used.invariant in
-    let held = c.values_at_once-next in
+    let held = c.next_values-next in
     let room : c.loop-used.used + 8 ≤ length c.args.bytes.now = omega (arith, c.loop-used-test.true, inv.used) in (
       inv.read.0 ++ held.ensures.read.0,
       came_taken c.args.bytes.now c.loop-used.used c.fill.result c.eight_bytes.result (bits c.args.word.now) (bits c.loop-used.word) (bits c.fill.new.self) (bits held.new.word) inv.read.0 held.ensures.read.0 c.fill.ensures.few.0 room c.eight_bytes.ensures inv.read.1 c.fill.ensures.put held.ensures.read.1,
@@ -23,11 +23,11 @@ returns-then-next-i-clause-read c =
 pub loop-used-preserved : goal.loop-used-preserved
 loop-used-preserved c =
     let inv = c.loop-used.invariant in
-    let held = c.values_at_once-next in
+    let held = c.next_values-next in
     let room : c.loop-used.used + 8 ≤ length c.args.bytes.now = omega (arith, c.loop-used-test.true, inv.used) in
     record {
       from = omega (arith, inv.from, held.ensures.within.0);
-      within = omega (arith, held.ensures.within.1, c.min.ensures, inv.within, c.loop-used.auto.values);
+      within = omega (arith, held.ensures.within.1, inv.within, c.loop-used.auto.values);
       used = omega (arith, room, c.fill.ensures.few.0);
       few = held.ensures.few;
       next = λ eight wide is. held.ensures.next eight (c.fill.ensures.next eight (next_at c.args.bytes.now c.loop-used.used c.fill.result c.eight_bytes.result eight c.fill.ensures.few.0 room wide c.eight_bytes.ensures is));
@@ -51,7 +51,7 @@ loop-used-init c = record {
 }
 
 pub returns-then-next-i-clause-fits : goal.returns-then-next-i-clause-fits
-returns-then-next-i-clause-fits c = λ before. rw c.if-next-i.true at (c.values_at_once-next.ensures.fits (c.loop-used.invariant.fits before))
+returns-then-next-i-clause-fits c = λ before. rw c.if-next-i.true at (c.next_values-next.ensures.fits (c.loop-used.invariant.fits before))
 
-pub values_at_once-next-requires-clause-few_values : goal.values_at_once-next-requires-clause-few_values
-values_at_once-next-requires-clause-few_values c = omega (arith, c.min.ensures, div-le_self 56 (c.args.k + 3))
+pub next_values-next-requires-clause-few_values : goal.next_values-next-requires-clause-few_values
+next_values-next-requires-clause-few_values c = div-le_self 56 (c.args.k + 3)
