@@ -323,9 +323,9 @@ fn restore_wide(coefficients: &[i64], shift: u32, bits: u32, samples: &mut [i64]
     }
 }
 
-/// Turns warm-up samples and the residual of a linear predictor into samples, from the front (RFC 9639, section 9.2.6).
-/// It stops with `false` at a sample that does not fit. Sums of 5 to 12 products are made two at once if they fit 32
-/// bits.
+/// Turns warm-up samples and the residual of a linear predictor into samples, from the front (RFC 9639, section 9.2.6):
+/// whether each of them fits. If one does not, what is in its place and after it is of no use. Sums of 5 to 12 products
+/// are made two at once if they fit 32 bits.
 #[inline(never)]
 pub(crate) fn restore_linear(
     coefficients: &[i64],
