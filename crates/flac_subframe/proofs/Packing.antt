@@ -9,7 +9,7 @@ use Rattle.std.proofs.lemmas.Int.{ints, to_z-of_z, to_z_pos, fits_signed_from_ab
 use Rattle.flac_bits.specs.Signed.{FitsBits}
 use Rattle.flac_subframe.specs.inner.Packing.{packed, paired}
 use Rattle.flac_subframe.specs.inner.Summing.{IsHeld}
-use Rattle.flac_subframe.proofs.Bounds.{back, back_15}
+use Rattle.flac_subframe.proofs.Bounds.{back, back_15, below_64}
 
 -- products of sums
 more : (p pa pb q qa qb a b : ℤ) → p ≡ pa +ℤ pb → q ≡ p +ℤ (a +ℤ b) → qa ≡ pa +ℤ a → qb ≡ pb +ℤ b → q ≡ qa +ℤ qb
@@ -91,9 +91,6 @@ shifted_fits (pos a) s fit = let q = quotient_small a s (omega (arith, ints, fit
 shifted_fits (negsuc a) s fit = let q = quotient_small a s (omega (arith, ints, fit)) in omega (arith, q)
 
 -- ---- as the code has them
-
-below_64 : (z : ℤ) → FitsSigned w64 z → of_z w64 z < 2 ^ 64
-below_64 z fit = omega (arith, ints, fit)
 
 pub pair_is : (h l : ℤ) → FitsBits 15 h → FitsBits 15 l → to_z w64 (of_z w64 (to_z w64 (of_z w64 (pos (2 ^ 32) *ℤ to_z w64 (of_z w64 h))) +ℤ to_z w64 (of_z w64 l))) ≡ paired h l
 pair_is h l f g =
