@@ -21,6 +21,10 @@ abs_product a b m n p q = rw (unsigned_abs-mul a b) (mul-le (unsigned_abs a) (un
 pub term_small : (c x : ℤ) → FitsBits 15 c → FitsBits 33 x → unsigned_abs (c *ℤ x) ≤ 2 ^ 46
 term_small c x f g = abs_product c x (2 ^ 14) (2 ^ 32) (abs_from_bits_15 c f) (abs_from_bits_33 x g)
 
+-- the bits of a number
+pub below_64 : (z : ℤ) → FitsSigned w64 z → of_z w64 z < 2 ^ 64
+below_64 z fit = omega (arith, ints, fit)
+
 -- what a cast to 64 bits and back leaves
 pub back : (z : ℤ) → unsigned_abs z < 2 ^ 63 → to_z w64 (of_z w64 z) ≡ z
 back z h = to_z-of_z w64 z (fits_signed_from_abs w64 z h)

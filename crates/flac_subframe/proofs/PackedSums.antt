@@ -14,16 +14,22 @@ use Rattle.std.specs.Int.RustNames.{unsigned_abs}
 use Rattle.flac_bits.specs.Signed.{FitsBits}
 use Rattle.flac_subframe.specs.Numbers.{sample_at}
 use Rattle.flac_subframe.specs.Prediction.{prediction}
-use Rattle.flac_subframe.specs.inner.Summing.{known}
+use Rattle.flac_subframe.specs.inner.Summing.{known, IsHeld}
 use Rattle.flac_subframe.specs.inner.Packing.{packed, paired}
 use Rattle.flac_subframe.proofs.Bounds.{back, abs_product}
 use Rattle.flac_subframe.proofs.Lanes.{sum_abs, one_below}
+use Rattle.flac_subframe.proofs.Restoring.{RestoredTo}
 use Rattle.flac_subframe.proofs.Packing.{packed_more, packed_small, product_small}
 use Rattle.flac_subframe.proofs.Summing.{known_agrees, known_is, known_more, known_none, known_nothing}
 
 -- word j holds the sum j, and that half the order after it
 pub record Packs (half : ℕ) (cs s words : List ℤ) (i : ℕ) : Type 0 where
   pub each : (j : ℕ) → j < half → sample_at words j ≡ packed (known (drop j cs) s i) (known (drop (j + half) cs) s i)
+
+-- the first i samples are restored, and the words hold the sums of their products
+pub record PacksOn (half : ℕ) (cs : List ℤ) (shift bits : ℕ) (r s words : List ℤ) (i : ℕ) : Type 0 where
+  pub so : RestoredTo cs shift bits r s i
+  pub packs : Packs half cs s words i
 
 -- before the first sample
 pub packs_none : (half n : ℕ) (cs s : List ℤ) → half ≤ n → Packs half cs s (replicate n (pos (2 ^ 31))) 0
@@ -108,15 +114,15 @@ module _ (half : ℕ) (cs : List ℤ) (m : ℕ) (narrow : sum_by unsigned_abs cs
           rw (word_is (j + 1) (omega arith), pairs j lt, e, known_step cs s t i j x here same, known_step cs s t i (j + half) x here same)
           (packed_more (known (drop (j + 1) cs) s i) (known (drop (j + half + 1) cs) s i) (sample_at cs j) (sample_at cs (j + half)) x)
 
-      pub products_small : (j : ℕ) → j < half → unsigned_abs (sample_at factors j *ℤ x) < 2 ^ 63
+      products_small : (j : ℕ) → j < half → IsHeld (sample_at factors j *ℤ x)
       products_small j lt = rw (pairs j lt) (product_small (sample_at cs j) (sample_at cs (j + half)) x (term_small j x small) (term_small (j + half) x small))
 
-      pub sums_small : (j : ℕ) → j < half → unsigned_abs (sample_at old (j + 1) +ℤ (sample_at factors j *ℤ x)) < 2 ^ 63
+      sums_small : (j : ℕ) → j < half → IsHeld (sample_at old (j + 1) +ℤ (sample_at factors j *ℤ x))
       sums_small j lt = rw (sum_is j lt) (packed_small (known (drop j cs) t (i + 1)) (known (drop (j + half) cs) t (i + 1)) (sum_small t (i + 1) most_more j) (sum_small t (i + 1) most_more (j + half)))
 
       -- after one sample more
-      pub packs_more : (new : List ℤ) → ((j : ℕ) → j < half → sample_at new j ≡ sample_at old (j + 1) +ℤ (sample_at factors j *ℤ x)) → Packs half cs t new (i + 1)
-      packs_more new added = record { each = λ j lt. added j lt ∙ sum_is j lt }
+      pub packs_more : (new : List ℤ) → ((j : ℕ) → j < half → IsHeld (sample_at factors j *ℤ x) → IsHeld (sample_at old (j + 1) +ℤ (sample_at factors j *ℤ x)) → sample_at new j ≡ sample_at old (j + 1) +ℤ (sample_at factors j *ℤ x)) → Packs half cs t new (i + 1)
+      packs_more new added = record { each = λ j lt. added j lt (products_small j lt) (sums_small j lt) ∙ sum_is j lt }
 
 -- how far from 0 a number of so many bits is at most
 pub abs_from_bits : (n : ℕ) (z : ℤ) → FitsBits n z → unsigned_abs z ≤ 2 ^ (n - 1)

@@ -1,16 +1,18 @@
 -- The sums of products for the samples to come.
-use Rattle.std.proofs.Common.{◌≡◌, ◌∙◌, ℕ, zero, suc, ◌+◌, ◌-◌, ◌≤◌, ◌<◌, refl, sym, arith, ℤ, pos, ◌+ℤ◌, ◌*ℤ◌, List, [], ◌∷◌, length, drop, inl, inr, to_z, of_z, w64}
+use Rattle.std.proofs.Common.{◌≡◌, ◌∙◌, ℕ, zero, suc, ◌+◌, ◌-◌, ◌%◌, ◌^◌, ◌≤◌, ◌<◌, refl, sym, arith, ℤ, pos, ◌+ℤ◌, ◌*ℤ◌, List, [], ◌∷◌, length, drop, inl, inr, to_z, of_z, w64}
 use Rattle.std.proofs.Math.IntN.{+ℤ_comm}
 use Rattle.std.proofs.lemmas.List.{drop_more, drop_all}
 use Rattle.std.proofs.lemmas.Bool.{cases_lt}
 use Rattle.flac_subframe.specs.Numbers.{sample_at}
 use Rattle.flac_subframe.specs.Prediction.{prediction, weighted}
 use Rattle.std.specs.Int.{int_shr}
-use Rattle.std.proofs.lemmas.Int.{ints}
+use Rattle.std.specs.Int.RustNames.{unsigned_abs}
+use Rattle.std.proofs.lemmas.Int.{ints, fits_signed_from_abs, int_wrap_fits, wrapping_add_onto}
 use Rattle.std.specs.Prelude.{All, ⊤}
 use Rattle.flac_bits.specs.Signed.{FitsBits}
-use Rattle.flac_subframe.specs.inner.Summing.{known, AreSums, AreBelow, Added}
-use Rattle.flac_subframe.proofs.Bounds.{back, back_15, term_small}
+use Rattle.flac_subframe.specs.inner.Summing.{known, AreSums, AreBelow, Added, IsHeld}
+use Rattle.flac_subframe.proofs.Bounds.{back, below_64, shifted_small, term_small}
+use Rattle.flac_subframe.proofs.Restoring.{RestoredTo}
 
 -- a sum reads only the samples before its index
 pub known_agrees : (cs s t : List ℤ) (i : ℕ) → ((j : ℕ) → j < i → sample_at s j ≡ sample_at t j) → known cs s i ≡ known cs t i
@@ -70,12 +72,17 @@ below_more order cs old new x long small fit below added k le = elim (cases_lt k
       rw (end, added.last) was
 ]
 
--- a sum as the code makes it
-pub added_is : (order : ℕ) (cs old : List ℤ) (x v : ℤ) (k : ℕ) → v ≡ to_z w64 (of_z w64 (sample_at old (k + 1))) +ℤ (to_z w64 (of_z w64 (sample_at cs k)) *ℤ x) → order ≤ 12 → AreBelow order old → k < order → FitsBits 15 (sample_at cs k)
-    → v ≡ sample_at old (k + 1) +ℤ (sample_at cs k *ℤ x)
-added_is order cs old x v k is few below lt small =
-    let sum : to_z w64 (of_z w64 (sample_at old (k + 1))) ≡ sample_at old (k + 1) = back (sample_at old (k + 1)) (omega (arith, few, lt, below (k + 1) (omega (arith, lt)))) in
-    rw (sum, back_15 (sample_at cs k) small) at is
+-- the sums of samples that fit are held as the code makes them
+pub added_is : (order : ℕ) (cs old new : List ℤ) (x : ℤ) → length cs ≡ order → order ≤ 12 → All (FitsBits 15) cs → FitsBits 33 x → AreBelow order old
+    → ((k : ℕ) → k < order → IsHeld (sample_at cs k *ℤ x) → IsHeld (sample_at old (k + 1) +ℤ (sample_at cs k *ℤ x)) → sample_at new k ≡ sample_at old (k + 1) +ℤ (sample_at cs k *ℤ x)) → sample_at new order ≡ sample_at old order → Added cs x old new
+added_is order cs old new x long few small fit below added last = record {
+  each = λ k lt.
+      let inside : k < order = omega (arith, lt, long) in
+      let term = term_small (sample_at cs k) x (small k (pos 0) lt) fit in
+      let was = below (k + 1) (omega (arith, inside)) in
+      added k inside (omega (arith, term)) (omega (arith, ints, term, was, few));
+  last = rw long last;
+}
 
 abbrev pub AllZero : List ℤ → Type 0
 AllZero [] = ⊤
@@ -93,10 +100,27 @@ sums_none cs s sums zeros k le = zeros k ∙ sym (known_none (drop k cs) s)
 pub below_none : (order : ℕ) (sums : List ℤ) → ((k : ℕ) → sample_at sums k ≡ pos 0) → AreBelow order sums
 below_none order sums zeros k le = rw (zeros k) (omega arith)
 
+-- a sample as the code makes it
+pub sample_is : (z r : ℤ) (s : ℕ) → unsigned_abs z ≤ 2 ^ 51 → FitsBits 32 r → to_z w64 ((of_z w64 (int_shr (to_z w64 (of_z w64 z)) s) + of_z w64 r) % 2 ^ 64) ≡ int_shr z s +ℤ r
+sample_is z r s small fit =
+    let same : to_z w64 (of_z w64 z) ≡ z = back z (omega (arith, small)) in
+    let q : unsigned_abs (int_shr z s) ≤ 2 ^ 51 = shifted_small z s small in
+    let high : to_z w64 (of_z w64 (int_shr z s)) ≡ int_shr z s = back (int_shr z s) (omega (arith, q)) in
+    let bits = below_64 (int_shr z s) (fits_signed_from_abs w64 (int_shr z s) (omega (arith, q))) in
+    rw same (wrapping_add_onto w64 (of_z w64 (int_shr z s)) r bits (fits_signed_from_abs w64 r (omega (arith, ints, fit.low, fit.high))) ∙ rw high (int_wrap_fits w64 (int_shr z s +ℤ r) (fits_signed_from_abs w64 (int_shr z s +ℤ r) (omega (arith, ints, q, fit.low, fit.high)))))
+
 -- the first sum gives the next sample
-pub next_is : (order : ℕ) (cs s r sums : List ℤ) (shift i : ℕ) (v : ℤ) → v ≡ int_shr (to_z w64 (of_z w64 (sample_at sums 0))) shift +ℤ to_z w64 (of_z w64 (sample_at s i)) → order ≤ 12 → AreBelow order sums → AreSums cs s sums i → length cs ≤ i
-    → sample_at s i ≡ sample_at r i → FitsBits 32 (sample_at r i) → v ≡ prediction cs shift s i +ℤ sample_at r i
+pub next_is : (order : ℕ) (cs s r sums : List ℤ) (shift i : ℕ) (v : ℤ) → (unsigned_abs (to_z w64 (of_z w64 (sample_at sums 0))) ≤ 2 ^ 51 → FitsBits 32 (to_z w64 (of_z w64 (sample_at s i))) → v ≡ int_shr (to_z w64 (of_z w64 (sample_at sums 0))) shift +ℤ to_z w64 (of_z w64 (sample_at s i)))
+    → order ≤ 12 → AreBelow order sums → AreSums cs s sums i → length cs ≤ i → sample_at s i ≡ sample_at r i → FitsBits 32 (sample_at r i) → v ≡ prediction cs shift s i +ℤ sample_at r i
 next_is order cs s r sums shift i v is few below so long same fit =
-    let sum : to_z w64 (of_z w64 (sample_at sums 0)) ≡ sample_at sums 0 = back (sample_at sums 0) (omega (arith, few, below 0 (omega arith))) in
+    let small : unsigned_abs (sample_at sums 0) ≤ 2 ^ 51 = omega (arith, few, below 0 (omega arith)) in
+    let sum : to_z w64 (of_z w64 (sample_at sums 0)) ≡ sample_at sums 0 = back (sample_at sums 0) (omega (arith, small)) in
     let residual : to_z w64 (of_z w64 (sample_at r i)) ≡ sample_at r i = omega (arith, ints, fit.low, fit.high) in
-    rw (sum, so 0 (omega arith), known_is cs s i long, same, residual) at is
+    let now = is (rw sum small) (rw (same, residual) fit) in
+    rw (sum, so 0 (omega arith), known_is cs s i long, same, residual) at now
+
+-- the first i samples are restored, and the sums of their products are small
+pub record SumsOn (order : ℕ) (cs : List ℤ) (shift bits : ℕ) (r s sums : List ℤ) (i : ℕ) : Type 0 where
+  pub so : RestoredTo cs shift bits r s i
+  pub held : AreSums cs s sums i
+  pub below : AreBelow order sums

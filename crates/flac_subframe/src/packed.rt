@@ -9,8 +9,9 @@ ghost use Rattle.flac_bits.specs.Signed.{FitsBits};
 ghost use Rattle.flac_subframe.specs.Numbers.{sample_at};
 ghost use Rattle.flac_subframe.specs.Prediction.{Restored};
 ghost use Rattle.flac_subframe.specs.inner.Packing.{packed, paired};
+ghost use Rattle.flac_subframe.specs.inner.Summing.{IsHeld};
 
-use crate::numbers::fits_bits;
+use crate::numbers::{is_below, offset_binary};
 
 /// Whether each sum of products with samples of `bits` bits, 1 to 33, is less than 2^31 from 0.
 pub(crate) fn are_narrow(coefficients: &[i64], bits: u32) -> bool
@@ -77,44 +78,44 @@ fn word_after(first: i64) -> i64
     0x1_0000_0000 * (low - 0x8000_0000) + 0x8000_0000
 }
 
-/// The sample of this residual value, from the first word, whose first sum is shifted to the right by `shift`.
+/// The sample of this residual value, from the first word, whose first sum is shifted to the right by `shift`, 0 to 15
+/// bits. If the residual value has more than 32 bits, the result is of no use.
 #[inline(always)]
 fn sample_of(first: i64, shift: u32, residual: i64) -> i64
     requires shift { shift < 16 }
-    requires residual { FitsBits 32 residual }
-    ensures { (high low : ℤ) → unsigned_abs low < 2 ^ 31 → first ≡ packed high low → result ≡ int_shr high shift +ℤ residual }
+    ensures { FitsBits 32 residual → (high low : ℤ) → unsigned_abs low < 2 ^ 31 → first ≡ packed high low → result ≡ int_shr high shift +ℤ residual }
 {
-    (first >> (32 + shift)) + residual
+    (first >> (32 + shift)).wrapping_add(residual)
 }
 
-/// A word and one product more.
+/// A sum and one product more, if the product and the new sum fit 64 bits; else a number of no use.
 #[inline(always)]
-fn plus(word: i64, factor: i64, sample: i64) -> i64
-    requires product { unsigned_abs (factor *ℤ sample) < 2 ^ 63 }
-    requires sum { unsigned_abs (word +ℤ (factor *ℤ sample)) < 2 ^ 63 }
-    ensures { result ≡ word +ℤ (factor *ℤ sample) }
+fn plus(sum: i64, factor: i64, sample: i64) -> i64
+    ensures { IsHeld (factor *ℤ sample) → IsHeld (sum +ℤ (factor *ℤ sample)) → result ≡ sum +ℤ (factor *ℤ sample) }
 {
-    word + factor * sample
+    sum.wrapping_add(factor.wrapping_mul(sample))
 }
 
-/// Adds the products of one more sample to the words, each of which moves one place forward.
+/// Adds the products of one more sample with the first `count` factors to the sums, each of which moves one place
+/// forward. A sum that does not fit 64 bits becomes a number of no use.
 #[inline(always)]
-fn add_sample(half: usize, factors: &[i64], sample: i64, words: &mut [i64])
-    requires factors { half ≤ length factors.now }
-    requires places { half < length words.old }
-    requires products { (j : ℕ) → j < half → unsigned_abs (sample_at factors.now j *ℤ sample) < 2 ^ 63 }
-    requires sums { (j : ℕ) → j < half → unsigned_abs (sample_at words.old (j + 1) +ℤ (sample_at factors.now j *ℤ sample)) < 2 ^ 63 }
-    ensures added { (j : ℕ) → j < half → sample_at words.new j ≡ sample_at words.old (j + 1) +ℤ (sample_at factors.now j *ℤ sample) }
-    ensures long { length words.new ≡ length words.old }
+pub(crate) fn add_sample(count: usize, factors: &[i64], sample: i64, sums: &mut [i64])
+    requires factors { count ≤ length factors.now }
+    requires places { count < length sums.old }
+    ensures added { (j : ℕ) → j < count → IsHeld (sample_at factors.now j *ℤ sample) → IsHeld (sample_at sums.old (j + 1) +ℤ (sample_at factors.now j *ℤ sample)) → sample_at sums.new j ≡ sample_at sums.old (j + 1) +ℤ (sample_at factors.now j *ℤ sample) }
+    ensures last { sample_at sums.new count ≡ sample_at sums.old count }
+    ensures long { length sums.new ≡ length sums.old }
 {
-    for j in 0..half {
-        words[j] = plus(words[j + 1], factors[j], sample);
+    for j in 0..count {
+        sums[j] = plus(sums[j + 1], factors[j], sample);
     }
 }
 
 /// Restores by a linear predictor of an order, from the front, as [`crate::restoration::restore_linear`] does. The sums
 /// of products for the samples to come are held in words beside the slice: word j holds the sum j, and that half the
-/// order after it. Each sample is multiplied by all factors once it is known.
+/// order after it. Each sample is multiplied by all factors once it is known. The result is whether each sample fits in
+/// `bits` bits. The loop has no exit, which is faster: after a sample that does not fit it goes on with numbers of no
+/// use, and those are left in the slice.
 #[inline(always)]
 pub(crate) fn restore_packed(
     order: usize,
@@ -145,14 +146,13 @@ pub(crate) fn restore_packed(
         words[half] = word_after(words[0]);
         add_sample(half, &factors, samples[i], &mut words);
     }
+    let mut wrong = 0;
     for i in order..samples.len() {
         let sample = sample_of(words[0], shift, samples[i]);
-        if !fits_bits(sample, bits) {
-            return false;
-        }
+        wrong |= offset_binary(sample, bits);
         samples[i] = sample;
         words[half] = word_after(words[0]);
         add_sample(half, &factors, sample, &mut words);
     }
-    true
+    is_below(wrong, bits)
 }

@@ -1,6 +1,6 @@
 //! Restores samples in the places of the residual.
 
-ghost use Rattle.std.specs.Prelude.{◌≡◌, ◌∷◌, [], ◌+◌, ◌-◌, ◌<◌, ◌≤◌, ◌^◌, ◌+ℤ◌, ◌-ℤ◌, ◌*ℤ◌, ℤ, List, length, All, IsTrue};
+ghost use Rattle.std.specs.Prelude.{◌≡◌, ◌∷◌, [], ◌+◌, ◌-◌, ◌<◌, ◌≤◌, ◌^◌, ◌+ℤ◌, ◌-ℤ◌, ℤ, List, length, All, IsTrue};
 ghost use Rattle.std.specs.List.{AllWithin};
 ghost use Rattle.std.specs.Int.RustNames.{unsigned_abs};
 ghost use Rattle.flac_bits.specs.Signed.{FitsBits};
@@ -8,10 +8,9 @@ ghost use Rattle.flac_subframe.specs.Numbers.{sample_at};
 ghost use Rattle.flac_subframe.specs.Prediction.{fixed_coefficients, prediction, Restored};
 ghost use Rattle.std.specs.Int.{int_shr};
 ghost use Rattle.flac_subframe.specs.inner.Sums.{second_of, third_of, fourth_of};
-ghost use Rattle.flac_subframe.specs.inner.Summing.{AreBelow, Added};
 
 use crate::numbers::{fits_bits, is_below, offset_binary};
-use crate::packed::{are_narrow, restore_packed};
+use crate::packed::{add_sample, are_narrow, restore_packed};
 
 /// The prediction of the fixed predictor of an order after four samples, the nearest first (RFC 9639, section 9.2.5).
 #[inline(always)]
@@ -209,50 +208,22 @@ fn restore_by(
     true
 }
 
-/// A sum and one product more.
-#[inline(always)]
-fn plus(sum: i64, coefficient: i64, sample: i64) -> i64
-    requires sum { unsigned_abs sum ≤ 2 ^ 51 }
-    requires coefficient { FitsBits 15 coefficient }
-    requires sample { FitsBits 33 sample }
-    ensures { result ≡ sum +ℤ (coefficient *ℤ sample) }
-{
-    sum + coefficient * sample
-}
-
-/// Adds the products of one more sample to the sums for the samples to come, each of which moves one place forward.
-#[inline(always)]
-fn add_sample(order: usize, coefficients: &[i64], sample: i64, sums: &mut [i64])
-    requires few { order ≤ 12 }
-    requires order { length coefficients.now ≡ order }
-    requires places { order < length sums.old }
-    requires small { All (FitsBits 15) coefficients.now }
-    requires fits { FitsBits 33 sample }
-    requires before { AreBelow order sums.old }
-    ensures added { Added coefficients.now sample sums.old sums.new }
-    ensures below { AreBelow order sums.new }
-    ensures long { length sums.new ≡ length sums.old }
-{
-    for k in 0..order {
-        sums[k] = plus(sums[k + 1], coefficients[k], sample);
-    }
-}
-
-/// The sample of this residual value, from the sum of products.
+/// The sample of this residual value, from the sum of products, which is shifted to the right by `shift`, 0 to 15 bits.
+/// If the sum is more than 2^51 from 0, or the residual value has more than 32 bits, the result is of no use.
 #[inline(always)]
 fn sample_of(sum: i64, shift: u32, residual: i64) -> i64
-    requires sum { unsigned_abs sum ≤ 2 ^ 51 }
     requires shift { shift < 16 }
-    requires residual { FitsBits 32 residual }
-    ensures { result ≡ int_shr sum shift +ℤ residual }
+    ensures { unsigned_abs sum ≤ 2 ^ 51 → FitsBits 32 residual → result ≡ int_shr sum shift +ℤ residual }
 {
-    (sum >> shift) + residual
+    (sum >> shift).wrapping_add(residual)
 }
 
 /// Restores by a linear predictor of an order. The sums of products for the next samples are held beside the slice:
 /// each sample is multiplied by all coefficients once it is known, and is not read again. This is faster than
 /// [`restore_by`], whose loop reads the last samples again, and on processors with AVX2 by far: there the compiler
-/// makes lanes of that loop, which wait for the samples that were just stored.
+/// makes lanes of that loop, which wait for the samples that were just stored. The result is whether each sample fits in
+/// `bits` bits. The loop has no exit, which is faster: after a sample that does not fit it goes on with numbers of no
+/// use, and those are left in the slice.
 #[inline(always)]
 fn restore_summed(
     order: usize,
@@ -279,15 +250,14 @@ fn restore_summed(
     for i in 0..order {
         add_sample(order, coefficients, samples[i], &mut sums);
     }
+    let mut wrong = 0;
     for i in order..samples.len() {
         let sample = sample_of(sums[0], shift, samples[i]);
-        if !fits_bits(sample, bits) {
-            return false;
-        }
+        wrong |= offset_binary(sample, bits);
         samples[i] = sample;
         add_sample(order, coefficients, sample, &mut sums);
     }
-    true
+    is_below(wrong, bits)
 }
 
 /// Restores by a linear predictor, however large the sums of products are.
@@ -323,9 +293,9 @@ fn restore_wide(coefficients: &[i64], shift: u32, bits: u32, samples: &mut [i64]
     }
 }
 
-/// Turns warm-up samples and the residual of a linear predictor into samples, from the front (RFC 9639, section 9.2.6).
-/// It stops with `false` at a sample that does not fit. Sums of 5 to 12 products are made two at once if they fit 32
-/// bits.
+/// Turns warm-up samples and the residual of a linear predictor into samples, from the front (RFC 9639, section 9.2.6):
+/// whether each of them fits. If one does not, what is in its place and after it is of no use. Sums of 5 to 12 products
+/// are made two at once if they fit 32 bits.
 #[inline(never)]
 pub(crate) fn restore_linear(
     coefficients: &[i64],

@@ -19,6 +19,10 @@ AreSums cs s sums i = (k : ℕ) → k ≤ length cs → sample_at sums k ≡ kno
 abbrev pub AreBelow : ℕ → List ℤ → Type 0
 AreBelow order sums = (k : ℕ) → k ≤ order → unsigned_abs (sample_at sums k) ≤ 2 ^ 46 * (order - k)
 
+-- a number of 64 bits holds it
+abbrev pub IsHeld : ℤ → Type 0
+IsHeld z = unsigned_abs z < 2 ^ 63
+
 -- the products of one more sample were added, and each sum moved to the index before
 pub record Added (cs : List ℤ) (x : ℤ) (old new : List ℤ) : Type 0 where
   pub each : (k : ℕ) → k < length cs → sample_at new k ≡ sample_at old (k + 1) +ℤ (sample_at cs k *ℤ x)

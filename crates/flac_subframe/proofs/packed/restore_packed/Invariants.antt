@@ -1,5 +1,6 @@
-use Rattle.flac_subframe.proofs.Restoring.{RestoredTo}
-use Rattle.flac_subframe.proofs.PackedSums.{Packs}
+use Rattle.std.proofs.Common.{◌<◌, ◌≤◌, ◌^◌}
+use Rattle.flac_subframe.proofs.Restoring.{Hopeless}
+use Rattle.flac_subframe.proofs.PackedSums.{Packs, PacksOn}
 use Rattle.flac_subframe.proofs.packed.restore_packed.Given as goal
 
 abbrev pub invariant-loop-i : goal.invariant-loop-i
@@ -7,6 +8,6 @@ invariant-loop-i l = Packs l.half l.coefficients l.samples l.words l.i
 
 abbrev pub invariant-loop-i-2 : goal.invariant-loop-i-2
 invariant-loop-i-2 l = record {
-  so : RestoredTo l.coefficients l.shift l.bits l.fn.samples l.samples l.i;
-  packs : Packs l.half l.coefficients l.samples l.words l.i;
+  good : l.wrong < 2 ^ l.bits → PacksOn l.half l.coefficients l.shift l.bits l.fn.samples l.samples l.words l.i;
+  bad : 2 ^ l.bits ≤ l.wrong → Hopeless l.coefficients l.shift l.bits l.fn.samples;
 }
