@@ -87,7 +87,7 @@ fn perform_zeros(alloc: Global, zeros: &mut Zeros<'_>) -> Outcome {
     found
 }
 
-/// A quotient whose zeros do not end within the 16777215 bytes of a frame: the source is asked for one piece of 4096
+/// A quotient whose zeros do not end within the 16777215 bytes of a frame: the source is asked for one piece of 8192
 /// bytes more at most.
 #[test]
 fn endless_quotient(rt: HostRuntime) -> Result<(), Fail> {
@@ -101,6 +101,6 @@ fn endless_quotient(rt: HostRuntime) -> Result<(), Fail> {
     let found = perform_zeros(alloc, &mut zeros);
     assert!(rt; found.is(1, &[], "", "flac: a.flac: frame 0: 25 FrameTooLong\n"));
     assert!(rt; zeros.taken > 42 + 16777215, "{}", zeros.taken);
-    assert!(rt; zeros.taken <= 42 + 16777215 + 4096, "{}", zeros.taken);
+    assert!(rt; zeros.taken <= 42 + 16777215 + 8192, "{}", zeros.taken);
     Ok(())
 }
