@@ -28,6 +28,20 @@ pub(crate) fn are_narrow(coefficients: &[i64], bits: u32) -> bool
     sum < 0x8000_0000 >> (bits - 1)
 }
 
+/// How many words hold the sums of a linear predictor of an order, 1 to 12: half as many as its coefficients. For order
+/// 8 there is one more: of four words the compiler makes lanes on processors with AVX2, which multiply numbers of 64
+/// bits in many steps, and so take two to three times as long.
+#[inline(always)]
+fn words_of(order: usize) -> usize
+    requires some { 1 ≤ order }
+    requires few { order ≤ 12 }
+    ensures some { 1 ≤ result }
+    ensures few { result ≤ 6 }
+    ensures enough { order ≤ result + result }
+{
+    if order == 8 { 5 } else { (order + 1) / 2 }
+}
+
 /// The coefficient at an index, 0 past the last.
 #[inline(always)]
 fn coefficient_at(coefficients: &[i64], at: usize) -> i64
@@ -139,7 +153,7 @@ pub(crate) fn restore_packed(
     ensures fits { IsTrue result → All (FitsBits bits) samples.new }
     ensures only { (s : List ℤ) → Restored coefficients.now shift samples.old s → All (FitsBits bits) s → IsTrue result }
 {
-    let half = (order + 1) / 2;
+    let half = words_of(order);
     let factors = pairs(coefficients, half);
     let mut words = [0x8000_0000; 7];
     for i in 0..order {

@@ -1,4 +1,4 @@
-use Rattle.std.proofs.Common.{rules, ℕ, ℤ, List, ◌≡◌, ◌∙◌, ◌+◌, ◌-◌, ◌/◌, ◌^◌, ◌<◌, ◌≤◌, ◌+ℤ◌, length, pos, sym, refl, arith, slice_set, to_z, of_z, w64, inl, inr}
+use Rattle.std.proofs.Common.{rules, ℕ, ℤ, List, ◌≡◌, ◌∙◌, ◌-◌, ◌^◌, ◌<◌, ◌≤◌, ◌+ℤ◌, length, pos, sym, refl, arith, slice_set, to_z, of_z, w64, inl, inr}
 use Rattle.std.specs.Int.RustNames.{unsigned_abs}
 use Rattle.std.proofs.lemmas.Bool.{cases_lt}
 use Rattle.std.proofs.lemmas.List.{get_or-set_same, get_or-set_other}
@@ -13,7 +13,7 @@ use Rattle.flac_subframe.proofs.PackedSums.{packs_none, next_is, packs_more, abs
 use Rattle.flac_subframe.proofs.packed.restore_packed.Goals as goal
 
 pub loop-i-init : goal.loop-i-init
-loop-i-init c = packs_none ((c.args.order + 1) / 2) 7 c.args.coefficients.now c.args.samples.now (omega arith)
+loop-i-init c = packs_none c.words_of-half.result 7 c.args.coefficients.now c.args.samples.now (omega (arith, c.words_of-half.ensures.few))
 
 pub loop-i-preserved : goal.loop-i-preserved
 loop-i-preserved c =
@@ -21,13 +21,13 @@ loop-i-preserved c =
     let bits = c.args.bits in
     let cs = c.args.coefficients.now in
     let s = c.args.samples.now in
-    let half : ℕ = (c.args.order + 1) / 2 in
+    let half : ℕ = c.words_of-half.result in
     let fit = λ (k : ℕ) (h : k < c.args.order). c.requires.warm_up k (pos 0) (omega arith) h in
     let most : (k : ℕ) → k < l.i → unsigned_abs (sample_at s k) ≤ 2 ^ (bits - 1) = λ k h. abs_from_bits bits (sample_at s k) (fit k (omega arith)) in
     let held : to_z w64 (of_z w64 (sample_at s l.i)) ≡ sample_at s l.i = stored bits (sample_at s l.i) c.requires.bits (fit l.i (omega arith)) in
     let small : unsigned_abs (to_z w64 (of_z w64 (sample_at s l.i))) ≤ 2 ^ (bits - 1) = rw held (abs_from_bits bits (sample_at s l.i) (fit l.i (omega arith))) in
     let room : half < length l.words = search rules in
-    packs_more half cs (2 ^ (bits - 1)) c.requires.narrow s l.words l.i most (omega arith) l.invariant s c.pairs-factors.result (to_z w64 (of_z w64 (sample_at s l.i))) c.word_after.result (omega arith) room small (sym held) (λ j h. refl) c.word_after.ensures c.pairs-factors.ensures c.add_sample.new.sums c.add_sample.ensures.added
+    packs_more half cs (2 ^ (bits - 1)) c.requires.narrow s l.words l.i most c.words_of-half.ensures.some l.invariant s c.pairs-factors.result (to_z w64 (of_z w64 (sample_at s l.i))) c.word_after.result (omega (arith, c.words_of-half.ensures.enough, c.requires.order)) room small (sym held) (λ j h. refl) c.word_after.ensures c.pairs-factors.ensures c.add_sample.new.sums c.add_sample.ensures.added
 
 pub loop-i-2-init : goal.loop-i-2-init
 loop-i-2-init c =
@@ -53,7 +53,7 @@ loop-i-2-preserved c =
     let cs = c.args.coefficients.now in
     let r = c.args.samples.now in
     let s = l.samples in
-    let half : ℕ = (c.args.order + 1) / 2 in
+    let half : ℕ = c.words_of-half.result in
     let more : ℕ = c.offset_binary-wrong.result in
     let v : ℤ = c.sample_of-sample.result in
     let kept : to_z w64 (of_z w64 v) ≡ v = to_z-of_z w64 v (search rules) in
@@ -68,7 +68,7 @@ loop-i-2-preserved c =
     let g = l.invariant.good h in
     let same = g.so.rest l.i (omega arith) in
     let near = kept_near (sample_at s l.i) (sample_at r l.i) same small in
-    kept ∙ next_is half cs (2 ^ (bits - 1)) c.requires.narrow s l.words l.i (most h) (omega arith) g.packs r shift v (c.sample_of-sample.ensures (rw near small)) (omega arith) same small in
+    kept ∙ next_is half cs (2 ^ (bits - 1)) c.requires.narrow s l.words l.i (most h) c.words_of-half.ensures.some g.packs r shift v (c.sample_of-sample.ensures (rw near small)) (omega arith) same small in
     record {
       good = λ h.
           let less : l.wrong < 2 ^ bits = omega (arith, h, le_or_l l.wrong more) in
@@ -76,7 +76,7 @@ loop-i-2-preserved c =
           let g = l.invariant.good less in
           record {
             so = restored_more cs shift bits r s l.i _ (omega arith) (omega arith) g.so (is less) fit;
-            packs = packs_more half cs (2 ^ (bits - 1)) c.requires.narrow s l.words l.i (most less) (omega arith) g.packs t c.pairs-factors.result x c.word_after-in-loop-i-2.result (omega arith) room (abs_from_bits bits x fit) here others c.word_after-in-loop-i-2.ensures c.pairs-factors.ensures
+            packs = packs_more half cs (2 ^ (bits - 1)) c.requires.narrow s l.words l.i (most less) c.words_of-half.ensures.some g.packs t c.pairs-factors.result x c.word_after-in-loop-i-2.result (omega (arith, c.words_of-half.ensures.enough, c.requires.order)) room (abs_from_bits bits x fit) here others c.word_after-in-loop-i-2.ensures c.pairs-factors.ensures
                 c.add_sample-in-loop-i-2.new.sums c.add_sample-in-loop-i-2.ensures.added;
           };
       bad = λ h. elim (cases_lt l.wrong (2 ^ bits)) [
