@@ -29,6 +29,7 @@ pub mod Entries
 pub mod Orders
 pub mod Settled
 pub mod Bounded
+pub mod Reductions
 pub mod Greater
 pub mod Convex
 pub mod Counts

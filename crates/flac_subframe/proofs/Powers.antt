@@ -37,7 +37,7 @@ shift_more : (k : ℕ) (z : ℤ) → int_shr z (suc k) ≡ int_shr (int_shr z 1)
 shift_more k (pos a) = let e : 1 + k ≡ suc k = omega arith in ap pos (rw (← e) (sym (shr-shr a 1 k)))
 shift_more k (negsuc a) = let e : 1 + k ≡ suc k = omega arith in ap negsuc (rw (← e) (sym (shr-shr a 1 k)))
 
-none_times : (z : ℤ) → times_power zero z ≡ z
+pub none_times : (z : ℤ) → times_power zero z ≡ z
 none_times (pos a) = ap pos (omega arith)
 none_times (negsuc a) = omega (arith, ints)
 

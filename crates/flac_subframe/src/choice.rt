@@ -25,9 +25,9 @@ use crate::numbers::power;
 use crate::products::take_products;
 use crate::residual_form::ResidualForm;
 use crate::survey::{greatest_partition_order, least_residual};
-use crate::tables::{SearchArrays, Tables};
+use crate::tables::{APART, SearchArrays, Tables};
 use crate::view::{ResidualView, SampleView, Task};
-use crate::wasted::drop_wasted;
+use crate::wasted::without_wasted;
 use crate::wide_products::take_wide_products;
 
 /// The best content so far, and how many bits it takes. The codings of its residual stay in their array and are
@@ -428,8 +428,8 @@ impl Task<'_> {
         entries: &mut [Entry],
         bytes: &mut [u8],
     ) -> Found
-        requires longs { 2 * length self.now.samples.now ≤ length longs.old }
-        requires shorts { 2 * length self.now.samples.now ≤ length shorts.old }
+        requires longs { 2 * length self.now.samples.now + 256 ≤ length longs.old }
+        requires shorts { 2 * length self.now.samples.now + 256 ≤ length shorts.old }
         requires folds { length self.now.samples.now ≤ length folds.old }
         requires costs { 2 * 2 ^ self.now.most ≤ length costs.old }
         requires entries { 4 * 2 ^ self.now.most ≤ length entries.old }
@@ -444,9 +444,12 @@ impl Task<'_> {
         ensures priced { result.priced ≤ (5 + length self.now.predictors.now) * (93 * length self.now.samples.now) }
     {
         let samples = self.samples;
-        let (shortened, wide) = longs.split_at_mut(samples.len());
-        let wasted = drop_wasted(samples, self.depth, shortened);
-        let (narrowed, values) = shorts.split_at_mut(samples.len());
+        let count = samples.len();
+        let (shortened, wide) = longs.split_at_mut(count + APART);
+        let shortened = &mut shortened[..count];
+        let (wasted, shortened) = without_wasted(samples, self.depth, shortened);
+        let (narrowed, values) = shorts.split_at_mut(count + APART);
+        let narrowed = &mut narrowed[..count];
         let narrow = narrow(shortened, narrowed);
         let peak = peak(narrowed, narrow, !self.predictors.is_empty());
         let subject = SampleView {

@@ -20,7 +20,7 @@ use crate::entry::Entry;
 use crate::limits::Limits;
 use crate::linear::LinearPredictor;
 use crate::numbers::power;
-use crate::tables::filled;
+use crate::tables::{APART, filled};
 use crate::view::{ChoiceView, Task};
 use arrayvec::ArrayVec;
 
@@ -168,8 +168,8 @@ pub fn choose_with(
     ensures small { result.bits ≤ 2 ^ 61 }
     ensures priced { result.priced ≤ (5 + length predictors.now) * (32 * length samples.now) }
 {
-    let mut longs: [i64; 2 * MOST_SAMPLES] = filled(0);
-    let mut shorts: [i32; 2 * MOST_SAMPLES] = filled(0);
+    let mut longs: [i64; 2 * MOST_SAMPLES + APART] = filled(0);
+    let mut shorts: [i32; 2 * MOST_SAMPLES + APART] = filled(0);
     let mut folds: [u32; MOST_SAMPLES] = filled(0);
     let mut costs = [0; 512];
     let mut entries: [Entry; 1024] = filled(Entry::none());

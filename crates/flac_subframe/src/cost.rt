@@ -5,6 +5,7 @@ ghost use Rattle.std.specs.List.{sum_by};
 ghost use Rattle.flac_subframe.specs.inner.Cost.{folded_cost};
 
 use crate::coding::Coding;
+use std::simd::prelude::*;
 
 /// A coding, and how many bits it takes beside its parameter.
 #[derive(Clone, Copy)]
@@ -13,22 +14,19 @@ pub struct CodingCost {
     pub bits: u64,
 }
 
-/// The sum of what is above the lowest bits of `count` numbers of few bits: in 32 bits, and by a loop of fixed length,
-/// since each call has a constant count.
+/// The sum of what is above the lowest bits of at most sixteen numbers of few bits, which are lanes of a vector. The
+/// same as a loop is taken apart by the compiler, with each number read and shifted by itself.
 #[inline(always)]
-fn quotients_of_few(folds: &[u32], count: usize, parameter: u8, width: u8) -> u32
-    requires long { length folds.now ≡ count }
-    requires few_numbers { count ≤ 16 }
+fn quotients_in_lanes<const N: usize>(folds: &[u32], parameter: u8, width: u8) -> u32
+    requires long { length folds.now ≡ N }
+    requires few_numbers { N ≤ 16 }
     requires bounded { All (λ n. n < 2 ^ width) folds.now }
     requires few { width ≤ 28 + parameter }
     requires parameter { parameter < 31 }
     ensures { result ≡ sum_by (λ n. n / 2 ^ parameter) folds.now }
 {
-    let mut sum: u32 = 0;
-    for i in 0..count {
-        sum += folds[i] >> parameter;
-    }
-    sum
+    let numbers: Simd<u32, N> = Simd::from_slice(folds);
+    (numbers >> u32::from(parameter)).strict_reduce_sum()
 }
 
 /// What [`quotients`] does, for any number of numbers.
@@ -42,7 +40,7 @@ fn quotients_of_any(folds: &[u32], parameter: u8, width: u8) -> u64
     ensures small { result ≤ 2 ^ 32 * length folds.now }
 {
     if folds.len() == 8 && width <= 28 + parameter {
-        return u64::from(quotients_of_few(folds, 8, parameter, width));
+        return u64::from(quotients_in_lanes::<8>(folds, parameter, width));
     }
     let mut sum = 0;
     for number in folds {
@@ -62,7 +60,7 @@ pub(crate) fn quotients(folds: &[u32], parameter: u8, width: u8) -> u64
     ensures small { result ≤ 2 ^ 32 * length folds.now }
 {
     if folds.len() == 16 && width <= 28 + parameter {
-        return u64::from(quotients_of_few(folds, 16, parameter, width));
+        return u64::from(quotients_in_lanes::<16>(folds, parameter, width));
     }
     quotients_of_any(folds, parameter, width)
 }
@@ -106,23 +104,20 @@ pub(crate) fn rice_bits_of(folds: &[u32], parameter: u8, width: u8, sixteen: boo
         return rice_bits(folds, parameter, width);
     }
     if folds.len() == 16 && width <= 28 + parameter {
-        let sum = quotients_of_few(folds, 16, parameter, width);
+        let sum = quotients_in_lanes::<16>(folds, parameter, width);
         return u64::from(sum) + 16 * (1 + u64::from(parameter));
     }
     rice_bits_apart(folds, parameter, width)
 }
 
-/// A number that has each bit that one of `count` numbers has, by a loop of fixed length.
+/// A number that has each bit that one of some numbers has, which are lanes of a vector.
 #[inline(always)]
-fn bits_of_few(folds: &[u32], count: usize) -> u32
-    requires long { length folds.now ≡ count }
+fn bits_in_lanes<const N: usize>(folds: &[u32]) -> u32
+    requires { length folds.now ≡ N }
     ensures { (n : ℕ) → All (λ k. k < 2 ^ n) folds.now ↔ (result < 2 ^ n) }
 {
-    let mut bits: u32 = 0;
-    for i in 0..count {
-        bits |= folds[i];
-    }
-    bits
+    let numbers: Simd<u32, N> = Simd::from_slice(folds);
+    numbers.reduce_or()
 }
 
 /// A number that has each bit that one of some numbers has: it takes as many digits as the greatest of them.
@@ -131,32 +126,13 @@ fn bits_of(folds: &[u32]) -> u32
     ensures { (n : ℕ) → All (λ k. k < 2 ^ n) folds.now ↔ (result < 2 ^ n) }
 {
     if folds.len() == 8 {
-        return bits_of_few(folds, 8);
+        return bits_in_lanes::<8>(folds);
     }
     let mut bits: u32 = 0;
     for number in folds {
         bits |= *number;
     }
     bits
-}
-
-/// A number that has each bit that one of `count` numbers has, and the sum of the numbers if they all have at most 28
-/// bits, by a loop of fixed length.
-#[inline(always)]
-fn bits_and_sum_of_few(folds: &[u32], count: usize) -> (u32, u32)
-    requires long { length folds.now ≡ count }
-    requires few { count ≤ 16 }
-    ensures bits { (n : ℕ) → All (λ k. k < 2 ^ n) folds.now ↔ (result.0 < 2 ^ n) }
-    ensures sum { result.0 < 2 ^ 28 → result.1 ≡ sum_by (λ n. n / 2 ^ 0) folds.now }
-    ensures small { result.0 < 2 ^ 28 → result.1 ≤ 2 ^ 28 * count }
-{
-    let mut bits: u32 = 0;
-    let mut sum: u32 = 0;
-    for i in 0..count {
-        bits |= folds[i];
-        sum = sum.wrapping_add(folds[i]);
-    }
-    (bits, sum)
 }
 
 /// The width of values whose folded numbers have these bits.
@@ -216,8 +192,9 @@ pub(crate) fn weigh(folds: &[u32], sixteen: bool) -> (u8, u64)
     ensures small { result.1 ≤ 2 ^ 33 * length folds.now }
 {
     if folds.len() == 16 {
-        let (bits, sum) = bits_and_sum_of_few(folds, 16);
+        let bits = bits_in_lanes::<16>(folds);
         if bits < 0x1000_0000 {
+            let sum = quotients_in_lanes::<16>(folds, 0, 28);
             return (width_of_bits(bits), u64::from(sum) + 16);
         }
     }

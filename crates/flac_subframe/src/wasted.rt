@@ -34,7 +34,7 @@ fn halve(samples: &mut [i64])
 }
 
 /// Counts the wasted bits, and writes the samples without them to `shortened`.
-pub(crate) fn drop_wasted(samples: &[i64], bits: u32, shortened: &mut [i64]) -> u32
+fn drop_wasted(samples: &[i64], bits: u32, shortened: &mut [i64]) -> u32
     requires positive { 1 ≤ bits }
     requires bits { bits ≤ 33 }
     requires fits { All (FitsBits bits) samples.now }
@@ -52,4 +52,27 @@ pub(crate) fn drop_wasted(samples: &[i64], bits: u32, shortened: &mut [i64]) -> 
         halve(shortened);
     }
     0
+}
+
+/// Counts the wasted bits. The samples without them are the samples themselves if there are none, and otherwise they
+/// are written to `places`.
+pub(crate) fn without_wasted<'a>(
+    samples: &'a [i64],
+    bits: u32,
+    places: &'a mut [i64],
+) -> (u32, &'a [i64])
+    requires positive { 1 ≤ bits }
+    requires bits { bits ≤ 33 }
+    requires fits { All (FitsBits bits) samples.now }
+    requires places { length places.old ≡ length samples.now }
+    ensures wasted { IsWasted result.0 samples.now }
+    ensures some { result.0 < bits }
+    ensures shortened { samples.now ≡ map (times_power result.0) result.1.now }
+    ensures fits { All (FitsBits 33) result.1.now }
+{
+    if !all_even(samples) {
+        return (0, samples);
+    }
+    let wasted = drop_wasted(samples, bits, places);
+    (wasted, places)
 }

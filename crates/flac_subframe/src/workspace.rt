@@ -6,6 +6,7 @@ ghost use Rattle.flac_bits.specs.declared.why.Why.{Why};
 use crate::entry::Entry;
 use crate::limits::Limits;
 use crate::numbers::power;
+use crate::tables::APART;
 use flac_bits::Why;
 use std::alloc::Global;
 use std::marker::Model;
@@ -26,7 +27,7 @@ pub struct Workspace {
 }
 
 impl Model for Workspace {
-    ghost use Rattle.std.specs.Prelude.{◌≡◌, ◌≤◌, ◌*◌, ◌^◌, vec_len};
+    ghost use Rattle.std.specs.Prelude.{◌≡◌, ◌≤◌, ◌+◌, ◌*◌, ◌^◌, vec_len};
     ghost use Rattle.flac_subframe.specs.Room.{Room};
 
     ghost Value = { Room };
@@ -34,8 +35,8 @@ impl Model for Workspace {
     ghost view = { λ w. record { block = w.max_block; most = w.most } };
 
     ghost invariant = { λ w. record {
-      longs : vec_len w.longs ≡ 2 * w.max_block;
-      shorts : vec_len w.shorts ≡ 2 * w.max_block;
+      longs : vec_len w.longs ≡ 2 * w.max_block + 256;
+      shorts : vec_len w.shorts ≡ 2 * w.max_block + 256;
       folds : vec_len w.folds ≡ w.max_block;
       costs : vec_len w.costs ≡ 2 * 2 ^ w.most;
       entries : vec_len w.entries ≡ 4 * 2 ^ w.most;
@@ -60,8 +61,8 @@ impl Workspace {
         let most = limits.partition;
         let count = power(most as u8);
         let max_block = max_block as usize;
-        let longs = vec![in alloc; 0i64; 2 * max_block]?;
-        let shorts = vec![in alloc; 0i32; 2 * max_block]?;
+        let longs = vec![in alloc; 0i64; 2 * max_block + APART]?;
+        let shorts = vec![in alloc; 0i32; 2 * max_block + APART]?;
         let folds = vec![in alloc; 0u32; max_block]?;
         let costs = vec![in alloc; 0u64; 2 * count]?;
         let entries = vec![in alloc; Entry::none(); 4 * count]?;

@@ -23,9 +23,9 @@ use crate::linear::LinearPredictor;
 use crate::numbers::power;
 use crate::predictors::fixed_coefficients;
 use crate::subframe_type::SubframeType;
-use crate::tables::filled;
+use crate::tables::{APART, filled};
 use crate::view::ChoiceView;
-use crate::wasted::drop_wasted;
+use crate::wasted::without_wasted;
 use flac_bits::{BitWriter, Target, Why};
 
 /// Writes signed numbers of n bits; of none nothing.
@@ -296,12 +296,14 @@ pub(crate) fn write_chosen<W: Target>(
     requires few { length samples.now ≤ 65535 }
     requires depth { (1 ≤ depth) × (depth ≤ 33) }
     requires fits { All (FitsBits depth) samples.now }
-    requires places { 2 * length samples.now ≤ length places.old }
+    requires places { 2 * length samples.now + 256 ≤ length places.old }
     requires made { IsMadeAs 15 predictors.now choice.now.form choice.now.codings.now samples.now }
     ensures { Writes (subframe_spelling depth (form_as predictors.now choice.now.form choice.now.codings.now samples.now)) writer.old writer.new result }
 {
-    let (shortened, values) = places.split_at_mut(samples.len());
-    let wasted = drop_wasted(samples, depth, shortened);
+    let count = samples.len();
+    let (shortened, values) = places.split_at_mut(count + APART);
+    let shortened = &mut shortened[..count];
+    let (wasted, shortened) = without_wasted(samples, depth, shortened);
     write_header(
         writer,
         type_of_content(choice.form.content, predictors),
@@ -362,7 +364,7 @@ pub fn write_subframe_with<W: Target>(
     requires made { IsMadeWith predictors.now choice.now samples.now }
     ensures { Writes (subframe_spelling depth (form_with predictors.now choice.now samples.now)) bits.old bits.new result }
 {
-    let mut places: [i64; 2 * MOST_SAMPLES] = filled(0);
+    let mut places: [i64; 2 * MOST_SAMPLES + APART] = filled(0);
     write_chosen(
         &choice.lent(),
         predictors,

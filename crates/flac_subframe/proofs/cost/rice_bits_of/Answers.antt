@@ -7,4 +7,4 @@ returns-then-width-parameter c =
     let ns = c.args.folds.now in
     let k = c.args.parameter in
     let same : length ns * (1 + k) ≡ 16 * (1 + k) = ap (λ (n : ℕ). n * (1 + k)) c.if-folds-eq16.true in
-    omega (arith, c.from.ensures, c.from-then-width-parameter.ensures, c.quotients_of_few-sum.ensures, same, cost_split k ns)
+    omega (arith, c.from.ensures, c.from-then-width-parameter.ensures, c.quotients_in_lanes-sum.ensures, same, cost_split k ns)

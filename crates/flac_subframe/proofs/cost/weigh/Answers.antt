@@ -4,5 +4,7 @@ use Rattle.flac_subframe.proofs.cost.weigh.Goals as goal
 
 pub returns-then-bits-lt268435456-clause-value : goal.returns-then-bits-lt268435456-clause-value
 returns-then-bits-lt268435456-clause-value c =
-    let sum = c.bits_and_sum_of_few-bits.ensures.sum (omega (arith, c.if-bits-lt268435456.true)) in
-    omega (arith, c.from.ensures, sum, c.if-folds-eq16.true, cost_split 0 c.args.folds.now)
+    omega (arith, c.from.ensures, c.quotients_in_lanes-sum.ensures, c.if-folds-eq16.true, cost_split 0 c.args.folds.now)
+
+pub quotients_in_lanes-sum-requires-clause-bounded : goal.quotients_in_lanes-sum-requires-clause-bounded
+quotients_in_lanes-sum-requires-clause-bounded c = (c.bits_in_lanes-bits.ensures 28).1 (omega (arith, c.if-bits-lt268435456.true))

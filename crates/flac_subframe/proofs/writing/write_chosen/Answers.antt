@@ -17,18 +17,18 @@ pub write_content-requires-clause-stands : goal.write_content-requires-clause-st
 write_content-requires-clause-stands g c =
     let w = c.args.choice.now.form.wasted in
     let s = c.args.samples.now in
-    let dropped = c.drop_wasted-wasted.ensures in
-    let e : c.drop_wasted-wasted.result ≡ w = wasted_once _ w s dropped.wasted c.requires.made.wasted in
-    let same = shortened_is w s c.drop_wasted-wasted.new.shortened (rw e at dropped.shortened) in
+    let dropped = c.without_wasted-wasted.ensures in
+    let e : c.without_wasted-wasted.result.0 ≡ w = wasted_once _ w s dropped.wasted c.requires.made.wasted in
+    let same = shortened_is w s c.without_wasted-wasted.result.1.now (rw e at dropped.shortened) in
     rw same at c.requires.made.stands
 
 pub returns-in_err-write_header : goal.returns-in_err-write_header
 returns-in_err-write_header g c =
     let w = c.args.choice.now.form.wasted in
     let s = c.args.samples.now in
-    let t = c.drop_wasted-wasted.new.shortened in
-    let dropped = c.drop_wasted-wasted.ensures in
-    let e : c.drop_wasted-wasted.result ≡ w = wasted_once _ w s dropped.wasted c.requires.made.wasted in
+    let t = c.without_wasted-wasted.result.1.now in
+    let dropped = c.without_wasted-wasted.ensures in
+    let e : c.without_wasted-wasted.result.0 ≡ w = wasted_once _ w s dropped.wasted c.requires.made.wasted in
     let same = shortened_is w s t (rw e at dropped.shortened) in
     let stands = rw same at c.requires.made.stands in
     let content : Content = content_of (body_as c.args.predictors.now c.args.choice.now.form.content (codings_lent c.args.choice.now) t) in
@@ -42,9 +42,9 @@ pub returns : goal.returns
 returns g c =
     let w = c.args.choice.now.form.wasted in
     let s = c.args.samples.now in
-    let t = c.drop_wasted-wasted.new.shortened in
-    let dropped = c.drop_wasted-wasted.ensures in
-    let e : c.drop_wasted-wasted.result ≡ w = wasted_once _ w s dropped.wasted c.requires.made.wasted in
+    let t = c.without_wasted-wasted.result.1.now in
+    let dropped = c.without_wasted-wasted.ensures in
+    let e : c.without_wasted-wasted.result.0 ≡ w = wasted_once _ w s dropped.wasted c.requires.made.wasted in
     let same = shortened_is w s t (rw e at dropped.shortened) in
     let stands = rw same at c.requires.made.stands in
     let content : Content = content_of (body_as c.args.predictors.now c.args.choice.now.form.content (codings_lent c.args.choice.now) t) in
