@@ -28,9 +28,7 @@ pub(crate) fn are_narrow(coefficients: &[i64], bits: u32) -> bool
     sum < 0x8000_0000 >> (bits - 1)
 }
 
-/// How many words hold the sums of a linear predictor of an order, 1 to 12: half as many as its coefficients. For order
-/// 8 there is one more: of four words the compiler makes lanes on processors with AVX2, which multiply numbers of 64
-/// bits in many steps, and so take two to three times as long.
+/// How many words hold the sums of a linear predictor of an order, 1 to 12: half as many as its coefficients.
 #[inline(always)]
 fn words_of(order: usize) -> usize
     requires some { 1 ≤ order }
@@ -39,7 +37,7 @@ fn words_of(order: usize) -> usize
     ensures few { result ≤ 6 }
     ensures enough { order ≤ result + result }
 {
-    if order == 8 { 5 } else { (order + 1) / 2 }
+    (order + 1) / 2
 }
 
 /// The coefficient at an index, 0 past the last.
@@ -66,21 +64,21 @@ fn pair(high: i64, low: i64) -> i64
     0x1_0000_0000 * high + low
 }
 
-/// The factors for the first `half` words: for word j the coefficient j, and that `half` places after it.
-#[inline(always)]
-fn pairs(coefficients: &[i64], half: usize) -> [i64; 6]
-    requires half { half ≤ 6 }
+/// Puts the factors for the first `half` words into places: for word j the coefficient j, and that `half` places after
+/// it. It is a call of its own: if the compiler sees how the factors are made, it makes lanes of them and of the loop
+/// that multiplies by them, which takes two to three times as long on processors with AVX2.
+#[inline(never)]
+fn put_factors(coefficients: &[i64], half: usize, factors: &mut [i64])
+    requires half { half ≤ length factors.old }
     requires small { All (FitsBits 15) coefficients.now }
-    ensures { (j : ℕ) → j < half → sample_at result j ≡ paired (sample_at coefficients.now j) (sample_at coefficients.now (j + half)) }
+    ensures { (j : ℕ) → j < half → sample_at factors.new j ≡ paired (sample_at coefficients.now j) (sample_at coefficients.now (j + half)) }
 {
-    let mut factors = [0; 6];
     for j in 0..half {
         factors[j] = pair(
             coefficient_at(coefficients, j),
             coefficient_at(coefficients, j + half),
         );
     }
-    factors
 }
 
 /// What comes after the last word, from the first word: the second sum of that as the first one, and 0 as the second.
@@ -154,7 +152,8 @@ pub(crate) fn restore_packed(
     ensures only { (s : List ℤ) → Restored coefficients.now shift samples.old s → All (FitsBits bits) s → IsTrue result }
 {
     let half = words_of(order);
-    let factors = pairs(coefficients, half);
+    let mut factors = [0; 6];
+    put_factors(coefficients, half, &mut factors);
     let mut words = [0x8000_0000; 7];
     for i in 0..order {
         words[half] = word_after(words[0]);

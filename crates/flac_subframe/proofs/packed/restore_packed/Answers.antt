@@ -27,7 +27,7 @@ loop-i-preserved c =
     let held : to_z w64 (of_z w64 (sample_at s l.i)) ≡ sample_at s l.i = stored bits (sample_at s l.i) c.requires.bits (fit l.i (omega arith)) in
     let small : unsigned_abs (to_z w64 (of_z w64 (sample_at s l.i))) ≤ 2 ^ (bits - 1) = rw held (abs_from_bits bits (sample_at s l.i) (fit l.i (omega arith))) in
     let room : half < length l.words = search rules in
-    packs_more half cs (2 ^ (bits - 1)) c.requires.narrow s l.words l.i most c.words_of-half.ensures.some l.invariant s c.pairs-factors.result (to_z w64 (of_z w64 (sample_at s l.i))) c.word_after.result (omega (arith, c.words_of-half.ensures.enough, c.requires.order)) room small (sym held) (λ j h. refl) c.word_after.ensures c.pairs-factors.ensures c.add_sample.new.sums c.add_sample.ensures.added
+    packs_more half cs (2 ^ (bits - 1)) c.requires.narrow s l.words l.i most c.words_of-half.ensures.some l.invariant s c.put_factors.new.factors (to_z w64 (of_z w64 (sample_at s l.i))) c.word_after.result (omega (arith, c.words_of-half.ensures.enough, c.requires.order)) room small (sym held) (λ j h. refl) c.word_after.ensures c.put_factors.ensures c.add_sample.new.sums c.add_sample.ensures.added
 
 pub loop-i-2-init : goal.loop-i-2-init
 loop-i-2-init c =
@@ -76,7 +76,7 @@ loop-i-2-preserved c =
           let g = l.invariant.good less in
           record {
             so = restored_more cs shift bits r s l.i _ (omega arith) (omega arith) g.so (is less) fit;
-            packs = packs_more half cs (2 ^ (bits - 1)) c.requires.narrow s l.words l.i (most less) c.words_of-half.ensures.some g.packs t c.pairs-factors.result x c.word_after-in-loop-i-2.result (omega (arith, c.words_of-half.ensures.enough, c.requires.order)) room (abs_from_bits bits x fit) here others c.word_after-in-loop-i-2.ensures c.pairs-factors.ensures
+            packs = packs_more half cs (2 ^ (bits - 1)) c.requires.narrow s l.words l.i (most less) c.words_of-half.ensures.some g.packs t c.put_factors.new.factors x c.word_after-in-loop-i-2.result (omega (arith, c.words_of-half.ensures.enough, c.requires.order)) room (abs_from_bits bits x fit) here others c.word_after-in-loop-i-2.ensures c.put_factors.ensures
                 c.add_sample-in-loop-i-2.new.sums c.add_sample-in-loop-i-2.ensures.added;
           };
       bad = λ h. elim (cases_lt l.wrong (2 ^ bits)) [

@@ -6,7 +6,7 @@ use Rattle.std.proofs.lemmas.Int.{to_z-of_z}
 use Rattle.flac_subframe.specs.inner.Packing.{paired}
 use Rattle.flac_subframe.specs.Numbers.{sample_at}
 use Rattle.flac_subframe.proofs.Bounds.{back_15}
-use Rattle.flac_subframe.proofs.packed.pairs.Goals as goal
+use Rattle.flac_subframe.proofs.packed.put_factors.Goals as goal
 
 pub loop-j-preserved : goal.loop-j-preserved
 loop-j-preserved c =
@@ -17,11 +17,8 @@ loop-j-preserved c =
     let one = c.coefficient_at in
     let two = c.coefficient_at-in-loop-j in
     let is : v ≡ paired (sample_at cs l.j) (sample_at cs (l.j + c.args.half)) = rw (back_15 one.result one.ensures.fits, back_15 two.result two.ensures.fits, one.ensures.is, two.ensures.is) at c.pair.ensures in
-    let room : l.j < length l.factors = omega (arith, l.invariant.long, c.loop-j-test.true, c.requires.half) in
-    record {
-      long = length-set l.factors l.j _ ∙ l.invariant.long;
-      each = λ k h. elim (cases_lt k l.j) [
-        | inl b ↦ get_or-set_other l.factors l.j k _ (pos 0) (λ e. omega (arith, e, b)) ∙ l.invariant.each k b
-        | inr b ↦ let e : k ≡ l.j = omega (arith, h, b) in rw e (get_or-set_same l.factors l.j _ (pos 0) room ∙ kept ∙ is)
-      ];
-    }
+    let room : l.j < length l.factors = omega (arith, l.auto.factors, c.loop-j-test.true, c.requires.half) in
+    λ k h. elim (cases_lt k l.j) [
+      | inl b ↦ get_or-set_other l.factors l.j k _ (pos 0) (λ e. omega (arith, e, b)) ∙ l.invariant k b
+      | inr b ↦ let e : k ≡ l.j = omega (arith, h, b) in rw e (get_or-set_same l.factors l.j _ (pos 0) room ∙ kept ∙ is)
+    ]
