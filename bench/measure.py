@@ -169,13 +169,16 @@ def decoding(forms, levels, seconds, runs):
 
 def containers(seconds, runs):
     """The same frames in pages and as a native stream."""
-    head("test", "native s", "Ogg s", "Ogg : native", "flac -t, native s", "flac -t, Ogg s", "Ogg, program : flac")
+    newer_head = ["Ogg, x86-64-v3 s", "x86-64-v3, Ogg : native", "Ogg, x86-64-v3 : flac"] if NEWER else []
+    head("test", "native s", "Ogg s", "Ogg : native", "flac -t, native s", "flac -t, Ogg s", "Ogg, program : flac", *newer_head)
     for form in FORMS:
         native, ogg = encoded(form, seconds, "5"), encoded(form, seconds, "5", ogg=True)
-        found = medians({"native": [PROGRAM, "test", native], "ogg": [PROGRAM, "test", ogg],
+        newer = {"newer": [NEWER, "test", native], "newer ogg": [NEWER, "test", ogg]} if NEWER else {}
+        found = medians({"native": [PROGRAM, "test", native], "ogg": [PROGRAM, "test", ogg], **newer,
                          "flac": [REFERENCE, "-t", "-s", native], "flac ogg": [REFERENCE, "-t", "-s", ogg]}, runs)
+        cells = [shown(found["newer ogg"]), ratio(found["newer ogg"], found["newer"]), ratio(found["newer ogg"], found["flac ogg"])] if NEWER else []
         row(f"{form.label}, level 5", shown(found["native"]), shown(found["ogg"]), ratio(found["ogg"], found["native"]),
-            shown(found["flac"]), shown(found["flac ogg"]), ratio(found["ogg"], found["flac ogg"]))
+            shown(found["flac"]), shown(found["flac ogg"]), ratio(found["ogg"], found["flac ogg"]), *cells)
 
 
 def encode_commands(form, seconds, folder, ogg=False):
