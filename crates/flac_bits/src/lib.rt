@@ -47,4 +47,4 @@ pub use writer::BitWriter;
 pub(crate) const PULL: usize = 8192;
 
 /// How many bytes a writer holds at most, and sends at once.
-pub(crate) const HOLD: usize = 4096;
+pub(crate) const HOLD: usize = 16384;

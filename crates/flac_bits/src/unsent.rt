@@ -44,7 +44,7 @@ impl Model for Unsent {
       });
     } };
 
-    ghost invariant = { λ u. (u.from ≤ u.end) × (u.end ≤ 4096) × (length u.bytes ≡ 4096) };
+    ghost invariant = { λ u. (u.from ≤ u.end) × (u.end ≤ 16384) × (length u.bytes ≡ 16384) };
 }
 
 impl Unsent {
@@ -80,7 +80,7 @@ impl Unsent {
 
     /// Whether there is room for one more word.
     pub(crate) fn has_room(&self) -> bool
-        ensures { result ≡ true → length self.now.bytes + 8 ≤ 4096 }
+        ensures { result ≡ true → length self.now.bytes + 8 ≤ 16384 }
     {
         self.end <= HOLD - 8
     }
@@ -88,7 +88,7 @@ impl Unsent {
     /// Adds the n bits of a number, which fill a word; there is room for it.
     #[inline(always)]
     pub(crate) fn fill(&mut self, n: u32, value: u64)
-        requires room { length self.old.bytes + 8 ≤ 4096 }
+        requires room { length self.old.bytes + 8 ≤ 16384 }
         requires enough { 64 ≤ length self.old.rest + n }
         requires few { n ≤ 64 }
         requires fits { value < 2 ^ n }
@@ -149,7 +149,7 @@ impl Unsent {
 
     /// Moves the first eight bits after the whole bytes into the array.
     fn settle_byte(&mut self)
-        requires room { length self.old.bytes < 4096 }
+        requires room { length self.old.bytes < 16384 }
         requires enough { 8 ≤ length self.old.rest }
         ensures kept { KeepsBits self.old self.new }
         ensures long { length self.new.bytes ≡ length self.old.bytes + 1 }
@@ -170,7 +170,7 @@ impl Unsent {
 
     /// Moves all whole bytes of the bits held into the array.
     pub(crate) fn settle(&mut self)
-        requires { length self.old.bytes + 8 ≤ 4096 }
+        requires { length self.old.bytes + 8 ≤ 16384 }
         ensures kept { KeepsBits self.old self.new }
         ensures left { self.new.mark.unread ≡ 0 → self.new.rest ≡ [] }
     {

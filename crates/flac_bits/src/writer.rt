@@ -17,7 +17,7 @@ use std::marker::Model;
 
 /// Writes to a target bit by bit, the highest bit of a byte first.
 ///
-/// Up to 4096 bytes are held before they are sent; [`BitWriter::finish`] sends what is held. After an error the target
+/// Up to 16384 bytes are held before they are sent; [`BitWriter::finish`] sends what is held. After an error the target
 /// has received a prefix of the bits that were to be written, and nothing more should be written.
 ///
 /// # Errors
@@ -37,7 +37,7 @@ impl<W: Target> Model for BitWriter<W> {
 /// Makes room for one more word, by sending what is held if need be.
 #[inline(always)]
 fn make_room<W: Target>(held: &mut Unsent, target: &mut W) -> Result<(), Why>
-    ensures room { OnOk result (length held.new.bytes + 8 ≤ 4096) }
+    ensures room { OnOk result (length held.new.bytes + 8 ≤ 16384) }
     ensures rest { held.new.rest ≡ held.old.rest }
     ensures writes { Writes [] (standing W.Target target.old held.old) (standing W.Target target.new held.new) result }
 {

@@ -308,18 +308,18 @@ fn pushed_whole(alloc: Global, list: &BlockList, samples: &[i32], at: u64) -> (u
 }
 
 /// A call of this number failed, and no other was made: just what the calls before took was written, which of the
-/// blocks are 4096 bytes each.
+/// blocks are 16384 bytes each.
 fn stops_there(rt: &impl Abort, outcome: &(u8, Vec<u8>, u64), whole: &[u8], n: u64) {
     let (number, bytes, calls) = outcome;
-    let front = (n as usize).saturating_mul(4096).min(9046);
+    let front = (n as usize).saturating_mul(16384).min(36046);
     assert!(rt; *number == 39 && *calls == n.saturating_add(1), "call {n}");
     assert!(rt; is_front(bytes, whole, front), "call {n}");
 }
 
-/// The samples and a block of 9000 bytes, which are written by three calls, the last with the frame.
+/// The samples and a block of 36000 bytes, which are written by three calls, the last with the frame.
 fn each_call_fails(rt: &impl Abort, alloc: Global, written: &Written<'_>) {
     let (number, whole, calls) = written_whole(alloc, written, NEVER);
-    assert!(rt; number == 0 && calls == 3 && whole.len() == 9061);
+    assert!(rt; number == 0 && calls == 3 && whole.len() == 36061);
     for n in 0..3 {
         stops_there(rt, &written_whole(alloc, written, n), &whole, n);
     }
@@ -340,7 +340,7 @@ fn each_call_of_pushing_fails(rt: &impl Abort, alloc: Global, list: &BlockList) 
 fn writes_of_a_long_block_fail(rt: HostRuntime) -> Result<(), Fail> {
     let audio = sample(rt.alloc())?;
     let plan = Plan::new(4096, &audio, 0)?;
-    let list = BlockList::new(vec![in rt.alloc(); Block::Padding(9000)]?)?;
+    let list = BlockList::new(vec![in rt.alloc(); Block::Padding(36000)]?)?;
     let written = Written {
         audio: &audio,
         plan: &plan,
