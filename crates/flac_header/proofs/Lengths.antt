@@ -1,5 +1,6 @@
 -- How long a header is.
-use Rattle.std.proofs.Common.{◌≡◌, ◌∙◌, refl, ap, ℕ, zero, suc, ◌+◌, ◌-◌, ◌*◌, ◌/◌, ◌%◌, ◌^◌, ◌≤◌, arith, Bool, true, false, cond, nat_eq, nat_lt, List, [], ◌∷◌, length, length-append}
+use Rattle.std.proofs.Common.{◌≡◌, ◌≢◌, ◌∙◌, refl, ap, ℕ, zero, suc, ◌+◌, ◌-◌, ◌*◌, ◌/◌, ◌%◌, ◌^◌, ◌≤◌, arith, Bool, true, false, cond, nat_eq, nat_lt, List, [], ◌∷◌, length, length-append}
+use Rattle.std.proofs.lemmas.Bool.{ne_eqb}
 use Rattle.flac_bits.specs.Bits.{unsigned, bit_value}
 use Rattle.flac_bits.specs.Check.{remainder}
 use Rattle.flac_bits.specs.Coded.{six_bits, in_bytes, number_spelling}
@@ -57,6 +58,14 @@ rate_few code rate =
     let b : length (unsigned 16 rate) ≤ 16 = omega (arith, length-unsigned 16 rate) in
     let d : length (unsigned 16 (rate / 10)) ≤ 16 = omega (arith, length-unsigned 16 (rate / 10)) in
     either_few (nat_eq code 12) 16 _ _ a (either_few (nat_eq code 13) 16 _ _ b (either_few (nat_eq code 14) 16 _ _ d no_bits))
+
+pub size_none : (code size : ℕ) → code ≢ 6 → code ≢ 7 → length (size_spelling code size) ≡ 0
+unfolding size_spelling
+size_none code size a b = rw (ne_eqb code 6 a, ne_eqb code 7 b) refl
+
+pub rate_none : (code rate : ℕ) → code ≢ 12 → code ≢ 13 → code ≢ 14 → length (rate_spelling code rate) ≡ 0
+unfolding rate_spelling
+rate_none code rate a b d = rw (ne_eqb code 12 a, ne_eqb code 13 b, ne_eqb code 14 d) refl
 
 abbrev lengths : List (List Bool) → ℕ
 lengths [] = 0

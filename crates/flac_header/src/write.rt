@@ -77,7 +77,6 @@ pub fn write_header<W: Target>(header: &FrameHeader, writer: &mut BitWriter<W>) 
 }
 
 /// How many bytes the block size takes under a code: none if the code names it (RFC 9639, section 9.1.6).
-#[tactic(auto, unfolding(crate::specs::Spelling::size_spelling))]
 fn size_bytes(code: u8) -> u64
     ensures long { (size : ℕ) → length (size_spelling code size) ≡ 8 * result }
     ensures few { result ≤ 2 }
@@ -91,7 +90,6 @@ fn size_bytes(code: u8) -> u64
 
 /// How many bytes the rate takes under a code: none if the code names it, or leaves it to STREAMINFO (RFC 9639, section
 /// 9.1.7).
-#[tactic(auto, unfolding(crate::specs::Spelling::rate_spelling))]
 fn rate_bytes(code: u8) -> u64
     ensures long { (rate : ℕ) → length (rate_spelling code rate) ≡ 8 * result }
     ensures few { result ≤ 2 }
