@@ -4,6 +4,9 @@
 Every figure is the median of several runs, half as many with lists of linear predictors; the programs that are compared run
 in turn, so that what else the machine does falls on all of them alike. Seconds are those of the processor (user and system),
 ratios are of these. Sizes and memory are exact. The audio is made by a fixed seed, ten seconds at a time.
+
+A virtual machine may share each processor with others, which makes a program take up to twice as long, by turns. With --quiet a
+turn of the programs counts only if a fixed loop took no longer than usual before, between and after them, on one processor.
 """
 import argparse
 import collections
@@ -16,6 +19,7 @@ import statistics
 import subprocess
 import sys
 import tempfile
+import time
 import wave
 
 HERE = os.path.dirname(os.path.abspath(__file__))
@@ -104,8 +108,68 @@ def once(words):
     return usage.ru_utime + usage.ru_stime
 
 
+class Quiet:
+    """Tells whether something else has a part of the processor, by a fixed loop: one that is shared takes 1.4 times as long and more."""
+
+    LONGEST = 1.07
+    TRIES = 30
+
+    def __init__(self):
+        self.processors = sorted(os.sched_getaffinity(0))
+        self.usual = min(self.loop() for processor in self.processors for _ in range(40) if os.sched_setaffinity(0, {processor}) is None)
+        self.counted, self.left_out = 0, 0
+
+    @staticmethod
+    def loop():
+        start, number = time.perf_counter(), 1
+        for _ in range(60000):
+            number = number * 5 & 65535
+        return time.perf_counter() - start
+
+    def is_quiet(self):
+        return statistics.median(self.loop() for _ in range(3)) <= self.LONGEST * self.usual
+
+    def finds_processor(self):
+        for processor in self.processors:
+            os.sched_setaffinity(0, {processor})
+            if self.is_quiet():
+                return True
+        return False
+
+    def turn(self, commands):
+        """The seconds of each command in a turn on one processor, all of it quiet; nothing if there is none in many tries."""
+        for _ in range(self.TRIES):
+            found = {}
+            if self.finds_processor():
+                for name, words in commands.items():
+                    found[name] = once(words)
+                    if not self.is_quiet():
+                        break
+                else:
+                    self.counted += 1
+                    return found
+            self.left_out += 1
+            time.sleep(0.3)
+        return {}
+
+
+# what --quiet sets
+QUIET = None
+
+
+def quiet_medians(commands, runs):
+    """For each command the median of its seconds in the quiet turns, of which there are so many, or fewer if the machine is never quiet."""
+    try:
+        turns = [it for it in (QUIET.turn(commands) for _ in range(runs)) if it]
+    except Refused as reason:
+        return {name: str(reason) for name in commands}
+    return {name: statistics.median(it[name] for it in turns) if turns else "never quiet" for name in commands}
+
+
 def medians(commands, runs):
     """For each command the median of its seconds, the commands running in turn; a text where it is refused."""
+    if QUIET:
+        return quiet_medians(commands, runs)
     seconds, refused = {name: [] for name in commands}, {}
     for _ in range(runs):
         for name, words in commands.items():
@@ -287,21 +351,30 @@ def main():
     parser = argparse.ArgumentParser(description=__doc__, formatter_class=argparse.RawDescriptionHelpFormatter)
     parser.add_argument("--quick", action="store_true", help="20 seconds of audio and 3 runs instead of 180 and 5")
     parser.add_argument("--runs", type=int, default=None)
+    parser.add_argument("--seconds", type=int, default=None, help="how long the audio of a row is")
     parser.add_argument("--lists", action="store_true", help="the tables with lists of linear predictors alone")
+    parser.add_argument("--quiet", action="store_true", help="only turns in which nothing else had a part of the processor; without lists")
     words = parser.parse_args()
     if not os.path.exists(PROGRAM):
         sys.exit(f"{PROGRAM} is not there: build it, or name the program by FLAC=")
     os.makedirs(FOLDER, exist_ok=True)
     seconds, runs = (20, words.runs or 3) if words.quick else (180, words.runs or 5)
+    seconds = words.seconds or seconds
     version = subprocess.run([REFERENCE, "--version"], stdout=subprocess.PIPE, check=True).stdout.decode().strip()
     print(f"{datetime.date.today()}, {machine()}; {version}; {seconds} seconds of audio a row, medians of {runs} runs, load {os.getloadavg()[0]:.1f}")
     if words.lists:
         with_lists(seconds, max(1, runs // 2))
         return 0
+    if words.quiet:
+        global QUIET
+        QUIET = Quiet()
     decoding(FORMS, LEVELS, seconds, runs)
     decoding(OTHER_FORMS, ["5"], seconds, runs)
     containers(seconds, runs)
     encoding(seconds, runs)
+    if words.quiet:
+        print(f"\n{QUIET.counted} turns counted, {QUIET.left_out} were not quiet.")
+        return 0
     with_lists(seconds, max(1, runs // 2))
     growth(2, (1, 10) if words.quick else (1, 10, 100), runs)
     return 0
