@@ -34,6 +34,7 @@ pub mod Fencing
 pub mod Slicing
 pub mod Entries
 pub mod Entries32
+pub mod Indices
 pub mod Eights
 pub mod Stretches
 pub mod Runs
