@@ -35,6 +35,7 @@ pub mod Slicing
 pub mod Entries
 pub mod Entries32
 pub mod Indices
+pub mod Turns
 pub mod Eights
 pub mod Stretches
 pub mod Runs
