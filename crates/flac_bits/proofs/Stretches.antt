@@ -135,3 +135,6 @@ stretch_read k text us vs i j why old new rest passes read =
     let left : (old.word ++ bits_of old.bytes) ++ rest ≡ text ++ ((new.word ++ bits_of new.bytes) ++ rest) = ap (λ bs. bs ++ rest) passes.0 ∙ append_assoc text (new.word ++ bits_of new.bytes) rest in
     let marked : with_short why new.mark ≡ past text (with_short why old.mark) = ap (with_short why) passes.1 ∙ sym (past-with_short text why old.mark) in
     rw (left, marked) (read.reads ((new.word ++ bits_of new.bytes) ++ rest) (with_short why old.mark))
+
+pub few_here : (k n : ℕ) → k ≡ n → k ≤ 26 → n ≤ 26
+few_here k n is few = rw (← is) few
