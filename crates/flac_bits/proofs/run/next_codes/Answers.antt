@@ -1,6 +1,6 @@
 use Rattle.std.proofs.Common.{◌+◌, ◌++◌, drop, get_or, flat_map, pos, ap, ◌∙◌, arith, sym}
 use Rattle.flac_bits.specs.Rice.{value_bits}
-use Rattle.flac_bits.proofs.Runs.{pair_step}
+use Rattle.flac_bits.proofs.Runs.{value_step, pair_step}
 use Rattle.flac_bits.proofs.Signs.{residual_kept}
 use Rattle.flac_bits.proofs.run.next_codes.Goals as goal
 
@@ -37,3 +37,12 @@ pub code_of-requires : goal.code_of-requires
 code_of-requires c =
     let value = c.requires.range c.args.i (pos 0) c.requires.i in
     record { k = c.requires.k; value = rw (residual_kept _ value) value }
+
+pub returns : goal.returns
+returns c =
+    let i = c.args.i in
+    let k = c.args.k in
+    let xs = c.args.values.now in
+    let x = get_or xs i (pos 0) in
+    let some = rw (residual_kept x (c.requires.range i (pos 0) c.requires.i)) at c.in_ok-n.ensures in
+    (some.0, some.1, omega arith, omega (arith, c.requires.i), value_step k xs i c.requires.i ∙ ap (λ bs. bs ++ flat_map (value_bits k) (drop (i + 1) xs)) (sym some.2))
