@@ -36,6 +36,8 @@ pub mod Entries
 pub mod Entries32
 pub mod Indices
 pub mod Turns
+pub mod Sent
+pub mod CodedTurns
 pub mod Eights
 pub mod Stretches
 pub mod Runs

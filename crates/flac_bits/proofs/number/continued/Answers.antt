@@ -1,6 +1,8 @@
-use Rattle.std.proofs.Common.{rules, arith}
-use Rattle.flac_bits.proofs.Numbers.{six_more}
-use Rattle.flac_bits.proofs.Counting.{gone}
+use Rattle.std.proofs.Common.{◌+◌, rules, refl, sym, ◌∙◌, arith}
+use Rattle.std.proofs.lemmas.Result.{err_from_is_err_and}
+use Rattle.flac_bits.proofs.Numbers.{six_more, group_more}
+use Rattle.flac_bits.proofs.CodedTurns.{byte_turn, byte_cut, byte_bad}
+use Rattle.flac_bits.proofs.Counting.{gone, answered_then, failed_then, refused_then}
 use Rattle.flac_bits.proofs.number.continued.Goals as goal
 
 pub overflow_mul-value : goal.overflow_mul-value
@@ -17,3 +19,51 @@ returns-clause-reading g c = record {
   memory = search rules;
   reads = search rules;
 }
+
+pub loop-i-preserved : goal.loop-i-preserved
+loop-i-preserved g c =
+    let inv = c.loop-i.invariant in
+    let got = c.in_ok-byte.ensures.reading in
+    let i = c.loop-i.i in
+    let value = c.loop-i.value in
+    let byte = c.in_ok-byte.byte in (
+      group_more 32 i value byte inv.0,
+      group_more (c.args.high + 1) i value byte inv.1,
+      omega (arith, inv.2, got.spends),
+      byte_turn c.args.count i value byte c.args.high c.args.bits.now c.loop-i.bits c.take.new.self
+        c.loop-i-test.true c.if-byte-ne2.false inv.3 got.counts got.reads,
+    )
+
+pub returns-in_err-byte : goal.returns-in_err-byte
+returns-in_err-byte g c =
+    let p = err_from_is_err_and c.from_residual.result c.from_residual.ensures.1 in
+    let goes = c.loop-i.invariant.3 in
+    let failed = c.in_err-byte.ensures.reading in
+    rw (p.1, p.2) (record {
+      reading = record {
+        spends = tt;
+        counts = failed_then c.args.bits.now c.loop-i.bits c.take.new.self (gone goes) failed.counts;
+        memory = failed.memory;
+        reads = λ known same.
+            byte_cut c.args.count c.loop-i.i c.loop-i.value c.args.high _ c.args.bits.now c.loop-i.bits c.loop-i-test.true goes known
+            (failed.reads (goes.known known) (same ∙ sym goes.errors));
+      };
+      room = tt;
+    })
+
+pub returns-then-byte-ne2 : goal.returns-then-byte-ne2
+returns-then-byte-ne2 g c =
+    let goes = c.loop-i.invariant.3 in
+    let got = c.in_ok-byte.ensures.reading in
+    record {
+      reading = record {
+        spends = tt;
+        counts = refused_then c.args.bits.now c.take.new.self
+            (answered_then c.args.bits.now c.loop-i.bits c.take.new.self (gone goes) got.counts) refl;
+        memory = search rules;
+        reads = λ known same.
+            byte_bad c.args.count c.loop-i.i c.loop-i.value c.in_ok-byte.byte c.args.high c.args.bits.now c.loop-i.bits c.take.new.self
+            c.loop-i-test.true c.if-byte-ne2.true goes known (got.reads (goes.known known) got.counts.1);
+      };
+      room = tt;
+    }
