@@ -1,13 +1,13 @@
--- One more turn of the loop that reads a number bit by bit.
+-- One more turn of the loops that read bit by bit, and a number that is read in two parts.
 use mir.Val.{bool_byte}
-use Rattle.std.proofs.Common.{◌≡◌, ℕ, suc, ◌+◌, ◌-◌, ◌*◌, ◌^◌, ◌<◌, ◌≤◌, Bool, true, false, Ok, Err, refl, sym, ap, ◌∙◌, arith}
+use Rattle.std.proofs.Common.{Result, ◌≡◌, ℕ, suc, ◌+◌, ◌-◌, ◌*◌, ◌^◌, ◌<◌, ◌≤◌, Bool, true, false, Ok, Err, refl, sym, ap, ◌∙◌, arith, cond, Some, None, Option, ◌%◌}
 use Rattle.std.proofs.Math.Nat.{pow-suc, pow-le-pow_right}
 use Rattle.flac_bits.specs.Bits.{bit_value}
-use Rattle.flac_bits.specs.State.{State}
-use Rattle.flac_bits.specs.Layout.{next_bit, number_from, and_then, Reason}
+use Rattle.flac_bits.specs.State.{State, Cursor}
+use Rattle.flac_bits.specs.Layout.{next_bit, number_at, number_from, zeros_from, and_then, Reason}
 use Rattle.flac_bits.specs.inner.Reading.{Goes}
 use Rattle.flac_bits.proofs.Counting.{Answered}
-use Rattle.flac_bits.proofs.Loops.{number_more, goes_on}
+use Rattle.flac_bits.proofs.Loops.{number_more, number_halves, zeros_more, zeros_last, goes_on}
 
 bit_is : (b : Bool) → bit_value b ≡ bool_byte b
 bit_is false = refl
@@ -60,3 +60,64 @@ number_room n i value lt few below =
 
 pub byte_small : (w : ℕ) (b : Bool) → w ≡ bool_byte b → w ≤ 1
 byte_small w b is = omega (arith, is, bit_small b)
+
+-- ---- zeros before a one
+
+pub zeros_start : (limit : ℕ) (old : State) → Goes old old (zeros_from (limit - 0) 0 old.cursor) (zeros_from limit 0 old.cursor)
+zeros_start limit old =
+    let e : limit - 0 ≡ limit = omega arith in
+    record {
+      known = λ h. h;
+      errors = refl;
+      raised = refl;
+      behind = λ _. refl;
+      names = refl;
+      reads = λ _. ap (λ k. zeros_from k 0 old.cursor) e;
+    }
+
+abbrev behind_zeros : ℕ → ℕ → Bool → Cursor → Result (Option ℕ × Cursor) Reason
+behind_zeros limit i b d = cond b (Ok (Some i, d)) (zeros_from (limit - (i + 1)) (i + 1) d)
+
+pub zeros_turn : (limit i : ℕ) (b : Bool) (old now next : State) → i < limit → b ≡ false
+    → Goes old now (zeros_from (limit - i) i now.cursor) (zeros_from limit 0 old.cursor) → Answered now next
+    → (now.known ≡ true → next.errors ≡ now.errors → next_bit now.cursor ≡ Ok (b, next.cursor))
+    → Goes old next (zeros_from (limit - (i + 1)) (i + 1) next.cursor) (zeros_from limit 0 old.cursor)
+zeros_turn limit i b old now next lt is goes counts reads =
+    goes_on old now next (next_bit now.cursor) b (behind_zeros limit i) _ _ _
+    goes (zeros_more limit i i now.cursor lt) (ap (λ x. behind_zeros limit i x next.cursor) is) counts reads
+
+pub zeros_cut : (limit i : ℕ) (e : Reason) (old now : State) → i < limit
+    → Goes old now (zeros_from (limit - i) i now.cursor) (zeros_from limit 0 old.cursor) → old.known ≡ true
+    → next_bit now.cursor ≡ Err e → zeros_from limit 0 old.cursor ≡ Err e
+zeros_cut limit i e old now lt goes known cut =
+    sym (goes.reads known) ∙ zeros_more limit i i now.cursor lt ∙ ap (λ r. and_then r (behind_zeros limit i)) cut
+
+pub zeros_cut_last : (limit i : ℕ) (e : Reason) (old now : State) → limit ≤ i
+    → Goes old now (zeros_from (limit - i) i now.cursor) (zeros_from limit 0 old.cursor) → old.known ≡ true
+    → next_bit now.cursor ≡ Err e → zeros_from limit 0 old.cursor ≡ Err e
+zeros_cut_last limit i e old now le goes known cut =
+    sym (goes.reads known) ∙ zeros_last limit i i now.cursor le
+    ∙ ap (λ r. and_then r (λ b d. cond b (Ok (Some i, d)) (Ok (None, d)))) cut
+
+-- ---- a number of more than 32 bits
+
+abbrev both_parts : ℕ → ℕ → Cursor → Result (ℕ × Cursor) Reason
+both_parts high low e = Ok (high * 2 ^ 32 + low, e)
+
+abbrev behind_high : ℕ → Cursor → Result (ℕ × Cursor) Reason
+behind_high high d = and_then (number_at 32 d) (both_parts high)
+
+pub high_cut : (n : ℕ) (why : Reason) (c : Cursor) → 32 < n → number_at (n - 32) c ≡ Err why → number_at n c ≡ Err why
+high_cut n why c lt cut = number_halves n c lt ∙ ap (λ r. and_then r behind_high) cut
+
+pub low_cut : (n high : ℕ) (why : Reason) (c d : Cursor) → 32 < n → number_at (n - 32) c ≡ Ok (high, d)
+    → number_at 32 d ≡ Err why → number_at n c ≡ Err why
+low_cut n high why c d lt read cut =
+    number_halves n c lt ∙ ap (λ r. and_then r behind_high) read
+    ∙ ap (λ r. and_then r (both_parts high)) cut
+
+pub halves_room : (n high low : ℕ) → n ≤ 64 → high < 2 ^ (n - 32) → low < 4294967296
+    → high * 4294967296 % 18446744073709551616 + low < 18446744073709551616
+halves_room n high low few fits lt =
+    let most : 2 ^ (n - 32) ≤ 2 ^ 32 = pow-le-pow_right {n = 2} (omega arith) {i = n - 32} {j = 32} (omega (arith, few)) in
+    omega (arith, most, fits, lt)

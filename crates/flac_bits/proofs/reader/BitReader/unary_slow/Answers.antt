@@ -1,18 +1,21 @@
-use Rattle.std.proofs.Common.{arith, rules}
+use Rattle.std.proofs.Common.{sym, ◌∙◌, arith, rules}
 use Rattle.std.proofs.lemmas.Result.{err_from_is_err_and}
 use Rattle.flac_bits.proofs.Counting.{gone, answered_then, failed_then}
-use Rattle.flac_bits.proofs.Loops.{zeros_more, zeros_last}
+use Rattle.flac_bits.proofs.Turns.{zeros_start, zeros_turn, zeros_cut, zeros_cut_last}
 use Rattle.flac_bits.proofs.reader.BitReader.unary_slow.Goals as goal
 
 pub returns-in_err-bit-clause-reading : goal.returns-in_err-bit-clause-reading
-unfolding Rattle.flac_bits.specs.Layout.zeros_at Rattle.flac_bits.specs.Layout.zeros_from
+unfolding Rattle.flac_bits.specs.Layout.zeros_at
 returns-in_err-bit-clause-reading g c =
     let p = err_from_is_err_and c.from_residual.result c.from_residual.ensures.1 in
     rw (p.1, p.2) (record {
       spends = tt;
       counts = failed_then c.args.self.now c.loop-zeros.self c.bit.new.self (gone c.loop-zeros.invariant.goes) c.in_err-bit.ensures.reading.counts;
-      memory = search rules;
-      reads = grind (arith, zeros_more, zeros_last);
+      memory = c.in_err-bit.ensures.reading.memory;
+      reads = λ known same.
+          let goes = c.loop-zeros.invariant.goes in
+          zeros_cut c.args.limit c.loop-zeros.zeros _ c.args.self.now c.loop-zeros.self c.loop-zeros-test.true goes known
+          (c.in_err-bit.ensures.reading.reads (goes.known known) (same ∙ sym goes.errors));
     })
 
 pub returns-then-branch-clause-reading : goal.returns-then-branch-clause-reading
@@ -41,3 +44,34 @@ returns-clause-reading g c = record {
   memory = search rules;
   reads = search rules;
 }
+
+pub loop-zeros-init : goal.loop-zeros-init
+loop-zeros-init g c = record { goes = zeros_start c.args.limit c.args.self.now; spent = omega arith }
+
+pub loop-zeros-preserved : goal.loop-zeros-preserved
+loop-zeros-preserved g c =
+    let inv = c.loop-zeros.invariant in
+    let got = c.in_ok-bit.ensures.reading in
+    record {
+      goes = zeros_turn c.args.limit c.loop-zeros.zeros c.in_ok-bit.field-0 c.args.self.now c.loop-zeros.self c.bit.new.self
+          c.loop-zeros-test.true c.if-branch.false inv.goes got.counts got.reads;
+      spent = omega (arith, inv.spent, got.spends);
+    }
+
+pub returns-in_err-bit-2 : goal.returns-in_err-bit-2
+unfolding Rattle.flac_bits.specs.Layout.zeros_at
+returns-in_err-bit-2 g c =
+    let p = err_from_is_err_and c.from_residual-in_err-bit-2.result c.from_residual-in_err-bit-2.ensures.1 in
+    let goes = c.loop-zeros.invariant.goes in
+    let failed = c.in_err-bit-2.ensures.reading in
+    rw (p.1, p.2) (record {
+      within = tt;
+      reading = record {
+        spends = tt;
+        counts = failed_then c.args.self.now c.loop-zeros.self c.bit-2.new.self (gone goes) failed.counts;
+        memory = failed.memory;
+        reads = λ known same.
+            zeros_cut_last c.args.limit c.loop-zeros.zeros _ c.args.self.now c.loop-zeros.self c.loop-zeros-test.false goes known
+            (failed.reads (goes.known known) (same ∙ sym goes.errors));
+      };
+    })
