@@ -38,6 +38,7 @@ pub mod Indices
 pub mod Turns
 pub mod Sent
 pub mod CodedTurns
+pub mod Listed
 pub mod Eights
 pub mod Stretches
 pub mod Runs

@@ -1,4 +1,5 @@
 use Rattle.std.proofs.Common.{rules, ◌≡◌, ◌+◌, ◌-◌, ◌<◌, List, [], ◌∷◌, ◌++◌, length, take, refl, sym, ap, arith, Result, Ok, ◌∙◌, ℤ, pos, below_more}
+use Rattle.std.proofs.lemmas.Result.{err_from_is_err_and}
 use Rattle.std.proofs.lemmas.List.{take_all, get_or-set_same, get_or-set_other}
 use Rattle.std.proofs.lemmas.List.Elements.{All-from_get_or}
 use Rattle.std.proofs.lemmas.Grind.{take-set_at}
@@ -10,7 +11,8 @@ use Rattle.flac_bits.specs.Rice.{IsResidual}
 use Rattle.flac_bits.proofs.Loops.{goes_on, goes_same}
 use Rattle.flac_bits.proofs.Lists.{list_more, list_end, list_start}
 use Rattle.flac_bits.proofs.Signs.{residual_kept}
-use Rattle.flac_bits.proofs.Counting.{gone}
+use Rattle.flac_bits.proofs.Counting.{gone, failed_then}
+use Rattle.flac_bits.proofs.Listed.{list_cut}
 use Rattle.flac_bits.proofs.reader.BitReader.rice_partition.Goals as goal
 
 pub loop-i-preserved : goal.loop-i-preserved
@@ -62,3 +64,37 @@ returns-clause-reading g c = record {
   memory = search rules;
   reads = (λ known same. sym (c.loop-i.invariant.goes.reads known) ∙ list_end (length c.args.values.now) c.loop-i.i (rice_value c.args.k) c.loop-i.self.cursor (take c.loop-i.i c.loop-i.values) (omega (arith, c.loop-i-test.false, c.loop-i.auto.values)) ∙ ap (λ front. okay (front, c.loop-i.self.cursor)) (take_all c.loop-i.i c.loop-i.values (omega (arith, c.loop-i.auto.values, c.loop-i-test.false))));
 }
+
+pub loop-i-preserved-then-next-i : goal.loop-i-preserved-then-next-i
+loop-i-preserved-then-next-i g c =
+    let inv = c.loop-i.invariant in
+    let ready = c.ready_values-next in
+    let got = rw (c.loop-i.auto.values, c.top_up.ensures) at ready.ensures in
+    record {
+      goes = goes_same c.args.self.now c.loop-i.self ready.new.self _ _ _ inv.goes got.went.1 got.went.2 got.went.3 got.went.4 got.went.5 got.reads;
+      fits = got.fits inv.fits;
+      spent = omega (arith, got.went.0, inv.spent);
+    }
+
+pub returns-in_err-values : goal.returns-in_err-values
+returns-in_err-values g c =
+    let p = err_from_is_err_and c.from_residual.result c.from_residual.ensures.1 in
+    let i = c.loop-i.i in
+    let ready = c.ready_values-next in
+    let stop : ready.result ≡ i = omega (arith, ready.ensures.within.0, c.if-next-i.false) in
+    let got = rw (stop, c.loop-i.auto.values, c.top_up.ensures) at ready.ensures in
+    let mid = ready.new.self in
+    let within : i < length c.args.values.now = omega (arith, c.loop-i-test.true, c.loop-i.auto.values) in
+    let goes = goes_same c.args.self.now c.loop-i.self mid _ _ _ c.loop-i.invariant.goes got.went.1 got.went.2 got.went.3 got.went.4 got.went.5 got.reads in
+    let failed = c.in_err-values.ensures.reading in
+    rw (p.1, p.2) (record {
+      fits = tt;
+      reading = record {
+        spends = tt;
+        counts = failed_then c.args.self.now mid c.rice_value.new.self (gone goes) failed.counts;
+        memory = failed.memory;
+        reads = λ known same.
+            list_cut (length c.args.values.now) i (rice_value c.args.k) (take i ready.new.values) _
+            c.args.self.now mid within goes known (failed.reads (goes.known known) (same ∙ sym goes.errors));
+      };
+    })

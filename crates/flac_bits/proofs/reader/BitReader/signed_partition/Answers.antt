@@ -1,4 +1,5 @@
 use Rattle.std.proofs.Common.{rules, ◌≡◌, ◌+◌, ◌-◌, List, [], ◌∷◌, ◌++◌, length, take, refl, sym, ap, arith, Result, Ok, ◌∙◌, ℤ, pos, below_more}
+use Rattle.std.proofs.lemmas.Result.{err_from_is_err_and}
 use Rattle.std.proofs.lemmas.List.{take_all, get_or-set_same, get_or-set_other}
 use Rattle.std.proofs.lemmas.List.Elements.{All-from_get_or}
 use Rattle.std.proofs.lemmas.Grind.{take-set_at}
@@ -10,7 +11,8 @@ use Rattle.flac_bits.specs.Signed.{FitsBits}
 use Rattle.flac_bits.proofs.Loops.{goes_on}
 use Rattle.flac_bits.proofs.Lists.{list_more, list_end, list_start}
 use Rattle.flac_bits.proofs.Signs.{signed_kept}
-use Rattle.flac_bits.proofs.Counting.{gone}
+use Rattle.flac_bits.proofs.Counting.{gone, failed_then}
+use Rattle.flac_bits.proofs.Listed.{list_cut}
 use Rattle.flac_bits.proofs.reader.BitReader.signed_partition.Goals as goal
 
 pub loop-i-preserved : goal.loop-i-preserved
@@ -54,3 +56,23 @@ returns-clause-reading g c = record {
   memory = search rules;
   reads = (λ known same. sym (c.loop-i.invariant.goes.reads known) ∙ list_end (length c.args.values.now) c.loop-i.i (signed_field c.args.n) c.loop-i.self.cursor (take c.loop-i.i c.loop-i.values) c.loop-i-test.false ∙ ap (λ front. okay (front, c.loop-i.self.cursor)) (take_all c.loop-i.i c.loop-i.values (omega (arith, c.loop-i.auto.values, c.loop-i-test.false))));
 }
+
+pub returns-in_err-values : goal.returns-in_err-values
+returns-in_err-values g c =
+    let p = err_from_is_err_and c.from_residual.result c.from_residual.ensures.1 in
+    let goes = c.loop-i.invariant.goes in
+    let failed = c.in_err-values.ensures.reading in
+    rw (p.1, p.2) (record {
+      fits = tt;
+      reading = record {
+        spends = tt;
+        counts = failed_then c.args.self.now c.loop-i.self c.take_signed.new.self (gone goes) failed.counts;
+        memory = failed.memory;
+        reads = λ known same.
+            list_cut (length c.args.values.now) c.loop-i.i (signed_field c.args.n) (take c.loop-i.i c.loop-i.values) _
+            c.args.self.now c.loop-i.self c.loop-i-test.true goes known (failed.reads (goes.known known) (same ∙ sym goes.errors));
+      };
+    })
+
+pub take_signed-requires : goal.take_signed-requires
+take_signed-requires g c = c.requires
