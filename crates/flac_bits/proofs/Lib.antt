@@ -39,6 +39,7 @@ pub mod Turns
 pub mod Sent
 pub mod CodedTurns
 pub mod Listed
+pub mod Values
 pub mod Eights
 pub mod Stretches
 pub mod Runs
