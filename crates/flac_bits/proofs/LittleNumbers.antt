@@ -1,5 +1,5 @@
 -- Four bytes, and the number of which they are the bytes, the lowest first.
-use Rattle.std.proofs.Common.{◌≡◌, ℕ, ◌+◌, ◌*◌, List, [], ◌∷◌, ◌++◌, Result, Ok, Err, refl, ap, arith}
+use Rattle.std.proofs.Common.{◌≡◌, ℕ, ◌+◌, ◌*◌, List, [], ◌∷◌, ◌++◌, Result, Ok, Err, refl, sym, ap, ◌∙◌, arith}
 use Rattle.byteorder.specs.Endian.{little_number, little_bytes}
 use Rattle.flac_bits.specs.State.{Cursor}
 use Rattle.flac_bits.specs.Layout.{bits, run, Reason, and_then, number_at}
@@ -59,3 +59,11 @@ bytes_are_little_32 c = first (number_at 8 c)
 pub little_bits_are : (v : ℕ) (bytes : List ℕ) → bytes ≡ little_bytes 4 v ++ [] → bits_of bytes ≡ little_bits v
 unfolding little_bits
 little_bits_are v bytes is = ap bits_of is
+
+-- such a number, read as four bytes, and why it cannot be
+pub little_read : (v : ℕ) (xs : List ℕ) (c d : Cursor) → run (list_of 4 (bits 8)) c ≡ Ok (xs, d) → v ≡ little_number 4 xs
+    → run little_32 c ≡ Ok (v, d)
+little_read v xs c d read is = bytes_are_little_32 c ∙ ap (λ r. and_then r number_of) read ∙ ap (λ k. Ok (k, d)) (sym is)
+
+pub little_cut : (why : Reason) (c : Cursor) → run (list_of 4 (bits 8)) c ≡ Err why → run little_32 c ≡ Err why
+little_cut why c cut = bytes_are_little_32 c ∙ ap (λ r. and_then r number_of) cut

@@ -1,8 +1,8 @@
 -- What a value reads, from what its parts read.
-use Rattle.std.proofs.Common.{◌≡◌, ℕ, ℤ, ◌-◌, ◌/◌, ◌^◌, ◌<◌, true, nat_lt, Result, Ok, Err, sym, ap, ◌∙◌, arith}
+use Rattle.std.proofs.Common.{◌≡◌, ℕ, ℤ, ◌-◌, ◌/◌, ◌^◌, ◌<◌, true, nat_lt, Result, Ok, Err, refl, sym, ap, ◌∙◌, arith}
 use Rattle.std.proofs.lemmas.Bool.Decides.{nat_tests}
 use Rattle.flac_bits.specs.State.{Cursor}
-use Rattle.flac_bits.specs.Layout.{run, and_then, number_at, choose, refuse, done, Reason, because}
+use Rattle.flac_bits.specs.Layout.{run, and_then, number_at, zeros_at, choose, refuse, done, Reason, because}
 use Rattle.flac_bits.specs.Rice.{rice, rice_value, unfolded}
 use Rattle.flac_bits.specs.Signed.{to_signed, signed_field}
 use Rattle.flac_bits.specs.declared.why.Why.TheVariants.{ResidualRange}
@@ -33,3 +33,8 @@ signed_read n v z c d read is = ap (λ r. and_then r (signed_as n)) read ∙ ap 
 pub signed_cut : (n : ℕ) (why : Reason) (c : Cursor) → number_at n c ≡ Err why → run (signed_field n) c ≡ Err why
 unfolding signed_field
 signed_cut n why c cut = ap (λ r. and_then r (signed_as n)) cut
+
+-- a Rice code whose quotient cannot be read
+pub rice_cut : (k limit : ℕ) (why : Reason) (c : Cursor) → zeros_at limit c ≡ Err why → run (rice k limit) c ≡ Err why
+unfolding rice
+rice_cut k limit why c cut = rw cut refl

@@ -1,4 +1,5 @@
 use Rattle.std.proofs.Common.{rules, ℕ, ◌+◌, ◌-◌, List, [], ◌∷◌, ◌++◌, length, take, refl, sym, ap, arith, Result, Ok, ◌∙◌}
+use Rattle.std.proofs.lemmas.Result.{err_from_is_err_and}
 use Rattle.std.proofs.lemmas.List.{take_all}
 use Rattle.std.proofs.lemmas.Grind.{take-set_at}
 use Rattle.flac_bits.specs.State.{Cursor}
@@ -6,7 +7,8 @@ use Rattle.flac_bits.specs.Layout.{bits, run, and_then, number_at, Reason}
 use Rattle.flac_bits.specs.Lists.{list_of, behind}
 use Rattle.flac_bits.proofs.Loops.{goes_on}
 use Rattle.flac_bits.proofs.Lists.{list_more, list_end}
-use Rattle.flac_bits.proofs.Counting.{gone}
+use Rattle.flac_bits.proofs.Counting.{gone, failed_then}
+use Rattle.flac_bits.proofs.Listed.{list_cut}
 use Rattle.flac_bits.proofs.bytes.read_each.Goals as goal
 
 pub loop-i-preserved : goal.loop-i-preserved
@@ -34,3 +36,19 @@ returns g c = record {
     reads = (λ known same. sym (c.loop-i.invariant.goes.reads known) ∙ list_end (length c.args.out.now) c.loop-i.i (bits 8) c.loop-i.bits.cursor (take c.loop-i.i c.loop-i.out) c.loop-i-test.false ∙ ap (λ front. okay (front, c.loop-i.bits.cursor)) (take_all c.loop-i.i c.loop-i.out (omega (arith, c.loop-i.auto.out, c.loop-i-test.false))));
   };
 }
+
+pub returns-in_err-out : goal.returns-in_err-out
+returns-in_err-out g c =
+    let p = err_from_is_err_and c.from_residual.result c.from_residual.ensures.1 in
+    let goes = c.loop-i.invariant.goes in
+    let failed = c.in_err-out.ensures.reading in
+    rw (p.1, p.2) (record {
+      reading = record {
+        spends = tt;
+        counts = failed_then c.args.bits.now c.loop-i.bits c.take.new.self (gone goes) failed.counts;
+        memory = failed.memory;
+        reads = λ known same.
+            list_cut (length c.args.out.now) c.loop-i.i (bits 8) (take c.loop-i.i c.loop-i.out) _
+            c.args.bits.now c.loop-i.bits c.loop-i-test.true goes known (failed.reads (goes.known known) (same ∙ sym goes.errors));
+      };
+    })
