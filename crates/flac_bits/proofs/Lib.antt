@@ -40,6 +40,7 @@ pub mod Sent
 pub mod CodedTurns
 pub mod Listed
 pub mod Values
+pub mod Beside
 pub mod Eights
 pub mod Stretches
 pub mod Runs

@@ -55,3 +55,27 @@ returns-then-next-i-clause-fits c = λ before. rw c.if-next-i.true at (c.next_va
 
 pub next_values-next-requires-clause-few_values : goal.next_values-next-requires-clause-few_values
 next_values-next-requires-clause-few_values c = div-le_self 56 (c.args.k + 3)
+
+pub returns-after-loop-used : goal.returns-after-loop-used
+returns-after-loop-used c =
+    let inv = c.loop-used.invariant in
+    record { used = inv.used; within = (inv.from, inv.within); few = inv.few; read = inv.read; fits = inv.fits }
+
+pub returns-else-i-values : goal.returns-else-i-values
+returns-else-i-values c =
+    let inv = c.loop-used.invariant in
+    record { used = inv.used; within = (inv.from, inv.within); few = inv.few; read = inv.read; fits = inv.fits }
+
+pub returns-then-next-i-clause-few : goal.returns-then-next-i-clause-few
+returns-then-next-i-clause-few c = c.next_values-next.ensures.few
+
+pub returns-then-next-i-clause-within : goal.returns-then-next-i-clause-within
+returns-then-next-i-clause-within c = (c.loop-used.invariant.from, c.loop-used.invariant.within)
+
+pub fill-requires-clause-few : goal.fill-requires-clause-few
+fill-requires-clause-few c = c.loop-used.invariant.few
+
+pub fill-requires-clause-next : goal.fill-requires-clause-next
+fill-requires-clause-next c =
+    let inv = c.loop-used.invariant in
+    inv.next c.eight_bytes.result (omega (arith, c.loop-used-test.true, inv.used)) c.eight_bytes.ensures
