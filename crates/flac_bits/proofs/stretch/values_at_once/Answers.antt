@@ -45,15 +45,3 @@ returns-then-taken-word-clause-read c =
     let l = c.loop-i in
     let all : l.i ≡ c.args.to = omega arith in
     rw all at (l.invariant.read c.args.word.now.count c.requires.few c.if-taken-word.true)
-
-pub values_held-requires : goal.values_held-requires
-values_held-requires c = record { few = c.requires.few; k = c.requires.k; from = c.requires.from; to = c.requires.to }
-
-pub returns-then-k-lt-AT_ONCE : goal.returns-then-k-lt-AT_ONCE
-returns-then-k-lt-AT_ONCE c = c.values_held.ensures
-
-pub values_held-requires-2 : goal.values_held-requires-2
-values_held-requires-2 c = let h = c.loop-i.auto in ?
-
-pub returns : goal.returns
-returns c = let h = c.values_held-2.ensures in ?
