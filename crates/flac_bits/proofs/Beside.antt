@@ -1,5 +1,5 @@
 -- What a device promises of its counts, beside a count that stays.
-use Rattle.std.proofs.Common.{◌≡◌, ℕ, ◌+◌, ◌<◌, Bool, true, false, nat_eq, nat_lt, ◌&&◌, Result, Ok, Err, OnOk, OnErr, arith}
+use Rattle.std.proofs.Common.{◌≡◌, ℕ, ◌+◌, ◌<◌, false, nat_eq, nat_lt, ◌&&◌, Result, Ok, Err, OnOk, OnErr, arith}
 use Rattle.std.proofs.lemmas.Bool.Decides.{nat_tests}
 use Rattle.flac_bits.specs.State.{Rises}
 

@@ -1,4 +1,4 @@
-use Rattle.std.proofs.Common.{◌≡◌, ◌+◌, true, refl, ap, arith}
+use Rattle.std.proofs.Common.{◌≡◌, refl, ap, arith}
 use Rattle.flac_bits.specs.Failing.{failed}
 use Rattle.flac_bits.proofs.Beside.{same_beside, foreseen_beside, rises_beside, risen_beside, not_now}
 use Rattle.flac_bits.proofs.failing.FailAtSource.pull.Goals as goal
