@@ -1,4 +1,5 @@
-use Rattle.std.proofs.Common.{◌≡◌, [], take, drop, refl, sym, ap, ◌∙◌, arith}
+use Rattle.std.proofs.Common.{◌≡◌, ◌≤◌, ℕ, Bool, true, false, Result, Ok, Err, [], take, drop, refl, sym, ap, ◌∙◌, arith}
+use Rattle.flac_bits.specs.declared.why.Why.{Why}
 use Rattle.flac_bits.specs.Bits.{bits_of}
 use Rattle.flac_bits.specs.Store.{Store}
 use Rattle.flac_bits.specs.inner.Store.{seen}
@@ -7,6 +8,15 @@ use Rattle.flac_bits.proofs.Standing.{came_bits, came_most, none_left}
 use Rattle.std.proofs.lemmas.List.{length-take, length-drop}
 use Rattle.flac_bits.proofs.Coming.{came_is, came_none, hides_none, none_allowed, none_forbidden, ends_short, foretold, not_foretold, seen_fits}
 use Rattle.flac_bits.proofs.held.Held.pull_more.Goals as goal
+
+fits_in : (n m k : ℕ) → n ≤ k → m ≡ k → n ≤ m
+fits_in n m k le is = omega (arith, le, is)
+
+went_on : (r : Result Bool Why) → r ≡ Ok true → r ≡ Ok false → ⊥
+went_on r a b = cc
+
+refused : (r : Result Bool Why) (e : Why) → r ≡ Err e → r ≡ Ok false → ⊥
+refused r e a b = cc
 
 pub returns-in-Ok-eq0-clause-pulls : goal.returns-in-Ok-eq0-clause-pulls
 returns-in-Ok-eq0-clause-pulls g c =
@@ -19,11 +29,11 @@ returns-in-Ok-eq0-clause-pulls g c =
     let behind = g.R.Source.behind c.args.source.now in
     let none = ap (λ (s : Store). s.word) c.self.view_is ∙ c.requires.taken.0 in
     let out = ap (λ (s : Store). s.bytes) c.self.view_is ∙ c.requires.taken.1 in
-    let open_fence = hides_none room c.self.inside.end c.self.inside.filled c.self.inside.bytes old.fence (ap (λ (s : Store). s.fence) c.self.view_is) c.requires.room inv.7 (omega (arith, inv.6, inv.4)) in
+    let open_fence = hides_none room c.self.inside.end c.self.inside.filled c.self.inside.bytes old.fence (ap (λ (s : Store). s.fence) c.self.view_is) c.requires.room inv.7 (fits_in _ _ _ inv.6 inv.4) in
     let new : Store = record { word = c.self.inside.word; bytes = []; mark = old.mark; fence = record { room = room; hidden = [] } } in
     record {
       names = got.names;
-      mark = pulled_mark c.self.inside.bytes c.self.inside.from c.self.inside.place c.self.inside.end c.self.inside.before c.self.inside.check8 c.self.inside.check16 _ _ _ c.self.inside.word _ inv.0 inv.1 (omega (arith, inv.2, c.self.told)) none out c.both_checked-check8.ensures.eight c.both_checked-check8.ensures.sixteen c.saturating_add-self-inside.ensures (ap (λ (s : Store). s.mark) c.self.view_is);
+      mark = pulled_mark c.self.inside.bytes c.self.inside.from c.self.inside.place c.self.inside.end c.self.inside.before c.self.inside.check8 c.self.inside.check16 c.saturating_add-self-inside.result c.both_checked-check8.result.0 c.both_checked-check8.result.1 c.self.inside.word old.mark inv.0 inv.1 (fits_in _ _ _ inv.2 inv.4) none out c.both_checked-check8.ensures.eight c.both_checked-check8.ensures.sixteen c.saturating_add-self-inside.ensures (ap (λ (s : Store). s.mark) c.self.view_is);
       moved = record {
         known = got.known;
         errors = got.counted.0;
@@ -55,14 +65,14 @@ returns-in-Ok-clause-pulls g c =
     let coming = g.R.Source.coming c.args.source.now in
     let none = ap (λ (s : Store). s.word) c.self.view_is ∙ c.requires.taken.0 in
     let out = ap (λ (s : Store). s.bytes) c.self.view_is ∙ c.requires.taken.1 in
-    let open_fence = hides_none room c.self.inside.end c.self.inside.filled c.self.inside.bytes old.fence (ap (λ (s : Store). s.fence) c.self.view_is) c.requires.room inv.7 (omega (arith, inv.6, inv.4)) in
+    let open_fence = hides_none room c.self.inside.end c.self.inside.filled c.self.inside.bytes old.fence (ap (λ (s : Store). s.fence) c.self.view_is) c.requires.room inv.7 (fits_in _ _ _ inv.6 inv.4) in
     let seen_is = c.seen-self-inside.ensures in
     let few = seen_fits room n in
     let end = c.seen-self-inside.result in
     let new : Store = record { word = c.self.inside.word; bytes = take end buf; mark = old.mark; fence = record { room = c.room_behind-self-inside.result; hidden = drop end (take n buf) } } in
     record {
       names = got.names;
-      mark = pulled_mark c.self.inside.bytes c.self.inside.from c.self.inside.place c.self.inside.end c.self.inside.before c.self.inside.check8 c.self.inside.check16 _ _ _ c.self.inside.word _ inv.0 inv.1 (omega (arith, inv.2, c.self.told)) none out c.both_checked-check8.ensures.eight c.both_checked-check8.ensures.sixteen c.saturating_add-self-inside.ensures (ap (λ (s : Store). s.mark) c.self.view_is);
+      mark = pulled_mark c.self.inside.bytes c.self.inside.from c.self.inside.place c.self.inside.end c.self.inside.before c.self.inside.check8 c.self.inside.check16 c.saturating_add-self-inside.result c.both_checked-check8.result.0 c.both_checked-check8.result.1 c.self.inside.word old.mark inv.0 inv.1 (fits_in _ _ _ inv.2 inv.4) none out c.both_checked-check8.ensures.eight c.both_checked-check8.ensures.sixteen c.saturating_add-self-inside.ensures (ap (λ (s : Store). s.mark) c.self.view_is);
       moved = record {
         known = got.known;
         errors = got.counted.0;
@@ -70,7 +80,7 @@ returns-in-Ok-clause-pulls g c =
         most = came_most old new _ _ c.requires.taken.0 c.requires.taken.1 none (rw (← open_fence, seen_is) (omega (arith, got.most, length-take (seen room n) buf, length-drop (seen room n) (take n buf), length-take n buf, few, got.bound.0)));
         same = λ known. came_bits old _ coming _ c.requires.taken.0 c.requires.taken.1 none (rw (← open_fence, c.room_behind-self-inside.ensures, seen_is) (came_is room n buf (g.R.Source.coming c.pull.new.self) coming got.bound.0 (got.bytes known)));
       };
-      over = λ is. absurd cc;
+      over = λ is. absurd (went_on _ refl is);
       kept = got.kept;
       foretold = got.foretold;
       read = tt;
@@ -89,12 +99,12 @@ returns-in-Err-clause-pulls g c =
     let behind = g.R.Source.behind c.args.source.now in
     let none = ap (λ (s : Store). s.word) c.self.view_is ∙ c.requires.taken.0 in
     let out = ap (λ (s : Store). s.bytes) c.self.view_is ∙ c.requires.taken.1 in
-    let open_fence = hides_none room c.self.inside.end c.self.inside.filled c.self.inside.bytes old.fence (ap (λ (s : Store). s.fence) c.self.view_is) c.requires.room inv.7 (omega (arith, inv.6, inv.4)) in
+    let open_fence = hides_none room c.self.inside.end c.self.inside.filled c.self.inside.bytes old.fence (ap (λ (s : Store). s.fence) c.self.view_is) c.requires.room inv.7 (fits_in _ _ _ inv.6 inv.4) in
     record {
       names = failed.names;
-      mark = pulled_mark c.self.inside.bytes c.self.inside.from c.self.inside.place c.self.inside.end c.self.inside.before c.self.inside.check8 c.self.inside.check16 _ _ _ c.self.inside.word _ inv.0 inv.1 (omega (arith, inv.2, c.self.told)) none out c.both_checked-check8.ensures.eight c.both_checked-check8.ensures.sixteen c.saturating_add-self-inside.ensures (ap (λ (s : Store). s.mark) c.self.view_is);
+      mark = pulled_mark c.self.inside.bytes c.self.inside.from c.self.inside.place c.self.inside.end c.self.inside.before c.self.inside.check8 c.self.inside.check16 c.saturating_add-self-inside.result c.both_checked-check8.result.0 c.both_checked-check8.result.1 c.self.inside.word old.mark inv.0 inv.1 (fits_in _ _ _ inv.2 inv.4) none out c.both_checked-check8.ensures.eight c.both_checked-check8.ensures.sixteen c.saturating_add-self-inside.ensures (ap (λ (s : Store). s.mark) c.self.view_is);
       moved = tt;
-      over = λ is. absurd cc;
+      over = λ is. absurd (refused _ _ refl is);
       kept = failed.kept;
       foretold = failed.foretold;
       read = refl;
