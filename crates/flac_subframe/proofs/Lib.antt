@@ -10,6 +10,7 @@ pub mod Scaling
 pub mod Steps
 pub mod Judged
 pub mod Parts
+pub mod Levels
 pub mod Samples
 pub mod Unique
 pub mod Predicted

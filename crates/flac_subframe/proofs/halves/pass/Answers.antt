@@ -1,61 +1,134 @@
-use Rattle.std.proofs.Common.{arith, ◌≡◌, ◌∙◌, ◌+◌, ◌-◌, ◌*◌, ◌^◌, ◌≤◌, ◌<◌, ℕ, inl, inr, refl, drop}
+use Rattle.std.proofs.Common.{arith, ◌≡◌, ◌∙◌, ◌+◌, ◌-◌, ◌*◌, ◌^◌, ◌≤◌, ◌<◌, ℕ, true, false, inl, inr, refl, sym, ap, min, IsTrue, get_or}
 use Rattle.std.proofs.lemmas.Bool.{cases_lt}
-use Rattle.std.proofs.lemmas.List.{length-take}
-use Rattle.std.proofs.Math.Nat.{pow-le-pow_right}
-use Rattle.flac_subframe.proofs.Splits.{power_more, halves_at, paired, part_small, entry_kept}
+use Rattle.flac_subframe.specs.inner.Entry.{entry_number}
+use Rattle.flac_subframe.proofs.Levels.{half_long, level_none, costs_small}
+use Rattle.flac_subframe.proofs.Places.{power_le}
+use Rattle.flac_subframe.proofs.Splits.{power_more, halves_at, paired, entry_kept}
 use Rattle.flac_subframe.proofs.halves.pass.Goals as goal
 
-room : (a b : ℕ) → 0 < a → a ≤ b → 2 * 2 ^ (a - 1) ≤ 2 ^ b
-room a b h le = omega (arith, power_more a h, pow-le-pow_right {n = 2} (omega arith) {i = a} {j = b} le)
+below_32 : (k : ℕ) → k < 31 → k < 32
+below_32 k h = omega arith
 
-pub pair-requires-clause-room : goal.pair-requires-clause-room
-pair-requires-clause-room c = omega (arith, room c.loop-level.level c.args.residual.now.partition_order c.loop-level-test.true c.loop-level.invariant.within)
+enough : (a b : ℕ) → a ≡ b → b ≤ a
+enough a b e = omega arith
 
-pub pair-requires-clause-small : goal.pair-requires-clause-small
-pair-requires-clause-small c = λ j h.
-    let b : j < 2 ^ c.loop-level.level = omega (arith, power_more c.loop-level.level c.loop-level-test.true) in
-    rw (c.loop-level.invariant.costs j b) (part_small c.args.residual.now.order c.args.parameter c.args.residual.now.values.now c.loop-level.level j c.requires.parameter (omega arith) c.args.residual.now.range)
+same_order : (p high : ℕ) → high ≤ p → p ≤ high → p ≡ high
+same_order p high g h = omega arith
 
-pub note_level-requires-in-loop-level-clause-sums : goal.note_level-requires-in-loop-level-clause-sums
-note_level-requires-in-loop-level-clause-sums c = omega (arith, room c.loop-level.level c.args.residual.now.partition_order c.loop-level-test.true c.loop-level.invariant.within)
+below : (l high most : ℕ) → l ≤ high → high ≤ most → l - 1 ≤ most
+below l high most h g = omega arith
 
-pub note_level-requires-in-loop-level-clause-table : goal.note_level-requires-in-loop-level-clause-table
-note_level-requires-in-loop-level-clause-table c = omega (arith, room c.loop-level.level c.args.residual.now.partition_order c.loop-level-test.true c.loop-level.invariant.within)
+above : (l p : ℕ) → l - 1 < p → l ≤ p
+above l p h = omega arith
 
-pub gains-requires-clause-small : goal.gains-requires-clause-small
-gains-requires-clause-small c = λ j h.
-    let n : ℕ = c.power-first.result in
-    let b : j < 2 ^ c.args.residual.now.partition_order = omega (arith, h, length-take (2 * n - n) (drop n c.args.table.now), c.power-first.ensures) in
-    rw (c.requires.costs j b) (part_small c.args.residual.now.order c.args.parameter c.args.residual.now.values.now c.args.residual.now.partition_order j c.requires.parameter (omega arith) c.args.residual.now.range)
+from_none : (l p : ℕ) → l ≤ 0 → l ≤ p
+from_none l p h = omega arith
 
-pub note_level-requires-clause-small : goal.note_level-requires-clause-small
-note_level-requires-clause-small c = λ j h.
-    rw (c.requires.costs j h) (part_small c.args.residual.now.order c.args.parameter c.args.residual.now.values.now c.args.residual.now.partition_order j c.requires.parameter (omega arith) c.args.residual.now.range)
+half_enough : (a b n : ℕ) → a ≤ b → 2 * b ≤ n → a ≤ n
+half_enough a b n h g = omega arith
 
-pub note_level-requires-in-loop-level-clause-small : goal.note_level-requires-in-loop-level-clause-small
-note_level-requires-in-loop-level-clause-small c = λ j h.
-    let l = c.loop-level.level in
-    let k = c.args.parameter in let order = c.args.residual.now.order in let rs = c.args.residual.now.values.now in
-    let so = c.loop-level.invariant in
-    let half = halves_at order rs c.args.residual.now.partition_order l so.within c.args.residual.now.halves in
-    rw (paired order k l rs c.loop-level.sums c.pair.new.sums c.loop-level-test.true half so.costs (λ i b. c.pair.ensures i (omega arith)) j h) (part_small order k rs (l - 1) j c.requires.parameter (omega arith) c.args.residual.now.range)
+in_half : (l i : ℕ) → 0 < l → i < 2 ^ (l - 1) → i < 2 ^ l
+in_half l i some h = omega (arith, power_more l some)
+
+past_half : (l j : ℕ) → 0 < l → j < 2 ^ (l - 1) → 2 ^ (l - 1) + j < 2 ^ l
+past_half l j some h = omega (arith, power_more l some)
+
+untrue : IsTrue false → ⊥
+untrue t = cc
+
+no : true ≡ false → ⊥
+no e = cc
+
+pub gains-requires : goal.gains-requires
+gains-requires c =
+    let r = c.args.residual.now in let k = c.args.parameter in
+    let long = half_long c.power-first.result c.args.table.now (rw c.power-first.ensures c.requires.table) ∙ c.power-first.ensures in
+    record {
+      few = below_32 k c.requires.parameter;
+      places = rw long (enough _ _ c.requires.sums);
+      small = λ j h. costs_small r.order k r.partition_order r.values.now c.args.sums.now c.requires.parameter r.few r.range c.requires.costs j (rw long at h);
+    }
+
+pub returns-then-not-gains : goal.returns-then-not-gains
+returns-then-not-gains c =
+    let f = c.power-first.result in
+    let none = level_none f c.args.parameter c.args.sums.now c.args.table.now (rw c.power-first.ensures c.requires.table) (c.gains.ensures.none c.if-not-gains.true) in
+    record {
+      kept = refl;
+      entries = λ t. absurd (untrue t);
+      same = λ f. refl;
+      none = λ f j h. rw (c.power-first.ensures, c.requires.costs j h) at (none j (rw c.power-first.ensures h));
+    }
+
+pub note_level-requires : goal.note_level-requires
+note_level-requires c =
+    let r = c.args.residual.now in let k = c.args.parameter in
+    record {
+      few = below_32 k c.requires.parameter;
+      most = r.most;
+      sums = enough _ _ c.requires.sums;
+      small = costs_small r.order k r.partition_order r.values.now c.args.sums.now c.requires.parameter r.few r.range c.requires.costs;
+      table = c.requires.table;
+    }
+
+pub loop-level-init : goal.loop-level-init
+loop-level-init c =
+    let k = c.args.parameter in let high = c.args.residual.now.partition_order in
+    let n = c.note_level.ensures in
+    record {
+      within = enough high high refl;
+      costs = c.requires.costs;
+      noted = λ p j g h b. let is = same_order p high g h in
+          rw is (let b' : j < 2 ^ high = rw is at b in n.level j b' ∙ ap (λ s. min (get_or c.args.table.now (2 ^ high + j) 0) (entry_number k s)) (c.requires.costs j b'));
+      rest = λ i h. n.others i (inl h);
+    }
+
+pub pair-requires : goal.pair-requires
+pair-requires c =
+    let r = c.args.residual.now in let k = c.args.parameter in let l = c.loop-level.level in let so = c.loop-level.invariant in
+    let twice : 2 * c.power.result ≡ 2 ^ l = ap (λ (n : ℕ). 2 * n) c.power.ensures ∙ sym (power_more l c.loop-level-test.true) in
+    record {
+      room = rw (twice, c.loop-level.auto.sums ∙ c.requires.sums) (power_le l r.partition_order so.within);
+      small = λ j h. costs_small r.order k l r.values.now c.loop-level.sums c.requires.parameter r.few r.range so.costs j (rw twice at h);
+    }
+
+pub note_level-requires-in-loop-level : goal.note_level-requires-in-loop-level
+note_level-requires-in-loop-level c =
+    let r = c.args.residual.now in let k = c.args.parameter in let l = c.loop-level.level in let m = l - 1 in
+    let high = r.partition_order in let so = c.loop-level.invariant in
+    let half = halves_at r.order r.values.now high l so.within r.halves in
+    let costs = paired r.order k l r.values.now c.loop-level.sums c.pair.new.sums c.loop-level-test.true half so.costs (λ i b. c.pair.ensures i (rw c.power.ensures b)) in
+    record {
+      few = below_32 k c.requires.parameter;
+      most = below l high 15 so.within r.most;
+      sums = rw (c.pair.auto.sums ∙ c.loop-level.auto.sums ∙ c.requires.sums) (power_le m high (below l high high so.within (enough high high refl)));
+      small = costs_small r.order k m r.values.now c.pair.new.sums c.requires.parameter r.few r.range costs;
+      table = rw (← power_more l c.loop-level-test.true, c.loop-level.auto.table ∙ c.note_level.auto.table) (half_enough _ _ _ (power_le l high so.within) c.requires.table);
+    }
 
 pub loop-level-preserved : goal.loop-level-preserved
 loop-level-preserved c =
-    let l = c.loop-level.level in let m = l - 1 in
-    let k = c.args.parameter in let order = c.args.residual.now.order in let rs = c.args.residual.now.values.now in
-    let so = c.loop-level.invariant in
-    let half = halves_at order rs c.args.residual.now.partition_order l so.within c.args.residual.now.halves in
-    let twice = power_more l c.loop-level-test.true in
-    let costs = paired order k l rs c.loop-level.sums c.pair.new.sums c.loop-level-test.true half so.costs (λ i b. c.pair.ensures i (omega arith)) in
+    let r = c.args.residual.now in let k = c.args.parameter in let l = c.loop-level.level in let m = l - 1 in
+    let high = r.partition_order in let so = c.loop-level.invariant in
+    let half = halves_at r.order r.values.now high l so.within r.halves in
+    let some = c.loop-level-test.true in
+    let costs = paired r.order k l r.values.now c.loop-level.sums c.pair.new.sums some half so.costs (λ i b. c.pair.ensures i (rw c.power.ensures b)) in
     let n = c.note_level-in-loop-level.ensures in
     record {
-      within = omega arith;
+      within = below l high high so.within (enough high high refl);
       costs = costs;
       noted = λ p j g h b. elim (cases_lt m p) [
-        | inl more ↦ entry_kept c.loop-level.table c.note_level-in-loop-level.new.table m p j n.others more ∙ so.noted p j (omega arith) h b
-        | inr same ↦ let is : p ≡ m = omega arith in
-            rw is (n.level j (rw is at b) ∙ rw (costs j (rw is at b), so.rest (2 ^ m + j) (let b' : j < 2 ^ m = rw is at b in omega arith)) refl)
+        | inl more ↦ entry_kept c.loop-level.table c.note_level-in-loop-level.new.table m p j n.others more ∙ so.noted p j (above l p more) h b
+        | inr same ↦ let is : p ≡ m = same_order p m g same in
+            rw is (let b' : j < 2 ^ m = rw is at b in n.level j b' ∙ rw (costs j b', so.rest (2 ^ m + j) (past_half l j some b')) refl)
       ];
-      rest = λ i h. n.others i (inl h) ∙ so.rest i (omega arith);
+      rest = λ i h. n.others i (inl h) ∙ so.rest i (in_half l i some h);
     }
+
+pub returns : goal.returns
+returns c = record {
+  kept = c.loop-level.auto.table ∙ c.note_level.auto.table;
+  entries = λ t p j h b. c.loop-level.invariant.noted p j (from_none c.loop-level.level p c.loop-level-test.false) h b;
+  same = λ f. absurd (no f);
+  none = λ f. absurd (no f);
+}
