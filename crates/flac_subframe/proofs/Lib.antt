@@ -57,4 +57,6 @@ pub mod Complete
 pub mod Family
 pub mod Bytes
 pub mod Places
+pub mod Searched
+pub mod Residues
 pub mod Ways

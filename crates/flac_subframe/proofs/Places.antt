@@ -1,5 +1,5 @@
 -- Arrays that have places for some partition orders have them for fewer.
-use Rattle.std.proofs.Common.{ℕ, ◌^◌, ◌≤◌, arith}
+use Rattle.std.proofs.Common.{ℕ, ◌≡◌, ◌^◌, ◌≤◌, arith, length}
 use Rattle.std.proofs.Math.Nat.{pow-le-pow_right}
 use Rattle.flac_subframe.specs.declared.tables.Tables.{Tables}
 use Rattle.flac_subframe.specs.inner.Halves.{HasPlaces}
@@ -11,3 +11,16 @@ pub fewer_places : (p q : ℕ) (t : Tables) → p ≤ q → HasPlaces q t → Ha
 fewer_places p q t le so =
     let h = power_le p q le in
     record { leaves = omega (arith, h, so.leaves); sums = omega (arith, h, so.sums); four = omega (arith, h, so.four); five = omega (arith, h, so.five); widths = omega (arith, h, so.widths); codings = omega (arith, h, so.codings) }
+
+-- arrays that are as long as others
+pub places_kept : (p : ℕ) (t u : Tables) → length u.leaves.now ≡ length t.leaves.now → length u.sums.now ≡ length t.sums.now →
+    length u.four.now ≡ length t.four.now → length u.five.now ≡ length t.five.now →
+    length u.widths.now ≡ length t.widths.now → length u.codings.now ≡ length t.codings.now → HasPlaces p t → HasPlaces p u
+places_kept p t u leaves sums four five widths codings so = record {
+  leaves = rw leaves so.leaves;
+  sums = rw sums so.sums;
+  four = rw four so.four;
+  five = rw five so.five;
+  widths = rw widths so.widths;
+  codings = rw codings so.codings;
+}
