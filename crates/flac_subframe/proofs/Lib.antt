@@ -58,5 +58,7 @@ pub mod Family
 pub mod Bytes
 pub mod Places
 pub mod Searched
+pub mod Turns
+pub mod Fours
 pub mod Residues
 pub mod Ways

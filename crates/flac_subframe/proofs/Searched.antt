@@ -1,5 +1,5 @@
 -- The best form of the partition orders that were searched.
-use Rattle.std.proofs.Common.{◌≡◌, ℕ, ◌≤◌, ◌<◌, arith}
+use Rattle.std.proofs.Common.{◌≡◌, ℕ, ◌≤◌, arith}
 use Rattle.flac_subframe.specs.Least.{IsLeast}
 use Rattle.flac_subframe.specs.inner.Least.{IsLeastCost}
 

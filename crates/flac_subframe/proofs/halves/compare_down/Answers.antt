@@ -1,4 +1,4 @@
-use Rattle.std.proofs.Common.{arith, ◌≡◌, ◌∙◌, ◌+◌, ◌-◌, ◌^◌, ◌≤◌, ◌<◌, ℕ, refl}
+use Rattle.std.proofs.Common.{arith, ◌≡◌, ◌∙◌, ◌+◌, ◌-◌, ◌≤◌, ◌<◌, ℕ, refl}
 use Rattle.flac_subframe.specs.inner.Halves.{part}
 use Rattle.flac_subframe.proofs.Splits.{part_small}
 use Rattle.flac_subframe.proofs.Walks.{within_none, within_more, within_all, fallen, kept_down}
