@@ -1,19 +1,51 @@
-use Rattle.std.proofs.Common.{arith}
+use Rattle.std.proofs.Common.{arith, ℕ, ◌*◌, ◌^◌, ◌≤◌, ◌<◌}
+use Rattle.std.proofs.lemmas.Nat.{pow_pos}
 use Rattle.flac_subframe.proofs.Bounded.{whole_bounded}
 use Rattle.flac_subframe.proofs.Settled.{first_alone, first_least, second_least}
 use Rattle.flac_subframe.proofs.Splits.{halves_at}
 use Rattle.flac_subframe.proofs.survey.survey.Goals as goal
 
-pub tabulate-tried-requires-clause-bounded : goal.tabulate-tried-requires-clause-bounded
-tabulate-tried-requires-clause-bounded c =
-    let order = c.args.residual.now.order in let rs = c.args.residual.now.values.now in
-    whole_bounded order rs c.args.residual.now.folds.now _ (halves_at order rs c.args.residual.now.partition_order 0 (omega arith) c.args.residual.now.halves) c.args.residual.now.unsigned (c.requires.widths 0 0 (omega arith) (omega arith) (omega arith)).0
+zero_le : (n : ℕ) → 0 ≤ n
+zero_le n = omega arith
 
-pub best_order-first-requires-clause-entries : goal.best_order-first-requires-clause-entries
-best_order-first-requires-clause-entries c = c.tabulate-tried.ensures.entries
+one_part : 0 < 2 ^ 0
+one_part = omega arith
 
-pub best_order-second-requires-clause-entries : goal.best_order-second-requires-clause-entries
-best_order-second-requires-clause-entries c = c.tabulate-tried.ensures.more (λ t. cc (t, c.if-tried.false))
+has_first : (p n : ℕ) → 2 * 2 ^ p ≤ n → 1 < n
+has_first p n room = omega (arith, room, pow_pos p)
+
+pub bounds-widths-1 : goal.bounds-widths-1
+bounds-widths-1 c = has_first c.args.residual.now.partition_order _ c.requires.places
+
+pub tabulate-tried-requires : goal.tabulate-tried-requires
+tabulate-tried-requires c =
+    let r = c.args.residual.now in let high = r.partition_order in
+    let first = c.requires.widths 0 0 (zero_le 0) (zero_le high) one_part in
+    record {
+      bounded = whole_bounded r.order r.values.now r.folds.now _ (halves_at r.order r.values.now high 0 (zero_le high) r.halves) r.unsigned first.0;
+      small_width = first.1;
+      leaves = c.requires.leaves;
+      known = c.requires.known;
+      sums = c.requires.sums;
+      four = c.requires.four;
+      five = c.requires.five;
+    }
+
+pub best_order-first-requires : goal.best_order-first-requires
+best_order-first-requires c = record {
+  table = rw c.tabulate-tried.auto.four c.requires.four;
+  entries = c.tabulate-tried.ensures.entries;
+  widths = c.requires.widths;
+  places = c.requires.places;
+}
+
+pub best_order-second-requires : goal.best_order-second-requires
+best_order-second-requires c = record {
+  table = rw c.tabulate-tried.auto.five c.requires.five;
+  entries = c.tabulate-tried.ensures.more (λ t. cc (t, c.if-tried.false));
+  widths = c.requires.widths;
+  places = c.requires.places;
+}
 
 pub returns-then-tried : goal.returns-then-tried
 returns-then-tried c =
