@@ -37,7 +37,7 @@ module _ (order block p : ℕ) where
   pub next_long : (j : ℕ) → order < block / 2 ^ p → block / 2 ^ p ≡ start order block p (j + 1 + 1) - start order block p (j + 1)
   next_long j room = omega (arith, start_next order block p j room, start_rises order block p (j + 1))
 
-  pub next_rest : (j long : ℕ) (rs rest back : List ℤ) → long ≡ start order block p (j + 1) - start order block p j → rest ≡ drop (start order block p j) rs → back ≡ drop long rest → back ≡ drop (start order block p (j + 1)) rs
+  pub next_rest : {A : Type 0} (j long : ℕ) (rs rest back : List A) → long ≡ start order block p (j + 1) - start order block p j → rest ≡ drop (start order block p j) rs → back ≡ drop long rest → back ≡ drop (start order block p (j + 1)) rs
   next_rest j long rs rest back is was e =
       let next : start order block p j + long ≡ start order block p (j + 1) = omega (arith, start_rises order block p j, is) in
       e ∙ rw was (drop-drop long (start order block p j) rs) ∙ ap (λ (k : ℕ). drop k rs) next

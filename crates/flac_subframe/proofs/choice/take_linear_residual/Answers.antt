@@ -24,6 +24,18 @@ take_products-requires c =
       folds = c.requires.folds;
     }
 
+pub returns-then-take_products : goal.returns-then-take_products
+returns-then-take_products c =
+    let so = c.take_products.ensures in let yes = c.if-take_products.true in
+    let same = c.args.subject.now.same c.if-subject.true in
+    record {
+      values = λ _. rw (c.coefficients-coefficients.ensures.value, c.shift-shift.ensures.value, same) at (so.values yes);
+      range = λ _. so.range yes;
+      unsigned = λ _. so.folds yes;
+      small = λ _. rw (so.folds yes) (folds_small _ (so.range yes));
+      all = λ _. refl;
+    }
+
 pub slice_bounds-wide-end : goal.slice_bounds-wide-end
 slice_bounds-wide-end c = rw c.else-subject.auto.values (fits_wide _ _ _ _ c.requires.places c.requires.wide)
 

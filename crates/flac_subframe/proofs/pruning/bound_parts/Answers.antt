@@ -1,31 +1,48 @@
-use Rattle.std.proofs.Common.{arith, ◌≡◌, ◌∙◌, ◌+◌, ◌-◌, ◌<◌, ◌^◌, ℤ, List, ℕ, suc, ap, sym, length, drop, take, map, All}
-use Rattle.std.proofs.lemmas.List.{drop-drop, drop-map}
+use Rattle.std.proofs.Common.{arith, ◌∙◌, ◌+◌, ◌-◌, ◌*◌, ◌≤◌, ◌<◌, ◌^◌, ℤ, List, ℕ, ap, sym, length, drop, take, map, All}
+use Rattle.std.proofs.lemmas.List.{drop-map}
 use Rattle.std.proofs.lemmas.List.Elements.{All-take, All-drop}
 use Rattle.flac_bits.specs.Rice.{IsResidual, folded}
 use Rattle.flac_subframe.proofs.Folds.{folds_small}
 use Rattle.flac_subframe.proofs.LowerBounds.{bound_more, bound_end, bound_of_all, bound_of_last}
 use Rattle.flac_subframe.specs.inner.Halves.{part, start}
-use Rattle.flac_subframe.proofs.Splits.{start_next, start_rises}
+use Rattle.flac_subframe.proofs.Turns.{index_below, entry_within, one_left, none_left, next_long, next_rest}
 use Rattle.flac_subframe.proofs.pruning.bound_parts.Goals as goal
+
+le : (n : ℕ) → n ≤ n
+le n = omega arith
+
+one_more : (i bound b : ℕ) → bound ≤ 2 ^ 21 * i → b ≤ 2 ^ 21 → bound + b ≤ 2 ^ 21 * (i + 1)
+one_more i bound b so small = omega arith
+
+less : (a b c : ℕ) → a < b → b ≤ c → a < c
+less a b c h g = omega arith
+
+pub bounds-sums-j : goal.bounds-sums-j
+bounds-sums-j c = less _ _ _ (index_below c.loop-j.j c.power-count.result _ c.power-count.ensures c.loop-j-test.true) c.requires.places
+
+pub bounds-widths-count : goal.bounds-widths-count
+bounds-widths-count c =
+    let h = c.args.residual.now.partition_order in
+    entry_within h c.loop-j.j c.power-count.result h _ (le h) c.power-count.ensures c.loop-j-test.true c.requires.widths_long
 
 pub bound_closely-bits-requires-clause-bits : goal.bound_closely-bits-requires-clause-bits
 unfolding part
 bound_closely-bits-requires-clause-bits c =
     let so = c.loop-j.invariant in
-    let b : c.loop-j.j < 2 ^ c.args.residual.now.partition_order = omega arith in
+    let b = index_below c.loop-j.j c.power-count.result c.args.residual.now.partition_order c.power-count.ensures c.loop-j-test.true in
     rw (c.split_at.ensures.front, so.rest, so.long) (c.requires.costs c.loop-j.j b)
 
 pub bound_closely-bits-requires-clause-width : goal.bound_closely-bits-requires-clause-width
 unfolding part
 bound_closely-bits-requires-clause-width c =
     let so = c.loop-j.invariant in
-    let b : c.loop-j.j < 2 ^ c.args.residual.now.partition_order = omega arith in
-    rw (c.split_at.ensures.front, so.rest, so.long, c.power-count.ensures) (c.requires.widths c.args.residual.now.partition_order c.loop-j.j (omega arith) (omega arith) b).0
+    let b = index_below c.loop-j.j c.power-count.result c.args.residual.now.partition_order c.power-count.ensures c.loop-j-test.true in
+    rw (c.split_at.ensures.front, so.rest, so.long, c.power-count.ensures) (c.requires.widths c.args.residual.now.partition_order c.loop-j.j (le c.args.residual.now.partition_order) (le c.args.residual.now.partition_order) b).0
 
 pub bound_closely-bits-requires-clause-small_width : goal.bound_closely-bits-requires-clause-small_width
 bound_closely-bits-requires-clause-small_width c =
-    let b : c.loop-j.j < 2 ^ c.args.residual.now.partition_order = omega arith in
-    rw c.power-count.ensures (c.requires.widths c.args.residual.now.partition_order c.loop-j.j (omega arith) (omega arith) b).1
+    let b = index_below c.loop-j.j c.power-count.result c.args.residual.now.partition_order c.power-count.ensures c.loop-j-test.true in
+    rw c.power-count.ensures (c.requires.widths c.args.residual.now.partition_order c.loop-j.j (le c.args.residual.now.partition_order) (le c.args.residual.now.partition_order) b).1
 
 pub bound_closely-bits-requires-clause-small_folds : goal.bound_closely-bits-requires-clause-small_folds
 bound_closely-bits-requires-clause-small_folds c =
@@ -41,28 +58,26 @@ loop-j-preserved c =
     let j = c.loop-j.j in
     let n = length c.args.residual.now.values.now + c.args.residual.now.order in
     let m = c.power-count.result - (j + 1) in
-    let e : c.power-count.result - j ≡ suc m = omega arith in
-    let bound = rw e at so.bound in
+    let bound = rw (one_left c.power-count.result j c.loop-j-test.true) at so.bound in
     let front = c.split_at.ensures.front in
-    let next : start c.args.residual.now.order n c.args.residual.now.partition_order j + c.loop-j.long ≡ start c.args.residual.now.order n c.args.residual.now.partition_order (j + 1) = omega (arith, start_rises c.args.residual.now.order n c.args.residual.now.partition_order j) in
     record {
       bound = λ w. rw c.split_at.ensures.back (bound_more w _ _ _ _ _ _ m _ _ (rw front at c.bound_closely-bits.ensures.rice) (rw front at c.bound_closely-bits.ensures.escape) (bound w));
-      rest = c.split_at.ensures.back ∙ rw so.rest (drop-drop c.loop-j.long (start c.args.residual.now.order n c.args.residual.now.partition_order j) c.args.residual.now.values.now) ∙ ap (λ (k : ℕ). drop k c.args.residual.now.values.now) next;
+      rest = next_rest c.args.residual.now.order n c.args.residual.now.partition_order j c.loop-j.long c.args.residual.now.values.now _ _ so.long so.rest c.split_at.ensures.back;
       left = c.split_at-in-loop-j.ensures.back ∙ rw so.left (drop-map folded c.loop-j.long c.loop-j.rest.now) ∙ ap (λ (l : List ℤ). map folded l) (sym c.split_at.ensures.back);
-      long = omega (arith, start_next c.args.residual.now.order n c.args.residual.now.partition_order j c.args.residual.now.halves.room, start_rises c.args.residual.now.order n c.args.residual.now.partition_order (j + 1));
-      small = omega (arith, so.small, c.bound_closely-bits.ensures.small);
+      long = next_long c.args.residual.now.order n c.args.residual.now.partition_order j c.args.residual.now.halves.room;
+      small = one_more j _ _ so.small c.bound_closely-bits.ensures.small;
     }
 
 pub returns-clause-all : goal.returns-clause-all
 returns-clause-all c =
-    let none : c.power-count.result - c.loop-j.j ≡ 0 = omega arith in
+    let none = none_left c.power-count.result c.loop-j.j c.loop-j-test.false in
     let so = c.loop-j.invariant in
     bound_of_all c.args.residual.now.order c.args.residual.now.partition_order c.args.residual.now.values.now c.loop-j.bits c.args.residual.now.halves
     (λ w cs long may. bound_end w _ _ _ c.args.residual.now.values.now c.loop-j.bits _ _ _ (so.bound w) cs (omega (arith, long, c.power-count.ensures)) may)
 
 pub returns-clause-last : goal.returns-clause-last
 returns-clause-last c =
-    let none : c.power-count.result - c.loop-j.j ≡ 0 = omega arith in
+    let none = none_left c.power-count.result c.loop-j.j c.loop-j-test.false in
     let so = c.loop-j.invariant in
     bound_of_last c.args.residual.now.order c.args.residual.now.partition_order c.args.residual.now.values.now c.loop-j.bits
     (λ w cs long may. bound_end w _ _ _ c.args.residual.now.values.now c.loop-j.bits _ _ _ (so.bound w) cs (omega (arith, long, c.power-count.ensures)) may)

@@ -70,6 +70,9 @@ finish-best-requires-clause-small_width c =
     let p = c.args.partition_order in let j = c.loop-j.j in
     rw c.power-count.ensures (c.requires.widths p j (from_none p) c.requires.within (index_below j c.power-count.result p c.power-count.ensures c.loop-j-test.true)).1
 
+pub bounds-codings-j : goal.bounds-codings-j
+bounds-codings-j c = in_codings c.args.partition_order c.loop-j.j c.power-count.result _ _ c.power-count.ensures c.loop-j-test.true c.requires.codings c.loop-j.invariant.places
+
 pub loop-j-preserved : goal.loop-j-preserved
 loop-j-preserved c =
     let so = c.loop-j.invariant in let r = c.args.residual.now in

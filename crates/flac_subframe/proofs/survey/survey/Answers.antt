@@ -1,9 +1,20 @@
-use Rattle.std.proofs.Common.{arith, ℕ, ◌*◌, ◌^◌, ◌≤◌, ◌<◌}
+use Rattle.std.proofs.Common.{arith, ◌≡◌, Bool, false, IsTrue, ℕ, ◌*◌, ◌^◌, ◌≤◌, ◌<◌}
 use Rattle.std.proofs.lemmas.Nat.{pow_pos}
+use Rattle.flac_subframe.specs.declared.coding_method.CodingMethod.{CodingMethod}
+use Rattle.flac_subframe.specs.declared.coding_method.CodingMethod.TheVariants.{FourBits, FiveBits}
 use Rattle.flac_subframe.proofs.Bounded.{whole_bounded}
 use Rattle.flac_subframe.proofs.Settled.{first_alone, first_least, second_least}
 use Rattle.flac_subframe.proofs.Splits.{halves_at}
 use Rattle.flac_subframe.proofs.survey.survey.Goals as goal
+
+still_open : (b : Bool) → b ≡ false → IsTrue b → ⊥
+still_open b f t = cc
+
+not_both : (m : CodingMethod) → m ≡ FiveBits → m ≡ FourBits → ⊥
+not_both m e f = cc
+
+before : (a b : ℕ) → a < b → a ≤ b
+before a b h = omega arith
 
 zero_le : (n : ℕ) → 0 ≤ n
 zero_le n = omega arith
@@ -42,7 +53,7 @@ best_order-first-requires c = record {
 pub best_order-second-requires : goal.best_order-second-requires
 best_order-second-requires c = record {
   table = rw c.tabulate-tried.auto.five c.requires.five;
-  entries = c.tabulate-tried.ensures.more (λ t. cc (t, c.if-tried.false));
+  entries = c.tabulate-tried.ensures.more (λ t. still_open _ c.if-tried.false t);
   widths = c.requires.widths;
   places = c.requires.places;
 }
@@ -59,7 +70,7 @@ returns-then-tried c =
       entries = so.entries;
       few = so.few;
       narrow = so.narrow;
-      more = λ other. cc (other, best.method);
+      more = λ other. absurd (not_both _ other best.method);
     }
 
 pub returns-then-second-first : goal.returns-then-second-first
@@ -68,13 +79,13 @@ returns-then-second-first c =
     let best = c.best_order-second.ensures in
     record {
       within = best.within;
-      least = second_least c.args.residual.now.order c.args.residual.now.partition_order c.args.residual.now.values.now _ _ c.best_order-first.ensures.least best.least (omega arith);
+      least = second_least c.args.residual.now.order c.args.residual.now.partition_order c.args.residual.now.values.now _ _ c.best_order-first.ensures.least best.least (before _ _ c.if-second-first.true);
       here = rw best.method best.here;
       small = best.small;
       entries = so.entries;
       few = so.few;
       narrow = so.narrow;
-      more = λ _. so.more (λ t. cc (t, c.if-tried.false));
+      more = λ _. so.more (λ t. still_open _ c.if-tried.false t);
     }
 
 pub returns-else-second-first : goal.returns-else-second-first
@@ -83,11 +94,11 @@ returns-else-second-first c =
     let best = c.best_order-first.ensures in
     record {
       within = best.within;
-      least = first_least c.args.residual.now.order c.args.residual.now.partition_order c.args.residual.now.values.now _ _ best.least c.best_order-second.ensures.least (omega arith);
+      least = first_least c.args.residual.now.order c.args.residual.now.partition_order c.args.residual.now.values.now _ _ best.least c.best_order-second.ensures.least c.if-second-first.false;
       here = rw best.method best.here;
       small = best.small;
       entries = so.entries;
       few = so.few;
       narrow = so.narrow;
-      more = λ other. cc (other, best.method);
+      more = λ other. absurd (not_both _ other best.method);
     }

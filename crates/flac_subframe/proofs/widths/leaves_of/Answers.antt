@@ -1,12 +1,36 @@
-use Rattle.std.proofs.Common.{arith, ◌≡◌, ◌∙◌, ◌+◌, ◌-◌, ◌<◌, ◌^◌, ℕ, suc, ap, inl, inr, length, drop}
+use Rattle.std.proofs.Common.{arith, ◌≡◌, ◌∙◌, ◌+◌, ◌-◌, ◌*◌, ◌<◌, ◌≤◌, ◌^◌, ℕ, inl, inr, length}
 use Rattle.std.proofs.lemmas.Bool.{cases_lt}
-use Rattle.std.proofs.lemmas.List.{drop-drop, get_or-set_same, get_or-set_other}
+use Rattle.std.proofs.lemmas.List.{get_or-set_same, get_or-set_other}
 use Rattle.std.proofs.lemmas.List.Elements.{All-take, All-drop}
 use Rattle.flac_subframe.specs.inner.Halves.{part, start}
 use Rattle.flac_subframe.proofs.LowerBounds.{bound_more, bound_end, bound_of_all}
-use Rattle.flac_subframe.proofs.Splits.{start_next, start_rises}
+use Rattle.flac_subframe.proofs.Turns.{index_below, one_left, none_left, next_long, next_rest}
 use Rattle.flac_subframe.proofs.Folds.{segment_cost, segment_width}
 use Rattle.flac_subframe.proofs.widths.leaves_of.Goals as goal
+
+apart : (j i : ℕ) → j < i → j ≡ i → ⊥
+apart j i less e = omega arith
+
+last_one : (j i : ℕ) → j < i + 1 → i ≤ j → j ≡ i
+last_one j i less more = omega arith
+
+one_more : (i bound b : ℕ) → bound ≤ 2 ^ 21 * i → b ≤ 2 ^ 21 → bound + b ≤ 2 ^ 21 * (i + 1)
+one_more i bound b so small = omega arith
+
+up_to_end : (j m n k : ℕ) → j < m → n ≡ m → n ≤ k → j < k
+up_to_end j m n k h is over = omega arith
+
+pub returns-clause-small : goal.returns-clause-small
+returns-clause-small c = λ j h. c.loop-j.invariant.small j (up_to_end j _ c.power-count.result c.loop-j.j h c.power-count.ensures c.loop-j-test.false)
+
+pub returns-clause-costs : goal.returns-clause-costs
+returns-clause-costs c = λ j h. c.loop-j.invariant.costs j (up_to_end j _ c.power-count.result c.loop-j.j h c.power-count.ensures c.loop-j-test.false)
+
+pub bounds-widths-j : goal.bounds-widths-j
+bounds-widths-j c = rw (c.loop-j.auto.widths, c.requires.places) (index_below c.loop-j.j c.power-count.result _ c.power-count.ensures c.loop-j-test.true)
+
+pub bounds-sums-j : goal.bounds-sums-j
+bounds-sums-j c = rw (c.loop-j.auto.sums, c.requires.sums) (index_below c.loop-j.j c.power-count.result _ c.power-count.ensures c.loop-j-test.true)
 
 pub weigh-leaf-requires-clause-small : goal.weigh-leaf-requires-clause-small
 weigh-leaf-requires-clause-small c =
@@ -42,40 +66,42 @@ loop-j-preserved c =
     let w = c.weigh-leaf.result.0 in
     let b = c.weigh-leaf.result.1 in
     let m = c.power-count.result - (i + 1) in
-    let e : c.power-count.result - i ≡ suc m = omega arith in
+    let e = one_left c.power-count.result i c.loop-j-test.true in
     let bound = rw e at so.bound in
     let front = c.split_at.ensures.front in
-    let next : start order n h i + c.loop-j.long ≡ start order n h (i + 1) = omega (arith, so.long, start_rises order n h i) in
+    let here : i < 2 ^ h = index_below i c.power-count.result h c.power-count.ensures c.loop-j-test.true in
+    let in_widths : i < length c.loop-j.widths = rw (c.loop-j.auto.widths, c.requires.places) here in
+    let in_sums : i < length c.loop-j.sums = rw (c.loop-j.auto.sums, c.requires.sums) here in
     let least = rw (c.split_at-in-loop-j.ensures.front, so.left, so.long) at c.weigh-leaf.ensures.least in
     let value = rw (c.split_at-in-loop-j.ensures.front, so.left, so.long) at c.weigh-leaf.ensures.value in
     record {
       bound = λ w. rw c.split_at.ensures.back (bound_more w _ _ _ _ _ _ m _ _ (rw front at c.bound_part-bound.ensures.rice) (rw front at c.bound_part-bound.ensures.escape) (bound w));
-      rest = c.split_at.ensures.back ∙ rw so.rest (drop-drop c.loop-j.long (start order n h i) rs) ∙ ap (λ (k : ℕ). drop k rs) next;
-      left = c.split_at-in-loop-j.ensures.back ∙ rw so.left (drop-drop c.loop-j.long (start order n h i) ns) ∙ ap (λ (k : ℕ). drop k ns) next;
-      long = omega (arith, start_next order n h i c.args.residual.now.halves.room, start_rises order n h (i + 1));
-      low = omega (arith, so.low, c.bound_part-bound.ensures.small);
-      done = λ j b. elim (cases_lt j i) [
-        | inl d ↦ rw (get_or-set_other c.loop-j.widths i j w 0 (λ e. omega arith)) (so.done j d)
-        | inr d ↦ let e : j ≡ i = omega arith in
-            rw (e, get_or-set_same c.loop-j.widths i w 0 (omega arith)) (segment_width w (start order n h i) (start order n h (i + 1)) rs ns c.args.residual.now.unsigned least)
+      rest = next_rest order n h i c.loop-j.long rs _ _ so.long so.rest c.split_at.ensures.back;
+      left = next_rest order n h i c.loop-j.long ns _ _ so.long so.left c.split_at-in-loop-j.ensures.back;
+      long = next_long order n h i c.args.residual.now.halves.room;
+      low = one_more i _ _ so.low c.bound_part-bound.ensures.small;
+      done = λ j less. elim (cases_lt j i) [
+        | inl d ↦ rw (get_or-set_other c.loop-j.widths i j w 0 (apart j i d)) (so.done j d)
+        | inr d ↦ let e = last_one j i less d in
+            rw (e, get_or-set_same c.loop-j.widths i w 0 in_widths) (segment_width w (start order n h i) (start order n h (i + 1)) rs ns c.args.residual.now.unsigned least)
       ];
-      small = λ j b. elim (cases_lt j i) [
-        | inl d ↦ rw (get_or-set_other c.loop-j.widths i j w 0 (λ e. omega arith)) (so.small j d)
-        | inr d ↦ let e : j ≡ i = omega arith in rw (e, get_or-set_same c.loop-j.widths i w 0 (omega arith)) c.weigh-leaf.ensures.narrow
+      small = λ j less. elim (cases_lt j i) [
+        | inl d ↦ rw (get_or-set_other c.loop-j.widths i j w 0 (apart j i d)) (so.small j d)
+        | inr d ↦ let e = last_one j i less d in rw (e, get_or-set_same c.loop-j.widths i w 0 in_widths) c.weigh-leaf.ensures.narrow
       ];
       costs = λ j less. elim (cases_lt j i) [
-        | inl d ↦ get_or-set_other c.loop-j.sums i j b 0 (λ e. omega arith) ∙ so.costs j d
-        | inr d ↦ let e : j ≡ i = omega arith in
-            rw e (get_or-set_same c.loop-j.sums i b 0 (omega arith) ∙ value ∙ segment_cost 0 (start order n h i) (start order n h (i + 1)) rs ns c.args.residual.now.unsigned)
+        | inl d ↦ get_or-set_other c.loop-j.sums i j b 0 (apart j i d) ∙ so.costs j d
+        | inr d ↦ let e = last_one j i less d in
+            rw e (get_or-set_same c.loop-j.sums i b 0 in_sums ∙ value ∙ segment_cost 0 (start order n h i) (start order n h (i + 1)) rs ns c.args.residual.now.unsigned)
       ];
     }
 
 pub returns-clause-widths : goal.returns-clause-widths
-returns-clause-widths c = λ j h. c.loop-j.invariant.done j (omega arith)
+returns-clause-widths c = λ j h. c.loop-j.invariant.done j (up_to_end j _ c.power-count.result c.loop-j.j h c.power-count.ensures c.loop-j-test.false)
 
 pub returns-clause-bound : goal.returns-clause-bound
 returns-clause-bound c =
-    let none : c.power-count.result - c.loop-j.j ≡ 0 = omega arith in
+    let none = none_left c.power-count.result c.loop-j.j c.loop-j-test.false in
     let so = c.loop-j.invariant in
     bound_of_all c.args.residual.now.order c.args.residual.now.partition_order c.args.residual.now.values.now c.loop-j.bound c.args.residual.now.halves
     (λ w cs long may. bound_end w _ _ _ c.args.residual.now.values.now c.loop-j.bound _ _ _ (so.bound w) cs (omega (arith, long, c.power-count.ensures)) may)
