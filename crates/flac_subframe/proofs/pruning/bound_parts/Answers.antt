@@ -1,11 +1,12 @@
-use Rattle.std.proofs.Common.{arith, ◌∙◌, ◌+◌, ◌-◌, ◌*◌, ◌≤◌, ◌<◌, ◌^◌, ℤ, List, ℕ, ap, sym, length, drop, take, map, All}
-use Rattle.std.proofs.lemmas.List.{drop-map}
+use Rattle.std.proofs.Common.{arith, ◌≡◌, ◌∙◌, refl, ◌+◌, ◌-◌, ◌*◌, ◌≤◌, ◌<◌, ◌^◌, ℤ, List, ℕ, ap, sym, Fits, w64, length, drop, take, map, All}
+use Rattle.std.proofs.lemmas.List.{drop-map, length-map}
 use Rattle.std.proofs.lemmas.List.Elements.{All-take, All-drop}
 use Rattle.flac_bits.specs.Rice.{IsResidual, folded}
 use Rattle.flac_subframe.proofs.Folds.{folds_small}
-use Rattle.flac_subframe.proofs.LowerBounds.{bound_more, bound_end, bound_of_all, bound_of_last}
+use Rattle.flac_subframe.proofs.LowerBounds.{bound_start, bound_more, bound_end, bound_of_all, bound_of_last}
 use Rattle.flac_subframe.specs.inner.Halves.{part, start}
-use Rattle.flac_subframe.proofs.Turns.{index_below, entry_within, one_left, none_left, next_long, next_rest}
+use Rattle.flac_subframe.proofs.Places.{power_le}
+use Rattle.flac_subframe.proofs.Turns.{rest_within, long_within, long_few, all_rest, first_long, index_below, entry_within, one_left, none_left, next_long, next_rest}
 use Rattle.flac_subframe.proofs.pruning.bound_parts.Goals as goal
 
 le : (n : ℕ) → n ≤ n
@@ -93,3 +94,63 @@ returns-then-bits-below-clause-last c =
     let so = c.loop-j.invariant in
     bound_of_last c.args.residual.now.order c.args.residual.now.partition_order c.args.residual.now.values.now c.loop-j.bits
     (λ w cs long may. bound_end w _ _ _ c.args.residual.now.values.now c.loop-j.bits _ _ _ (so.bound w) cs (omega (arith, long, c.power-count.ensures)) may)
+
+pub split_at-requires : goal.split_at-requires
+split_at-requires c =
+    let r = c.args.residual.now in let so = c.loop-j.invariant in
+    long_within r.order r.values.now c.args.residual.now.partition_order c.loop-j.j c.power-count.result c.loop-j.long c.power-count.ensures c.loop-j-test.true so.long r.values.now _ refl so.rest
+
+pub split_at-requires-in-loop-j : goal.split_at-requires-in-loop-j
+split_at-requires-in-loop-j c =
+    let r = c.args.residual.now in let so = c.loop-j.invariant in
+    rw (so.left, length-map c.loop-j.rest.now folded) (long_within r.order r.values.now c.args.residual.now.partition_order c.loop-j.j c.power-count.result c.loop-j.long c.power-count.ensures c.loop-j-test.true so.long r.values.now _ refl so.rest)
+
+pub bound_closely-bits-requires-clause-few : goal.bound_closely-bits-requires-clause-few
+bound_closely-bits-requires-clause-few c =
+    let r = c.args.residual.now in let so = c.loop-j.invariant in
+    rw c.split_at.ensures.front_len (long_few r.order r.values.now c.args.residual.now.partition_order c.loop-j.j c.power-count.result c.loop-j.long c.power-count.ensures c.loop-j-test.true so.long r.few)
+
+pub bound_closely-bits-requires-clause-long : goal.bound_closely-bits-requires-clause-long
+bound_closely-bits-requires-clause-long c = c.split_at-in-loop-j.ensures.front_len ∙ sym c.split_at.ensures.front_len
+
+none_left_at_first : (n : ℕ) → n ≡ n - 0
+none_left_at_first n = omega arith
+
+pub loop-j-init : goal.loop-j-init
+loop-j-init c =
+    let r = c.args.residual.now in let order = r.order in let rs = r.values.now in let h = r.partition_order in
+    let n = length rs + order in
+    record {
+      bound = λ w. rw (← none_left_at_first c.power-count.result) (bound_start w _ _ c.power-count.result rs);
+      rest = all_rest order n h rs;
+      left = r.unsigned;
+      long = first_long order n h;
+      small = le 0;
+    }
+
+some_less : (n m : ℕ) → n - m ≤ n
+some_less n m = omega arith
+
+fits_small : (i n bits b : ℕ) → i < n → n ≤ 2 ^ 15 → bits ≤ 2 ^ 21 * i → b ≤ 2 ^ 21 → Fits w64 (bits + b)
+fits_small i n bits b h most so small = omega arith
+
+pub overflow_sub-seen : goal.overflow_sub-seen
+overflow_sub-seen c =
+    let r = c.args.residual.now in
+    rest_within r.order (length r.values.now + r.order) r.partition_order c.loop-j.j r.values.now _ c.loop-j.invariant.rest
+
+pub overflow_sub-seen-2 : goal.overflow_sub-seen-2
+overflow_sub-seen-2 c =
+    let r = c.args.residual.now in
+    rest_within r.order (length r.values.now + r.order) r.partition_order c.loop-j.j r.values.now _ c.loop-j.invariant.rest
+
+pub returns-then-bits-below-clause-seen : goal.returns-then-bits-below-clause-seen
+returns-then-bits-below-clause-seen c = some_less (length c.args.residual.now.values.now) (length c.loop-j.rest.now)
+
+pub returns-clause-seen : goal.returns-clause-seen
+returns-clause-seen c = some_less (length c.args.residual.now.values.now) (length c.loop-j.rest.now)
+
+pub overflow_add-bits : goal.overflow_add-bits
+overflow_add-bits c =
+    let most = power_le c.args.residual.now.partition_order 15 c.args.residual.now.most in
+    fits_small c.loop-j.j c.power-count.result _ _ c.loop-j-test.true (rw c.power-count.ensures most) c.loop-j.invariant.small c.bound_closely-bits.ensures.small

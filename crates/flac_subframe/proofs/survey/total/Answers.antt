@@ -1,4 +1,4 @@
-use Rattle.std.proofs.Common.{arith, ◌≡◌, ◌∙◌, ◌+◌, ◌-◌, ◌<◌, ◌≤◌, ℕ, length, ◌++◌, ◌∷◌, []}
+use Rattle.std.proofs.Common.{arith, ◌≡◌, ◌∙◌, ◌+◌, ◌-◌, ◌<◌, ◌≤◌, ℕ, refl, length, ◌++◌, ◌∷◌, []}
 use Rattle.std.proofs.lemmas.List.{get_or_default}
 use Rattle.std.proofs.lemmas.List.Elements.{All-take}
 use Rattle.flac_bits.specs.Rice.{IsResidual}
@@ -7,7 +7,7 @@ use Rattle.flac_subframe.proofs.Bodies.{four_or_five}
 use Rattle.flac_subframe.proofs.Pricing.{priced_more, priced_least, priced_bits, priced_start}
 use Rattle.flac_subframe.specs.inner.Halves.{part}
 use Rattle.flac_subframe.proofs.Splits.{halves_at}
-use Rattle.flac_subframe.proofs.Turns.{index_below, entry_within, one_left, none_left, all_rest, first_long, next_long, next_rest, priced_small}
+use Rattle.flac_subframe.proofs.Turns.{long_within, long_few, index_below, entry_within, one_left, none_left, all_rest, first_long, next_long, next_rest, priced_small}
 use Rattle.flac_subframe.proofs.survey.total.Goals as goal
 
 before : (a n : ℕ) → a < n → a ≤ n
@@ -100,3 +100,13 @@ pub returns-clause-small : goal.returns-clause-small
 returns-clause-small c =
     let r = c.args.residual.now in
     priced_small _ _ _ _ r.values.now _ _ _ _ _ r.order c.args.partition_order r.partition_order c.loop-j.invariant.priced.1 r.few c.requires.within r.most c.power-count.ensures
+
+pub split_at-requires : goal.split_at-requires
+split_at-requires c =
+    let r = c.args.residual.now in let so = c.loop-j.invariant in
+    long_within r.order r.values.now c.args.partition_order c.loop-j.j c.power-count.result c.loop-j.long c.power-count.ensures c.loop-j-test.true so.long r.values.now _ refl so.rest
+
+pub finish-best-requires-clause-few : goal.finish-best-requires-clause-few
+finish-best-requires-clause-few c =
+    let r = c.args.residual.now in let so = c.loop-j.invariant in
+    rw c.split_at.ensures.front_len (long_few r.order r.values.now c.args.partition_order c.loop-j.j c.power-count.result c.loop-j.long c.power-count.ensures c.loop-j-test.true so.long r.few)

@@ -1,10 +1,10 @@
-use Rattle.std.proofs.Common.{arith, ◌≡◌, ◌∙◌, ◌+◌, ◌-◌, ◌*◌, ◌<◌, ◌≤◌, ◌^◌, ℕ, inl, inr, length}
+use Rattle.std.proofs.Common.{arith, ◌≡◌, ◌∙◌, ◌+◌, ◌-◌, ◌*◌, ◌<◌, ◌≤◌, ◌^◌, ℕ, inl, inr, refl, length}
 use Rattle.std.proofs.lemmas.Bool.{cases_lt}
 use Rattle.std.proofs.lemmas.List.{get_or-set_same, get_or-set_other}
 use Rattle.std.proofs.lemmas.List.Elements.{All-take, All-drop}
 use Rattle.flac_subframe.specs.inner.Halves.{part, start}
-use Rattle.flac_subframe.proofs.LowerBounds.{bound_more, bound_end, bound_of_all}
-use Rattle.flac_subframe.proofs.Turns.{index_below, one_left, none_left, next_long, next_rest}
+use Rattle.flac_subframe.proofs.LowerBounds.{bound_start, bound_more, bound_end, bound_of_all}
+use Rattle.flac_subframe.proofs.Turns.{long_within, long_few, all_rest, first_long, index_below, one_left, none_left, next_long, next_rest}
 use Rattle.flac_subframe.proofs.Folds.{segment_cost, segment_width}
 use Rattle.flac_subframe.proofs.widths.leaves_of.Goals as goal
 
@@ -105,3 +105,50 @@ returns-clause-bound c =
     let so = c.loop-j.invariant in
     bound_of_all c.args.residual.now.order c.args.residual.now.partition_order c.args.residual.now.values.now c.loop-j.bound c.args.residual.now.halves
     (λ w cs long may. bound_end w _ _ _ c.args.residual.now.values.now c.loop-j.bound _ _ _ (so.bound w) cs (omega (arith, long, c.power-count.ensures)) may)
+
+pub split_at-requires : goal.split_at-requires
+split_at-requires c =
+    let r = c.args.residual.now in let so = c.loop-j.invariant in
+    long_within r.order r.values.now c.args.residual.now.partition_order c.loop-j.j c.power-count.result c.loop-j.long c.power-count.ensures c.loop-j-test.true so.long r.values.now _ refl so.rest
+
+pub split_at-requires-in-loop-j : goal.split_at-requires-in-loop-j
+split_at-requires-in-loop-j c =
+    let r = c.args.residual.now in let so = c.loop-j.invariant in
+    long_within r.order r.values.now c.args.residual.now.partition_order c.loop-j.j c.power-count.result c.loop-j.long c.power-count.ensures c.loop-j-test.true so.long r.folds.now _ r.long so.left
+
+pub weigh-leaf-requires-clause-few : goal.weigh-leaf-requires-clause-few
+weigh-leaf-requires-clause-few c =
+    let r = c.args.residual.now in let so = c.loop-j.invariant in
+    rw c.split_at-in-loop-j.ensures.front_len (long_few r.order r.values.now c.args.residual.now.partition_order c.loop-j.j c.power-count.result c.loop-j.long c.power-count.ensures c.loop-j-test.true so.long r.few)
+
+pub bound_part-bound-requires-clause-few : goal.bound_part-bound-requires-clause-few
+bound_part-bound-requires-clause-few c =
+    let r = c.args.residual.now in let so = c.loop-j.invariant in
+    rw c.split_at.ensures.front_len (long_few r.order r.values.now c.args.residual.now.partition_order c.loop-j.j c.power-count.result c.loop-j.long c.power-count.ensures c.loop-j-test.true so.long r.few)
+
+pub bound_part-bound-requires-clause-small_width : goal.bound_part-bound-requires-clause-small_width
+bound_part-bound-requires-clause-small_width c = c.weigh-leaf.ensures.narrow
+
+from_none : (n : ℕ) → 0 ≤ n
+from_none n = omega arith
+
+none_below : (j : ℕ) → j < 0 → ⊥
+none_below j h = omega arith
+
+left_at_first : (n : ℕ) → n ≡ n - 0
+left_at_first n = omega arith
+
+pub loop-j-init : goal.loop-j-init
+loop-j-init c =
+    let r = c.args.residual.now in let order = r.order in let rs = r.values.now in let h = r.partition_order in
+    let n = length rs + order in
+    record {
+      bound = λ w. rw (← left_at_first c.power-count.result) (bound_start w _ _ c.power-count.result rs);
+      rest = all_rest order n h rs;
+      left = all_rest order n h r.folds.now;
+      long = first_long order n h;
+      low = from_none 0;
+      done = λ j h. absurd (none_below j h);
+      small = λ j h. absurd (none_below j h);
+      costs = λ j h. absurd (none_below j h);
+    }
