@@ -58,6 +58,7 @@ pub mod Family
 pub mod Bytes
 pub mod Places
 pub mod Searched
+pub mod Predicting
 pub mod Turns
 pub mod Fours
 pub mod Residues
