@@ -1,7 +1,7 @@
 -- What the fixed predictors say, as the code works it out in numbers of a width.
 use mir.Syntax.{Width}
 use mir.Val.{hbits}
-use Rattle.std.proofs.Common.{◌≡◌, arith, to_z, of_z, FitsSigned, ℕ, ◌*◌, ◌^◌, ◌≤◌, ◌<◌, ℤ, pos, ◌+ℤ◌, ◌-ℤ◌, ◌*ℤ◌}
+use Rattle.std.proofs.Common.{◌≡◌, ◌∙◌, sym, arith, to_z, of_z, FitsSigned, ℕ, ◌*◌, ◌^◌, ◌≤◌, ◌<◌, ℤ, pos, ◌+ℤ◌, ◌-ℤ◌, ◌*ℤ◌}
 use Rattle.std.specs.Int.RustNames.{unsigned_abs}
 use Rattle.std.proofs.lemmas.Int.{ints, fits_signed_from_abs}
 use Rattle.flac_subframe.proofs.Lanes.{back_in}
@@ -109,3 +109,48 @@ module _ (w : Width) (m : ℕ) (room : 16 * m < 2 ^ hbits w) where
 
         pub fourth_small : unsigned_abs (stored w (stored w (stored w (pos 4 *ℤ stored w (stored w a +ℤ stored w c)) -ℤ stored w (pos 6 *ℤ stored w b)) -ℤ stored w d)) ≤ 15 * m
         fourth_small = rw fourth_is fourth
+
+      -- of order 4, as numbers of 32 bits have it
+      nearest : unsigned_abs ((a +ℤ c) -ℤ b) ≤ 15 * m
+      nearest = omega (arith, ints, fa, fb, fc)
+
+      nearest_four : unsigned_abs (pos 4 *ℤ ((a +ℤ c) -ℤ b)) ≤ 15 * m
+      nearest_four = omega (arith, ints, fa, fb, fc)
+
+      two_times : unsigned_abs (pos 2 *ℤ b) ≤ 15 * m
+      two_times = omega (arith, ints, fb)
+
+      pub nearest_fits : FitsSigned w (stored w (stored w a +ℤ stored w c) -ℤ stored w b)
+      nearest_fits = rw (one a fa, one b fb, one c fc, kept (a +ℤ c) both) (fits ((a +ℤ c) -ℤ b) nearest)
+
+      pub nearest_four_fits : FitsSigned w (pos 4 *ℤ stored w (stored w (stored w a +ℤ stored w c) -ℤ stored w b))
+      nearest_four_fits = rw (one a fa, one b fb, one c fc, kept (a +ℤ c) both, kept ((a +ℤ c) -ℤ b) nearest) (fits (pos 4 *ℤ ((a +ℤ c) -ℤ b)) nearest_four)
+
+      pub two_times_fits : FitsSigned w (pos 2 *ℤ stored w b)
+      two_times_fits = rw (one b fb) (fits (pos 2 *ℤ b) two_times)
+
+      module _ (d : ℤ) (fd : unsigned_abs d ≤ m) where
+        farthest : unsigned_abs ((pos 2 *ℤ b) +ℤ d) ≤ 15 * m
+        farthest = omega (arith, ints, fb, fd)
+
+        apart : unsigned_abs ((pos 4 *ℤ ((a +ℤ c) -ℤ b)) -ℤ ((pos 2 *ℤ b) +ℤ d)) ≤ 15 * m
+        apart = omega (arith, ints, fa, fb, fc, fd)
+
+        same : (pos 4 *ℤ ((a +ℤ c) -ℤ b)) -ℤ ((pos 2 *ℤ b) +ℤ d) ≡ ((pos 4 *ℤ (a +ℤ c)) -ℤ (pos 6 *ℤ b)) -ℤ d
+        same = omega (arith, ints)
+
+        pub farthest_fits : FitsSigned w (stored w (pos 2 *ℤ stored w b) +ℤ stored w d)
+        farthest_fits = rw (one b fb, one d fd, kept (pos 2 *ℤ b) two_times) (fits ((pos 2 *ℤ b) +ℤ d) farthest)
+
+        pub apart_fits : FitsSigned w (stored w (pos 4 *ℤ stored w (stored w (stored w a +ℤ stored w c) -ℤ stored w b)) -ℤ stored w (stored w (pos 2 *ℤ stored w b) +ℤ stored w d))
+        apart_fits =
+            rw (one a fa, one b fb, one c fc, one d fd, kept (a +ℤ c) both, kept ((a +ℤ c) -ℤ b) nearest, kept (pos 4 *ℤ ((a +ℤ c) -ℤ b)) nearest_four, kept (pos 2 *ℤ b) two_times, kept ((pos 2 *ℤ b) +ℤ d) farthest)
+            (fits ((pos 4 *ℤ ((a +ℤ c) -ℤ b)) -ℤ ((pos 2 *ℤ b) +ℤ d)) apart)
+
+        pub apart_is : stored w (stored w (pos 4 *ℤ stored w (stored w (stored w a +ℤ stored w c) -ℤ stored w b)) -ℤ stored w (stored w (pos 2 *ℤ stored w b) +ℤ stored w d)) ≡ ((pos 4 *ℤ (a +ℤ c)) -ℤ (pos 6 *ℤ b)) -ℤ d
+        apart_is =
+            rw (one a fa, one b fb, one c fc, one d fd, kept (a +ℤ c) both, kept ((a +ℤ c) -ℤ b) nearest, kept (pos 4 *ℤ ((a +ℤ c) -ℤ b)) nearest_four, kept (pos 2 *ℤ b) two_times, kept ((pos 2 *ℤ b) +ℤ d) farthest)
+            (kept ((pos 4 *ℤ ((a +ℤ c) -ℤ b)) -ℤ ((pos 2 *ℤ b) +ℤ d)) apart ∙ same)
+
+        pub apart_small : unsigned_abs (stored w (stored w (pos 4 *ℤ stored w (stored w (stored w a +ℤ stored w c) -ℤ stored w b)) -ℤ stored w (stored w (pos 2 *ℤ stored w b) +ℤ stored w d))) ≤ 15 * m
+        apart_small = rw (apart_is ∙ sym same) apart

@@ -1,4 +1,4 @@
-use Rattle.std.proofs.Common.{arith, rules, ◌+◌, ◌≤◌, ◌<◌, ℕ, length, refl, w32, w64}
+use Rattle.std.proofs.Common.{arith, rules, ◌+◌, ◌≤◌, ◌<◌, ℕ, length, refl, w64}
 use Rattle.flac_subframe.proofs.Fours.{one_small, two_small, three_small, four_small, four_held}
 use Rattle.flac_subframe.proofs.wide_products.add_four.Goals as goal
 

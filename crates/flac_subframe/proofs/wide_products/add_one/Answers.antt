@@ -1,4 +1,4 @@
-use Rattle.std.proofs.Common.{rules, ◌+◌, ◌<◌, length, refl, w32, w64}
+use Rattle.std.proofs.Common.{rules, ◌+◌, ◌<◌, length, refl, w64}
 use Rattle.flac_subframe.proofs.Fours.{one_small, one_held}
 use Rattle.flac_subframe.proofs.wide_products.add_one.Goals as goal
 
