@@ -1,5 +1,6 @@
 pub mod Named
 pub mod Skips
+pub mod Exits
 pub mod Turns
 pub mod Zeros
 pub mod Reasons

@@ -47,6 +47,12 @@ pub told_kept : {Y : Type 0} {answer : Result (Y × Cursor) Reason} (broken : Bo
     → Told (more tt d) answer old new → Told (and_then (unless_broken (record { broken = broken; why = why } ∷ []) (Ok (tt, d))) more) answer old new
 told_kept broken why old new d more is t = λ known same. rw is (t known same)
 
+-- two rules
+pub told_kept_both : {Y : Type 0} {answer : Result (Y × Cursor) Reason} (broken : Bool) (why : Why) (broken' : Bool) (why' : Why) (old new : State) (d : Cursor) (more : ⊤ → Cursor → Result (Y × Cursor) Reason)
+    → broken ≡ false → broken' ≡ false → Told (more tt d) answer old new
+    → Told (and_then (unless_broken (record { broken = broken; why = why } ∷ record { broken = broken'; why = why' } ∷ []) (Ok (tt, d))) more) answer old new
+told_kept_both broken why broken' why' old new d more is is' t = λ known same. rw (is, is') (t known same)
+
 pub told_broken : {Y : Type 0} (broken : Bool) (why : Why) (old new : State) (d : Cursor) (more : ⊤ → Cursor → Result (Y × Cursor) Reason) → broken ≡ true
     → Told (and_then (unless_broken (record { broken = broken; why = why } ∷ []) (Ok (tt, d))) more) (Err (because why)) old new
 told_broken broken why old new d more is = λ known same. rw is refl

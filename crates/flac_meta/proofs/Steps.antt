@@ -4,9 +4,9 @@ use Rattle.std.specs.Int.{bit_at}
 use Rattle.std.proofs.lemmas.List.{at_drop_more, at_drop_all, append-nil}
 use Rattle.flac_bits.specs.Bits.{unsigned}
 use Rattle.flac_bits.specs.Forms.{joined}
-use Rattle.flac_bits.specs.Written.{Written, Writes}
+use Rattle.flac_bits.specs.Written.{Written, Adds, Writes, Fails}
 use Rattle.flac_bits.specs.declared.why.Why.{Why}
-use Rattle.flac_bits.proofs.Writing.{Towards, towards_last}
+use Rattle.flac_bits.proofs.Writing.{Towards, towards_last, writes_then, fails_first}
 use Rattle.flac_meta.specs.Spelling.{each_spelled, zero_bits}
 use Rattle.flac_meta.specs.inner.Fielded.{field_spelling, fields_spelling}
 use Rattle.flac_meta.specs.declared.fields.Field.{Field}
@@ -79,3 +79,16 @@ joined_two (piece ∷ front) back = ap (λ t. piece ++ t) (joined_two front back
 -- what came of the last piece
 pub towards_done : {X : Type 0} {whole : List Bool} {old now : Written} (part : List Bool) (new : Written) (result : Result X Why) → Towards (part ++ []) whole old now → Writes part now new result → Writes whole old new result
 towards_done {whole = whole} {old = old} {now = now} part new result t w = towards_last new result (subst (λ (rest : List Bool). Towards rest whole old now) (append-nil part) t) w
+
+-- fields and what is written after them
+pub fields_first : {X : Type 0} {old mid : Written} {whole : List Bool} (fields : List Field) (rest : List Bool) (new : Written) (result : Result X Why)
+    → Adds (fields_spelling fields) old mid → Writes rest mid new result → whole ≡ fields_before fields rest → Writes whole old new result
+fields_first fields rest new result a w is = rw (is, fields_then fields rest) (writes_then rest new result a w)
+
+pub fields_fail : {old new : Written} {e : Why} {whole : List Bool} (fields : List Field) (rest : List Bool)
+    → Fails (old.bits ++ fields_spelling fields) old new e → whole ≡ fields_before fields rest → Fails (old.bits ++ whole) old new e
+fields_fail fields rest f is = rw (is, fields_then fields rest) (fails_first (fields_spelling fields) rest f)
+
+-- the last piece of a whole
+pub writes_only : {X : Type 0} (part : List Bool) (old new : Written) (result : Result X Why) → Writes part old new result → Writes (part ++ []) old new result
+writes_only part old new result w = rw (append-nil part) w

@@ -1,10 +1,12 @@
 -- A loop that reads items in turn.
-use Rattle.std.proofs.Common.{◌≡◌, ℕ, suc, ◌+◌, ◌-◌, ◌<◌, ◌≤◌, List, [], ◌∷◌, ◌++◌, Result, Ok, Err, refl, sym, ap, ◌∙◌, arith, append_assoc, Option, Some, length, ◌*◌}
+use Rattle.std.proofs.Common.{◌≡◌, ℕ, suc, ◌+◌, ◌-◌, ◌<◌, ◌≤◌, List, [], ◌∷◌, ◌++◌, Result, Ok, Err, refl, sym, ap, ◌∙◌, arith, append_assoc, Option, Some, length, length-append, ◌*◌}
 use Rattle.std.proofs.lemmas.List.{append-nil}
 use Rattle.std.specs.Prelude.{⊤}
 use Rattle.flac_bits.specs.State.{Cursor}
-use Rattle.flac_bits.specs.Layout.{Layout, done, run, and_then, Reason}
-use Rattle.flac_bits.specs.Lists.{behind}
+use Rattle.flac_bits.specs.Layout.{Layout, done, run, and_then, Reason, because}
+use Rattle.flac_bits.specs.declared.why.Why.TheVariants.{BlockLength}
+use Rattle.flac_bits.specs.Lists.{list_of, behind}
+use Rattle.flac_bits.proofs.Lists.{list_end}
 use Rattle.flac_bits.specs.LittleEndian.{little_32}
 use Rattle.flac_meta.specs.Fields.{in_turn, nothing_left, sized}
 use Rattle.flac_meta.specs.SeekTable.{seek_point, seek_points}
@@ -12,6 +14,7 @@ use Rattle.flac_meta.specs.Comments.{texts}
 use Rattle.flac_meta.specs.CueSheet.{cue_track, cue_tracks}
 use Rattle.flac_meta.specs.declared.seek_table.SeekPoint.{SeekPoint}
 use Rattle.flac_meta.specs.declared.cue_sheet.CueTrack.{CueTrack}
+use Rattle.flac_meta.proofs.Exits.{not_same}
 
 and_then_behind : {A : Type 0} (r : Result (List A × Cursor) Reason) (front : List A) (x : A) → and_then (and_then r (λ xs d. Ok (x ∷ xs, d))) (behind front) ≡ and_then r (behind (front ++ x ∷ []))
 unfolding behind
@@ -82,3 +85,46 @@ tracks_more = turn_more cue_track (λ left track. left - (36 + 12 * length track
 pub tracks_end : (n i left : ℕ) (c : Cursor) (front : List CueTrack) → n ≤ i → and_then (run (cue_tracks (n - i) left) c) (behind front) ≡ and_then (run (nothing_left left) c) (λ _ d. Ok (front, d))
 unfolding cue_tracks
 tracks_end = turn_end cue_track (λ left track. left - (36 + 12 * length track.indices)) nothing_left
+
+-- ---- after the last item
+
+pub points_last : (n i : ℕ) (before : Option ℕ) (c : Cursor) (front points : List SeekPoint) → n ≤ i → points ≡ front → and_then (run (seek_points (n - i) before) c) (behind front) ≡ Ok (points, c)
+points_last n i before c front points le is = rw is (points_end n i before c front le)
+
+pub texts_last : (n i left : ℕ) (c : Cursor) (front list : List (List ℕ)) → n ≤ i → left ≡ 0 → list ≡ front → and_then (run (texts (n - i) left) c) (behind front) ≡ Ok (list, c)
+texts_last n i left c front list le none is = texts_end n i left c front le ∙ rw (none, is) refl
+
+pub texts_left : (n i left : ℕ) (c : Cursor) (front : List (List ℕ)) → n ≤ i → (left ≡ 0 → ⊥) → and_then (run (texts (n - i) left) c) (behind front) ≡ Err (because BlockLength)
+texts_left n i left c front le some = texts_end n i left c front le ∙ rw (not_same left 0 some) refl
+
+pub tracks_last : (n i left : ℕ) (c : Cursor) (front tracks : List CueTrack) → n ≤ i → left ≡ 0 → tracks ≡ front → and_then (run (cue_tracks (n - i) left) c) (behind front) ≡ Ok (tracks, c)
+tracks_last n i left c front tracks le none is = tracks_end n i left c front le ∙ rw (none, is) refl
+
+pub tracks_left : (n i left : ℕ) (c : Cursor) (front : List CueTrack) → n ≤ i → (left ≡ 0 → ⊥) → and_then (run (cue_tracks (n - i) left) c) (behind front) ≡ Err (because BlockLength)
+tracks_left n i left c front le some = tracks_end n i left c front le ∙ rw (not_same left 0 some) refl
+
+-- ---- the items behind one more
+
+pub points_same : (n sample : ℕ) (c : Cursor) (front points : List SeekPoint) (x : SeekPoint) → points ≡ front ++ x ∷ []
+    → and_then (run (seek_points n (Some sample)) c) (behind (front ++ x ∷ [])) ≡ and_then (run (seek_points n (Some sample)) c) (behind points)
+points_same n sample c front points x is = rw is refl
+
+pub texts_same : (n left size : ℕ) (c : Cursor) (front list : List (List ℕ)) (t : List ℕ) → size ≡ length t → list ≡ front ++ t ∷ []
+    → and_then (run (texts n (left - (4 + length t))) c) (behind (front ++ t ∷ [])) ≡ and_then (run (texts n (left - (4 + size))) c) (behind list)
+texts_same n left size c front list t many is = rw (many, is) refl
+
+pub tracks_same : (n left size : ℕ) (c : Cursor) (front tracks : List CueTrack) (t : CueTrack) → size ≡ length t.indices → tracks ≡ front ++ t ∷ []
+    → and_then (run (cue_tracks n (left - (36 + 12 * length t.indices))) c) (behind (front ++ t ∷ [])) ≡ and_then (run (cue_tracks n (left - (36 + 12 * size))) c) (behind tracks)
+tracks_same n left size c front tracks t many is = rw (many, is) refl
+
+-- ---- a list whose length is known
+
+pub list_same : {A : Type 0} (n : ℕ) (l : Layout A) (c : Cursor) (front list : List A) (x : A) → list ≡ front ++ x ∷ []
+    → and_then (run (list_of n l) c) (behind (front ++ x ∷ [])) ≡ and_then (run (list_of n l) c) (behind list)
+list_same n l c front list x is = rw is refl
+
+pub list_last : {A : Type 0} (n i : ℕ) (l : Layout A) (c : Cursor) (front list : List A) → n ≤ i → list ≡ front → and_then (run (list_of (n - i) l) c) (behind front) ≡ Ok (list, c)
+list_last n i l c front list le is = rw is (list_end n i l c front le)
+
+pub one_more : {A : Type 0} (n : ℕ) (front list : List A) (x : A) → length front ≡ n → list ≡ front ++ x ∷ [] → length list ≡ n + 1
+one_more {A = A} n front list x many is = rw is (grind (arith, length-append {A = A}, many))

@@ -1,10 +1,11 @@
-use Rattle.std.proofs.Common.{rules, ℕ, ◌+◌, ◌-◌, ◌*◌, ◌/◌, ◌≤◌, length, nat_lt, refl, arith}
+use Rattle.std.proofs.Common.{ℕ, ◌+◌, ◌-◌, ◌*◌, ◌/◌, ◌≤◌, length, nat_lt, refl, arith}
 use Rattle.std.proofs.lemmas.Result.{err_from_is_err_and}
 use Rattle.flac_bits.specs.LittleEndian.{little_32}
 use Rattle.flac_bits.specs.declared.why.Why.TheVariants.{BlockLength}
 use Rattle.flac_bits.proofs.Counting.{answered_then, failed_then}
 use Rattle.flac_bits.proofs.Telling.{told_then, told_fault}
 use Rattle.flac_meta.specs.Comments.{comments}
+use Rattle.flac_meta.proofs.Exits.{had_room, same_room, spends_then}
 use Rattle.flac_meta.proofs.Short.{part_short, told_part, told_kept}
 use Rattle.flac_meta.proofs.Tied.{less_not}
 use Rattle.flac_meta.proofs.comments.read_comments.Goals as goal
@@ -21,7 +22,7 @@ returns-in_err-vendor g c =
       reading = record {
         spends = tt;
         counts = c.in_err-vendor.ensures.reading.counts;
-        reads = (λ room. told_fault c.args.bits.now c.read_sized_little.new.bits _ (c.in_err-vendor.ensures.reading.reads (λ q. room cc)));
+        reads = (λ room. told_fault c.args.bits.now c.read_sized_little.new.bits _ (c.in_err-vendor.ensures.reading.reads (same_room room)));
       };
     })
 
@@ -34,7 +35,7 @@ returns-then-rest-lt4 g c =
       reading = record {
         spends = tt;
         counts = failed_then c.args.bits.now mid c.too_short.new.bits v.counts c.too_short.ensures.counts;
-        reads = (λ room. told_then c.args.bits.now mid c.too_short.new.bits _ v.counts (v.reads (λ q. absurd cc))
+        reads = (λ room. told_then c.args.bits.now mid c.too_short.new.bits _ v.counts (v.reads had_room)
             (told_fault mid c.too_short.new.bits _ (part_short 4 (c.args.left - (4 + length c.in_ok-vendor.vendor)) little_32 mid c.too_short.new.bits
                 (rw c.len.ensures at c.if-rest-lt4.true) (rw c.len.ensures at c.too_short.ensures.reads))));
       };
@@ -51,7 +52,7 @@ returns-in_err-count g c =
       reading = record {
         spends = tt;
         counts = failed_then c.args.bits.now mid new v.counts c.in_err-count.ensures.reading.counts;
-        reads = (λ room. told_then c.args.bits.now mid new _ v.counts (v.reads (λ q. absurd cc))
+        reads = (λ room. told_then c.args.bits.now mid new _ v.counts (v.reads had_room)
             (told_fault mid new _ (told_part 4 (c.args.left - (4 + length c.in_ok-vendor.vendor)) little_32 mid new
                 (rw c.len.ensures at c.if-rest-lt4.false) c.in_err-count.ensures.reading.reads)));
       };
@@ -71,11 +72,11 @@ returns-in_err-list g c =
       reading = record {
         spends = tt;
         counts = failed_then c.args.bits.now mid new v.counts (failed_then mid behind new n.counts c.in_err-list.ensures.reading.counts);
-        reads = (λ room. told_then c.args.bits.now mid new _ v.counts (v.reads (λ q. absurd cc))
+        reads = (λ room. told_then c.args.bits.now mid new _ v.counts (v.reads had_room)
             (told_then mid behind new _ n.counts (told_part 4 rest little_32 mid behind (rw c.len.ensures at c.if-rest-lt4.false) n.reads)
             (told_kept (nat_lt (rest - 4) (4 * c.in_ok-count.count)) BlockLength behind new behind.cursor _
                 (less_not (rest - 4) (4 * c.in_ok-count.count) (many_fit c.in_ok-count.count (rest - 4) (rw c.len.ensures at c.if-count-rest.false)))
-            (told_fault behind new _ ((rw c.len.ensures at c.in_err-list.ensures.reading.reads) (λ q. room cc))))));
+            (told_fault behind new _ ((rw c.len.ensures at c.in_err-list.ensures.reading.reads) (same_room room))))));
       };
     })
 
@@ -90,12 +91,12 @@ returns g c =
     let rest : ℕ = c.args.left - (4 + length c.in_ok-vendor.vendor) in
     record {
       reading = record {
-        spends = search rules;
+        spends = spends_then 0 0 c.args.bits.now.most mid.most new.most v.spends (spends_then 32 0 mid.most behind.most new.most n.spends c.in_ok-list.ensures.reading.spends);
         counts = answered_then c.args.bits.now mid new v.counts (answered_then mid behind new n.counts c.in_ok-list.ensures.reading.counts);
-        reads = (λ room. told_then c.args.bits.now mid new _ v.counts (v.reads (λ q. absurd cc))
+        reads = (λ room. told_then c.args.bits.now mid new _ v.counts (v.reads had_room)
             (told_then mid behind new _ n.counts (told_part 4 rest little_32 mid behind (rw c.len.ensures at c.if-rest-lt4.false) n.reads)
             (told_kept (nat_lt (rest - 4) (4 * c.in_ok-count.count)) BlockLength behind new behind.cursor _
                 (less_not (rest - 4) (4 * c.in_ok-count.count) (many_fit c.in_ok-count.count (rest - 4) (rw c.len.ensures at c.if-count-rest.false)))
-            (told_then behind new new _ c.in_ok-list.ensures.reading.counts ((rw c.len.ensures at c.in_ok-list.ensures.reading.reads) (λ q. absurd cc)) (λ known same. refl)))));
+            (told_then behind new new _ c.in_ok-list.ensures.reading.counts ((rw c.len.ensures at c.in_ok-list.ensures.reading.reads) had_room) (λ known same. refl)))));
       };
     }

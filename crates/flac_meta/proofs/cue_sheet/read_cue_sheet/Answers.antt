@@ -1,9 +1,12 @@
-use Rattle.std.proofs.Common.{rules}
+use Rattle.std.proofs.Common.{◌-◌, ◌*◌, nat_eq, nat_lt, refl}
 use Rattle.std.proofs.lemmas.Result.{err_from_is_err_and}
+use Rattle.flac_bits.specs.declared.why.Why.TheVariants.{BlockLength, CueSheet}
 use Rattle.flac_bits.proofs.Counting.{answered_then, failed_then}
 use Rattle.flac_bits.proofs.Telling.{told_then, told_fault}
 use Rattle.flac_meta.specs.CueSheet.{cue_sheet}
-use Rattle.flac_meta.proofs.Short.{part_short, told_part}
+use Rattle.flac_meta.proofs.Exits.{had_room, same_room, spends_then, not_same}
+use Rattle.flac_meta.proofs.Short.{part_short, told_part, told_kept_both}
+use Rattle.flac_meta.proofs.Tied.{less_not}
 use Rattle.flac_meta.proofs.cue_sheet.read_cue_sheet.Goals as goal
 
 pub returns-in_err-count : goal.returns-in_err-count
@@ -22,30 +25,52 @@ pub returns-in_err-tracks : goal.returns-in_err-tracks
 unfolding cue_sheet
 returns-in_err-tracks g c =
     let p = err_from_is_err_and c.from_residual-in_err-tracks.result c.from_residual-in_err-tracks.ensures.1 in
+    let old = c.args.bits.now in
+    let mid = c.read_sheet_front.new.bits in
+    let behind = c.read_count.new.bits in
+    let new = c.read_tracks.new.bits in
+    let f = c.in_ok-catalogue.ensures.reading in
+    let n = c.in_ok-count.ensures.reading in
+    let count = c.in_ok-count.count in
     rw (p.1, p.2) (record {
       reading = record {
         spends = tt;
-        counts = failed_then c.args.bits.now c.read_sheet_front.new.bits c.read_tracks.new.bits c.in_ok-catalogue.ensures.reading.counts (failed_then c.read_sheet_front.new.bits c.read_count.new.bits c.read_tracks.new.bits c.in_ok-count.ensures.reading.counts c.in_err-tracks.ensures.reading.counts);
-        reads = search rules;
+        counts = failed_then old mid new f.counts (failed_then mid behind new n.counts c.in_err-tracks.ensures.reading.counts);
+        reads = (λ room. told_part 395 c.args.left _ old new c.if-left-lt395.false (told_then old mid new _ f.counts f.reads (told_then mid behind new _ n.counts n.reads
+            (told_kept_both (nat_eq count 0) CueSheet (nat_lt (c.args.left - 396) (36 * count)) BlockLength behind new behind.cursor _
+                (not_same count 0 c.if-count-eq0.false) (less_not (c.args.left - 396) (36 * count) c.if-left-count.false)
+            (told_fault behind new _ (c.in_err-tracks.ensures.reading.reads (same_room room)))))));
       };
     })
 
 pub returns : goal.returns
 unfolding cue_sheet
-returns g c = record {
-  reading = record {
-    spends = search rules;
-    counts = answered_then c.args.bits.now c.read_sheet_front.new.bits c.read_tracks.new.bits c.in_ok-catalogue.ensures.reading.counts (answered_then c.read_sheet_front.new.bits c.read_count.new.bits c.read_tracks.new.bits c.in_ok-count.ensures.reading.counts c.in_ok-tracks.ensures.reading.counts);
-    reads = search rules;
-  };
-}
+returns g c =
+    let old = c.args.bits.now in
+    let mid = c.read_sheet_front.new.bits in
+    let behind = c.read_count.new.bits in
+    let new = c.read_tracks.new.bits in
+    let f = c.in_ok-catalogue.ensures.reading in
+    let n = c.in_ok-count.ensures.reading in
+    let t = c.in_ok-tracks.ensures.reading in
+    let count = c.in_ok-count.count in
+    record {
+      reading = record {
+        spends = spends_then 0 0 old.most mid.most new.most f.spends (spends_then 0 0 mid.most behind.most new.most n.spends t.spends);
+        counts = answered_then old mid new f.counts (answered_then mid behind new n.counts t.counts);
+        reads = (λ room. told_part 395 c.args.left _ old new c.if-left-lt395.false (told_then old mid new _ f.counts f.reads (told_then mid behind new _ n.counts n.reads
+            (told_kept_both (nat_eq count 0) CueSheet (nat_lt (c.args.left - 396) (36 * count)) BlockLength behind new behind.cursor _
+                (not_same count 0 c.if-count-eq0.false) (less_not (c.args.left - 396) (36 * count) c.if-left-count.false)
+            (told_then behind new new _ t.counts (t.reads had_room) (λ known same. refl))))));
+      };
+    }
 
 pub returns-then-left-lt395 : goal.returns-then-left-lt395
 unfolding cue_sheet
 returns-then-left-lt395 g c = record {
   reading = record {
-    spends = search rules;
-    counts = search rules;
+    spends = tt;
+    counts = c.too_short.ensures.counts;
     reads = (λ room. part_short 395 c.args.left _ c.args.bits.now c.too_short.new.bits c.if-left-lt395.true c.too_short.ensures.reads);
   };
 }
@@ -57,7 +82,7 @@ returns-in_err-catalogue g c =
     rw (p.1, p.2) (record {
       reading = record {
         spends = tt;
-        counts = search rules;
+        counts = c.in_err-catalogue.ensures.reading.counts;
         reads = (λ room. told_part 395 c.args.left _ c.args.bits.now c.read_sheet_front.new.bits c.if-left-lt395.false (told_fault c.args.bits.now c.read_sheet_front.new.bits _ c.in_err-catalogue.ensures.reading.reads));
       };
     })

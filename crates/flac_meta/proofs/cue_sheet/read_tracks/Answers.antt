@@ -1,49 +1,50 @@
-use Rattle.std.proofs.lemmas.Grind.{common_steps}
-use Rattle.flac_meta.proofs.Turns.{turn_start}
-use Rattle.flac_meta.proofs.Turns.{tracks_end}
-use Rattle.std.proofs.Common.{rules, arith, ◌+◌, ◌-◌, ◌*◌, ◌++◌, ◌∷◌, [], length, refl, sym, ap, ◌∙◌}
+use Rattle.std.proofs.Common.{◌+◌, ◌-◌, ◌*◌, ◌++◌, ◌∷◌, [], length, refl, ap}
 use Rattle.std.proofs.lemmas.Result.{err_from_is_err_and}
 use Rattle.flac_bits.specs.State.{Cursor}
 use Rattle.flac_bits.specs.Layout.{run, and_then}
 use Rattle.flac_bits.specs.Lists.{behind}
 use Rattle.flac_bits.proofs.Loops.{goes_on}
+use Rattle.flac_bits.proofs.Counting.{gone, answered_then, failed_then, refused_then}
+use Rattle.flac_bits.proofs.Telling.{gone_fault}
 use Rattle.flac_meta.specs.CueSheet.{cue_track, cue_tracks}
 use Rattle.flac_meta.specs.declared.cue_sheet.CueTrack.{CueTrack}
-use Rattle.flac_meta.proofs.Turns.{tracks_more}
-use Rattle.flac_bits.proofs.Counting.{gone, answered_then, failed_then, refused_then}
+use Rattle.flac_meta.proofs.Exits.{had_room, same_room, less_left, spends_turn, spends_none, gone_is}
+use Rattle.flac_meta.proofs.Turns.{tracks_more, tracks_same, tracks_last, tracks_left}
 use Rattle.flac_meta.proofs.cue_sheet.read_tracks.Goals as goal
 
 pub returns-in_err-track : goal.returns-in_err-track
-returns-in_err-track g c = record {
-  reading = record {
-    spends = search rules;
-    counts = (let p = err_from_is_err_and c.from_residual.result c.from_residual.ensures.1 in
-        rw (p.1, p.2) (failed_then c.args.bits.now c.loop-i.bits c.read_track.new.bits (gone c.loop-i.invariant.2) c.in_err-track.ensures.reading.counts));
-    reads = (λ room known same.
-        let p = err_from_is_err_and c.from_residual.result c.from_residual.ensures.1 in
-        let now = c.loop-i.invariant.2 in
-        let more : CueTrack → Cursor → _ = λ x d. and_then (run (cue_tracks (c.args.count - (c.loop-i.i + 1)) (c.loop-i.left - (36 + 12 * length x.indices))) d) (behind (c.loop-i.tracks.items ++ x ∷ [])) in
-        rw (p.1, p.2) (sym (now.reads known) ∙ tracks_more c.args.count c.loop-i.i c.loop-i.left c.loop-i.bits.cursor c.loop-i.tracks.items c.loop-i-test.true
-        ∙ ap (λ r. and_then r more) (c.in_err-track.ensures.reading.reads (λ q. room cc) (now.known known) (same ∙ sym now.errors))));
-  };
-}
+returns-in_err-track g c =
+    let p = err_from_is_err_and c.from_residual.result c.from_residual.ensures.1 in
+    let e = c.in_err-track.ensures.reading in
+    rw (p.1, p.2) (record {
+      reading = record {
+        spends = tt;
+        counts = failed_then c.args.bits.now c.loop-i.bits c.read_track.new.bits (gone c.loop-i.invariant.2) e.counts;
+        reads = (λ room. gone_fault c.args.bits.now c.loop-i.bits c.read_track.new.bits _ c.loop-i.invariant.2
+            (tracks_more c.args.count c.loop-i.i c.loop-i.left c.loop-i.bits.cursor c.loop-i.tracks.items c.loop-i-test.true) (e.reads (same_room room)));
+      };
+    })
 
 pub loop-i-preserved : goal.loop-i-preserved
 loop-i-preserved g c =
+    let t = c.in_ok-track.ensures.reading in
+    let new = c.read_track.new.bits in
     let more : CueTrack → Cursor → _ = λ x d. and_then (run (cue_tracks (c.args.count - (c.loop-i.i + 1)) (c.loop-i.left - (36 + 12 * length x.indices))) d) (behind (c.loop-i.tracks.items ++ x ∷ [])) in (
-      omega arith,
-      omega (arith, c.in_ok-track.ensures.reading.spends),
-      goes_on c.args.bits.now c.loop-i.bits c.read_track.new.bits (run (cue_track c.loop-i.left) c.loop-i.bits.cursor) c.in_ok-track.track more _ _ _
-          c.loop-i.invariant.2 (tracks_more c.args.count c.loop-i.i c.loop-i.left c.loop-i.bits.cursor c.loop-i.tracks.items c.loop-i-test.true) (grind arith)
-          c.in_ok-track.ensures.reading.counts (c.in_ok-track.ensures.reading.reads (λ q. absurd cc)),
+      less_left c.loop-i.left c.args.left (36 + 12 * length c.as_slice.result.now) c.loop-i.invariant.0,
+      spends_turn 0 c.args.bits.now.most c.loop-i.bits.most new.most c.loop-i.invariant.1 t.spends,
+      goes_on c.args.bits.now c.loop-i.bits new (run (cue_track c.loop-i.left) c.loop-i.bits.cursor) c.in_ok-track.track more _ _ _
+          c.loop-i.invariant.2 (tracks_more c.args.count c.loop-i.i c.loop-i.left c.loop-i.bits.cursor c.loop-i.tracks.items c.loop-i-test.true)
+          (tracks_same (c.args.count - (c.loop-i.i + 1)) c.loop-i.left (length c.as_slice.result.now) new.cursor c.loop-i.tracks.items c.push.new.self.items c.in_ok-track.track (ap length c.as_slice.ensures) c.in_ok-push.ensures.items)
+          t.counts (t.reads had_room),
     )
 
 pub returns : goal.returns
 returns g c = record {
   reading = record {
-    spends = search rules;
+    spends = spends_none c.args.bits.now.most c.loop-i.bits.most c.loop-i.invariant.1;
     counts = gone c.loop-i.invariant.2;
-    reads = grind (arith, common_steps, tracks_more, tracks_end, turn_start);
+    reads = (λ room. gone_is c.args.bits.now c.loop-i.bits c.loop-i.invariant.2
+        (tracks_last c.args.count c.loop-i.i c.loop-i.left c.loop-i.bits.cursor c.loop-i.tracks.items c.from_vec.result c.loop-i-test.false c.if-left-ne0.false c.from_vec.ensures));
   };
 }
 
@@ -54,15 +55,16 @@ returns-in_err-push g c =
       reading = record {
         spends = tt;
         counts = refused_then c.args.bits.now c.read_track.new.bits (answered_then c.args.bits.now c.loop-i.bits c.read_track.new.bits (gone c.loop-i.invariant.2) c.in_ok-track.ensures.reading.counts) refl;
-        reads = search rules;
+        reads = (λ room. absurd (room refl));
       };
     })
 
 pub returns-then-left-ne0 : goal.returns-then-left-ne0
 returns-then-left-ne0 g c = record {
   reading = record {
-    spends = search rules;
+    spends = tt;
     counts = refused_then c.args.bits.now c.loop-i.bits (gone c.loop-i.invariant.2) refl;
-    reads = grind (arith, common_steps, tracks_more, tracks_end, turn_start);
+    reads = (λ room. gone_is c.args.bits.now c.loop-i.bits c.loop-i.invariant.2
+        (tracks_left c.args.count c.loop-i.i c.loop-i.left c.loop-i.bits.cursor c.loop-i.tracks.items c.loop-i-test.false c.if-left-ne0.true));
   };
 }
