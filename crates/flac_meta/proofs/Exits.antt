@@ -1,13 +1,12 @@
 -- The exits of a reading call.
-use Rattle.std.proofs.Common.{◌≡◌, ℕ, ◌+◌, ◌-◌, ◌≤◌, Bool, true, false, not, nat_eq, List, [], ◌∷◌, length, Result, Ok, Err, refl, sym, ap, ◌∙◌, arith}
+use Rattle.std.proofs.Common.{◌≡◌, ℕ, ◌+◌, ◌-◌, ◌≤◌, false, not, nat_eq, List, length, Result, Ok, Err, refl, sym, ◌∙◌, arith}
 use Rattle.std.proofs.lemmas.Bool.Decides.{nat_tests}
-use Rattle.std.specs.Prelude.{⊤, OnOk, IfOk}
+use Rattle.std.specs.Prelude.{OnOk, IfOk}
 use Rattle.flac_bits.specs.State.{State, Cursor}
-use Rattle.flac_bits.specs.Layout.{Reason, and_then, because, unless_broken}
+use Rattle.flac_bits.specs.Layout.{Reason}
 use Rattle.flac_bits.specs.inner.Reading.{Goes}
 use Rattle.flac_bits.specs.declared.why.Why.{Why}
 use Rattle.flac_bits.specs.declared.why.Why.TheVariants.{Memory}
-use Rattle.flac_bits.proofs.Counting.{Answered}
 use Rattle.flac_bits.proofs.Telling.{Told}
 
 abbrev pub value_of : {X : Type 0} → X → Result X Why

@@ -1,9 +1,40 @@
-use Rattle.std.proofs.Common.{rules}
+use Rattle.std.proofs.Common.{rules, ◌≡◌, ℕ, Bool, true, false, not, nat_eq, ◌&&◌, List, [], ◌∷◌, Result, Ok, Err, ◌⊎◌, inl, inr, refl, sym, ◌∙◌}
 use Rattle.std.proofs.lemmas.Result.{err_from_is_err_and}
-use Rattle.flac_bits.proofs.Counting.{answered_then, failed_then}
+use Rattle.flac_bits.proofs.Counting.{answered_then, failed_then, refused_then}
 use Rattle.flac_bits.proofs.Telling.{told_then, told_fault}
-use Rattle.flac_meta.specs.Header.{block_header}
+use Rattle.flac_bits.specs.Layout.{Rule, Reason, because, unless_broken}
+use Rattle.flac_bits.specs.declared.why.Why.TheVariants.{NotStreamInfoFirst, ForbiddenType, RepeatedBlock, BlockLength}
+use Rattle.flac_meta.specs.Header.{block_header, is_repeated, is_wrong_length}
+use Rattle.flac_meta.specs.declared.block.Seen.{Seen}
+use Rattle.flac_meta.proofs.Exits.{not_same}
 use Rattle.flac_meta.proofs.block.read_block_header.Goals as goal
+
+-- ---- the rules of a header
+
+abbrev rules_of : Seen → ℕ → ℕ → List Rule
+rules_of seen kind length =
+    record { broken = not seen.stream_info && not (nat_eq kind 0); why = NotStreamInfoFirst } ∷
+    record { broken = nat_eq kind 127; why = ForbiddenType } ∷
+    record { broken = is_repeated seen kind; why = RepeatedBlock } ∷
+    record { broken = is_wrong_length kind length; why = BlockLength } ∷ []
+
+may_come : (come : Bool) (kind : ℕ) → ((come ≡ false) × (kind ≡ 0)) ⊎ (come ≡ true) → (not come && not (nat_eq kind 0)) ≡ false
+may_come come kind (inl h) = rw (h.0, h.1) refl
+may_come come kind (inr e) = rw e refl
+
+not_first : {X : Type 0} (seen : Seen) (kind length : ℕ) (read : Result X Reason) → seen.stream_info ≡ false → (kind ≡ 0 → ⊥)
+    → unless_broken (rules_of seen kind length) read ≡ Err (because NotStreamInfoFirst)
+not_first seen kind length read none other = rw (none, not_same kind 0 other) refl
+
+forbidden : {X : Type 0} (seen : Seen) (kind length : ℕ) (read : Result X Reason) → ((seen.stream_info ≡ false) × (kind ≡ 0)) ⊎ (seen.stream_info ≡ true) → kind ≡ 127
+    → unless_broken (rules_of seen kind length) read ≡ Err (because ForbiddenType)
+forbidden seen kind length read come is =
+    let test : nat_eq kind 127 ≡ true = rw is refl in
+    rw (may_come seen.stream_info kind come, test) refl
+
+repeated : {X : Type 0} (seen : Seen) (kind length : ℕ) (read : Result X Reason) → ((seen.stream_info ≡ false) × (kind ≡ 0)) ⊎ (seen.stream_info ≡ true) → (kind ≡ 127 → ⊥) → is_repeated seen kind ≡ true
+    → unless_broken (rules_of seen kind length) read ≡ Err (because RepeatedBlock)
+repeated seen kind length read come other twice = rw (may_come seen.stream_info kind come, not_same kind 127 other, twice) refl
 
 pub returns-in_err-kind-clause-reading : goal.returns-in_err-kind-clause-reading
 unfolding block_header
@@ -39,6 +70,36 @@ returns-in_err-last-clause-reading g c =
     let p = err_from_is_err_and c.from_residual.result c.from_residual.ensures.1 in
     rw (p.1, p.2) (record {
       spends = tt;
-      counts = search rules;
+      counts = c.in_err-last.ensures.reading.counts;
       reads = told_fault c.args.bits.now c.take.new.self _ c.in_err-last.ensures.reading.reads;
     })
+
+pub returns-then-kind-ne0-clause-reading : goal.returns-then-kind-ne0-clause-reading
+unfolding block_header
+returns-then-kind-ne0-clause-reading g c = record {
+  spends = tt;
+  counts = refused_then c.args.bits.now c.take-3.new.self (answered_then c.args.bits.now c.take.new.self c.take-3.new.self c.in_ok-last.ensures.reading.counts (answered_then c.take.new.self c.take-2.new.self c.take-3.new.self c.in_ok-kind.ensures.reading.counts c.in_ok-length.ensures.reading.counts)) refl;
+  reads = told_then c.args.bits.now c.take.new.self c.take-3.new.self _ c.in_ok-last.ensures.reading.counts c.in_ok-last.ensures.reading.reads (told_then c.take.new.self c.take-2.new.self c.take-3.new.self _ c.in_ok-kind.ensures.reading.counts c.in_ok-kind.ensures.reading.reads
+      (told_then c.take-2.new.self c.take-3.new.self c.take-3.new.self _ c.in_ok-length.ensures.reading.counts c.in_ok-length.ensures.reading.reads
+      (told_fault c.take-3.new.self c.take-3.new.self _ (λ known same. not_first c.args.seen.now c.in_ok-kind.field-0 c.in_ok-length.field-0 (Ok (tt, c.take-3.new.self.cursor)) c.if-not-seen.true c.if-kind-ne0.true))));
+}
+
+pub returns-then-kind-eq127-clause-reading : goal.returns-then-kind-eq127-clause-reading
+unfolding block_header
+returns-then-kind-eq127-clause-reading g c = record {
+  spends = tt;
+  counts = refused_then c.args.bits.now c.take-3.new.self (answered_then c.args.bits.now c.take.new.self c.take-3.new.self c.in_ok-last.ensures.reading.counts (answered_then c.take.new.self c.take-2.new.self c.take-3.new.self c.in_ok-kind.ensures.reading.counts c.in_ok-length.ensures.reading.counts)) refl;
+  reads = told_then c.args.bits.now c.take.new.self c.take-3.new.self _ c.in_ok-last.ensures.reading.counts c.in_ok-last.ensures.reading.reads (told_then c.take.new.self c.take-2.new.self c.take-3.new.self _ c.in_ok-kind.ensures.reading.counts c.in_ok-kind.ensures.reading.reads
+      (told_then c.take-2.new.self c.take-3.new.self c.take-3.new.self _ c.in_ok-length.ensures.reading.counts c.in_ok-length.ensures.reading.reads
+      (told_fault c.take-3.new.self c.take-3.new.self _ (λ known same. forbidden c.args.seen.now c.in_ok-kind.field-0 c.in_ok-length.field-0 (Ok (tt, c.take-3.new.self.cursor)) c.else-not-seen.either c.if-kind-eq127.true))));
+}
+
+pub returns-then-has-clause-reading : goal.returns-then-has-clause-reading
+unfolding block_header
+returns-then-has-clause-reading g c = record {
+  spends = tt;
+  counts = refused_then c.args.bits.now c.take-3.new.self (answered_then c.args.bits.now c.take.new.self c.take-3.new.self c.in_ok-last.ensures.reading.counts (answered_then c.take.new.self c.take-2.new.self c.take-3.new.self c.in_ok-kind.ensures.reading.counts c.in_ok-length.ensures.reading.counts)) refl;
+  reads = told_then c.args.bits.now c.take.new.self c.take-3.new.self _ c.in_ok-last.ensures.reading.counts c.in_ok-last.ensures.reading.reads (told_then c.take.new.self c.take-2.new.self c.take-3.new.self _ c.in_ok-kind.ensures.reading.counts c.in_ok-kind.ensures.reading.reads
+      (told_then c.take-2.new.self c.take-3.new.self c.take-3.new.self _ c.in_ok-length.ensures.reading.counts c.in_ok-length.ensures.reading.reads
+      (told_fault c.take-3.new.self c.take-3.new.self _ (λ known same. repeated c.args.seen.now c.in_ok-kind.field-0 c.in_ok-length.field-0 (Ok (tt, c.take-3.new.self.cursor)) c.else-not-seen.either c.if-kind-eq127.false (sym c.has.ensures ∙ c.if-has.true)))));
+}

@@ -1,11 +1,10 @@
-use Rattle.std.proofs.lemmas.Grind.{common_steps}
-use Rattle.std.proofs.Common.{arith}
-use Rattle.std.proofs.Common.{rules}
+use Rattle.std.proofs.Common.{◌*◌, refl}
 use Rattle.std.proofs.lemmas.Result.{err_from_is_err_and}
 use Rattle.flac_bits.proofs.Counting.{answered_then, failed_then}
 use Rattle.flac_bits.proofs.Telling.{told_then, told_fault}
 use Rattle.flac_meta.specs.CueSheet.{sheet_front}
-use Rattle.flac_meta.proofs.Short.{told_reserved}
+use Rattle.flac_meta.proofs.Exits.{spends_then}
+use Rattle.flac_meta.proofs.Short.{told_reserved, told_clear}
 use Rattle.flac_meta.proofs.cue_sheet.read_sheet_front.Goals as goal
 
 pub returns-in_err-lead_in : goal.returns-in_err-lead_in
@@ -45,12 +44,12 @@ returns-in_err-read_zeros g c =
     })
 
 pub returns : goal.returns
-unfolding Rattle.flac_meta.specs.CueSheet.sheet_front Rattle.flac_meta.specs.Fields.reserved
+unfolding sheet_front
 returns g c = record {
   reading = record {
-    spends = search rules;
+    spends = spends_then (8 * 128) 0 c.args.bits.now.most c.read_bytes.new.bits.most c.read_zeros.new.bits.most c.in_ok-read_bytes.ensures.reading.spends (spends_then 64 0 c.read_bytes.new.bits.most c.take.new.self.most c.read_zeros.new.bits.most c.in_ok-lead_in.ensures.reading.spends (spends_then 1 0 c.take.new.self.most c.take-2.new.self.most c.read_zeros.new.bits.most c.in_ok-cd.ensures.reading.spends (c.in_ok-read_zeros.ensures.reading.spends)));
     counts = answered_then c.args.bits.now c.read_bytes.new.bits c.read_zeros.new.bits c.in_ok-read_bytes.ensures.reading.counts (answered_then c.read_bytes.new.bits c.take.new.self c.read_zeros.new.bits c.in_ok-lead_in.ensures.reading.counts (answered_then c.take.new.self c.take-2.new.self c.read_zeros.new.bits c.in_ok-cd.ensures.reading.counts c.in_ok-read_zeros.ensures.reading.counts));
-    reads = grind (arith, common_steps);
+    reads = told_then c.args.bits.now c.read_bytes.new.bits c.read_zeros.new.bits _ c.in_ok-read_bytes.ensures.reading.counts c.in_ok-read_bytes.ensures.reading.reads (told_then c.read_bytes.new.bits c.take.new.self c.read_zeros.new.bits _ c.in_ok-lead_in.ensures.reading.counts c.in_ok-lead_in.ensures.reading.reads (told_then c.take.new.self c.take-2.new.self c.read_zeros.new.bits _ c.in_ok-cd.ensures.reading.counts c.in_ok-cd.ensures.reading.reads (told_then c.take-2.new.self c.read_zeros.new.bits c.read_zeros.new.bits _ c.in_ok-read_zeros.ensures.reading.counts (told_clear 2071 c.take-2.new.self c.read_zeros.new.bits _ c.if-not-branch.false c.in_ok-read_zeros.ensures.reading.reads) (λ known same. refl))));
   };
 }
 
@@ -61,7 +60,7 @@ returns-in_err-read_bytes g c =
     rw (p.1, p.2) (record {
       reading = record {
         spends = tt;
-        counts = search rules;
+        counts = c.in_err-read_bytes.ensures.reading.counts;
         reads = told_fault c.args.bits.now c.read_bytes.new.bits _ c.in_err-read_bytes.ensures.reading.reads;
       };
     })

@@ -46,7 +46,7 @@ returns-in_err-sample g c =
     rw (p.1, p.2) (record {
       reading = record {
         spends = tt;
-        counts = search rules;
+        counts = c.in_err-sample.ensures.reading.counts;
         reads = told_fault c.args.bits.now c.take.new.self _ c.in_err-sample.ensures.reading.reads;
       };
     })

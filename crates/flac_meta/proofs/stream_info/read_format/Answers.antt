@@ -49,6 +49,6 @@ returns-in_err-rate-clause-reading g c =
     let p = err_from_is_err_and c.from_residual.result c.from_residual.ensures.1 in
     rw (p.1, p.2) (record {
       spends = tt;
-      counts = search rules;
+      counts = c.in_err-rate.ensures.reading.counts;
       reads = told_fault c.args.bits.now c.take.new.self _ c.in_err-rate.ensures.reading.reads;
     })

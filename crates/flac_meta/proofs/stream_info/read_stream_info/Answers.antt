@@ -46,7 +46,7 @@ returns-in_err-sizes g c =
     rw (p.1, p.2) (record {
       reading = record {
         spends = tt;
-        counts = search rules;
+        counts = c.in_err-sizes.ensures.reading.counts;
         reads = told_fault c.args.bits.now c.read_sizes.new.bits _ c.in_err-sizes.ensures.reading.reads;
       };
     })
