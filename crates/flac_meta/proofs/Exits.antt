@@ -1,12 +1,13 @@
 -- The exits of a reading call.
-use Rattle.std.proofs.Common.{◌≡◌, ℕ, ◌+◌, ◌-◌, ◌≤◌, false, not, nat_eq, List, length, Result, Ok, Err, refl, sym, ◌∙◌, arith}
+use Rattle.std.proofs.Common.{◌≡◌, ℕ, ◌+◌, ◌-◌, ◌≤◌, true, false, not, nat_eq, List, length, Result, Ok, Err, refl, sym, ap, ◌∙◌, arith}
 use Rattle.std.proofs.lemmas.Bool.Decides.{nat_tests}
 use Rattle.std.specs.Prelude.{OnOk, IfOk}
 use Rattle.flac_bits.specs.State.{State, Cursor}
-use Rattle.flac_bits.specs.Layout.{Reason}
+use Rattle.flac_bits.specs.Layout.{Reason, and_then}
 use Rattle.flac_bits.specs.inner.Reading.{Goes}
 use Rattle.flac_bits.specs.declared.why.Why.{Why}
 use Rattle.flac_bits.specs.declared.why.Why.TheVariants.{Memory}
+use Rattle.flac_bits.proofs.Counting.{Answered}
 use Rattle.flac_bits.proofs.Telling.{Told}
 
 abbrev pub value_of : {X : Type 0} → X → Result X Why
@@ -67,3 +68,25 @@ none_over n e = rw e refl
 -- the bits that two calls take
 pub spends_end : (a b old mid new : ℕ) → mid + a ≤ old → new + b ≤ mid → new + a ≤ old
 spends_end a b old mid new h k = omega arith
+
+-- a call before a loop
+pub spends_first : (a old new : ℕ) → new + a ≤ old → new ≤ old
+spends_first a old new h = omega arith
+
+pub goes_first : {X Y : Type 0} {part : Result (X × Cursor) Reason} {x : X} {rest whole : Result (Y × Cursor) Reason} (old new : State) (more : X → Cursor → Result (Y × Cursor) Reason)
+    → Answered old new → whole ≡ and_then part more → (old.known ≡ true → new.errors ≡ old.errors → part ≡ Ok (x, new.cursor)) → more x new.cursor ≡ rest → Goes old new rest whole
+goes_first old new more a is r same = record {
+  known = a.0;
+  errors = a.1;
+  raised = a.2;
+  behind = a.3;
+  names = a.4;
+  reads = λ known. sym same ∙ sym (ap (λ p. and_then p more) (r known a.1)) ∙ sym is;
+}
+
+-- something is left
+pub some_over : (n : ℕ) → (n ≡ 0 → ⊥) → not (nat_eq n 0) ≡ true
+some_over n h = rw (not_same n 0 h) refl
+
+pub is_none : (n : ℕ) → n ≡ 0 → nat_eq n 0 ≡ true
+is_none n e = rw e refl

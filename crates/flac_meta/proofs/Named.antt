@@ -1,7 +1,7 @@
 -- The name and the value of a comment.
-use Rattle.std.proofs.Common.{◌≡◌, ℕ, suc, ◌<◌, ◌+◌, Bool, true, false, cond, nat_eq, List, [], ◌∷◌, ◌++◌, length, map, get_or, drop, refl, ap, ◌∙◌, arith}
+use Rattle.std.proofs.Common.{◌≡◌, ℕ, suc, ◌<◌, ◌+◌, ◌-◌, Bool, true, false, cond, nat_eq, List, [], ◌∷◌, ◌++◌, length, map, get_or, take, drop, refl, sym, ap, ◌≤◌, ◌∙◌, arith}
 use Rattle.std.specs.Char.{to_ascii_lowercase}
-use Rattle.std.proofs.lemmas.List.{drop_more}
+use Rattle.std.proofs.lemmas.List.{drop_more, at_drop_all, take_rest}
 use Rattle.std.proofs.lemmas.Bool.{false_from_ne_true}
 use Rattle.std.proofs.lemmas.Slice.Eq.{bytes_eq-Decides}
 use Rattle.flac_meta.specs.Parts.{HasNoEquals}
@@ -47,3 +47,30 @@ pub under_other : (name text own value : List ℕ) → text ≡ own ++ 61 ∷ va
 under_other name text own value is first other =
     let test : same_name (name_in (own ++ 61 ∷ value)) name ≡ false = ap (λ k. same_name k name) (name_of_parts own value first) ∙ false_from_ne_true _ (λ e. other ((bytes_eq-Decides (map to_ascii_lowercase own) (map to_ascii_lowercase name)).0 e)) in
     rw (is, test) refl
+
+-- ---- a loop over texts
+
+values_at : (name : List ℕ) (texts : List (List ℕ)) (i : ℕ) (text : List ℕ) → i < length texts → text ≡ get_or texts i text
+    → values_of name (drop i texts) ≡ value_under name text ++ values_of name (drop (i + 1) texts)
+unfolding values_of
+values_at name texts i text lt is = ap (values_of name) (drop_more texts i text lt) ∙ ap (λ t. value_under name t ++ values_of name (drop (i + 1) texts)) (sym is)
+
+pub values_passed : (name : List ℕ) (texts : List (List ℕ)) (i : ℕ) (text same : List ℕ) → i < length texts → text ≡ get_or texts i text → same ≡ text → value_under name same ≡ []
+    → values_of name (drop i texts) ≡ values_of name (drop (i + 1) texts)
+values_passed name texts i text same lt is e none = values_at name texts i text lt is ∙ ap (λ vs. vs ++ values_of name (drop (i + 1) texts)) (ap (value_under name) (sym e) ∙ none)
+
+pub values_found : (name : List ℕ) (texts : List (List ℕ)) (i : ℕ) (text same value : List ℕ) → i < length texts → text ≡ get_or texts i text → same ≡ text → value_under name same ≡ value ∷ []
+    → values_of name (drop i texts) ≡ value ∷ values_of name (drop (i + 1) texts)
+values_found name texts i text same value lt is e some = values_at name texts i text lt is ∙ ap (λ vs. vs ++ values_of name (drop (i + 1) texts)) (ap (value_under name) (sym e) ∙ some)
+
+pub values_over : (name : List ℕ) (texts : List (List ℕ)) (i : ℕ) → length texts ≤ i → values_of name (drop i texts) ≡ []
+unfolding values_of
+values_over name texts i le = at_drop_all (values_of name) texts i le
+
+-- the texts behind one
+pub values_behind : (name : List ℕ) (texts : List (List ℕ)) (i : ℕ) (value : List ℕ) → values_of name texts ≡ value ∷ values_of name (drop (i + 1) texts)
+    → values_of name texts ≡ value ∷ values_of name (take (length texts - (i + 1)) (drop (i + 1) texts))
+values_behind name texts i value is = is ∙ ap (λ t. value ∷ values_of name t) (sym (take_rest texts (i + 1)))
+
+pub one_less : (all rest : List (List ℕ)) (value : List ℕ) → all ≡ value ∷ rest → length rest < length all
+one_less all rest value is = rw is (omega arith)

@@ -1,9 +1,9 @@
 -- Contents that are too short, and rules between fields.
-use Rattle.std.proofs.Common.{◌≡◌, ℕ, ◌-◌, ◌*◌, ◌<◌, ◌≤◌, Bool, true, false, not, nat_lt, [], ◌∷◌, Result, Ok, Err, refl, sym, ap, ◌∙◌, arith}
+use Rattle.std.proofs.Common.{◌≡◌, ℕ, ◌-◌, ◌*◌, ◌<◌, ◌≤◌, Bool, true, false, not, nat_lt, List, [], ◌∷◌, Result, Ok, Err, refl, sym, ap, ◌∙◌, arith}
 use Rattle.std.proofs.lemmas.Bool.Decides.{nat_tests}
 use Rattle.std.specs.Prelude.{⊤}
 use Rattle.flac_bits.specs.State.{State, Cursor}
-use Rattle.flac_bits.specs.Layout.{Layout, Reason, run, bind, choose, and_then, because, unless_broken}
+use Rattle.flac_bits.specs.Layout.{Layout, Rule, Reason, run, bind, choose, and_then, because, unless_broken}
 use Rattle.flac_bits.specs.declared.why.Why.{Why}
 use Rattle.flac_bits.specs.declared.why.Why.TheVariants.{BlockLength, CueSheet}
 use Rattle.flac_bits.specs.Reading.{Counts, Answers, Gives}
@@ -56,6 +56,16 @@ told_kept_both broken why broken' why' old new d more is is' t = λ known same. 
 pub told_broken : {Y : Type 0} (broken : Bool) (why : Why) (old new : State) (d : Cursor) (more : ⊤ → Cursor → Result (Y × Cursor) Reason) → broken ≡ true
     → Told (and_then (unless_broken (record { broken = broken; why = why } ∷ []) (Ok (tt, d))) more) (Err (because why)) old new
 told_broken broken why old new d more is = λ known same. rw is refl
+
+-- and of more rules the first or the second
+pub told_first : {Y : Type 0} (broken : Bool) (why : Why) (rules : List Rule) (old new : State) (d : Cursor) (more : ⊤ → Cursor → Result (Y × Cursor) Reason) → broken ≡ true
+    → Told (and_then (unless_broken (record { broken = broken; why = why } ∷ rules) (Ok (tt, d))) more) (Err (because why)) old new
+told_first broken why rules old new d more is = λ known same. rw is refl
+
+pub told_second : {Y : Type 0} (broken : Bool) (why : Why) (broken' : Bool) (why' : Why) (old new : State) (d : Cursor) (more : ⊤ → Cursor → Result (Y × Cursor) Reason)
+    → broken ≡ false → broken' ≡ true
+    → Told (and_then (unless_broken (record { broken = broken; why = why } ∷ record { broken = broken'; why = why' } ∷ []) (Ok (tt, d))) more) (Err (because why')) old new
+told_second broken why broken' why' old new d more is is' = λ known same. rw (is, is') refl
 
 -- reserved bits
 abbrev clear_then : Bool → Cursor → Result (⊤ × Cursor) Reason

@@ -128,3 +128,6 @@ list_last n i l c front list le is = rw is (list_end n i l c front le)
 
 pub one_more : {A : Type 0} (n : ℕ) (front list : List A) (x : A) → length front ≡ n → list ≡ front ++ x ∷ [] → length list ≡ n + 1
 one_more {A = A} n front list x many is = rw is (grind (arith, length-append {A = A}, many))
+
+pub list_counted : {A : Type 0} (n i : ℕ) (front list : List A) → list ≡ front → length front ≡ i → n ≤ i → i ≤ n → length list ≡ n
+list_counted n i front list is many le ge = rw is (omega arith)

@@ -1,4 +1,4 @@
-use Rattle.std.proofs.Common.{◌≡◌, ℕ, ◌*◌, ◌≤◌, false, nat_eq, Ok, refl, ◌∙◌, arith}
+use Rattle.std.proofs.Common.{◌≡◌, ℕ, ◌+◌, ◌*◌, ◌<◌, ◌≤◌, false, nat_eq, Ok, refl, ◌∙◌, arith}
 use Rattle.std.proofs.lemmas.Result.{err_from_is_err_and}
 use Rattle.flac_bits.specs.declared.why.Why.TheVariants.{Memory}
 use Rattle.flac_bits.proofs.Telling.{told_then, told_fault}
@@ -11,6 +11,10 @@ use Rattle.flac_meta.specs.Padding.{skipped}
 use Rattle.flac_meta.proofs.Exits.{had_room, same_room, reason_is, not_same}
 use Rattle.flac_meta.proofs.Reasons.{memory_short, info_avoids, skipped_avoids}
 use Rattle.flac_meta.proofs.block.read_content.Goals as goal
+
+-- a kind that is neither STREAMINFO nor padding
+above_one : (kind n : ℕ) → kind ≡ n + 2 → 1 < kind
+above_one kind n is = omega arith
 
 pub returns-in_err-read_stream_info-in-0-clause-spare : goal.returns-in_err-read_stream_info-in-0-clause-spare
 returns-in_err-read_stream_info-in-0-clause-spare g c = λ is known same firm.
@@ -187,3 +191,40 @@ returns-in_ok-bytes-in_default-clause-reading g c =
       reads = (λ room known same. content_other c.args.kind c.args.length c.args.bits.now.cursor le
           ∙ told_then c.args.bits.now c.read_raw.new.bits c.read_raw.new.bits (λ bytes d. Ok (block_of.Other c.args.kind bytes, d)) r.counts (r.reads had_room) (λ known same. refl) known same);
     }
+
+pub returns-in-2-clause-reading : goal.returns-in-2-clause-reading
+unfolding content
+returns-in-2-clause-reading g c = rw c.in-2.is c.read_application.ensures.reading
+
+pub returns-in_err-read_seek_table-in-3-clause-spare : goal.returns-in_err-read_seek_table-in-3-clause-spare
+returns-in_err-read_seek_table-in-3-clause-spare g c = λ is known same firm. above_one c.args.kind 1 c.in-3.is
+
+pub returns-in_err-read_comments-in-4-clause-spare : goal.returns-in_err-read_comments-in-4-clause-spare
+returns-in_err-read_comments-in-4-clause-spare g c = λ is known same firm. above_one c.args.kind 2 c.in-4.is
+
+pub returns-in_err-read_cue_sheet-in-5-clause-spare : goal.returns-in_err-read_cue_sheet-in-5-clause-spare
+returns-in_err-read_cue_sheet-in-5-clause-spare g c = λ is known same firm. above_one c.args.kind 3 c.in-5.is
+
+pub returns-in_err-read_picture-in-6-clause-spare : goal.returns-in_err-read_picture-in-6-clause-spare
+returns-in_err-read_picture-in-6-clause-spare g c = λ is known same firm. above_one c.args.kind 4 c.in-6.is
+
+pub returns-in_ok-read_stream_info-in-0-clause-spare : goal.returns-in_ok-read_stream_info-in-0-clause-spare
+returns-in_ok-read_stream_info-in-0-clause-spare g c = λ is. absurd (had_room is)
+
+pub returns-in_ok-skip_bytes-in-1-clause-spare : goal.returns-in_ok-skip_bytes-in-1-clause-spare
+returns-in_ok-skip_bytes-in-1-clause-spare g c = λ is. absurd (had_room is)
+
+pub returns-in_ok-read_seek_table-in-3-clause-spare : goal.returns-in_ok-read_seek_table-in-3-clause-spare
+returns-in_ok-read_seek_table-in-3-clause-spare g c = λ is. absurd (had_room is)
+
+pub returns-in_ok-read_comments-in-4-clause-spare : goal.returns-in_ok-read_comments-in-4-clause-spare
+returns-in_ok-read_comments-in-4-clause-spare g c = λ is. absurd (had_room is)
+
+pub returns-in_ok-read_cue_sheet-in-5-clause-spare : goal.returns-in_ok-read_cue_sheet-in-5-clause-spare
+returns-in_ok-read_cue_sheet-in-5-clause-spare g c = λ is. absurd (had_room is)
+
+pub returns-in_ok-read_picture-in-6-clause-spare : goal.returns-in_ok-read_picture-in-6-clause-spare
+returns-in_ok-read_picture-in-6-clause-spare g c = λ is. absurd (had_room is)
+
+pub returns-in_ok-bytes-in_default-clause-spare : goal.returns-in_ok-bytes-in_default-clause-spare
+returns-in_ok-bytes-in_default-clause-spare g c = λ is. absurd (had_room is)

@@ -1,18 +1,21 @@
-use Rattle.std.proofs.Common.{ℕ, ◌+◌, ◌-◌, ◌*◌, ◌/◌, ◌≤◌, length, nat_lt, refl, arith}
+use Rattle.std.proofs.Common.{ℕ, ◌+◌, ◌-◌, ◌*◌, ◌/◌, ◌<◌, ◌≤◌, length, nat_lt, refl, arith}
 use Rattle.std.proofs.lemmas.Result.{err_from_is_err_and}
 use Rattle.flac_bits.specs.LittleEndian.{little_32}
 use Rattle.flac_bits.specs.declared.why.Why.TheVariants.{BlockLength}
-use Rattle.flac_bits.proofs.Counting.{answered_then, failed_then}
+use Rattle.flac_bits.proofs.Counting.{answered_then, failed_then, refused_then}
 use Rattle.flac_bits.proofs.Telling.{told_then, told_fault}
 use Rattle.flac_meta.specs.Comments.{comments}
 use Rattle.flac_meta.proofs.Exits.{had_room, same_room, spends_then}
-use Rattle.flac_meta.proofs.Short.{part_short, told_part, told_kept}
+use Rattle.flac_meta.proofs.Short.{is_less, part_short, told_part, told_kept, told_broken}
 use Rattle.flac_meta.proofs.Tied.{less_not}
 use Rattle.flac_meta.proofs.comments.read_comments.Goals as goal
 
 -- texts for whose lengths there is room
 many_fit : (count left : ℕ) → count ≤ left / 4 → 4 * count ≤ left
 many_fit count left le = omega arith
+
+many_over : (count left : ℕ) → left / 4 < count → left < 4 * count
+many_over count left lt = omega arith
 
 pub returns-in_err-vendor : goal.returns-in_err-vendor
 unfolding comments
@@ -98,5 +101,24 @@ returns g c =
             (told_kept (nat_lt (rest - 4) (4 * c.in_ok-count.count)) BlockLength behind new behind.cursor _
                 (less_not (rest - 4) (4 * c.in_ok-count.count) (many_fit c.in_ok-count.count (rest - 4) (rw c.len.ensures at c.if-count-rest.false)))
             (told_then behind new new _ c.in_ok-list.ensures.reading.counts ((rw c.len.ensures at c.in_ok-list.ensures.reading.reads) had_room) (λ known same. refl)))));
+      };
+    }
+
+pub returns-then-count-rest : goal.returns-then-count-rest
+unfolding comments
+returns-then-count-rest g c =
+    let v = c.in_ok-vendor.ensures.reading in
+    let n = c.in_ok-count.ensures.reading in
+    let mid = c.read_sized_little.new.bits in
+    let new = c.read_little_32.new.bits in
+    let rest : ℕ = c.args.left - (4 + length c.in_ok-vendor.vendor) in
+    record {
+      reading = record {
+        spends = tt;
+        counts = refused_then c.args.bits.now new (answered_then c.args.bits.now mid new v.counts n.counts) refl;
+        reads = (λ room. told_then c.args.bits.now mid new _ v.counts (v.reads had_room)
+            (told_then mid new new _ n.counts (told_part 4 rest little_32 mid new (rw c.len.ensures at c.if-rest-lt4.false) n.reads)
+            (told_broken (nat_lt (rest - 4) (4 * c.in_ok-count.count)) BlockLength new new new.cursor _
+                (is_less (rest - 4) (4 * c.in_ok-count.count) (many_over c.in_ok-count.count (rest - 4) (rw c.len.ensures at c.if-count-rest.true))))));
       };
     }

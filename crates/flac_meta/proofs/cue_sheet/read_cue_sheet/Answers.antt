@@ -1,11 +1,11 @@
-use Rattle.std.proofs.Common.{◌-◌, ◌*◌, nat_eq, nat_lt, refl}
+use Rattle.std.proofs.Common.{◌-◌, ◌*◌, nat_eq, nat_lt, [], ◌∷◌, refl}
 use Rattle.std.proofs.lemmas.Result.{err_from_is_err_and}
 use Rattle.flac_bits.specs.declared.why.Why.TheVariants.{BlockLength, CueSheet}
-use Rattle.flac_bits.proofs.Counting.{answered_then, failed_then}
+use Rattle.flac_bits.proofs.Counting.{answered_then, failed_then, refused_then}
 use Rattle.flac_bits.proofs.Telling.{told_then, told_fault}
 use Rattle.flac_meta.specs.CueSheet.{cue_sheet}
-use Rattle.flac_meta.proofs.Exits.{had_room, same_room, spends_then, not_same}
-use Rattle.flac_meta.proofs.Short.{part_short, told_part, told_kept_both}
+use Rattle.flac_meta.proofs.Exits.{had_room, same_room, spends_then, not_same, is_none}
+use Rattle.flac_meta.proofs.Short.{is_less, part_short, told_part, told_kept_both, told_first, told_second}
 use Rattle.flac_meta.proofs.Tied.{less_not}
 use Rattle.flac_meta.proofs.cue_sheet.read_cue_sheet.Goals as goal
 
@@ -86,3 +86,39 @@ returns-in_err-catalogue g c =
         reads = (λ room. told_part 395 c.args.left _ c.args.bits.now c.read_sheet_front.new.bits c.if-left-lt395.false (told_fault c.args.bits.now c.read_sheet_front.new.bits _ c.in_err-catalogue.ensures.reading.reads));
       };
     })
+
+pub returns-then-count-eq0 : goal.returns-then-count-eq0
+unfolding cue_sheet
+returns-then-count-eq0 g c =
+    let old = c.args.bits.now in
+    let mid = c.read_sheet_front.new.bits in
+    let new = c.read_count.new.bits in
+    let f = c.in_ok-catalogue.ensures.reading in
+    let n = c.in_ok-count.ensures.reading in
+    let count = c.in_ok-count.count in
+    record {
+      reading = record {
+        spends = tt;
+        counts = refused_then old new (answered_then old mid new f.counts n.counts) refl;
+        reads = (λ room. told_part 395 c.args.left _ old new c.if-left-lt395.false (told_then old mid new _ f.counts f.reads (told_then mid new new _ n.counts n.reads
+            (told_first (nat_eq count 0) CueSheet (record { broken = nat_lt (c.args.left - 396) (36 * count); why = BlockLength } ∷ []) new new new.cursor _ (is_none count c.if-count-eq0.true)))));
+      };
+    }
+
+pub returns-then-left-count : goal.returns-then-left-count
+unfolding cue_sheet
+returns-then-left-count g c =
+    let old = c.args.bits.now in
+    let mid = c.read_sheet_front.new.bits in
+    let new = c.read_count.new.bits in
+    let f = c.in_ok-catalogue.ensures.reading in
+    let n = c.in_ok-count.ensures.reading in
+    let count = c.in_ok-count.count in
+    record {
+      reading = record {
+        spends = tt;
+        counts = refused_then old new (answered_then old mid new f.counts n.counts) refl;
+        reads = (λ room. told_part 395 c.args.left _ old new c.if-left-lt395.false (told_then old mid new _ f.counts f.reads (told_then mid new new _ n.counts n.reads
+            (told_second (nat_eq count 0) CueSheet (nat_lt (c.args.left - 396) (36 * count)) BlockLength new new new.cursor _ (not_same count 0 c.if-count-eq0.false) (is_less (c.args.left - 396) (36 * count) c.if-left-count.true)))));
+      };
+    }

@@ -1,10 +1,10 @@
 use Rattle.std.proofs.Common.{◌*◌, refl}
 use Rattle.std.proofs.lemmas.Result.{err_from_is_err_and}
-use Rattle.flac_bits.proofs.Counting.{answered_then, failed_then}
+use Rattle.flac_bits.proofs.Counting.{answered_then, failed_then, refused_then}
 use Rattle.flac_bits.proofs.Telling.{told_then, told_fault}
 use Rattle.flac_meta.specs.CueSheet.{cue_index}
 use Rattle.flac_meta.proofs.Exits.{spends_then}
-use Rattle.flac_meta.proofs.Short.{told_reserved, told_clear}
+use Rattle.flac_meta.proofs.Short.{told_reserved, told_clear, told_unclear}
 use Rattle.flac_meta.proofs.cue_sheet.read_index.Goals as goal
 
 pub returns-in_err-number : goal.returns-in_err-number
@@ -52,3 +52,13 @@ returns-in_err-offset g c =
         reads = told_fault c.args.bits.now c.take.new.self _ c.in_err-offset.ensures.reading.reads;
       };
     })
+
+pub returns-then-not-branch : goal.returns-then-not-branch
+unfolding cue_index
+returns-then-not-branch g c = record {
+  reading = record {
+    spends = tt;
+    counts = refused_then c.args.bits.now c.read_zeros.new.bits (answered_then c.args.bits.now c.take.new.self c.read_zeros.new.bits c.in_ok-offset.ensures.reading.counts (answered_then c.take.new.self c.take-2.new.self c.read_zeros.new.bits c.in_ok-number.ensures.reading.counts c.in_ok-read_zeros.ensures.reading.counts)) refl;
+    reads = told_then c.args.bits.now c.take.new.self c.read_zeros.new.bits _ c.in_ok-offset.ensures.reading.counts c.in_ok-offset.ensures.reading.reads (told_then c.take.new.self c.take-2.new.self c.read_zeros.new.bits _ c.in_ok-number.ensures.reading.counts c.in_ok-number.ensures.reading.reads (told_fault c.take-2.new.self c.read_zeros.new.bits _ (told_unclear 24 c.take-2.new.self c.read_zeros.new.bits _ c.if-not-branch.true c.in_ok-read_zeros.ensures.reading.reads)));
+  };
+}

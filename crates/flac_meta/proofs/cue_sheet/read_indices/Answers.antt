@@ -10,7 +10,7 @@ use Rattle.flac_bits.proofs.Telling.{gone_fault}
 use Rattle.flac_meta.specs.CueSheet.{cue_index}
 use Rattle.flac_meta.specs.declared.cue_sheet.CueIndex.{CueIndex}
 use Rattle.flac_meta.proofs.Exits.{spends_turn, spends_none, gone_is}
-use Rattle.flac_meta.proofs.Turns.{list_same, list_last, one_more}
+use Rattle.flac_meta.proofs.Turns.{list_same, list_last, list_counted, one_more}
 use Rattle.flac_meta.proofs.cue_sheet.read_indices.Goals as goal
 
 pub returns-in_err-index-clause-reading : goal.returns-in_err-index-clause-reading
@@ -54,3 +54,6 @@ returns-in_err-push-clause-reading g c =
       counts = refused_then c.args.bits.now c.read_index.new.bits (answered_then c.args.bits.now c.loop-i.bits c.read_index.new.bits (gone c.loop-i.invariant.2) c.in_ok-index.ensures.reading.counts) refl;
       reads = (λ room. absurd (room refl));
     })
+
+pub returns-clause-count : goal.returns-clause-count
+returns-clause-count g c = list_counted c.args.count c.loop-i.i c.loop-i.items.items c.from_vec.result c.from_vec.ensures c.loop-i.invariant.0 c.loop-i-test.false c.loop-i.auto.i-end

@@ -1,10 +1,10 @@
 use Rattle.std.proofs.Common.{◌*◌, refl}
 use Rattle.std.proofs.lemmas.Result.{err_from_is_err_and}
-use Rattle.flac_bits.proofs.Counting.{answered_then, failed_then}
+use Rattle.flac_bits.proofs.Counting.{answered_then, failed_then, refused_then}
 use Rattle.flac_bits.proofs.Telling.{told_then, told_fault}
 use Rattle.flac_meta.specs.CueSheet.{sheet_front}
 use Rattle.flac_meta.proofs.Exits.{spends_then}
-use Rattle.flac_meta.proofs.Short.{told_reserved, told_clear}
+use Rattle.flac_meta.proofs.Short.{told_reserved, told_clear, told_unclear}
 use Rattle.flac_meta.proofs.cue_sheet.read_sheet_front.Goals as goal
 
 pub returns-in_err-lead_in : goal.returns-in_err-lead_in
@@ -64,3 +64,13 @@ returns-in_err-read_bytes g c =
         reads = told_fault c.args.bits.now c.read_bytes.new.bits _ c.in_err-read_bytes.ensures.reading.reads;
       };
     })
+
+pub returns-then-not-branch : goal.returns-then-not-branch
+unfolding sheet_front
+returns-then-not-branch g c = record {
+  reading = record {
+    spends = tt;
+    counts = refused_then c.args.bits.now c.read_zeros.new.bits (answered_then c.args.bits.now c.read_bytes.new.bits c.read_zeros.new.bits c.in_ok-read_bytes.ensures.reading.counts (answered_then c.read_bytes.new.bits c.take.new.self c.read_zeros.new.bits c.in_ok-lead_in.ensures.reading.counts (answered_then c.take.new.self c.take-2.new.self c.read_zeros.new.bits c.in_ok-cd.ensures.reading.counts c.in_ok-read_zeros.ensures.reading.counts))) refl;
+    reads = told_then c.args.bits.now c.read_bytes.new.bits c.read_zeros.new.bits _ c.in_ok-read_bytes.ensures.reading.counts c.in_ok-read_bytes.ensures.reading.reads (told_then c.read_bytes.new.bits c.take.new.self c.read_zeros.new.bits _ c.in_ok-lead_in.ensures.reading.counts c.in_ok-lead_in.ensures.reading.reads (told_then c.take.new.self c.take-2.new.self c.read_zeros.new.bits _ c.in_ok-cd.ensures.reading.counts c.in_ok-cd.ensures.reading.reads (told_fault c.take-2.new.self c.read_zeros.new.bits _ (told_unclear 2071 c.take-2.new.self c.read_zeros.new.bits _ c.if-not-branch.true c.in_ok-read_zeros.ensures.reading.reads))));
+  };
+}

@@ -1,10 +1,10 @@
 use Rattle.std.proofs.Common.{refl, ◌-◌, ◌*◌, nat_lt}
 use Rattle.std.proofs.lemmas.Result.{err_from_is_err_and}
-use Rattle.flac_bits.proofs.Counting.{answered_then, failed_then}
+use Rattle.flac_bits.proofs.Counting.{answered_then, failed_then, refused_then}
 use Rattle.flac_bits.proofs.Telling.{told_then, told_fault}
 use Rattle.flac_meta.specs.CueSheet.{cue_track}
 use Rattle.flac_meta.proofs.Exits.{had_room, same_room, spends_then}
-use Rattle.flac_meta.proofs.Short.{part_short, told_part, told_kept}
+use Rattle.flac_meta.proofs.Short.{is_less, part_short, told_part, told_kept, told_broken}
 use Rattle.flac_bits.specs.declared.why.Why.TheVariants.{BlockLength}
 use Rattle.flac_meta.proofs.Tied.{less_not}
 use Rattle.flac_meta.proofs.cue_sheet.read_track.Goals as goal
@@ -55,3 +55,19 @@ returns-in_err-offset-clause-reading g c =
       counts = c.in_err-offset.ensures.reading.counts;
       reads = (λ room. told_part 35 c.args.left _ c.args.bits.now c.read_track_front.new.bits c.if-left-lt35.false (told_fault c.args.bits.now c.read_track_front.new.bits _ c.in_err-offset.ensures.reading.reads));
     })
+
+pub returns-then-left-count-clause-reading : goal.returns-then-left-count-clause-reading
+unfolding cue_track
+returns-then-left-count-clause-reading g c =
+    let old = c.args.bits.now in
+    let mid = c.read_track_front.new.bits in
+    let new = c.read_count.new.bits in
+    let f = c.in_ok-offset.ensures.reading in
+    let n = c.in_ok-count.ensures.reading in
+    let count = c.in_ok-count.count in
+    record {
+      spends = tt;
+      counts = refused_then old new (answered_then old mid new f.counts n.counts) refl;
+      reads = (λ room. told_part 35 c.args.left _ old new c.if-left-lt35.false (told_then old mid new _ f.counts f.reads (told_then mid new new _ n.counts n.reads
+          (told_broken (nat_lt (c.args.left - 36) (12 * count)) BlockLength new new new.cursor _ (is_less (c.args.left - 36) (12 * count) c.if-left-count.true)))));
+    }

@@ -1,13 +1,13 @@
-use Rattle.std.proofs.lemmas.Grind.{common_steps}
 use Rattle.flac_meta.proofs.Zeros.{zeros_end}
 use Rattle.flac_meta.proofs.Zeros.{zeros_first}
-use Rattle.std.proofs.Common.{rules, ◌+◌, ◌-◌, ◌*◌, ◌/◌, ◌&&◌, nat_eq, ℕ, arith}
+use Rattle.std.proofs.Common.{◌+◌, ◌-◌, ◌*◌, ◌/◌, ◌%◌, ◌&&◌, nat_eq, ℕ, refl, ◌∙◌, arith}
 use Rattle.flac_bits.specs.State.{Cursor}
 use Rattle.flac_bits.specs.Layout.{number_at}
 use Rattle.flac_bits.proofs.Loops.{goes_on}
 use Rattle.std.proofs.lemmas.Result.{err_from_is_err_and}
 use Rattle.flac_bits.proofs.Counting.{gone, failed_then}
-use Rattle.flac_bits.proofs.Telling.{gone_fault}
+use Rattle.flac_bits.proofs.Telling.{gone_fault, told_fault}
+use Rattle.flac_meta.proofs.Exits.{spends_first, spends_none, goes_first, gone_is}
 use Rattle.flac_meta.proofs.Zeros.{zeros_then, zeros_more}
 use Rattle.flac_meta.proofs.fields.read_zeros.Goals as goal
 
@@ -35,8 +35,29 @@ returns-in_err-word g c =
 pub returns : goal.returns
 returns g c = record {
   reading = record {
-    spends = search rules;
+    spends = spends_none c.args.bits.now.most c.loop-i.bits.most c.loop-i.invariant.0;
     counts = gone c.loop-i.invariant.1;
-    reads = grind (arith, common_steps, zeros_first, zeros_more, zeros_end);
+    reads = gone_is c.args.bits.now c.loop-i.bits c.loop-i.invariant.1 (zeros_end (c.args.count / 64) c.loop-i.i c.loop-i.clear c.loop-i.bits.cursor c.loop-i-test.false);
   };
 }
+
+pub loop-i-init : goal.loop-i-init
+loop-i-init g c =
+    let t = c.in_ok-clear.ensures.reading in
+    let more : ℕ → Cursor → _ = λ w d. zeros_then (64 * (c.args.count / 64 - 0)) (nat_eq w 0) d in (
+      spends_first (c.args.count % 64) c.args.bits.now.most c.take.new.self.most t.spends,
+      goes_first c.args.bits.now c.take.new.self more t.counts (zeros_first c.args.count c.args.bits.now.cursor) t.reads refl,
+    )
+
+pub returns-in_err-clear : goal.returns-in_err-clear
+returns-in_err-clear g c =
+    let p = err_from_is_err_and c.from_residual.result c.from_residual.ensures.1 in
+    let e = c.in_err-clear.ensures.reading in
+    let more : ℕ → Cursor → _ = λ w d. zeros_then (64 * (c.args.count / 64 - 0)) (nat_eq w 0) d in
+    rw (p.1, p.2) (record {
+      reading = record {
+        spends = tt;
+        counts = e.counts;
+        reads = (λ known same. zeros_first c.args.count c.args.bits.now.cursor ∙ told_fault c.args.bits.now c.take.new.self more e.reads known same);
+      };
+    })

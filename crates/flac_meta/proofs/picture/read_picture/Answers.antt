@@ -1,11 +1,11 @@
 use Rattle.std.proofs.Common.{ℕ, ◌+◌, ◌-◌, not, nat_eq, length, refl}
 use Rattle.std.proofs.lemmas.Result.{err_from_is_err_and}
-use Rattle.flac_bits.proofs.Counting.{answered_then, failed_then}
+use Rattle.flac_bits.proofs.Counting.{answered_then, failed_then, refused_then}
 use Rattle.flac_bits.specs.declared.why.Why.TheVariants.{BlockLength}
 use Rattle.flac_bits.proofs.Telling.{told_then, told_fault}
 use Rattle.flac_meta.specs.Picture.{picture}
-use Rattle.flac_meta.proofs.Exits.{had_room, same_room, spends_then, none_over}
-use Rattle.flac_meta.proofs.Short.{told_kept}
+use Rattle.flac_meta.proofs.Exits.{had_room, same_room, spends_then, none_over, some_over}
+use Rattle.flac_meta.proofs.Short.{told_kept, told_broken}
 use Rattle.flac_meta.proofs.picture.read_picture.Goals as goal
 
 pub returns-in_err-sizes : goal.returns-in_err-sizes
@@ -78,3 +78,25 @@ returns-in_err-kind g c =
         reads = (λ room. told_fault c.args.bits.now c.read_picture_front.new.bits _ (c.in_err-kind.ensures.reading.reads (same_room room)));
       };
     })
+
+pub returns-then-rest-len-ne0 : goal.returns-then-rest-len-ne0
+unfolding picture
+returns-then-rest-len-ne0 g c =
+    let old = c.args.bits.now in
+    let mid = c.read_picture_front.new.bits in
+    let behind = c.read_sizes.new.bits in
+    let new = c.read_sized.new.bits in
+    let f = c.in_ok-kind.ensures.reading in
+    let n = c.in_ok-sizes.ensures.reading in
+    let b = c.in_ok-bytes.ensures.reading in
+    let rest : ℕ = c.args.left - (12 + length c.in_ok-kind.media + length c.in_ok-kind.text) in
+    record {
+      reading = record {
+        spends = tt;
+        counts = refused_then old new (answered_then old mid new f.counts (answered_then mid behind new n.counts b.counts)) refl;
+        reads = (λ room. told_then old mid new _ f.counts (f.reads had_room) (told_then mid behind new _ n.counts (rw (c.len.ensures, c.len-2.ensures) at n.reads)
+            (told_then behind new new _ b.counts ((rw (c.len.ensures, c.len-2.ensures) at b.reads) had_room)
+            (told_broken (not (nat_eq (rest - (20 + length c.in_ok-bytes.bytes)) 0)) BlockLength new new new.cursor _
+                (some_over (rest - (20 + length c.in_ok-bytes.bytes)) (rw (c.len.ensures, c.len-2.ensures, c.len-3.ensures) at c.if-rest-len-ne0.true))))));
+      };
+    }
