@@ -7,8 +7,11 @@ loop-i-preserved c = c.loop-i.invariant
     ∙ values_passed c.args.name.now c.args.texts.now c.loop-i.i c.index-texts-i.result c.as_slice.result.now c.loop-i-test.true c.index-texts-i.is c.as_slice.ensures c.in-None.ensures
 
 pub returns-in-Some : goal.returns-in-Some
-returns-in-Some c = (c.loop-i-test.true, c.loop-i.invariant
-    ∙ values_found c.args.name.now c.args.texts.now c.loop-i.i c.index-texts-i.result c.as_slice.result.now c.in-Some.value.now c.loop-i-test.true c.index-texts-i.is c.as_slice.ensures c.in-Some.ensures)
+returns-in-Some c = (
+  c.loop-i-test.true,
+  c.loop-i.invariant
+      ∙ values_found c.args.name.now c.args.texts.now c.loop-i.i c.index-texts-i.result c.as_slice.result.now c.in-Some.value.now c.loop-i-test.true c.index-texts-i.is c.as_slice.ensures c.in-Some.ensures,
+)
 
 pub returns : goal.returns
 returns c = c.loop-i.invariant ∙ values_over c.args.name.now c.args.texts.now c.loop-i.i c.loop-i-test.false

@@ -40,7 +40,7 @@ returns-then-rest-lt4 g c =
         counts = failed_then c.args.bits.now mid c.too_short.new.bits v.counts c.too_short.ensures.counts;
         reads = (λ room. told_then c.args.bits.now mid c.too_short.new.bits _ v.counts (v.reads had_room)
             (told_fault mid c.too_short.new.bits _ (part_short 4 (c.args.left - (4 + length c.in_ok-vendor.vendor)) little_32 mid c.too_short.new.bits
-                (rw c.len.ensures at c.if-rest-lt4.true) (rw c.len.ensures at c.too_short.ensures.reads))));
+            (rw c.len.ensures at c.if-rest-lt4.true) (rw c.len.ensures at c.too_short.ensures.reads))));
       };
     }
 
@@ -57,7 +57,7 @@ returns-in_err-count g c =
         counts = failed_then c.args.bits.now mid new v.counts c.in_err-count.ensures.reading.counts;
         reads = (λ room. told_then c.args.bits.now mid new _ v.counts (v.reads had_room)
             (told_fault mid new _ (told_part 4 (c.args.left - (4 + length c.in_ok-vendor.vendor)) little_32 mid new
-                (rw c.len.ensures at c.if-rest-lt4.false) c.in_err-count.ensures.reading.reads)));
+            (rw c.len.ensures at c.if-rest-lt4.false) c.in_err-count.ensures.reading.reads)));
       };
     })
 
@@ -78,7 +78,7 @@ returns-in_err-list g c =
         reads = (λ room. told_then c.args.bits.now mid new _ v.counts (v.reads had_room)
             (told_then mid behind new _ n.counts (told_part 4 rest little_32 mid behind (rw c.len.ensures at c.if-rest-lt4.false) n.reads)
             (told_kept (nat_lt (rest - 4) (4 * c.in_ok-count.count)) BlockLength behind new behind.cursor _
-                (less_not (rest - 4) (4 * c.in_ok-count.count) (many_fit c.in_ok-count.count (rest - 4) (rw c.len.ensures at c.if-count-rest.false)))
+            (less_not (rest - 4) (4 * c.in_ok-count.count) (many_fit c.in_ok-count.count (rest - 4) (rw c.len.ensures at c.if-count-rest.false)))
             (told_fault behind new _ ((rw c.len.ensures at c.in_err-list.ensures.reading.reads) (same_room room))))));
       };
     })
@@ -99,7 +99,7 @@ returns g c =
         reads = (λ room. told_then c.args.bits.now mid new _ v.counts (v.reads had_room)
             (told_then mid behind new _ n.counts (told_part 4 rest little_32 mid behind (rw c.len.ensures at c.if-rest-lt4.false) n.reads)
             (told_kept (nat_lt (rest - 4) (4 * c.in_ok-count.count)) BlockLength behind new behind.cursor _
-                (less_not (rest - 4) (4 * c.in_ok-count.count) (many_fit c.in_ok-count.count (rest - 4) (rw c.len.ensures at c.if-count-rest.false)))
+            (less_not (rest - 4) (4 * c.in_ok-count.count) (many_fit c.in_ok-count.count (rest - 4) (rw c.len.ensures at c.if-count-rest.false)))
             (told_then behind new new _ c.in_ok-list.ensures.reading.counts ((rw c.len.ensures at c.in_ok-list.ensures.reading.reads) had_room) (λ known same. refl)))));
       };
     }
@@ -119,6 +119,6 @@ returns-then-count-rest g c =
         reads = (λ room. told_then c.args.bits.now mid new _ v.counts (v.reads had_room)
             (told_then mid new new _ n.counts (told_part 4 rest little_32 mid new (rw c.len.ensures at c.if-rest-lt4.false) n.reads)
             (told_broken (nat_lt (rest - 4) (4 * c.in_ok-count.count)) BlockLength new new new.cursor _
-                (is_less (rest - 4) (4 * c.in_ok-count.count) (many_over c.in_ok-count.count (rest - 4) (rw c.len.ensures at c.if-count-rest.true))))));
+            (is_less (rest - 4) (4 * c.in_ok-count.count) (many_over c.in_ok-count.count (rest - 4) (rw c.len.ensures at c.if-count-rest.true))))));
       };
     }

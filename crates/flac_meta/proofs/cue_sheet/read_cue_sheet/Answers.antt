@@ -38,7 +38,7 @@ returns-in_err-tracks g c =
         counts = failed_then old mid new f.counts (failed_then mid behind new n.counts c.in_err-tracks.ensures.reading.counts);
         reads = (λ room. told_part 395 c.args.left _ old new c.if-left-lt395.false (told_then old mid new _ f.counts f.reads (told_then mid behind new _ n.counts n.reads
             (told_kept_both (nat_eq count 0) CueSheet (nat_lt (c.args.left - 396) (36 * count)) BlockLength behind new behind.cursor _
-                (not_same count 0 c.if-count-eq0.false) (less_not (c.args.left - 396) (36 * count) c.if-left-count.false)
+            (not_same count 0 c.if-count-eq0.false) (less_not (c.args.left - 396) (36 * count) c.if-left-count.false)
             (told_fault behind new _ (c.in_err-tracks.ensures.reading.reads (same_room room)))))));
       };
     })
@@ -60,7 +60,7 @@ returns g c =
         counts = answered_then old mid new f.counts (answered_then mid behind new n.counts t.counts);
         reads = (λ room. told_part 395 c.args.left _ old new c.if-left-lt395.false (told_then old mid new _ f.counts f.reads (told_then mid behind new _ n.counts n.reads
             (told_kept_both (nat_eq count 0) CueSheet (nat_lt (c.args.left - 396) (36 * count)) BlockLength behind new behind.cursor _
-                (not_same count 0 c.if-count-eq0.false) (less_not (c.args.left - 396) (36 * count) c.if-left-count.false)
+            (not_same count 0 c.if-count-eq0.false) (less_not (c.args.left - 396) (36 * count) c.if-left-count.false)
             (told_then behind new new _ t.counts (t.reads had_room) (λ known same. refl))))));
       };
     }

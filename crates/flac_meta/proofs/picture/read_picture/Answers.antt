@@ -63,7 +63,7 @@ returns g c =
         reads = (λ room. told_then old mid new _ f.counts (f.reads had_room) (told_then mid behind new _ n.counts (rw (c.len.ensures, c.len-2.ensures) at n.reads)
             (told_then behind new new _ b.counts ((rw (c.len.ensures, c.len-2.ensures) at b.reads) had_room)
             (told_kept (not (nat_eq (rest - (20 + length c.in_ok-bytes.bytes)) 0)) BlockLength new new new.cursor _
-                (none_over (rest - (20 + length c.in_ok-bytes.bytes)) (rw (c.len.ensures, c.len-2.ensures, c.len-3.ensures) at c.if-rest-len-ne0.false)) (λ known same. refl)))));
+            (none_over (rest - (20 + length c.in_ok-bytes.bytes)) (rw (c.len.ensures, c.len-2.ensures, c.len-3.ensures) at c.if-rest-len-ne0.false)) (λ known same. refl)))));
       };
     }
 
@@ -97,6 +97,6 @@ returns-then-rest-len-ne0 g c =
         reads = (λ room. told_then old mid new _ f.counts (f.reads had_room) (told_then mid behind new _ n.counts (rw (c.len.ensures, c.len-2.ensures) at n.reads)
             (told_then behind new new _ b.counts ((rw (c.len.ensures, c.len-2.ensures) at b.reads) had_room)
             (told_broken (not (nat_eq (rest - (20 + length c.in_ok-bytes.bytes)) 0)) BlockLength new new new.cursor _
-                (some_over (rest - (20 + length c.in_ok-bytes.bytes)) (rw (c.len.ensures, c.len-2.ensures, c.len-3.ensures) at c.if-rest-len-ne0.true))))));
+            (some_over (rest - (20 + length c.in_ok-bytes.bytes)) (rw (c.len.ensures, c.len-2.ensures, c.len-3.ensures) at c.if-rest-len-ne0.true))))));
       };
     }
