@@ -28,6 +28,7 @@ pub mod Renewing
 pub mod Blocks
 pub mod Copies
 pub mod Retagged
+pub mod RetagFaults
 pub mod OneHead
 pub mod Decided
 pub mod NewHead

@@ -1,16 +1,16 @@
-use Rattle.std.proofs.Common.{◌≡◌, ◌≤◌, ◌++◌, List, Some, Bool, Result, Ok, Err, ◌∙◌, inl, inr, sym, ap, subst}
-use Rattle.std.specs.Prelude.{◌⊎◌, OnOk, OnErr, IfErr}
+use Rattle.std.proofs.Common.{◌≡◌, ◌≤◌, ◌++◌, List, Some, Bool, true, Result, Ok, Err, ◌∙◌, inl, inr, refl, sym, ap, subst, arith}
+use Rattle.std.proofs.lemmas.Result.{IfErr-weaker}
+use Rattle.std.specs.Prelude.{OnOk, OnErr, IfErr}
 use Rattle.flac_bits.specs.State.{Cursor}
 use Rattle.flac_bits.specs.Fencing.{lifted}
-use Rattle.flac_bits.specs.declared.why.Why.TheVariants as why
 use Rattle.flac_meta.specs.Spelling.{comments_length}
 use Rattle.flac_meta.specs.declared.block.Block.{Block}
 use Rattle.flac_meta.specs.declared.comments.Comments.{Comments}
 use Rattle.flac_native.specs.declared.fault.Place.TheVariants as place
 use Rattle.flac_native.specs.declared.retagging.RetagFault.{RetagFault}
-use Rattle.flac_native.specs.Retag.{not_read, not_written}
 use Rattle.flac_native.specs.inner.Retag.{AreKept, MayBeHead, new_head}
 use Rattle.flac_native.proofs.NewHead.{kept_may_be_head}
+use Rattle.flac_native.proofs.RetagFaults.{placed, placed_some, before_device, unread_device, write_no_read, has_head, no_fewer, no_rise, both_err, copy_calm, copy_behind, copy_placeless}
 use Rattle.flac_native.proofs.Retagged.{all_retagged, some_retagged, head_begun}
 use Rattle.flac_native.proofs.retagging.retag_from.Goals as goal
 
@@ -23,56 +23,106 @@ when_err : {X E : Type 0} {A : Type 0} {B : E → Type 0} (r : Result X E) → (
 when_err (Ok x) f a = tt
 when_err (Err e) f a = f e a
 
-pub returns-in-Ok-send_all-clause-written : goal.returns-in-Ok-send_all-clause-written
-returns-in-Ok-send_all-clause-written g c = when_ok c.copy_rest.result (λ copied known told.
-    let sends = c.in-Ok-send_all.ensures.sends in
-    let are = c.in-Ok.ensures.kept known in
-    let is = c.in-Ok-renewed.ensures.head ∙ ap (new_head c.args.comments.now) c.as_slice.ensures.value in
-    let sent = sends.sent told ∙ ap (λ k. g.W.Target.sent c.args.target.now ++ k) c.as_slice-2.ensures.value in
-    all_retagged (lifted c.args.reader.now).cursor c.in-Ok.kept.items c.read_kept.new.reader.cursor.left c.args.comments.now c.in-Ok-renewed.head.items are is _ (g.W.Target.sent c.send_all.new.target) _ sent (copied (c.in-Ok.ensures.counts.0 known) (sends.known told))) c.copy_rest.ensures.copied
-
-pub returns-in-Ok-send_all-clause-begun : goal.returns-in-Ok-send_all-clause-begun
-returns-in-Ok-send_all-clause-begun g c = when_err c.copy_rest.result (λ f begun either known told.
-    let sends = c.in-Ok-send_all.ensures.sends in
-    let are = c.in-Ok.ensures.kept known in
-    let is = c.in-Ok-renewed.ensures.head ∙ ap (new_head c.args.comments.now) c.as_slice.ensures.value in
-    let sent = sends.sent told ∙ ap (λ k. g.W.Target.sent c.args.target.now ++ k) c.as_slice-2.ensures.value in
-    let some = begun (c.in-Ok.ensures.counts.0 known) (sends.known told) in
-    some_retagged (lifted c.args.reader.now).cursor c.in-Ok.kept.items c.read_kept.new.reader.cursor.left c.args.comments.now c.in-Ok-renewed.head.items are is _ (g.W.Target.sent c.send_all.new.target) _ some.0 some.1 sent some.2 some.3) c.copy_rest.ensures.begun
-
-pub returns-clause-begun : goal.returns-clause-begun
-returns-clause-begun g c = λ either known told.
-    let are = c.in-Ok.ensures.kept known in
-    let is = c.in-Ok-renewed.ensures.head ∙ ap (new_head c.args.comments.now) c.as_slice.ensures.value in
-    let begun = c.in-Err-send_all.ensures.sends.begun told in
-    head_begun (lifted c.args.reader.now).cursor c.in-Ok.kept.items c.read_kept.new.reader.cursor.left c.args.comments.now c.in-Ok-renewed.head.items are is _ _ begun.0 begun.1 (sym c.as_slice-2.ensures.value ∙ begun.2) begun.3
-
--- ---- the new head was not written
-
--- what is wanting is memory, and no device failed
-no_device : (f : RetagFault) → f.why ≡ why.Memory → (f ≡ not_read) ⊎ (f ≡ not_written) → ⊥
-no_device f e (inl h) = let g = sym e ∙ ap (λ (r : RetagFault). r.why) h in absurd cc
-no_device f e (inr h) = let g = sym e ∙ ap (λ (r : RetagFault). r.why) h in absurd cc
-
 may_be : (comments : Comments) (c : Cursor) (kept slice : List Block) (rest : List Bool) → comments_length comments ≤ 16777215 → slice ≡ kept → AreKept c kept rest → MayBeHead comments slice
 may_be comments c kept slice rest short is are = subst (λ l. MayBeHead comments l) (sym is) (kept_may_be_head comments c kept rest short are)
 
-pub returns-in-Err-renewed-clause-refused : goal.returns-in-Err-renewed-clause-refused
-returns-in-Err-renewed-clause-refused g c = λ known calm room.
-    absurd (room (c.in-Err-renewed.ensures.memory (may_be c.args.comments.now (lifted c.args.reader.now).cursor c.in-Ok.kept.items _ c.read_kept.new.reader.cursor.left c.requires.short c.as_slice.ensures.value (c.in-Ok.ensures.kept known))))
+pub returns-in-Err : goal.returns-in-Err
+returns-in-Err g c =
+    let e = c.in-Err.ensures in
+    let at = c.in-Err.fault.at in
+    let why = c.in-Err.fault.why in
+    record {
+      written = tt;
+      refused = e.refused;
+      behind = λ known. inl (e.at known);
+      head = tt;
+      found = λ either known. absurd (before_device at why (e.at known) either);
+      nothing = λ one other. refl;
+      begun = λ either known told. absurd (before_device at why (e.at known) either);
+      placeless = λ none. absurd (placed_some at none);
+      read = λ read known. e.counts.2 known read;
+      write = λ is told. absurd (placed at why is);
+      read_risen = e.counts.4;
+      write_risen = λ is. absurd (placed at why is);
+      errors = e.counts.0;
+      names = (e.counts.3, refl);
+    }
 
-pub returns-in-Err-renewed-clause-behind : goal.returns-in-Err-renewed-clause-behind
-returns-in-Err-renewed-clause-behind g c = λ known.
-    let e = c.in-Err-renewed.ensures.memory (may_be c.args.comments.now (lifted c.args.reader.now).cursor c.in-Ok.kept.items _ c.read_kept.new.reader.cursor.left c.requires.short c.as_slice.ensures.value (c.in-Ok.ensures.kept known)) in
-    inr (inr (ap (λ w. record { at = Some (place.Frame 0); why = w }) e))
+pub returns-in-Err-renewed : goal.returns-in-Err-renewed
+returns-in-Err-renewed g c =
+    let counts = c.in-Ok.ensures.counts in
+    let w = c.in-Err-renewed.why in
+    let unread = c.in-Err-renewed.ensures.unread in
+    let memory = λ (known : c.args.reader.now.known ≡ true). c.in-Err-renewed.ensures.memory (may_be c.args.comments.now (lifted c.args.reader.now).cursor c.in-Ok.kept.items _ c.read_kept.new.reader.cursor.left c.requires.short c.as_slice.ensures.value (c.in-Ok.ensures.kept known)) in
+    record {
+      written = tt;
+      refused = λ known calm room. absurd (room (memory known));
+      behind = λ known. inr (inr (ap (λ w. record { at = Some (place.Frame 0); why = w }) (memory known)));
+      head = tt;
+      found = λ either known. absurd (unread_device (place.Frame 0) w unread either);
+      nothing = λ one other. refl;
+      begun = λ either known told. absurd (unread_device (place.Frame 0) w unread either);
+      placeless = λ none. absurd (placed_some (place.Frame 0) none);
+      read = λ read known. absurd (unread read);
+      write = λ is told. absurd (placed (place.Frame 0) w is);
+      read_risen = λ read. absurd (unread read);
+      write_risen = λ is. absurd (placed (place.Frame 0) w is);
+      errors = no_fewer _ _ counts.1;
+      names = (counts.4, refl);
+    }
 
-pub returns-in-Err-renewed-clause-begun : goal.returns-in-Err-renewed-clause-begun
-returns-in-Err-renewed-clause-begun g c = λ either known told.
-    let e = c.in-Err-renewed.ensures.memory (may_be c.args.comments.now (lifted c.args.reader.now).cursor c.in-Ok.kept.items _ c.read_kept.new.reader.cursor.left c.requires.short c.as_slice.ensures.value (c.in-Ok.ensures.kept known)) in
-    absurd (no_device _ e either)
+pub returns : goal.returns
+returns g c =
+    let counts = c.in-Ok.ensures.counts in
+    let kept = c.in-Ok.ensures.kept in
+    let sends = c.in-Err-send_all.ensures.sends in
+    record {
+      written = tt;
+      refused = tt;
+      behind = tt;
+      head = tt;
+      found = λ either known. has_head (lifted c.args.reader.now).cursor (kept known);
+      nothing = λ one other. absurd (other refl);
+      begun = λ either known told.
+          let is = c.in-Ok-renewed.ensures.head ∙ ap (new_head c.args.comments.now) c.as_slice.ensures.value in
+          let begun = sends.begun told in
+          head_begun (lifted c.args.reader.now).cursor c.in-Ok.kept.items c.read_kept.new.reader.cursor.left c.args.comments.now c.in-Ok-renewed.head.items (kept known) is _ _ begun.0 begun.1 (sym c.as_slice-2.ensures.value ∙ begun.2) begun.3;
+      placeless = λ none. refl;
+      read = λ read known. absurd (write_no_read read);
+      write = λ is told. sends.rises told;
+      read_risen = λ read. absurd (write_no_read read);
+      write_risen = λ is. sends.risen;
+      errors = no_fewer _ _ counts.1;
+      names = (counts.4, sends.names);
+    }
 
-pub returns-in-Err-renewed-clause-read : goal.returns-in-Err-renewed-clause-read
-returns-in-Err-renewed-clause-read g c = λ read known. absurd (c.in-Err-renewed.ensures.unread read)
-
-pub returns-in-Err-renewed-clause-read_risen : goal.returns-in-Err-renewed-clause-read_risen
-returns-in-Err-renewed-clause-read_risen g c = λ read. absurd (c.in-Err-renewed.ensures.unread read)
+pub returns-in-Ok-send_all : goal.returns-in-Ok-send_all
+returns-in-Ok-send_all g c =
+    let r = c.copy_rest.result in
+    let counts = c.in-Ok.ensures.counts in
+    let kept = c.in-Ok.ensures.kept in
+    let sends = c.in-Ok-send_all.ensures.sends in
+    let copy = c.copy_rest.ensures in
+    let cursor = (lifted c.args.reader.now).cursor in
+    let is = c.in-Ok-renewed.ensures.head ∙ ap (new_head c.args.comments.now) c.as_slice.ensures.value in
+    record {
+      written = when_ok r (λ copied known told.
+          let sent = sends.sent told ∙ ap (λ k. g.W.Target.sent c.args.target.now ++ k) c.as_slice-2.ensures.value in
+          all_retagged cursor c.in-Ok.kept.items c.read_kept.new.reader.cursor.left c.args.comments.now c.in-Ok-renewed.head.items (kept known) is _ (g.W.Target.sent c.send_all.new.target) _ sent (copied (counts.0 known) (sends.known told))) copy.copied;
+      refused = both_err r (λ f fault read. copy_calm f _ _ _ fault (λ is known calm. no_rise _ _ _ counts.2 calm.1 (read is (counts.0 known)))) copy.fault copy.read;
+      behind = IfErr-weaker r _ _ (λ f. copy_behind f _) copy.fault;
+      head = when_ok r (λ copied known. has_head cursor (kept known)) copy.copied;
+      found = when_err r (λ f begun either known. has_head cursor (kept known)) copy.begun;
+      nothing = IfErr-weaker r _ _ (λ f fault one other. absurd (elim fault [ inl e ↦ one e | inr e ↦ other e ])) copy.fault;
+      begun = when_err r (λ f begun either known told.
+          let sent = sends.sent told ∙ ap (λ k. g.W.Target.sent c.args.target.now ++ k) c.as_slice-2.ensures.value in
+          let some = begun (counts.0 known) (sends.known told) in
+          some_retagged cursor c.in-Ok.kept.items c.read_kept.new.reader.cursor.left c.args.comments.now c.in-Ok-renewed.head.items (kept known) is _ (g.W.Target.sent c.send_all.new.target) _ some.0 some.1 sent some.2 some.3) copy.begun;
+      placeless = IfErr-weaker r _ _ (λ f. copy_placeless f) copy.fault;
+      read = IfErr-weaker r _ _ (λ f read is known. rw (← counts.2) (read is (counts.0 known))) copy.read;
+      write = IfErr-weaker r _ _ (λ f write is told. rw (← sends.counted) (write (ap (λ (x : RetagFault). x.why) is) (sends.known told))) copy.write;
+      read_risen = IfErr-weaker r _ _ (λ f risen is. rw (← counts.2) (risen is)) copy.read_risen;
+      write_risen = IfErr-weaker r _ _ (λ f risen is. rw (← sends.counted) (risen (ap (λ (x : RetagFault). x.why) is))) copy.write_risen;
+      errors = omega (arith, copy.errors.0, counts.1);
+      names = (copy.names.0 ∙ counts.4, copy.names.1 ∙ sends.names);
+    }
