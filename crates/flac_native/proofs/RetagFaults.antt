@@ -4,7 +4,7 @@ use Rattle.std.specs.Prelude.{IfErr, IfSome}
 use Rattle.flac_bits.specs.State.{Cursor}
 use Rattle.flac_bits.specs.declared.why.Why.{Why}
 use Rattle.flac_bits.specs.declared.why.Why.TheVariants as why
-use Rattle.flac_native.specs.Retag.{HasHead, is_before_frames, not_read, not_written, no_memory}
+use Rattle.flac_native.specs.Retag.{HasHead, is_before_frames, not_read, not_written, no_memory, too_long}
 use Rattle.flac_meta.specs.declared.block.Block.{Block}
 use Rattle.flac_native.specs.inner.Retag.{AreKept}
 use Rattle.flac_native.specs.declared.fault.Place.{Place}
@@ -39,6 +39,20 @@ unread_device at w unread (inr e) = absurd (placed at w e)
 
 pub write_no_read : why.Write ≡ why.Read → ⊥
 write_no_read e = absurd cc
+
+pub read_no_write : why.Read ≡ why.Write → ⊥
+read_no_write e = absurd cc
+
+pub length_no_read : why.BlockLength ≡ why.Read → ⊥
+length_no_read e = absurd cc
+
+-- comments that are too long are the fault of no device
+pub long_written : too_long ≡ not_written → ⊥
+long_written e = let w = ap (λ (f : RetagFault). f.why) e in absurd cc
+
+pub long_device : (too_long ≡ not_read) ⊎ (too_long ≡ not_written) → ⊥
+long_device (inl e) = length_no_read (ap (λ (f : RetagFault). f.why) e)
+long_device (inr e) = long_written e
 
 pub has_head : {kept : List Block} {rest : List Bool} (c : Cursor) → AreKept c kept rest → HasHead c.mark c.left
 has_head {rest = rest} c are = record { info = are.info; list = are.list; rest = rest; begins = are.input }

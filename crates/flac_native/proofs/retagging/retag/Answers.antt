@@ -1,9 +1,10 @@
-use Rattle.std.proofs.Common.{rules}
+use Rattle.std.proofs.Common.{rules, inl, refl, arith}
 use Rattle.std.proofs.lemmas.List.{append-nil}
 use Rattle.flac_bits.specs.Bits.{bits_of}
 use Rattle.flac_bits.specs.State.{short_of}
 use Rattle.flac_native.specs.Decoding.{beginning}
 use Rattle.flac_native.specs.Retag.{IsRefused}
+use Rattle.flac_native.proofs.RetagFaults.{no_fewer, length_no_read, long_written, long_device}
 use Rattle.flac_native.proofs.Retagged.{calmer}
 use Rattle.flac_native.proofs.Decided.{exact_ok, accepted, shown}
 use Rattle.flac_native.proofs.retagging.retag.Goals as goal
@@ -46,3 +47,24 @@ returns-clause-shown g c = λ short.
     let found = rw c.new-reader.ensures at c.retag_from-outcome.ensures.found in
     let all_found = rw (append-nil (bits_of (R.coming c.args.source.now))) at found in
     shown _ _ _ _ (beginning (short_of ((R.behind c.args.source.now).fails))) (bits_of (R.coming c.args.source.now)) c.retag_from-outcome.result (λ e r. (search (rules, e), search (rules, r))) all_head all_found c.retag_from-outcome.ensures.placeless whole
+
+pub returns-then-length-gt-MOST_BYTES : goal.returns-then-length-gt-MOST_BYTES
+returns-then-length-gt-MOST_BYTES g c = record {
+  long = λ more. (refl, refl, refl);
+  short = λ is. omega (arith, c.if-length-gt-MOST_BYTES.true, c.length.ensures);
+  written = tt;
+  exact = tt;
+  refused = tt;
+  behind = tt;
+  accepted = λ other. absurd (other refl);
+  shown = λ few. absurd (omega (arith, few, c.if-length-gt-MOST_BYTES.true, c.length.ensures));
+  nothing = λ one other. refl;
+  begun = λ either. absurd (long_device either);
+  placeless = λ none. inl refl;
+  read = λ is. absurd (length_no_read is);
+  write = λ is. absurd (long_written is);
+  read_risen = λ is. absurd (length_no_read is);
+  write_risen = λ is. absurd (long_written is);
+  kept = no_fewer _ _ refl;
+  names = refl;
+}
