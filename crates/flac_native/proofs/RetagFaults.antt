@@ -63,6 +63,13 @@ no_fewer m n e = omega arith
 pub no_rise : (old mid new : ℕ) → mid ≡ old → new ≡ old → mid < new → ⊥
 no_rise old mid new e f h = absurd (omega arith)
 
+-- a call whose faults without a place are of the target never answers so
+pub never_long : {X : Type 0} (r : Result X RetagFault) → IfErr r (λ f. f.at ≡ None → f ≡ not_written) → r ≡ Err too_long → ⊥
+never_long (Ok x) h e = absurd cc
+never_long (Err f) h e =
+    let is : f ≡ too_long = cc in
+    long_written (sym is ∙ h (ap (λ (k : RetagFault). k.at) is))
+
 -- ---- a last call that copies the rest
 
 pub both_err : {X : Type 0} {P Q S : RetagFault → Type 0} (r : Result X RetagFault) → ((f : RetagFault) → P f → Q f → S f)

@@ -1,45 +1,146 @@
-use Rattle.std.proofs.Common.{refl, sym, ◌∙◌, arith}
+use Rattle.std.proofs.Common.{◌≡◌, Bool, true, false, Result, Ok, Err, refl, sym, ◌∙◌, arith}
 use Rattle.flac_bits.specs.Bits.{bits_of}
+use Rattle.flac_native.specs.declared.fault.EncodeFault.{EncodeFault}
+use Rattle.flac_native.specs.declared.fault.EncodeFault.TheVariants as fault
 use Rattle.flac_native.proofs.Planned.{planned, block_small}
 use Rattle.flac_native.proofs.Sendings.{given_encodes, all_sent, some_sent}
 use Rattle.flac_native.proofs.encoding.encode.Goals as goal
 
-pub returns-in-Ok-send_stream-clause-written : goal.returns-in-Ok-send_stream-clause-written
-returns-in-Ok-send_stream-clause-written g c = λ known.
+abbrev done : {X : Type 0} → X → Result X EncodeFault
+done x = Ok x
+
+abbrev failed : {X : Type 0} → EncodeFault → Result X EncodeFault
+failed e = Err e
+
+-- which fault is told
+same_fault : {X : Type 0} (e f : EncodeFault) → failed {X = X} e ≡ failed f → e ≡ f
+same_fault e f is = cc
+
+done_fails : {X : Type 0} (x : X) (e : EncodeFault) → done x ≡ failed e → ⊥
+done_fails x e is = absurd cc
+
+repeated_write : fault.RepeatedBlock ≡ fault.Write → ⊥
+repeated_write e = absurd cc
+
+repeated_mapping : fault.RepeatedBlock ≡ fault.BadMapping → ⊥
+repeated_mapping e = absurd cc
+
+memory_write : fault.Memory ≡ fault.Write → ⊥
+memory_write e = absurd cc
+
+memory_repeated : fault.Memory ≡ fault.RepeatedBlock → ⊥
+memory_repeated e = absurd cc
+
+memory_mapping : fault.Memory ≡ fault.BadMapping → ⊥
+memory_mapping e = absurd cc
+
+write_repeated : fault.Write ≡ fault.RepeatedBlock → ⊥
+write_repeated e = absurd cc
+
+write_mapping : fault.Write ≡ fault.BadMapping → ⊥
+write_mapping e = absurd cc
+
+-- the list repeats no seek table
+not_repeated : (found repeats : Bool) → found ≡ repeats → found ≡ false → repeats ≡ true → ⊥
+not_repeated found repeats e f t = absurd cc
+
+pub returns-then-repeats_table : goal.returns-then-repeats_table
+returns-then-repeats_table g c = record {
+  written = tt;
+  begun = λ is. absurd (repeated_write is);
+  failed = λ is. absurd (repeated_write is);
+  risen = λ is. absurd (repeated_write is);
+  repeated = (λ is. sym c.repeats_table.ensures ∙ c.if-repeats_table.true, λ is. refl);
+  mapping = λ is. repeated_mapping (same_fault _ _ is);
+  whole = refl;
+  kept = λ other. refl;
+  names = refl;
+}
+
+pub returns-in_default : goal.returns-in_default
+returns-in_default g c = record {
+  written = tt;
+  begun = λ is. absurd (memory_write is);
+  failed = λ is. absurd (memory_write is);
+  risen = λ is. absurd (memory_write is);
+  repeated = (
+    λ is. absurd (memory_repeated (same_fault _ _ is)),
+    λ is. absurd (not_repeated _ _ c.repeats_table.ensures c.if-repeats_table.false is),
+  );
+  mapping = λ is. memory_mapping (same_fault _ _ is);
+  whole = refl;
+  kept = λ other. refl;
+  names = refl;
+}
+
+pub returns-in_default-new : goal.returns-in_default-new
+returns-in_default-new g c = record {
+  written = tt;
+  begun = λ is. absurd (memory_write is);
+  failed = λ is. absurd (memory_write is);
+  risen = λ is. absurd (memory_write is);
+  repeated = (
+    λ is. absurd (memory_repeated (same_fault _ _ is)),
+    λ is. absurd (not_repeated _ _ c.repeats_table.ensures c.if-repeats_table.false is),
+  );
+  mapping = λ is. memory_mapping (same_fault _ _ is);
+  whole = refl;
+  kept = λ other. refl;
+  names = refl;
+}
+
+pub returns-in-Ok-send_stream : goal.returns-in-Ok-send_stream
+returns-in-Ok-send_stream g c =
     let p = c.args.plan.now in
     let a = c.args.audio.now in
     let list = c.args.list.now in
     let s = c.in-Ok-new.frames in
-    let once = sym c.repeats_table.ensures ∙ c.if-repeats_table.false in
-    let old = bits_of (g.W.Target.sent c.args.target.now) in
     let w = c.in-Ok-send_stream.ensures in
-    let whole = given_encodes p list a s.least s.greatest s.points.items _ w.0 old c.block_size-size.ensures.good c.requires c.blocks-blocks.ensures.good c.blocks-blocks.ensures.fits once refl c.in-Ok-new.ensures.counted w.1 w.2 in
-    all_sent p list a _ old _ whole (w.3.sent known)
+    record {
+      written = λ known.
+          let once = sym c.repeats_table.ensures ∙ c.if-repeats_table.false in
+          let old = bits_of (g.W.Target.sent c.args.target.now) in
+          let whole = given_encodes p list a s.least s.greatest s.points.items _ w.0 old c.block_size-size.ensures.good c.requires c.blocks-blocks.ensures.good c.blocks-blocks.ensures.fits once refl c.in-Ok-new.ensures.counted w.1 w.2 in
+          all_sent p list a _ old _ whole (w.3.sent known);
+      begun = tt;
+      failed = tt;
+      risen = tt;
+      repeated = (
+        λ is. absurd (done_fails _ _ is),
+        λ is. absurd (not_repeated _ _ c.repeats_table.ensures c.if-repeats_table.false is),
+      );
+      mapping = λ is. done_fails _ _ is;
+      whole = tt;
+      kept = tt;
+      names = w.3.names;
+    }
 
-pub returns-clause-begun : goal.returns-clause-begun
-returns-clause-begun g c = λ is known.
+pub returns : goal.returns
+returns g c =
     let p = c.args.plan.now in
     let a = c.args.audio.now in
     let list = c.args.list.now in
     let s = c.in-Ok-new.frames in
-    let once = sym c.repeats_table.ensures ∙ c.if-repeats_table.false in
-    let old = bits_of (g.W.Target.sent c.args.target.now) in
     let w = c.in-Err.ensures in
-    let whole = given_encodes p list a s.least s.greatest s.points.items _ w.0 old c.block_size-size.ensures.good c.requires c.blocks-blocks.ensures.good c.blocks-blocks.ensures.fits once refl c.in-Ok-new.ensures.counted w.1 w.2 in
-    let begun = w.3.begun known in
-    some_sent p list a _ begun.0 begun.1 old _ whole begun.2 begun.3
-
-pub returns-clause-failed : goal.returns-clause-failed
-returns-clause-failed g c = λ is known. c.in-Err.ensures.3.rises known
-
-pub returns-clause-risen : goal.returns-clause-risen
-returns-clause-risen g c = λ is. c.in-Err.ensures.3.risen
-
-pub returns-clause-names : goal.returns-clause-names
-returns-clause-names g c = c.in-Err.ensures.3.names
-
-pub returns-in-Ok-send_stream-clause-names : goal.returns-in-Ok-send_stream-clause-names
-returns-in-Ok-send_stream-clause-names g c = c.in-Ok-send_stream.ensures.3.names
+    record {
+      written = tt;
+      begun = λ is known.
+          let once = sym c.repeats_table.ensures ∙ c.if-repeats_table.false in
+          let old = bits_of (g.W.Target.sent c.args.target.now) in
+          let whole = given_encodes p list a s.least s.greatest s.points.items _ w.0 old c.block_size-size.ensures.good c.requires c.blocks-blocks.ensures.good c.blocks-blocks.ensures.fits once refl c.in-Ok-new.ensures.counted w.1 w.2 in
+          let begun = w.3.begun known in
+          some_sent p list a _ begun.0 begun.1 old _ whole begun.2 begun.3;
+      failed = λ is. w.3.rises;
+      risen = λ is. w.3.risen;
+      repeated = (
+        λ is. absurd (write_repeated (same_fault _ _ is)),
+        λ is. absurd (not_repeated _ _ c.repeats_table.ensures c.if-repeats_table.false is),
+      );
+      mapping = λ is. write_mapping (same_fault _ _ is);
+      whole = refl;
+      kept = λ other. absurd (other refl);
+      names = w.3.names;
+    }
 
 pub new_in-requires : goal.new_in-requires
 new_in-requires g c = omega (arith, block_small c.args.plan.now (planned c.args.plan.now c.block_size-size.ensures.good), c.block_size-size.ensures.value)

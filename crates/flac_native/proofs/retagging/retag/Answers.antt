@@ -1,13 +1,29 @@
-use Rattle.std.proofs.Common.{rules, inl, refl, arith}
+use Rattle.std.proofs.Common.{rules, ◌≡◌, ◌<◌, ◌≤◌, ℕ, min, inl, refl, arith}
 use Rattle.std.proofs.lemmas.List.{append-nil}
 use Rattle.flac_bits.specs.Bits.{bits_of}
 use Rattle.flac_bits.specs.State.{short_of}
 use Rattle.flac_native.specs.Decoding.{beginning}
 use Rattle.flac_native.specs.Retag.{IsRefused}
-use Rattle.flac_native.proofs.RetagFaults.{no_fewer, length_no_read, long_written, long_device}
+use Rattle.flac_native.proofs.RetagFaults.{no_fewer, length_no_read, long_written, long_device, never_long}
 use Rattle.flac_native.proofs.Retagged.{calmer}
 use Rattle.flac_native.proofs.Decided.{exact_ok, accepted, shown}
 use Rattle.flac_native.proofs.retagging.retag.Goals as goal
+
+-- the length that is counted stops above the most bytes
+too_many : (n m : ℕ) → m ≡ min n 16777216 → 16777215 < m → 16777215 < n
+too_many n m e h = omega arith
+
+none_within : (n m : ℕ) → m ≡ min n 16777216 → 16777215 < m → n ≤ 16777215 → ⊥
+none_within n m e h k = absurd (omega arith)
+
+none_above : (n m : ℕ) → m ≡ min n 16777216 → m ≤ 16777215 → 16777215 < n → ⊥
+none_above n m e h k = absurd (omega arith)
+
+pub returns-clause-long : goal.returns-clause-long
+returns-clause-long g c = λ more. absurd (none_above _ _ c.length.ensures c.if-length-gt-MOST_BYTES.false more)
+
+pub returns-clause-short : goal.returns-clause-short
+returns-clause-short g c = λ is. absurd (never_long c.retag_from-outcome.result c.retag_from-outcome.ensures.placeless is)
 
 pub returns-clause-refused : goal.returns-clause-refused
 returns-clause-refused g c =
@@ -51,13 +67,13 @@ returns-clause-shown g c = λ short.
 pub returns-then-length-gt-MOST_BYTES : goal.returns-then-length-gt-MOST_BYTES
 returns-then-length-gt-MOST_BYTES g c = record {
   long = λ more. (refl, refl, refl);
-  short = λ is. omega (arith, c.if-length-gt-MOST_BYTES.true, c.length.ensures);
+  short = λ is. too_many _ _ c.length.ensures c.if-length-gt-MOST_BYTES.true;
   written = tt;
   exact = tt;
   refused = tt;
   behind = tt;
   accepted = λ other. absurd (other refl);
-  shown = λ few. absurd (omega (arith, few, c.if-length-gt-MOST_BYTES.true, c.length.ensures));
+  shown = λ few. absurd (none_within _ _ c.length.ensures c.if-length-gt-MOST_BYTES.true few);
   nothing = λ one other. refl;
   begun = λ either. absurd (long_device either);
   placeless = λ none. inl refl;
