@@ -1,5 +1,6 @@
-use Rattle.std.proofs.Common.{rules, ◌≡◌, ◌<◌, ◌≤◌, ℕ, min, inl, refl, arith}
+use Rattle.std.proofs.Common.{rules, ◌≡◌, ◌<◌, ◌≤◌, ℕ, min, inl, inr, refl, arith}
 use Rattle.std.proofs.lemmas.List.{append-nil}
+use Rattle.std.proofs.lemmas.Result.{IfErr-weaker}
 use Rattle.flac_bits.specs.Bits.{bits_of}
 use Rattle.flac_bits.specs.State.{short_of}
 use Rattle.flac_native.specs.Decoding.{beginning}
@@ -24,6 +25,27 @@ returns-clause-long g c = λ more. absurd (none_above _ _ c.length.ensures c.if-
 
 pub returns-clause-short : goal.returns-clause-short
 returns-clause-short g c = λ is. absurd (never_long c.retag_from-outcome.result c.retag_from-outcome.ensures.placeless is)
+
+pub returns-clause-written : goal.returns-clause-written
+returns-clause-written g c =
+    let written = rw c.new-reader.ensures at c.retag_from-outcome.ensures.written in
+    rw (append-nil (bits_of (g.R.Source.coming c.args.source.now))) at written
+
+pub returns-clause-nothing : goal.returns-clause-nothing
+returns-clause-nothing g c = c.retag_from-outcome.ensures.nothing
+
+pub returns-clause-placeless : goal.returns-clause-placeless
+returns-clause-placeless g c =
+    IfErr-weaker c.retag_from-outcome.result _ _ (λ f is none. inr (is none)) c.retag_from-outcome.ensures.placeless
+
+pub returns-clause-write : goal.returns-clause-write
+returns-clause-write g c = c.retag_from-outcome.ensures.write
+
+pub returns-clause-write_risen : goal.returns-clause-write_risen
+returns-clause-write_risen g c = c.retag_from-outcome.ensures.write_risen
+
+pub returns-clause-names : goal.returns-clause-names
+returns-clause-names g c = c.retag_from-outcome.ensures.names.1
 
 pub returns-clause-refused : goal.returns-clause-refused
 returns-clause-refused g c =
