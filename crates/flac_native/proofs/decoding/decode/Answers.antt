@@ -29,3 +29,9 @@ returns-clause-decides g c = λ known receives errors raised same.
     let whole = rw (append-nil (bits_of (R.coming source))) at hands in
     decides_of (by_grammar grammar (opening c.args.profile) (beginning (short_of ((R.behind source).fails))) (bits_of (R.coming source))) (taken g.S.Sink.takes) g.S.Sink.errors (opening c.args.profile) _ _ c.args.sink.now c.hand_out-outcome.new.sink (outcome_of told c.hand_out-outcome.result)
     (λ parts end come. whole known receives parts end come) (search (rules, errors), search (rules, raised)) same
+
+pub returns-clause-sink : goal.returns-clause-sink
+returns-clause-sink g c = c.hand_out-outcome.ensures.sink
+
+pub returns-clause-names : goal.returns-clause-names
+returns-clause-names g c = c.hand_out-outcome.ensures.names

@@ -1,18 +1,8 @@
-use Rattle.std.proofs.Common.{◌≡◌, ◌<◌, ◌≤◌, ◌∙◌, ℕ, inl, inr, refl, subst, length, take, arith}
-use Rattle.flac_bits.specs.State.{Rises}
+use Rattle.std.proofs.Common.{◌≡◌, ◌<◌, ◌∙◌, inl, inr, refl, length, take, arith}
 use Rattle.flac_native.proofs.Copies.{copied_more, copied_all, copied_part}
 use Rattle.flac_native.proofs.RetagFaults.{write_no_read, read_no_write, no_fewer}
+use Rattle.flac_native.proofs.SameStart.{less_at, most_at, rises_at}
 use Rattle.flac_native.proofs.retagging.copy_rest.Goals as goal
-
--- what was so at the start of the loop is so of the numbers before it
-less_at : (a b c : ℕ) → a ≡ b → a < c → b < c
-less_at a b c e h = subst (λ n. n < c) e h
-
-most_at : (a b c : ℕ) → a ≡ b → a ≤ c → b ≤ c
-most_at a b c e h = subst (λ n. n ≤ c) e h
-
-rises_at : (a b c : ℕ) → a ≡ b → Rises a c → Rises b c
-rises_at a b c e h = subst (λ n. Rises n c) e h
 
 pub returns-in-Err : goal.returns-in-Err
 returns-in-Err g c =
