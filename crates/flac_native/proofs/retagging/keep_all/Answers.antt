@@ -9,7 +9,10 @@ use Rattle.flac_native.specs.inner.Retag.{keeps}
 use Rattle.flac_native.specs.declared.position.Position.{Position}
 use Rattle.flac_native.proofs.Bounds.{so_far_lifted, open_on, lifted_open, step_short}
 use Rattle.flac_native.proofs.Metadata.{no_errors}
+use Rattle.flac_bits.specs.declared.why.Why.TheVariants as why
 use Rattle.flac_native.proofs.Blocks.{kept_are, kept_whole}
+use Rattle.flac_native.proofs.RetagFaults.{no_fewer}
+use Rattle.flac_native.proofs.SameStart.{less_at, most_at, rises_at}
 use Rattle.flac_native.proofs.retagging.keep_all.Goals as goal
 use Rattle.flac_header.specs.declared.subset.Profile.TheVariants.{Subset}
 
@@ -43,33 +46,70 @@ loop-alloc-preserved g c =
 over : (q : Position) (p : Progress) → position_of p.stand ≡ q → is_behind_blocks q.phase ≡ true → is_behind_blocks p.stand.phase ≡ true
 over q p at e = ap (λ (k : Position). is_behind_blocks k.phase) at ∙ e
 
-pub returns-clause-kept : goal.returns-clause-kept
-returns-clause-kept g c = λ known.
-    let far = c.loop-alloc.invariant.far in
-    let end = over c.loop-alloc.position far.0 far.1 (sym c.is_past_metadata.ensures ∙ c.loop-alloc-test.false) in
-    rw c.lift.ensures (kept_are (lifted c.args.reader.now).cursor (lifted c.loop-alloc.reader).cursor far.0 c.args.kept.now.items c.loop-alloc.kept.items c.requires.none (far.2.far known) end)
+truncated_read : why.Truncated ≡ why.Read → ⊥
+truncated_read e = absurd cc
 
-pub returns-then-unread-ne0-clause-refused : goal.returns-then-unread-ne0-clause-refused
-returns-then-unread-ne0-clause-refused g c = λ known calm room.
-    let far = c.loop-alloc.invariant.far in
-    let whole = kept_whole (lifted c.args.reader.now).cursor (lifted c.loop-alloc.reader).cursor far.0 c.args.kept.now.items c.loop-alloc.kept.items c.requires.whole (far.2.far known) in
-    let zero : c.unread.result ≡ 0 = c.unread.ensures.0 ∙ ap (λ (s : State). s.cursor.mark.unread) c.lift.ensures ∙ whole in
-    absurd (c.if-unread-ne0.true zero)
+truncated_sink : why.Truncated ≡ why.Sink → ⊥
+truncated_sink e = absurd cc
 
-pub returns-then-unread-ne0-clause-at : goal.returns-then-unread-ne0-clause-at
-returns-then-unread-ne0-clause-at g c = λ known.
-    let far = c.loop-alloc.invariant.far in
-    let whole = kept_whole (lifted c.args.reader.now).cursor (lifted c.loop-alloc.reader).cursor far.0 c.args.kept.now.items c.loop-alloc.kept.items c.requires.whole (far.2.far known) in
-    let zero : c.unread.result ≡ 0 = c.unread.ensures.0 ∙ ap (λ (s : State). s.cursor.mark.unread) c.lift.ensures ∙ whole in
-    absurd (c.if-unread-ne0.true zero)
+pub returns : goal.returns
+returns g c =
+    let inv = c.loop-alloc.invariant in
+    record {
+      counts = rw c.lift.ensures inv.went;
+      whole = sym c.unread.ensures.0 ∙ c.if-unread-ne0.false;
+      kept = λ known.
+          let far = inv.far in
+          let end = over c.loop-alloc.position far.0 far.1 (sym c.is_past_metadata.ensures ∙ c.loop-alloc-test.false) in
+          rw c.lift.ensures (kept_are (lifted c.args.reader.now).cursor (lifted c.loop-alloc.reader).cursor far.0 c.args.kept.now.items c.loop-alloc.kept.items c.requires.none (far.2.far known) end);
+      refused = tt;
+      at = tt;
+    }
 
-pub returns-in_err-keep_next-clause-refused : goal.returns-in_err-keep_next-clause-refused
-returns-in_err-keep_next-clause-refused g c =
+pub returns-then-unread-ne0 : goal.returns-then-unread-ne0
+returns-then-unread-ne0 g c =
+    let inv = c.loop-alloc.invariant in
+    let went = inv.went in
+    let none = λ (known : c.args.reader.now.known ≡ true).
+        let far = inv.far in
+        let whole = kept_whole (lifted c.args.reader.now).cursor (lifted c.loop-alloc.reader).cursor far.0 c.args.kept.now.items c.loop-alloc.kept.items c.requires.whole (far.2.far known) in
+        let zero : c.unread.result ≡ 0 = c.unread.ensures.0 ∙ ap (λ (s : State). s.cursor.mark.unread) c.lift.ensures ∙ whole in
+        c.if-unread-ne0.true zero in
+    record {
+      counts = rw c.lift.ensures (
+        no_fewer _ _ went.1,
+        λ known same. went.3 known,
+        λ known is. absurd (truncated_read is),
+        went.4,
+        λ is. absurd (truncated_read is),
+        λ is. absurd (truncated_sink is),
+      );
+      whole = tt;
+      kept = tt;
+      refused = λ known calm room. absurd (none known);
+      at = λ known. absurd (none known);
+    }
+
+pub returns-in_err-keep_next : goal.returns-in_err-keep_next
+returns-in_err-keep_next g c =
     let p = err_from_is_err_and c.from_residual.result c.from_residual.ensures.1 in
-    let refuses = c.in_err-keep_next.ensures.refused in
-    let at = c.in_err-keep_next.ensures.at in
-    rw (p.1, p.2) (λ known calm room.
-    let far = c.loop-alloc.invariant.far in
-    let r = step_refused grammar keeps no_errors (opening Subset) far.0 (lifted c.args.reader.now) (lifted c.loop-alloc.reader) c.keep_next.new.reader c.args.kept.now.items c.loop-alloc.kept.items _ _ far.2
-    (λ told same quiet some. refuses far.0 far.1 told same quiet some) known calm room in
-    record { items = r.0; refused = r.1; place = at })
+    let e = c.in_err-keep_next.ensures in
+    let went = c.loop-alloc.invariant.went in
+    rw (p.1, p.2) (record {
+      counts = (
+        most_at _ _ _ went.1 e.counts.0,
+        λ known same. e.counts.1 (went.0 known) (same ∙ sym went.1) ∙ went.3 known,
+        λ known is. less_at _ _ _ went.2 (e.counts.2 (went.0 known) is),
+        e.counts.3 ∙ went.4,
+        λ is. rises_at _ _ _ went.2 (e.counts.4 is),
+        e.counts.5,
+      );
+      whole = tt;
+      kept = tt;
+      refused = λ known calm room.
+          let far = c.loop-alloc.invariant.far in
+          let r = step_refused grammar keeps no_errors (opening Subset) far.0 (lifted c.args.reader.now) (lifted c.loop-alloc.reader) c.keep_next.new.reader c.args.kept.now.items c.loop-alloc.kept.items _ _ far.2
+          (λ told same quiet some. e.refused far.0 far.1 told same quiet some) known calm room in
+          record { items = r.0; refused = r.1; place = e.at };
+      at = λ known. e.at;
+    })
