@@ -30,9 +30,10 @@ module _ (w : Width) (cs s sums : List ℤ) (k i m : ℕ) (small : StayBelow (2 
 
     pub one_small : AreSmall w cs s k (length cs + i - 1 - k) (sample_at sums i)
     one_small =
-        let b : ℕ = length cs + i - 1 - k in let at : ℕ = length cs + i in
-        (code_product_below w cs s small k (k + 1) b at refl refl in_0 _ fit₁ near₁ begin_is,
-        code_sum_below w cs s small k (k + 1) b at refl refl in_0 _ fit₁ near₁ begin_is)
+        let b : ℕ = length cs + i - 1 - k in let at : ℕ = length cs + i in (
+          code_product_below w cs s small k (k + 1) b at refl refl in_0 _ fit₁ near₁ begin_is,
+          code_sum_below w cs s small k (k + 1) b at refl refl in_0 _ fit₁ near₁ begin_is,
+        )
 
     pub one_is : (r : ℤ) → r ≡ sum_of w cs s k (length cs + i - 1 - k) (sample_at sums i) → r ≡ weighted (take (k + 1) cs) s (length cs + i)
     one_is r e =
@@ -79,9 +80,10 @@ module _ (w : Width) (cs s sums : List ℤ) (k i m : ℕ) (small : StayBelow (2 
         (fit₂ : FitsSigned w32 (sample_at cs (k + 1))) (near₂ : FitsSigned w32 (sample_at s (length cs + i - 2 - k))) where
       pub two_small : AreSmall w cs s (k + 1) (length cs + i - 2 - k) one
       two_small =
-          let b : ℕ = length cs + i - 2 - k in let at : ℕ = length cs + i in
-          (code_product_below w cs s small (k + 1) (k + 2) b at next_2 place_2 in_1 one fit₂ near₂ (one_is some one e₁),
-          code_sum_below w cs s small (k + 1) (k + 2) b at next_2 place_2 in_1 one fit₂ near₂ (one_is some one e₁))
+          let b : ℕ = length cs + i - 2 - k in let at : ℕ = length cs + i in (
+            code_product_below w cs s small (k + 1) (k + 2) b at next_2 place_2 in_1 one fit₂ near₂ (one_is some one e₁),
+            code_sum_below w cs s small (k + 1) (k + 2) b at next_2 place_2 in_1 one fit₂ near₂ (one_is some one e₁),
+          )
 
       module _ (two : ℤ) (e₂ : two ≡ sum_of w cs s (k + 1) (length cs + i - 2 - k) one)
           (fit₃ : FitsSigned w32 (sample_at cs (k + 2))) (near₃ : FitsSigned w32 (sample_at s (length cs + i - 3 - k))) where
@@ -92,9 +94,10 @@ module _ (w : Width) (cs s sums : List ℤ) (k i m : ℕ) (small : StayBelow (2 
 
         pub three_small : AreSmall w cs s (k + 2) (length cs + i - 3 - k) two
         three_small =
-            let b : ℕ = length cs + i - 3 - k in let at : ℕ = length cs + i in
-            (code_product_below w cs s small (k + 2) (k + 3) b at next_3 place_3 in_2 two fit₃ near₃ two_is,
-            code_sum_below w cs s small (k + 2) (k + 3) b at next_3 place_3 in_2 two fit₃ near₃ two_is)
+            let b : ℕ = length cs + i - 3 - k in let at : ℕ = length cs + i in (
+              code_product_below w cs s small (k + 2) (k + 3) b at next_3 place_3 in_2 two fit₃ near₃ two_is,
+              code_sum_below w cs s small (k + 2) (k + 3) b at next_3 place_3 in_2 two fit₃ near₃ two_is,
+            )
 
         module _ (three : ℤ) (e₃ : three ≡ sum_of w cs s (k + 2) (length cs + i - 3 - k) two)
             (fit₄ : FitsSigned w32 (sample_at cs (k + 3))) (near₄ : FitsSigned w32 (sample_at s (length cs + i - 4 - k))) where
@@ -105,9 +108,10 @@ module _ (w : Width) (cs s sums : List ℤ) (k i m : ℕ) (small : StayBelow (2 
 
           pub four_small : AreSmall w cs s (k + 3) (length cs + i - 4 - k) three
           four_small =
-              let b : ℕ = length cs + i - 4 - k in let at : ℕ = length cs + i in
-              (code_product_below w cs s small (k + 3) (k + 4) b at next_4 place_4 in_3 three fit₄ near₄ three_is,
-              code_sum_below w cs s small (k + 3) (k + 4) b at next_4 place_4 in_3 three fit₄ near₄ three_is)
+              let b : ℕ = length cs + i - 4 - k in let at : ℕ = length cs + i in (
+                code_product_below w cs s small (k + 3) (k + 4) b at next_4 place_4 in_3 three fit₄ near₄ three_is,
+                code_sum_below w cs s small (k + 3) (k + 4) b at next_4 place_4 in_3 three fit₄ near₄ three_is,
+              )
 
           pub four_held : (r : ℤ) → r ≡ sum_of w cs s (k + 3) (length cs + i - 4 - k) three → m ≡ k + 4 → SumsTo k m cs s (i + 1) (slice_set sums i (to_z w (of_z w r)))
           four_held r e is =

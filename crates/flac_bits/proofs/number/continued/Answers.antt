@@ -31,7 +31,7 @@ loop-i-preserved g c =
       group_more (c.args.high + 1) i value byte inv.1,
       omega (arith, inv.2, got.spends),
       byte_turn c.args.count i value byte c.args.high c.args.bits.now c.loop-i.bits c.take.new.self
-        c.loop-i-test.true c.if-byte-ne2.false inv.3 got.counts got.reads,
+          c.loop-i-test.true c.if-byte-ne2.false inv.3 got.counts got.reads,
     )
 
 pub returns-in_err-byte : goal.returns-in_err-byte

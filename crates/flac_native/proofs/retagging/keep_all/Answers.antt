@@ -71,10 +71,10 @@ returns-then-unread-ne0 g c =
     let inv = c.loop-alloc.invariant in
     let went = inv.went in
     let none = λ (known : c.args.reader.now.known ≡ true).
-        let far = inv.far in
-        let whole = kept_whole (lifted c.args.reader.now).cursor (lifted c.loop-alloc.reader).cursor far.0 c.args.kept.now.items c.loop-alloc.kept.items c.requires.whole (far.2.far known) in
-        let zero : c.unread.result ≡ 0 = c.unread.ensures.0 ∙ ap (λ (s : State). s.cursor.mark.unread) c.lift.ensures ∙ whole in
-        c.if-unread-ne0.true zero in
+    let far = inv.far in
+    let whole = kept_whole (lifted c.args.reader.now).cursor (lifted c.loop-alloc.reader).cursor far.0 c.args.kept.now.items c.loop-alloc.kept.items c.requires.whole (far.2.far known) in
+    let zero : c.unread.result ≡ 0 = c.unread.ensures.0 ∙ ap (λ (s : State). s.cursor.mark.unread) c.lift.ensures ∙ whole in
+    c.if-unread-ne0.true zero in
     record {
       counts = rw c.lift.ensures (
         no_fewer _ _ went.1,

@@ -16,4 +16,4 @@ loop-index-preserved c =
     let within : l.index < length l.sums = rw l.auto.sums c.loop-index-test.true in
     let cs = c.args.coefficients.now in let s = c.args.samples.now in
     one_held w32 cs s l.sums k l.index (k + 1) c.requires.small within l.invariant (search rules) (search rules) c.requires.some
-        c.plus.result c.plus.ensures refl
+    c.plus.result c.plus.ensures refl

@@ -19,7 +19,7 @@ plus-two-requires c =
     let within : l.index < length l.sums = rw l.auto.sums c.loop-index-test.true in
     let cs = c.args.coefficients.now in let s = c.args.samples.now in
     let p = two_small w64 cs s l.sums k l.index (k + 4) c.requires.small within l.invariant (search rules) (search rules) c.requires.some
-        c.plus-one.result c.plus-one.ensures (search rules) (search rules) in
+    c.plus-one.result c.plus-one.ensures (search rules) (search rules) in
     record { product = p.0; sum = p.1 }
 
 pub plus-three-requires : goal.plus-three-requires
@@ -28,7 +28,7 @@ plus-three-requires c =
     let within : l.index < length l.sums = rw l.auto.sums c.loop-index-test.true in
     let cs = c.args.coefficients.now in let s = c.args.samples.now in
     let p = three_small w64 cs s l.sums k l.index (k + 4) c.requires.small within l.invariant (search rules) (search rules) c.requires.some
-        c.plus-one.result c.plus-one.ensures (search rules) (search rules) c.plus-two.result c.plus-two.ensures (search rules) (search rules) in
+    c.plus-one.result c.plus-one.ensures (search rules) (search rules) c.plus-two.result c.plus-two.ensures (search rules) (search rules) in
     record { product = p.0; sum = p.1 }
 
 pub plus-requires : goal.plus-requires
@@ -37,7 +37,7 @@ plus-requires c =
     let within : l.index < length l.sums = rw l.auto.sums c.loop-index-test.true in
     let cs = c.args.coefficients.now in let s = c.args.samples.now in
     let p = four_small w64 cs s l.sums k l.index (k + 4) c.requires.small within l.invariant (search rules) (search rules) c.requires.some
-        c.plus-one.result c.plus-one.ensures (search rules) (search rules) c.plus-two.result c.plus-two.ensures (search rules) (search rules) c.plus-three.result c.plus-three.ensures (search rules) (search rules) in
+    c.plus-one.result c.plus-one.ensures (search rules) (search rules) c.plus-two.result c.plus-two.ensures (search rules) (search rules) c.plus-three.result c.plus-three.ensures (search rules) (search rules) in
     record { product = p.0; sum = p.1 }
 
 pub loop-index-preserved : goal.loop-index-preserved
@@ -46,4 +46,4 @@ loop-index-preserved c =
     let within : l.index < length l.sums = rw l.auto.sums c.loop-index-test.true in
     let cs = c.args.coefficients.now in let s = c.args.samples.now in
     four_held w64 cs s l.sums k l.index (k + 4) c.requires.small within l.invariant (search rules) (search rules) c.requires.some
-        c.plus-one.result c.plus-one.ensures (search rules) (search rules) c.plus-two.result c.plus-two.ensures (search rules) (search rules) c.plus-three.result c.plus-three.ensures (search rules) (search rules) c.plus.result c.plus.ensures refl
+    c.plus-one.result c.plus-one.ensures (search rules) (search rules) c.plus-two.result c.plus-two.ensures (search rules) (search rules) c.plus-three.result c.plus-three.ensures (search rules) (search rules) c.plus.result c.plus.ensures refl

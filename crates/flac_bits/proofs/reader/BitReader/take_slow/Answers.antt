@@ -24,7 +24,7 @@ loop-i-preserved g c =
       omega (arith, inv.0, got.spends),
       number_below c.loop-i.i c.loop-i.value c.from.result bit inv.1 c.from.ensures,
       number_turn c.args.n c.loop-i.i c.loop-i.value c.from.result bit c.args.self.now c.loop-i.self c.bit.new.self
-        c.loop-i-test.true c.from.ensures inv.2 got.counts got.reads,
+          c.loop-i-test.true c.from.ensures inv.2 got.counts got.reads,
     )
 
 pub returns-in_err-bit-clause-reading : goal.returns-in_err-bit-clause-reading
