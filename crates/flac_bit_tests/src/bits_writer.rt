@@ -10,6 +10,8 @@ use std::test::Fail;
 
 /// Calls of a writer, and the bytes that are written.
 const CALLS: &str = "four 10, signed -3, unary 2, rice 9, align, bytes | ad250102
+digits | 303132333435363738396162636465666768
+four 10, digits, align | a3031323334353637383961626364656667680
 values, align | 216000000000000000000000000000000000000010
 number 8364 | e282ac
 number 127, number 128, number 65535, number 65536, number 2147483647, number 68719476735 | 7f c280 efbfbf f0908080 fdbfbfbfbfbf febfbfbfbfbfbf
@@ -24,6 +26,7 @@ fn put<W: Target>(writer: &mut BitWriter<W>, name: &str, number: i64) -> Result<
         "rice" => writer.put_rice(2, number.unsigned_abs()),
         "values" => writer.put_rice_partition(2, &[4, -5, 0, 300]),
         "bytes" => writer.put_bytes(&[1, 2]),
+        "digits" => writer.put_bytes(b"0123456789abcdefgh"),
         "number" => write_number(number.unsigned_abs().min(0xF_FFFF_FFFF), writer),
         "little" => put_little_32(0x1234_5678, writer),
         _ => writer.align(),

@@ -1,12 +1,14 @@
 -- Numbers under a unary and a Rice code, and signed numbers.
-use Rattle.std.proofs.Common.{◌≡◌, ℕ, ℤ, pos, negsuc, zero, suc, ◌+◌, ◌-◌, ◌*◌, ◌/◌, ◌%◌, ◌^◌, ◌<◌, ◌≤◌, true, false, List, [], ◌∷◌, ◌++◌, length, drop, get_or, replicate, refl, sym, ap, ◌∙◌, arith, append_assoc}
+use Rattle.std.proofs.Common.{◌≡◌, ℕ, ℤ, pos, negsuc, zero, suc, ◌+◌, ◌-◌, ◌*◌, ◌/◌, ◌%◌, ◌^◌, ◌<◌, ◌≤◌, true, false, List, [], ◌∷◌, ◌++◌, length, take, drop, get_or, replicate, refl, sym, ap, ◌∙◌, arith, append_assoc}
 use Rattle.std.proofs.lemmas.Nat.{pow_pos, pow_below, pow-add, shl_whole, shr_below, shr_split, shl-shr, shr_high, mod_low, mod_below, mul-add-lt}
+use Rattle.std.proofs.lemmas.List.{take-append-drop, drop-drop}
 use Rattle.std.proofs.Math.Seq.{drop-cons}
 use Rattle.std.specs.Int.{w64, cast_unsigned}
 use Rattle.std.specs.Int.RustNames.{FitsSigned}
 use Rattle.flac_bits.specs.Bits.{unsigned, bits_of}
 use Rattle.flac_bits.specs.Meaning.{unary_bits}
 use Rattle.flac_bits.specs.Signed.{modulo}
+use Rattle.flac_bits.proofs.Holding.{bits_of-append}
 use Rattle.flac_bits.proofs.Laws.{unsigned_low}
 use Rattle.flac_bits.proofs.Words.{split, one_bits, unsigned-mod}
 use Rattle.flac_bits.proofs.Appending.{shl_kept}
@@ -68,6 +70,14 @@ one_fits n = pow_below 0 (n + 1) (omega arith)
 -- one byte more
 pub byte_step : (bytes : List ℕ) (i : ℕ) → i < length bytes → bits_of (drop i bytes) ≡ unsigned 8 (get_or bytes i 0) ++ bits_of (drop (i + 1) bytes)
 byte_step bytes i lt = let e : suc i ≡ i + 1 = omega arith in ap bits_of (drop-cons bytes i 0 lt) ∙ ap (λ k. unsigned 8 (get_or bytes i 0) ++ bits_of (drop k bytes)) e
+
+-- eight bytes more
+pub eight_step : (bytes : List ℕ) (i v : ℕ) → unsigned 64 v ≡ bits_of (take 8 (drop (8 * i) bytes)) → bits_of (drop (8 * i) bytes) ≡ unsigned 64 v ++ bits_of (drop (8 * (i + 1)) bytes)
+eight_step bytes i v is =
+    let here = drop (8 * i) bytes in
+    let place : 8 * i + 8 ≡ 8 * (i + 1) = omega arith in
+    let on : drop 8 here ≡ drop (8 * (i + 1)) bytes = drop-drop 8 (8 * i) bytes ∙ ap (λ k. drop k bytes) place in
+    sym (ap bits_of (take-append-drop 8 here)) ∙ bits_of-append (take 8 here) (drop 8 here) ∙ ap (λ bs. bs ++ bits_of (drop 8 here)) (sym is) ∙ ap (λ bs. unsigned 64 v ++ bits_of bs) on
 
 -- the lowest bits of a negative number
 below_zero : (n m a : ℕ) → n + m ≡ 64 → a < 2 ^ 64 → (2 ^ 64 - suc a) % 2 ^ n ≡ 2 ^ n - 1 - a % 2 ^ n

@@ -31,7 +31,7 @@ pub(crate) fn four_bytes(bytes: &[u8], place: usize) -> u32
 
 /// Eight bytes as a number, the first of them highest.
 #[inline(always)]
-fn eight_bytes(bytes: &[u8], place: usize) -> u64
+pub(crate) fn eight_bytes(bytes: &[u8], place: usize) -> u64
     requires { place + 8 ≤ length bytes.now }
     ensures { unsigned 64 result ≡ bits_of (take 8 (drop place bytes.now)) }
 {

@@ -10,6 +10,7 @@ ghost use Rattle.flac_bits.specs.Written.{Written, Adds, Writes, Starts};
 ghost use Rattle.flac_bits.specs.declared.why.Why.TheVariants.{Truncated};
 
 use crate::signed::folded;
+use crate::stretch::eight_bytes;
 use crate::target::{Collected, Target};
 use crate::unsent::Unsent;
 use crate::why::Why;
@@ -235,8 +236,12 @@ impl<W: Target> BitWriter<W> {
     pub fn put_bytes(&mut self, bytes: &[u8]) -> Result<(), Why>
         ensures { Writes (bits_of bytes.now) self.old self.new result }
     {
-        for byte in bytes {
-            self.put(8, *byte as u64)?;
+        let eights = bytes.len() / 8;
+        for i in 0..eights {
+            self.put(64, eight_bytes(bytes, 8 * i))?;
+        }
+        for i in 8 * eights..bytes.len() {
+            self.put(8, bytes[i] as u64)?;
         }
         Ok(())
     }

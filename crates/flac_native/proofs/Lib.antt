@@ -5,6 +5,7 @@ pub mod Handed
 pub mod Received
 pub mod Bounds
 pub mod Messages
+pub mod Threes
 pub mod SampleRows
 pub mod Sampled
 pub mod Advancing

@@ -1,13 +1,25 @@
 -- Samples that are written one after another.
-use Rattle.std.proofs.Common.{◌≡◌, ℕ, zero, suc, ℤ, pos, ◌+◌, ◌<◌, List, [], ◌∷◌, ◌++◌, length, take, drop, refl, sym, ap, ◌∙◌, append_assoc, subst, arith}
-use Rattle.std.proofs.lemmas.List.{append-nil}
+use Rattle.std.proofs.Common.{◌≡◌, ◌≤◌, ℕ, zero, suc, ℤ, pos, ◌+◌, ◌<◌, List, [], ◌∷◌, ◌++◌, length, take, drop, refl, sym, ap, ◌∙◌, append_assoc, subst, arith}
+use Rattle.std.proofs.lemmas.List.{append-nil, take-take, length-take-le, take_at, drop_at}
+use Rattle.std.proofs.lemmas.Slice.{take-put_mid}
+use Rattle.std.proofs.Math.Seq.{take-add}
 use Rattle.std.specs.Prelude.{slice_index_or}
+use borrow.Rule.Slice.PartMut.{put_mid}
 use Rattle.flac_frame.specs.Audio.{Sound, samples_each}
 use Rattle.flac_frame.specs.Encoding.{block_of}
 use Rattle.flac_native.specs.Given.{sound_message}
 use Rattle.flac_native.specs.Message.{sample_width, sample_bytes, row_bytes, rows_bytes}
 use Rattle.md5.specs.Md5.{Holds}
 use Rattle.md5.specs.declared.Md5.{Md5}
+
+-- the front of a part that is written
+pub part_put : (at w k : ℕ) (xs ys : List ℕ) → at ≤ length xs → w ≤ length ys → take (at + w) (put_mid at k xs ys) ≡ take at xs ++ take w ys
+part_put at w k xs ys inside few =
+    let n = at + length ys in
+    let front = take at xs in
+    let long : length front ≡ at = length-take-le at xs inside in
+    sym (take-take (at + w) n (put_mid at k xs ys) (omega (arith, few))) ∙ ap (take (at + w)) (take-put_mid at k xs ys n refl inside) ∙ take-add at w (front ++ ys)
+    ∙ ap (λ l. l ++ take w (drop at (front ++ ys))) (take_at front ys at long) ∙ ap (λ l. front ++ take w l) (drop_at front ys at long)
 
 -- the samples of one more channel
 pub row_more : (width : ℕ) (channels : List (List ℤ)) (i c : ℕ) → c < length channels

@@ -8,6 +8,10 @@ ghost use Rattle.flac_frame.specs.Audio.{samples_each};
 
 use flac_frame::{Audio, FrameView};
 use md5::{Digest, Md5};
+use std::simd::prelude::*;
+
+/// The lanes of four samples that are their lowest three bytes each, and then the others.
+const LOWEST: [usize; 16] = [0, 1, 2, 4, 5, 6, 8, 9, 10, 12, 13, 14, 3, 7, 11, 15];
 
 /// The most bytes that are added to the digest at once.
 const CHUNK: usize = 4096;
@@ -115,6 +119,64 @@ fn put_rows_of<C: Channels>(
     at
 }
 
+/// Writes the first twelve lanes at a place. The four bytes after them may change.
+#[inline(always)]
+fn put_twelve(lanes: u8x16, out: &mut [u8], at: usize)
+    requires { at + 16 ≤ length out.old }
+    ensures { take (at + 12) out.new ≡ take at out.old ++ take 12 lanes }
+{
+    lanes.copy_to_slice(&mut out[at..at + 16]);
+}
+
+/// Writes the lowest three bytes of the samples of two channels at four indices from `index` on, after the first `at`
+/// bytes. The four bytes after them may change. The samples are lanes of vectors: as words, each is a store of its own.
+#[inline(always)]
+fn put_four<C: Channels>(samples: &C, index: usize, out: &mut [u8], at: usize)
+    requires channels { length (C.lists samples.now) ≡ 2 }
+    requires indices { index + 4 ≤ C.size samples.now }
+    requires end { index + 4 ≤ usize.MAX }
+    requires room { at + 28 ≤ length out.old }
+    ensures { take (at + 24) out.new ≡ take at out.old ++ rows_bytes 3 (C.lists samples.now) 4 index }
+{
+    let left = i32x4::from_array([
+        samples.sample(0, index),
+        samples.sample(0, index + 1),
+        samples.sample(0, index + 2),
+        samples.sample(0, index + 3),
+    ]);
+    let right = i32x4::from_array([
+        samples.sample(1, index),
+        samples.sample(1, index + 1),
+        samples.sample(1, index + 2),
+        samples.sample(1, index + 3),
+    ]);
+    let (first, last) = left.interleave(right);
+    put_twelve(first.to_le_bytes().swizzle(LOWEST), out, at);
+    put_twelve(last.to_le_bytes().swizzle(LOWEST), out, at + 12);
+}
+
+/// [`put_rows_in`] for two channels of three bytes: four indices at a time, then the rest one by one.
+#[inline(always)]
+#[tactic(auto, unfolding(crate::specs::Message::rows_bytes))]
+fn put_pairs<C: Channels>(samples: &C, start: usize, count: usize, out: &mut [u8]) -> usize
+    requires channels { length (C.lists samples.now) ≡ 2 }
+    requires rows { start + count ≤ C.size samples.now }
+    requires end { start + count ≤ usize.MAX }
+    requires room { 32 * count ≤ length out.old }
+    ensures bytes { take result out.new ≡ rows_bytes 3 (C.lists samples.now) count start }
+    ensures end { result ≤ 32 * count }
+{
+    let fours = count / 4;
+    for i in 0..fours {
+        put_four(samples, start + 4 * i, out, 24 * i);
+    }
+    let mut at = 24 * fours;
+    for i in 4 * fours..count {
+        at = put_row(samples, 2, 3, start + i, out, at);
+    }
+    at
+}
+
 /// [`put_rows_in`] for a number of channels that its callers fix.
 #[inline(always)]
 fn put_channels<C: Channels>(
@@ -137,6 +199,7 @@ fn put_channels<C: Channels>(
     match width {
         1 => put_rows_of(samples, channels, 1, start, count, out),
         2 => put_rows_of(samples, channels, 2, start, count, out),
+        3 if channels == 2 => put_pairs(samples, start, count, out),
         3 => put_rows_of(samples, channels, 3, start, count, out),
         width => put_rows_of(samples, channels, width, start, count, out),
     }

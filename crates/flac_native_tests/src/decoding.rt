@@ -3,7 +3,7 @@
 use flac_bits::{Counted, Memory, Pieces, Source};
 use flac_native::{Decoder, Place, Profile};
 use flac_testing::{PEAKS, are_of_a_cut, next_type, peaks_to_end, two_faults};
-use flac_vectors::EXAMPLE;
+use flac_vectors::{EXAMPLE, PAIRS_24};
 use std::alloc::Global;
 use std::fs;
 use std::fs::File;
@@ -35,6 +35,16 @@ fn peaks_of_a_file(rt: HostRuntime) -> Result<(), Fail> {
     let found = peaks_of(rt.alloc(), Counted::new(file));
     println!(rt; "{found:?}")?;
     assert!(rt; found == PEAKS);
+    Ok(())
+}
+
+/// The end comes only if the digest is the one that the reference encoder states: its bytes are taken at four indices at a
+/// time, and from the rest of a block one by one.
+#[test]
+fn digest_of_pairs(rt: HostRuntime) -> Result<(), Fail> {
+    let stream = hex::decode(rt.alloc(), PAIRS_24)?;
+    let found = peaks_of(rt.alloc(), Memory::new(&stream));
+    assert!(rt; found == Some((8388608, 8388608, 0)));
     Ok(())
 }
 

@@ -1,19 +1,8 @@
-use Rattle.std.proofs.Common.{rules, ◌≡◌, ◌≤◌, ◌+◌, ◌++◌, length, take, drop, List, ℕ, refl, sym, ap, ◌∙◌, arith, SFits, w32, to_z, of_z}
+use Rattle.std.proofs.Common.{rules, ◌≡◌, ◌++◌, length, take, ap, ◌∙◌, arith, SFits, w32, to_z, of_z}
 use Rattle.std.proofs.lemmas.Int.{to_z-of_z}
 use Rattle.flac_native.specs.Message.{sample_bytes}
-use borrow.Rule.Slice.PartMut.{put_mid}
-use Rattle.std.proofs.lemmas.Slice.{take-put_mid}
-use Rattle.std.proofs.lemmas.List.{take-take, length-take-le, take_at, drop_at}
-use Rattle.std.proofs.Math.Seq.{take-add}
+use Rattle.flac_native.proofs.Messages.{part_put}
 use Rattle.flac_native.proofs.digest.put_whole.Goals as goal
-
-part_put : (at w k : ℕ) (xs ys : List ℕ) → at ≤ length xs → w ≤ length ys → take (at + w) (put_mid at k xs ys) ≡ take at xs ++ take w ys
-part_put at w k xs ys inside few =
-    let n = at + length ys in
-    let front = take at xs in
-    let long : length front ≡ at = length-take-le at xs inside in
-    sym (take-take (at + w) n (put_mid at k xs ys) (omega (arith, few))) ∙ ap (take (at + w)) (take-put_mid at k xs ys n refl inside) ∙ take-add at w (front ++ ys)
-    ∙ ap (λ l. l ++ take w (drop at (front ++ ys))) (take_at front ys at long) ∙ ap (λ l. front ++ take w l) (drop_at front ys at long)
 
 pub returns : goal.returns
 returns c =
