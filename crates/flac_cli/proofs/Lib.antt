@@ -1,6 +1,7 @@
 pub mod Back
 pub mod Counting
 pub mod Failed
+pub mod Jobs
 pub mod Lined
 pub mod Listed
 pub mod Outcomes

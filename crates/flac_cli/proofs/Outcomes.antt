@@ -1,5 +1,5 @@
 -- What an answer of a decoding says.
-use Rattle.std.proofs.Common.{Bool, false, List, ◌≡◌, ◌≢◌, ◌⊎◌, ℕ, nat_lt, true, None, Ok, Err, OnOk, OnErr, IfErr, Result, refl, ap, subst, arith, inl, inr}
+use Rattle.std.proofs.Common.{Bool, false, List, ◌∷◌, get_or, ◌≡◌, ◌≢◌, ◌⊎◌, ℕ, nat_lt, true, None, Ok, Err, OnOk, OnErr, IfErr, Result, refl, ap, subst, arith, inl, inr}
 use Rattle.std.specs.Result.{is_err}
 use Rattle.flac_native.specs.Item.{told}
 use Rattle.flac_native.specs.declared.fault.Fault.{Fault}
@@ -32,6 +32,13 @@ at_ok (Err e) h = tt
 -- A count that stands at 0 can rise.
 pub counts_on : (n : ℕ) → n ≡ 0 → nat_lt n 18446744073709551615 ≡ true
 counts_on n is = rw is refl
+
+-- of lists that are the same, the first number, and the second
+pub same_first : (a b k l : ℕ) (xs ys : List ℕ) → a ∷ (b ∷ xs) ≡ k ∷ (l ∷ ys) → a ≡ k
+same_first a b k l xs ys e = ap (λ zs. get_or zs 0 0) e
+
+pub same_second : (a b k l : ℕ) (xs ys : List ℕ) → a ∷ (b ∷ xs) ≡ k ∷ (l ∷ ys) → b ≡ l
+same_second a b k l xs ys e = ap (λ zs. get_or zs 1 0) e
 
 -- What holds at Ok is told of another thing.
 pub then_ok : {A E X Y : Type 0} (r : Result A E) → OnOk r X → (X → Y) → OnOk r Y

@@ -1,11 +1,16 @@
 -- The samples of all channels, which stand in one array.
-use Rattle.std.proofs.Common.{◌≡◌, ℕ, zero, suc, ◌*◌, ℤ, true, false, cond, List, [], ◌∷◌, ◌++◌, ◌≤◌, min, length, take, drop, Some, None, refl, sym, ap, ◌∙◌, arith}
+use Rattle.std.proofs.Common.{◌≡◌, ℕ, zero, suc, ◌*◌, ◌<◌, ℤ, Bool, true, false, cond, nat_lt, List, [], ◌∷◌, ◌++◌, ◌≤◌, min, length, take, drop, Option, Some, None, Result, Ok, Err, refl, sym, ap, ◌∙◌, arith}
+use Rattle.std.proofs.lemmas.Bool.Decides.{nat_tests}
 use Rattle.std.proofs.lemmas.List.{take-append-drop, length-drop, length-take}
 use Rattle.std.proofs.Math.Seq.{take-append_seam}
+use Rattle.flac_bits.specs.State.{Cursor}
+use Rattle.flac_bits.specs.Layout.{Reason, because, and_then, run}
+use Rattle.flac_bits.specs.declared.why.Why.TheVariants.{SampleRange}
+use Rattle.flac_header.specs.Header.{Header, channels_of}
 use Rattle.flac_subframe.specs.Numbers.{all_fit}
-use Rattle.flac_frame.specs.Frame.{each_fits, in_range}
+use Rattle.flac_frame.specs.Frame.{Frame, each_fits, in_range, some_or}
 use Rattle.flac_frame.specs.Stereo.{joined}
-use Rattle.flac_frame.specs.View.{chunks}
+use Rattle.flac_frame.specs.View.{chunks, frame_in}
 use Rattle.flac_frame.proofs.Depths.{all_fit-append}
 
 -- the samples of all channels fit where all that stand in the array do
@@ -40,3 +45,29 @@ taken_long m n ys xs e same le = omega (arith, e, length-take n xs)
 -- how many the first places are
 pub first_long : (m n : ℕ) (xs : List ℤ) → m ≡ n → m ≤ length xs → length (take n xs) ≡ m
 first_long m n xs same le = omega (arith, same, length-take n xs)
+
+-- ---- what follows the end of a frame
+
+-- under a code that joins there are two channels
+pub two_channels : (code own n m : ℕ) → own ≡ code → channels_of code ≡ m → n ≡ m → 7 < own → n ≡ 2
+two_channels code own n m is many same low =
+    let over : nat_lt code 8 ≡ false = grind (arith, nat_tests) in
+    same ∙ sym many ∙ rw over refl
+
+-- what is judged of the samples there
+abbrev pub rest : (depth code : ℕ) → Option (List (List ℤ)) → Header → Cursor → Result (Frame × Cursor) Reason
+rest depth code got h at = and_then (run (some_or SampleRange (in_range depth code got)) at) (λ channels d. Ok (record { variable = h.variable; number = h.number; size = h.size; channels = channels }, d))
+
+abbrev framed : Frame × Cursor → Result (Frame × Cursor) Reason
+framed y = Ok y
+
+pub rest_unread : (depth code : ℕ) (fits : Bool) (channels : List (List ℤ)) (h : Header) (at : Cursor) → fits ≡ false → rest depth code (cond fits (Some channels) None) h at ≡ Err (because SampleRange)
+rest_unread depth code fits channels h at e = rw e refl
+
+pub rest_unfit : (depth code c : ℕ) (fits joins : Bool) (old : List ℤ) (h : Header) (at : Cursor) → fits ≡ true → joins ≡ each_fits depth (joined code (chunks c h.size old)) → joins ≡ false
+    → rest depth code (cond fits (Some (chunks c h.size old)) None) h at ≡ Err (because SampleRange)
+rest_unfit depth code c fits joins old h at e is f = ap (λ b. rest depth code (cond b (Some (chunks c h.size old)) None) h at) e ∙ ap (λ got. and_then (run (some_or SampleRange got) at) (λ channels d. framed (record { variable = h.variable; number = h.number; size = h.size; channels = channels }, d))) (none_fits depth code c h.size old (sym is ∙ f))
+
+pub rest_fit : (depth code c : ℕ) (fits joins : Bool) (old xs : List ℤ) (h : Header) (at : Cursor) → fits ≡ true → joins ≡ each_fits depth (joined code (chunks c h.size old)) → joins ≡ true
+    → chunks c h.size xs ≡ joined code (chunks c h.size old) → rest depth code (cond fits (Some (chunks c h.size old)) None) h at ≡ Ok (frame_in c h xs, at)
+rest_fit depth code c fits joins old xs h at e is f same = ap (λ b. rest depth code (cond b (Some (chunks c h.size old)) None) h at) e ∙ ap (λ got. and_then (run (some_or SampleRange got) at) (λ channels d. framed (record { variable = h.variable; number = h.number; size = h.size; channels = channels }, d))) (some_fit depth code c h.size old xs same (sym is ∙ f))

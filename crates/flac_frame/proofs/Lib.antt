@@ -26,3 +26,4 @@ pub mod Copies
 pub mod Interleaved
 pub mod Wider
 pub mod Assigned
+pub mod Subjects

@@ -1,5 +1,5 @@
 -- Places enough, after calls that leave them.
-use Rattle.std.proofs.Common.{◌≡◌, ◌∙◌, ap, subst, ℕ, ◌<◌, ◌≤◌, ◌^◌, arith, ℤ, List, length, Some}
+use Rattle.std.proofs.Common.{◌≡◌, ◌∙◌, ap, subst, ℕ, ◌+◌, ◌*◌, ◌<◌, ◌≤◌, ◌^◌, arith, ℤ, List, length, Some}
 use Rattle.std.proofs.Math.Nat.{pow-le-pow_right}
 use Rattle.flac_header.specs.declared.subset.Profile.{Profile}
 use Rattle.flac_subframe.specs.declared.limits.Limits.{Limits}
@@ -22,6 +22,28 @@ some_of n m same lt = omega arith
 
 pub few_of : (n m k : ℕ) → n ≤ m → m ≤ k → n ≤ k
 few_of n m k p q = omega arith
+
+-- the depths of a stream are among those of its subframes
+pub below_33 : 32 ≤ 33
+below_33 = omega arith
+
+-- a number that is as large as one that is small
+pub as_few : (n m k : ℕ) → n ≡ m → m ≤ k → n ≤ k
+as_few n m k is le = omega arith
+
+-- one of two, or of four, equal parts
+pub half_of : (n all : ℕ) → 2 * n ≤ all → n ≤ all
+half_of n all room = omega arith
+
+pub quarter : (n all : ℕ) → 4 * n ≤ all → n ≤ all
+quarter n all room = omega arith
+
+pub other_half : (n all rest : ℕ) → 2 * n ≤ all → rest + n ≡ all → n ≤ rest
+other_half n all rest room is = omega arith
+
+-- an index of one of the choices
+pub in_reach : (i n m k places : ℕ) → i < n → n ≡ m → m ≤ k → places ≡ k → i < places
+in_reach i n m k places lt many few same = omega arith
 
 -- places for the partitions of a greater order
 pub wide_for : (n m places : ℕ) → n ≤ m → 2 ^ m ≤ places → 2 ^ n ≤ places

@@ -1,5 +1,5 @@
 -- Frames that are sent one after another, each in the pages of a packet.
-use Rattle.std.proofs.Common.{◌≡◌, ℕ, zero, suc, ◌+◌, ◌*◌, ◌/◌, ◌%◌, ◌^◌, ◌<◌, ◌≤◌, min, Bool, true, false, nat_eq, List, [], ◌∷◌, ◌++◌, length, length-append, drop, refl, sym, ap, subst, ◌∙◌, arith, append_assoc, Result, Ok, Err, inl, inr}
+use Rattle.std.proofs.Common.{◌≡◌, ℕ, zero, suc, ◌+◌, ◌-◌, ◌*◌, ◌/◌, ◌%◌, ◌^◌, ◌<◌, ◌≤◌, min, Bool, true, false, nat_eq, List, [], ◌∷◌, ◌++◌, length, length-append, drop, refl, sym, ap, subst, ◌∙◌, arith, append_assoc, Result, Ok, Err, inl, inr}
 use Rattle.std.specs.Int.{to_le_bytes, w32, w64}
 use Rattle.std.specs.List.{All, flat_map, range_with_len}
 use Rattle.std.proofs.Math.Nat.{mul-suc}
@@ -115,6 +115,23 @@ spelled_whole p a ts n each i lt = let k = each i lt in ap (λ (t : List Bool). 
 pub sends_as : {S X E : Type 0} (g : target.Ghosts S) (bytes : List ℕ) (t : List Bool) (old new : S) (r : Result X E) → bits_of bytes ≡ t → Sends g bytes old new r → SendsBits g t old new r
 sends_as g bytes t old new r e s = subst (λ k. SendsBits g k old new r) e (sends_bits g bytes old new r s)
 
+-- ---- counts
+
+position_fits : (total n : ℕ) → total < 2 ^ 64 → min total n < 2 ^ 64
+position_fits total n few = omega arith
+
+one_more : (n : ℕ) → suc n ≡ n + 1
+one_more n = omega arith
+
+no_more : (n : ℕ) → n + 0 ≡ n
+no_more n = omega arith
+
+no_index : (i : ℕ) → i < 0 → ⊥
+no_index i h = absurd (omega arith)
+
+drop_rest : (n left long many : ℕ) → left ≡ long - (n + 1) → long ≡ many → n < many → n + 1 + left ≡ many
+drop_rest n left long many e f lt = omega arith
+
 -- ---- frames so far
 
 -- so many frames were sent, in pages from one of a number on
@@ -135,7 +152,7 @@ module _ {S : Type 0} (g : target.Ghosts S) (serial from : ℕ) (p : Cut) (a : S
   total = samples_each a.channels
 
   pub packets_none : (w : S) → SentPackets g serial from p a 0 from w w
-  packets_none w = record { frames = []; packets = []; many = refl; each = λ i h. absurd (omega arith); each_least = λ i h. absurd (omega arith); texts = refl; kinds = refl; good = All-nil IsPlaced; next = refl; sends = bits_none g w }
+  packets_none w = record { frames = []; packets = []; many = refl; each = λ i h. absurd (no_index i h); each_least = λ i h. absurd (no_index i h); texts = refl; kinds = refl; good = All-nil IsPlaced; next = refl; sends = bits_none g w }
 
   abbrev frame_packet : (number : ℕ) → List ℕ → Placed
   frame_packet number packet = record { packet = packet; kind = Frame (min total (p.block_size * suc number)) }
@@ -146,15 +163,15 @@ module _ {S : Type 0} (g : target.Ghosts S) (serial from : ℕ) (p : Cut) (a : S
   packets_more number sequence old mid new packet few small s is sends =
       let q = frame_packet number packet in
       let t = bits_of packet in
-      let position : min total (p.block_size * suc number) < 2 ^ 64 = omega (arith, few) in
-      let up : suc number ≡ number + 1 = omega arith in
+      let position : min total (p.block_size * suc number) < 2 ^ 64 = position_fits total (p.block_size * suc number) few in
+      let up = one_more number in
       let pages : open_from serial from false (s.packets ++ q ∷ []) ≡ open_from serial from false s.packets ++ packet_spelling (marks_of serial sequence false false q) packet =
       open_packet serial from false s.packets q ∙ ap (λ f. open_from serial from false s.packets ++ packet_spelling (marks_of serial (number_behind from s.packets) f false q) packet) (later s.packets)
       ∙ ap (λ k. open_from serial from false s.packets ++ packet_spelling (marks_of serial k false false q) packet) (sym s.next) in
       record {
         frames = snoc s.frames t;
         packets = s.packets ++ q ∷ [];
-        many = omega (arith, length-snoc s.frames t, s.many);
+        many = length-snoc s.frames t ∙ ap (λ n. n + 1) s.many;
         each = each_more (λ i k. SpellsFrame a (frame_of p.block_size a i) k) s.frames t s.each (subst (λ n. SpellsFrame a (frame_of p.block_size a n) t) (sym s.many) is.frame);
         each_least = each_more (λ i k. SpellsLeast p.predictors a (frame_of p.block_size a i) k) s.frames t s.each_least (subst (λ n. SpellsLeast p.predictors a (frame_of p.block_size a n) t) (sym s.many) is.least);
         texts = texts_append s.packets (q ∷ []) ∙ ap (λ (l : List (List Bool)). l ++ t ∷ []) s.texts;
@@ -179,9 +196,9 @@ module _ {S : Type 0} (g : target.Ghosts S) (serial from : ℕ) (p : Cut) (a : S
       let so_far = open_from serial from false s.packets in
       let here = packet_spelling (marks_of serial sequence false last q) packet in
       let tail = flat_map page_spelling (pages_from serial (sequence_behind sequence packet) false behind) in
-      let position : min total (b * suc number) < 2 ^ 64 = omega (arith, few) in
-      let long : length front ≡ number + 1 = omega (arith, length-snoc s.frames t, s.many) in
-      let count : suc number + length rest ≡ blocks_in b total = omega (arith, all) in
+      let position : min total (b * suc number) < 2 ^ 64 = position_fits total (b * suc number) few in
+      let long : length front ≡ number + 1 = length-snoc s.frames t ∙ ap (λ n. n + 1) s.many in
+      let count : suc number + length rest ≡ blocks_in b total = ap (λ n. n + length rest) (one_more number) ∙ all in
       let whole = spelled_whole p a rest (number + 1) each_rest in
       let none : rest ≡ [] → tail ≡ [] = λ e. ap (λ (l : List (List Bool)). flat_map page_spelling (pages_from serial (sequence_behind sequence packet) false (packed b total (suc number) l))) e in
       let pages : flat_map page_spelling (pages_from serial from false (s.packets ++ q ∷ behind)) ≡ (so_far ++ here) ++ tail =
@@ -196,7 +213,7 @@ module _ {S : Type 0} (g : target.Ghosts S) (serial from : ℕ) (p : Cut) (a : S
       record {
         frames = front ++ rest;
         are = record {
-          many = omega (arith, length-append front rest, long, all);
+          many = length-append front rest ∙ ap (λ n. n + length rest) long ∙ all;
           each = each_append (λ i k. SpellsFrame a (frame_of b a i) k) front rest each_front (λ j h. subst (λ n. SpellsFrame a (frame_of b a (n + j)) (nth rest j)) (sym long) (each_rest j h));
         };
         are_least = each_append (λ i k. SpellsLeast p.predictors a (frame_of b a i) k) front rest least_front (λ j h. subst (λ n. SpellsLeast p.predictors a (frame_of b a (n + j)) (nth rest j)) (sym long) (least_rest j h));
@@ -214,7 +231,7 @@ module _ {S : Type 0} (g : target.Ghosts S) (serial from : ℕ) (p : Cut) (a : S
       → number + 1 ≡ blocks_in p.block_size total → SendsBits {E = Why} g (packet_spelling (marks_of serial sequence false true (frame_packet number packet)) packet) mid new (Ok x)
       → SendsPackets {E = Why} g serial from p a old new (Ok x)
   packets_sent number sequence old mid new packet x few small s is all sends =
-      packets_end number sequence old mid new packet true [] (Ok x) few small s is (omega (arith, all)) refl (λ j h. absurd (omega (arith, h))) (λ j h. absurd (omega (arith, h)))
+      packets_end number sequence old mid new packet true [] (Ok x) few small s is (no_more (number + 1) ∙ all) refl (λ j h. absurd (no_index j h)) (λ j h. absurd (no_index j h))
       (λ more none. let here = packet_spelling (marks_of serial sequence false true (frame_packet number packet)) packet in
       subst (λ k. SendsBits {E = Why} g k old new (Ok x)) (sym (ap (λ (l : List Bool). (open_from serial from false s.packets ++ here) ++ l) (none refl) ∙ append-nil (open_from serial from false s.packets ++ here))) (bits_then g (Ok x) s.sends sends))
 
@@ -224,7 +241,7 @@ module _ {S : Type 0} (g : target.Ghosts S) (serial from : ℕ) (p : Cut) (a : S
       → SendsBits {X = X} g (packet_spelling (marks_of serial sequence false last (frame_packet number packet)) packet) mid new (Err e) → SendsPackets {X = Y} g serial from p a old new (Err f)
   packets_fail number sequence old mid new packet last others e f few small s is lt test are least sends =
       let rest = drop (number + 1) others in
-      let many : number + 1 + length rest ≡ blocks_in p.block_size total = omega (arith, length-drop (number + 1) others, are.many, lt) in
+      let many : number + 1 + length rest ≡ blocks_in p.block_size total = drop_rest number (length rest) (length others) (blocks_in p.block_size total) (length-drop (number + 1) others) are.many lt in
       packets_end number sequence old mid new packet last rest (Err f) few small s is many (ends_with rest (number + 1) (blocks_in p.block_size total) many ∙ test)
       (each_drop (λ i k. SpellsFrame a (frame_of p.block_size a i) k) (number + 1) others are.each) (each_drop (λ i k. SpellsLeast p.predictors a (frame_of p.block_size a i) k) (number + 1) others least)
       (λ more none. bits_fault g more (bits_then g (Err e) s.sends sends))
@@ -252,23 +269,17 @@ last_is b total n end some lt at = elim (cases_lt (suc n) (blocks_in b total)) [
 
 -- ---- how long pages are
 
+page_bits : (a b c d e f g h lacing body : ℕ) → a ≡ 48 → b ≡ 64 → c ≡ 32 → d ≡ 32 → e ≡ 32 → f ≡ 8 → g ≡ 8 * lacing → h ≡ 8 * body → lacing ≤ 255 → body ≤ 65025 → a + (b + (c + (d + (e + (f + (g + (h + 0))))))) ≤ 8 * 65307
+page_bits a b c d e f g h lacing body k l m n o q r s few small = omega arith
+
 page_long : (p : Page) → length p.lacing ≤ 255 → length p.body ≤ 65025 → length (page_spelling p) ≤ 8 * 65307
 unfolding page_spelling
 page_long p few small =
-    omega (
-      arith,
-      length-joined (
-          bits_of (0x4F ∷ 0x67 ∷ 0x67 ∷ 0x53 ∷ 0 ∷ p.head.flags ∷ []) ∷ bits_of (to_le_bytes w64 p.head.granule) ∷ bits_of (to_le_bytes w32 p.head.serial) ∷
-          bits_of (to_le_bytes w32 p.head.sequence) ∷ bits_of (to_le_bytes w32 p.head.sum) ∷ bits_of (length p.lacing ∷ []) ∷ bits_of p.lacing ∷ bits_of p.body ∷ []),
-      length-bits_of (0x4F ∷ 0x67 ∷ 0x67 ∷ 0x53 ∷ 0 ∷ p.head.flags ∷ []),
-      length-bits_of (to_le_bytes w64 p.head.granule),
-      length-bits_of (to_le_bytes w32 p.head.serial),
-      length-bits_of (to_le_bytes w32 p.head.sequence),
-      length-bits_of (to_le_bytes w32 p.head.sum),
-      length-bits_of (length p.lacing ∷ []),
-      length-bits_of p.lacing,
-      length-bits_of p.body,
-    )
+    let parts =
+    bits_of (0x4F ∷ 0x67 ∷ 0x67 ∷ 0x53 ∷ 0 ∷ p.head.flags ∷ []) ∷ bits_of (to_le_bytes w64 p.head.granule) ∷ bits_of (to_le_bytes w32 p.head.serial) ∷
+    bits_of (to_le_bytes w32 p.head.sequence) ∷ bits_of (to_le_bytes w32 p.head.sum) ∷ bits_of (length p.lacing ∷ []) ∷ bits_of p.lacing ∷ bits_of p.body ∷ [] in
+    subst (λ n. n ≤ 8 * 65307) (sym (length-joined parts)) (page_bits _ _ _ _ _ _ _ _ (length p.lacing) (length p.body) (length-bits_of (0x4F ∷ 0x67 ∷ 0x67 ∷ 0x53 ∷ 0 ∷ p.head.flags ∷ [])) (length-bits_of (to_le_bytes w64 p.head.granule)) (length-bits_of (to_le_bytes w32 p.head.serial))
+    (length-bits_of (to_le_bytes w32 p.head.sequence)) (length-bits_of (to_le_bytes w32 p.head.sum)) (length-bits_of (length p.lacing ∷ [])) (length-bits_of p.lacing) (length-bits_of p.body) few small)
 
 each_long : (f : ℕ → List Bool) (n : ℕ) → ((k : ℕ) → length (f k) ≤ n) → (ks : List ℕ) → length (flat_map f ks) ≤ n * length ks
 each_long f n all [] = omega arith

@@ -1,7 +1,7 @@
 use Rattle.std.proofs.Common.{◌≡◌, ◌∙◌, sym}
 use Rattle.flac_bits.specs.Bits.{bit_value}
 use Rattle.flac_cli.specs.Reports.{Serves}
-use Rattle.flac_cli.proofs.Outcomes.{then_ok, counts_on}
+use Rattle.flac_cli.proofs.Outcomes.{then_ok, counts_on, same_first, same_second}
 use Rattle.flac_cli.proofs.Reported.{unfailed, not_sink}
 use Rattle.flac_native.proofs.Sampled.{all_written}
 use Rattle.flac_cli.proofs.runs.decode_into.Goals as goal
@@ -18,8 +18,8 @@ pub returns-clause-outcome : goal.returns-clause-outcome
 returns-clause-outcome g c tells served =
     let known = counts_on _ c.requires.none in
     let names = c.decode_stream-outcome.ensures.names in
-    let bits : bit_value (g.W.Target.known c.decode_stream-outcome.new.sink.began.value) ≡ bit_value (g.W.Target.known c.args.sink.now.began.value) = cc in
-    let stays : g.W.Target.errors c.decode_stream-outcome.new.sink.began.value ≡ g.W.Target.errors c.args.sink.now.began.value = cc in
+    let bits : bit_value (g.W.Target.known c.decode_stream-outcome.new.sink.began.value) ≡ bit_value (g.W.Target.known c.args.sink.now.began.value) = same_first _ _ _ _ _ _ names in
+    let stays : g.W.Target.errors c.decode_stream-outcome.new.sink.began.value ≡ g.W.Target.errors c.args.sink.now.began.value = same_second _ _ _ _ _ _ names in
     let none : c.decode_stream-outcome.new.sink.failures.count ≡ 0 =
     unfailed g.W.Target.known g.W.Target.errors c.args.sink.now.target c.decode_stream-outcome.new.sink.target c.args.sink.now.began.value c.decode_stream-outcome.new.sink.began.value c.decode_stream-outcome.new.sink.failures.count
     c.requires.began served.0 served.1 bits stays c.failures-failures.ensures.failed in
@@ -28,7 +28,7 @@ returns-clause-outcome g c tells served =
 pub returns-clause-served : goal.returns-clause-served
 returns-clause-served g c = not_sink (Serves g.W.Target c.args.sink.now.target c.decode_stream-outcome.new.sink.target) c.decode_stream-outcome.result c.args.sink.now.failures.count c.decode_stream-outcome.new.sink.failures.count c.decode_stream-outcome.ensures.sink c.requires.none (λ served.
     let names = c.decode_stream-outcome.ensures.names in
-    let bits : bit_value (g.W.Target.known c.decode_stream-outcome.new.sink.began.value) ≡ bit_value (g.W.Target.known c.args.sink.now.began.value) = cc in
-    let stays : g.W.Target.errors c.decode_stream-outcome.new.sink.began.value ≡ g.W.Target.errors c.args.sink.now.began.value = cc in
+    let bits : bit_value (g.W.Target.known c.decode_stream-outcome.new.sink.began.value) ≡ bit_value (g.W.Target.known c.args.sink.now.began.value) = same_first _ _ _ _ _ _ names in
+    let stays : g.W.Target.errors c.decode_stream-outcome.new.sink.began.value ≡ g.W.Target.errors c.args.sink.now.began.value = same_second _ _ _ _ _ _ names in
     unfailed g.W.Target.known g.W.Target.errors c.args.sink.now.target c.decode_stream-outcome.new.sink.target c.args.sink.now.began.value c.decode_stream-outcome.new.sink.began.value c.decode_stream-outcome.new.sink.failures.count
     c.requires.began served.0 served.1 bits stays c.failures-failures.ensures.failed)

@@ -1,148 +1,128 @@
-use Rattle.std.proofs.Common.{None, refl, inl, arith}
+use Rattle.std.proofs.Common.{◌≡◌, ◌++◌, ◌∙◌, List, None, refl, ap, sym, subst, inl, arith}
+use Rattle.flac_bits.specs.Bits.{bits_of}
+use Rattle.flac_native.specs.Stream.{Piece}
+use Rattle.flac_jobs.specs.Asks.{AsksStream, AsksDecode, asks_lax}
+use Rattle.flac_cli.specs.Counted.{AsksTest, counts_line}
+use Rattle.flac_cli.specs.Encoded.{asked_for, HasEncoded, HasBegun}
+use Rattle.flac_cli.specs.Outcomes.{ReportsInput}
+use Rattle.flac_cli.specs.Refusals.{CanBeEncoded}
+use Rattle.flac_cli.specs.Reports.{Serves, Reports, files_of}
+use Rattle.flac_cli.specs.Retagged.{HasRetagged}
+use Rattle.flac_cli.specs.Samples.{all_samples}
+use Rattle.flac_cli.specs.Streams.{IsStream, profile_of}
+use Rattle.flac_cli.proofs.Jobs.{none_encoded, none_begun, none_accepted, none_refused, asked_is, rose, at_most_one, not_both}
 use Rattle.flac_cli.proofs.Refused.{reported}
 use Rattle.flac_cli.proofs.runs.run.Goals as goal
 
-pub returns-in-Retag-clause-reported : goal.returns-in-Retag-clause-reported
-returns-in-Retag-clause-reported g c = λ tells told. rw (c.in-Retag.is, ← c.as_slice-in-Retag.ensures.value) (λ served. c.run_retag.ensures.reported tells served told)
+pub returns-in-Test : goal.returns-in-Test
+returns-in-Test g c =
+    let e = c.run_test.ensures in
+    let is = c.in-Test.is in
+    let none : asked_for c.args.task.now.job.now c.args.task.now.list.now ≡ None = ap (λ j. asked_for j c.args.task.now.list.now) is in
+    let profile : c.profile_of.result ≡ profile_of (asks_lax c.args.task.now.job.now) = c.profile_of.ensures ∙ ap (λ j. profile_of (asks_lax j)) (sym is) in
+    record {
+      stream = λ asks done tells. subst (λ p. (parts : List Piece) × IsStream p parts (g.R.Source.coming c.args.source.now) (g.R.Source.behind c.args.source.now)) profile (e.stream done tells);
+      tested = λ asks done tells known. subst (λ p. (parts : List Piece) × IsStream p parts (g.R.Source.coming c.args.source.now) (g.R.Source.behind c.args.source.now) × (g.O.Target.sent c.run_test.new.out ≡ g.O.Target.sent c.args.out.now ++ counts_line parts)) profile (e.tested done tells known);
+      decoded = λ asks. absurd (subst AsksDecode is asks);
+      encoded = λ done known sent. none_encoded _ none _ _ _;
+      accepted = λ done known. none_accepted _ none _;
+      begun = λ failed known sent. none_begun _ none _ _ _;
+      refused = λ tells served told. none_refused _ none _ _ _ _ _;
+      retagged = λ done known sent. subst (λ j. HasRetagged j (g.R.Source.coming c.args.source.now) (g.R.Source.behind c.args.source.now) (bits_of (g.W.Target.sent c.args.target.now)) (bits_of (g.W.Target.sent c.args.target.now))) (sym is) tt;
+      status = e.status;
+      reported = λ tells told. subst (λ j. ReportsInput j (g.R.Source.coming c.args.source.now) (g.R.Source.behind c.args.source.now) (Serves g.W.Target c.args.target.now c.args.target.now) (Serves g.O.Target c.args.out.now c.run_test.new.out) c.run_test.result (g.E.Target.sent c.args.err.now) (g.E.Target.sent c.run_test.new.err)) (sym is) (rw (← c.profile_of.ensures) (λ printed. e.reported tells printed told));
+    }
 
-pub returns-in-Test-clause-reported : goal.returns-in-Test-clause-reported
-returns-in-Test-clause-reported g c = λ tells told. rw (c.in-Test.is, ← c.profile_of.ensures) (λ printed. c.run_test.ensures.reported tells printed told)
+pub returns-in-Decode : goal.returns-in-Decode
+returns-in-Decode g c =
+    let e = c.run_decode.ensures in
+    let is = c.in-Decode.is in
+    let none : asked_for c.args.task.now.job.now c.args.task.now.list.now ≡ None = ap (λ j. asked_for j c.args.task.now.list.now) is in
+    let profile : c.profile_of-in-Decode.result ≡ profile_of (asks_lax c.args.task.now.job.now) = c.profile_of-in-Decode.ensures ∙ ap (λ j. profile_of (asks_lax j)) (sym is) in
+    record {
+      stream = λ asks done tells. subst (λ p. (parts : List Piece) × IsStream p parts (g.R.Source.coming c.args.source.now) (g.R.Source.behind c.args.source.now)) profile (e.stream done tells);
+      tested = λ asks. absurd (subst AsksTest is asks);
+      decoded = λ asks done tells known. subst (λ p. (parts : List Piece) × IsStream p parts (g.R.Source.coming c.args.source.now) (g.R.Source.behind c.args.source.now) × (g.W.Target.sent c.run_decode.new.target ≡ g.W.Target.sent c.args.target.now ++ all_samples 0 parts)) profile (e.decoded done tells known);
+      encoded = λ done known sent. none_encoded _ none _ _ _;
+      accepted = λ done known. none_accepted _ none _;
+      begun = λ failed known sent. none_begun _ none _ _ _;
+      refused = λ tells served told. none_refused _ none _ _ _ _ _;
+      retagged = λ done known sent. subst (λ j. HasRetagged j (g.R.Source.coming c.args.source.now) (g.R.Source.behind c.args.source.now) (bits_of (g.W.Target.sent c.args.target.now)) (bits_of (g.W.Target.sent c.run_decode.new.target))) (sym is) tt;
+      status = e.status;
+      reported = λ tells told. subst (λ j. ReportsInput j (g.R.Source.coming c.args.source.now) (g.R.Source.behind c.args.source.now) (Serves g.W.Target c.args.target.now c.run_decode.new.target) (Serves g.O.Target c.args.out.now c.args.out.now) c.run_decode.result (g.E.Target.sent c.args.err.now) (g.E.Target.sent c.run_decode.new.err)) (sym is) (rw (← c.profile_of-in-Decode.ensures) (λ served. e.reported tells served told));
+    }
 
-pub returns-in-Decode-clause-reported : goal.returns-in-Decode-clause-reported
-returns-in-Decode-clause-reported g c = λ tells told. rw (c.in-Decode.is, ← c.profile_of-in-Decode.ensures) (λ served. c.run_decode.ensures.reported tells served told)
+pub returns-in-List : goal.returns-in-List
+returns-in-List g c =
+    let e = c.run_list.ensures in
+    let is = c.in-List.is in
+    let none : asked_for c.args.task.now.job.now c.args.task.now.list.now ≡ None = ap (λ j. asked_for j c.args.task.now.list.now) is in
+    let profile : c.profile_of-in-List.result ≡ profile_of (asks_lax c.args.task.now.job.now) = c.profile_of-in-List.ensures ∙ ap (λ j. profile_of (asks_lax j)) (sym is) in
+    record {
+      stream = λ asks done tells. subst (λ p. (parts : List Piece) × IsStream p parts (g.R.Source.coming c.args.source.now) (g.R.Source.behind c.args.source.now)) profile (e.stream done tells);
+      tested = λ asks. absurd (subst AsksTest is asks);
+      decoded = λ asks. absurd (subst AsksDecode is asks);
+      encoded = λ done known sent. none_encoded _ none _ _ _;
+      accepted = λ done known. none_accepted _ none _;
+      begun = λ failed known sent. none_begun _ none _ _ _;
+      refused = λ tells served told. none_refused _ none _ _ _ _ _;
+      retagged = λ done known sent. subst (λ j. HasRetagged j (g.R.Source.coming c.args.source.now) (g.R.Source.behind c.args.source.now) (bits_of (g.W.Target.sent c.args.target.now)) (bits_of (g.W.Target.sent c.args.target.now))) (sym is) tt;
+      status = e.status;
+      reported = λ tells told. subst (λ j. ReportsInput j (g.R.Source.coming c.args.source.now) (g.R.Source.behind c.args.source.now) (Serves g.W.Target c.args.target.now c.args.target.now) (Serves g.O.Target c.args.out.now c.run_list.new.out) c.run_list.result (g.E.Target.sent c.args.err.now) (g.E.Target.sent c.run_list.new.err)) (sym is) (rw (← c.profile_of-in-List.ensures) (e.reported tells told));
+    }
 
-pub returns-in-List-clause-reported : goal.returns-in-List-clause-reported
-returns-in-List-clause-reported g c = λ tells told. rw (c.in-List.is, ← c.profile_of-in-List.ensures) (c.run_list.ensures.reported tells told)
+pub returns-in-Retag : goal.returns-in-Retag
+returns-in-Retag g c =
+    let e = c.run_retag.ensures in
+    let is = c.in-Retag.is in
+    let none : asked_for c.args.task.now.job.now c.args.task.now.list.now ≡ None = ap (λ j. asked_for j c.args.task.now.list.now) is in
+    record {
+      stream = λ asks. absurd (subst AsksStream is asks);
+      tested = λ asks. absurd (subst AsksTest is asks);
+      decoded = λ asks. absurd (subst AsksDecode is asks);
+      encoded = λ done known sent. none_encoded _ none _ _ _;
+      accepted = λ done known. none_accepted _ none _;
+      begun = λ failed known sent. none_begun _ none _ _ _;
+      refused = λ tells served told. none_refused _ none _ _ _ _ _;
+      retagged = λ done known sent. subst (λ j. HasRetagged j (g.R.Source.coming c.args.source.now) (g.R.Source.behind c.args.source.now) (bits_of (g.W.Target.sent c.args.target.now)) (bits_of (g.W.Target.sent c.run_retag.new.target))) (sym is) (rw (← c.as_slice-in-Retag.ensures.value) (e.retagged done known sent));
+      status = e.status;
+      reported = λ tells told. subst (λ j. ReportsInput j (g.R.Source.coming c.args.source.now) (g.R.Source.behind c.args.source.now) (Serves g.W.Target c.args.target.now c.run_retag.new.target) (Serves g.O.Target c.args.out.now c.args.out.now) c.run_retag.result (g.E.Target.sent c.args.err.now) (g.E.Target.sent c.run_retag.new.err)) (sym is) (rw (← c.as_slice-in-Retag.ensures.value) (λ served. e.reported tells served told));
+    }
 
-pub returns-in-Ok-clause-refused : goal.returns-in-Ok-clause-refused
-returns-in-Ok-clause-refused g c = λ tells served told.
-    rw (c.in-Encode.is, ← c.profile_of-in-Encode.ensures, ← c.as_slice.ensures.value) (inl (None, c.in-Ok.ensures.accepted tells.0, (refl, refl)))
+pub returns-in-Ok : goal.returns-in-Ok
+returns-in-Ok g c =
+    let e = c.in-Ok.ensures in
+    let is = c.in-Encode.is in
+    let asked = asked_is c.args.task.now.job.now c.args.task.now.list.now c.profile_of-in-Encode.result c.as_slice.result.now is c.profile_of-in-Encode.ensures c.as_slice.ensures.value in
+    record {
+      stream = λ asks. absurd (subst AsksStream is asks);
+      tested = λ asks. absurd (subst AsksTest is asks);
+      decoded = λ asks. absurd (subst AsksDecode is asks);
+      encoded = λ done known sent. subst (λ o. HasEncoded o (g.R.Source.coming c.args.source.now) (bits_of (g.W.Target.sent c.args.target.now)) (bits_of (g.W.Target.sent c.encode_raw.new.target))) (sym asked) (e.written known sent);
+      accepted = λ done known. subst (λ o. CanBeEncoded o (g.R.Source.coming c.args.source.now)) (sym asked) (e.accepted known);
+      begun = λ failed known sent. not_both _ failed refl;
+      refused = λ tells served told. subst (λ o. Reports o (g.R.Source.coming c.args.source.now) (files_of c.args.task.now.job.now) 0 (g.E.Target.sent c.args.err.now) (g.E.Target.sent c.args.err.now)) (sym asked) (inl (None, e.accepted tells.0, (refl, refl)));
+      retagged = λ done known sent. subst (λ j. HasRetagged j (g.R.Source.coming c.args.source.now) (g.R.Source.behind c.args.source.now) (bits_of (g.W.Target.sent c.args.target.now)) (bits_of (g.W.Target.sent c.encode_raw.new.target))) (sym is) tt;
+      status = omega arith;
+      reported = λ tells told. subst (λ j. ReportsInput j (g.R.Source.coming c.args.source.now) (g.R.Source.behind c.args.source.now) (Serves g.W.Target c.args.target.now c.encode_raw.new.target) (Serves g.O.Target c.args.out.now c.args.out.now) 0 (g.E.Target.sent c.args.err.now) (g.E.Target.sent c.args.err.now)) (sym is) tt;
+    }
 
-pub returns-in-Err-clause-refused : goal.returns-in-Err-clause-refused
-returns-in-Err-clause-refused g c = λ tells served told.
-    rw (c.in-Encode.is, ← c.profile_of-in-Encode.ensures, ← c.as_slice.ensures.value)
-    (reported _ (g.R.Source.coming c.args.source.now) _ c.in-Err.refusal _ _ _ c.refuse_encoding.ensures.status (rw c.in-Encode.is at (c.refuse_encoding.ensures.line told.0 told.1))
-    (λ is. absurd (omega (arith, c.in-Err.ensures.failed is served.0, served.1))) (c.in-Err.ensures.refused tells.0 tells.2))
-
-pub returns-in-Test-clause-stream : goal.returns-in-Test-clause-stream
-returns-in-Test-clause-stream g c = λ asks done tells. rw (c.in-Test.is, ← c.profile_of.ensures) (c.run_test.ensures.stream done tells)
-
-pub returns-in-Test-clause-tested : goal.returns-in-Test-clause-tested
-returns-in-Test-clause-tested g c = λ asks done tells known. rw (c.in-Test.is, ← c.profile_of.ensures) (c.run_test.ensures.tested done tells known)
-
-pub returns-in-Test-clause-decoded : goal.returns-in-Test-clause-decoded
-returns-in-Test-clause-decoded g c = λ asks. absurd (rw c.in-Test.is at asks)
-
-pub returns-in-Test-clause-encoded : goal.returns-in-Test-clause-encoded
-returns-in-Test-clause-encoded g c = λ done known sent. rw c.in-Test.is tt
-
-pub returns-in-Test-clause-accepted : goal.returns-in-Test-clause-accepted
-returns-in-Test-clause-accepted g c = λ done known. rw c.in-Test.is tt
-
-pub returns-in-Test-clause-begun : goal.returns-in-Test-clause-begun
-returns-in-Test-clause-begun g c = λ failed known sent. rw c.in-Test.is tt
-
-pub returns-in-Test-clause-refused : goal.returns-in-Test-clause-refused
-returns-in-Test-clause-refused g c = λ tells served told. rw c.in-Test.is tt
-
-pub returns-in-Test-clause-retagged : goal.returns-in-Test-clause-retagged
-returns-in-Test-clause-retagged g c = λ done known sent. rw c.in-Test.is tt
-
-pub returns-in-Decode-clause-stream : goal.returns-in-Decode-clause-stream
-returns-in-Decode-clause-stream g c = λ asks done tells. rw (c.in-Decode.is, ← c.profile_of-in-Decode.ensures) (c.run_decode.ensures.stream done tells)
-
-pub returns-in-Decode-clause-tested : goal.returns-in-Decode-clause-tested
-returns-in-Decode-clause-tested g c = λ asks. absurd (rw c.in-Decode.is at asks)
-
-pub returns-in-Decode-clause-decoded : goal.returns-in-Decode-clause-decoded
-returns-in-Decode-clause-decoded g c = λ asks done tells known. rw (c.in-Decode.is, ← c.profile_of-in-Decode.ensures) (c.run_decode.ensures.decoded done tells known)
-
-pub returns-in-Decode-clause-encoded : goal.returns-in-Decode-clause-encoded
-returns-in-Decode-clause-encoded g c = λ done known sent. rw c.in-Decode.is tt
-
-pub returns-in-Decode-clause-accepted : goal.returns-in-Decode-clause-accepted
-returns-in-Decode-clause-accepted g c = λ done known. rw c.in-Decode.is tt
-
-pub returns-in-Decode-clause-begun : goal.returns-in-Decode-clause-begun
-returns-in-Decode-clause-begun g c = λ failed known sent. rw c.in-Decode.is tt
-
-pub returns-in-Decode-clause-refused : goal.returns-in-Decode-clause-refused
-returns-in-Decode-clause-refused g c = λ tells served told. rw c.in-Decode.is tt
-
-pub returns-in-Decode-clause-retagged : goal.returns-in-Decode-clause-retagged
-returns-in-Decode-clause-retagged g c = λ done known sent. rw c.in-Decode.is tt
-
-pub returns-in-List-clause-stream : goal.returns-in-List-clause-stream
-returns-in-List-clause-stream g c = λ asks done tells. rw (c.in-List.is, ← c.profile_of-in-List.ensures) (c.run_list.ensures.stream done tells)
-
-pub returns-in-List-clause-tested : goal.returns-in-List-clause-tested
-returns-in-List-clause-tested g c = λ asks. absurd (rw c.in-List.is at asks)
-
-pub returns-in-List-clause-decoded : goal.returns-in-List-clause-decoded
-returns-in-List-clause-decoded g c = λ asks. absurd (rw c.in-List.is at asks)
-
-pub returns-in-List-clause-encoded : goal.returns-in-List-clause-encoded
-returns-in-List-clause-encoded g c = λ done known sent. rw c.in-List.is tt
-
-pub returns-in-List-clause-accepted : goal.returns-in-List-clause-accepted
-returns-in-List-clause-accepted g c = λ done known. rw c.in-List.is tt
-
-pub returns-in-List-clause-begun : goal.returns-in-List-clause-begun
-returns-in-List-clause-begun g c = λ failed known sent. rw c.in-List.is tt
-
-pub returns-in-List-clause-refused : goal.returns-in-List-clause-refused
-returns-in-List-clause-refused g c = λ tells served told. rw c.in-List.is tt
-
-pub returns-in-List-clause-retagged : goal.returns-in-List-clause-retagged
-returns-in-List-clause-retagged g c = λ done known sent. rw c.in-List.is tt
-
-pub returns-in-Retag-clause-stream : goal.returns-in-Retag-clause-stream
-returns-in-Retag-clause-stream g c = λ asks. absurd (rw c.in-Retag.is at asks)
-
-pub returns-in-Retag-clause-tested : goal.returns-in-Retag-clause-tested
-returns-in-Retag-clause-tested g c = λ asks. absurd (rw c.in-Retag.is at asks)
-
-pub returns-in-Retag-clause-decoded : goal.returns-in-Retag-clause-decoded
-returns-in-Retag-clause-decoded g c = λ asks. absurd (rw c.in-Retag.is at asks)
-
-pub returns-in-Retag-clause-encoded : goal.returns-in-Retag-clause-encoded
-returns-in-Retag-clause-encoded g c = λ done known sent. rw c.in-Retag.is tt
-
-pub returns-in-Retag-clause-accepted : goal.returns-in-Retag-clause-accepted
-returns-in-Retag-clause-accepted g c = λ done known. rw c.in-Retag.is tt
-
-pub returns-in-Retag-clause-begun : goal.returns-in-Retag-clause-begun
-returns-in-Retag-clause-begun g c = λ failed known sent. rw c.in-Retag.is tt
-
-pub returns-in-Retag-clause-refused : goal.returns-in-Retag-clause-refused
-returns-in-Retag-clause-refused g c = λ tells served told. rw c.in-Retag.is tt
-
-pub returns-in-Ok-clause-stream : goal.returns-in-Ok-clause-stream
-returns-in-Ok-clause-stream g c = λ asks. absurd (rw c.in-Encode.is at asks)
-
-pub returns-in-Ok-clause-tested : goal.returns-in-Ok-clause-tested
-returns-in-Ok-clause-tested g c = λ asks. absurd (rw c.in-Encode.is at asks)
-
-pub returns-in-Ok-clause-decoded : goal.returns-in-Ok-clause-decoded
-returns-in-Ok-clause-decoded g c = λ asks. absurd (rw c.in-Encode.is at asks)
-
-pub returns-in-Ok-clause-reported : goal.returns-in-Ok-clause-reported
-returns-in-Ok-clause-reported g c = λ tells told. rw c.in-Encode.is tt
-
-pub returns-in-Ok-clause-retagged : goal.returns-in-Ok-clause-retagged
-returns-in-Ok-clause-retagged g c = λ done known sent. rw c.in-Encode.is tt
-
-pub returns-in-Err-clause-stream : goal.returns-in-Err-clause-stream
-returns-in-Err-clause-stream g c = λ asks. absurd (rw c.in-Encode.is at asks)
-
-pub returns-in-Err-clause-tested : goal.returns-in-Err-clause-tested
-returns-in-Err-clause-tested g c = λ asks. absurd (rw c.in-Encode.is at asks)
-
-pub returns-in-Err-clause-decoded : goal.returns-in-Err-clause-decoded
-returns-in-Err-clause-decoded g c = λ asks. absurd (rw c.in-Encode.is at asks)
-
-pub returns-in-Err-clause-reported : goal.returns-in-Err-clause-reported
-returns-in-Err-clause-reported g c = λ tells told. rw c.in-Encode.is tt
-
-pub returns-in-Err-clause-retagged : goal.returns-in-Err-clause-retagged
-returns-in-Err-clause-retagged g c = λ done known sent. rw c.in-Encode.is tt
+pub returns-in-Err : goal.returns-in-Err
+returns-in-Err g c =
+    let e = c.in-Err.ensures in
+    let failed = c.refuse_encoding.ensures in
+    let is = c.in-Encode.is in
+    let asked = asked_is c.args.task.now.job.now c.args.task.now.list.now c.profile_of-in-Encode.result c.as_slice.result.now is c.profile_of-in-Encode.ensures c.as_slice.ensures.value in
+    record {
+      stream = λ asks. absurd (subst AsksStream is asks);
+      tested = λ asks. absurd (subst AsksTest is asks);
+      decoded = λ asks. absurd (subst AsksDecode is asks);
+      encoded = λ done known sent. not_both _ failed.status done;
+      accepted = λ done known. not_both _ failed.status done;
+      begun = λ failed known sent. subst (λ o. HasBegun o (g.R.Source.coming c.args.source.now) (bits_of (g.W.Target.sent c.args.target.now)) (bits_of (g.W.Target.sent c.encode_raw.new.target))) (sym asked) (e.begun known sent);
+      refused = λ tells served told. subst (λ o. Reports o (g.R.Source.coming c.args.source.now) (files_of c.args.task.now.job.now) c.refuse_encoding.result (g.E.Target.sent c.args.err.now) (g.E.Target.sent c.refuse_encoding.new.err)) (sym asked)
+          (reported _ (g.R.Source.coming c.args.source.now) _ c.in-Err.refusal _ _ _ failed.status (failed.line told.0 told.1) (λ is. rose _ _ (e.failed is served.0) served.1) (e.refused tells.0 tells.2));
+      retagged = λ done known sent. subst (λ j. HasRetagged j (g.R.Source.coming c.args.source.now) (g.R.Source.behind c.args.source.now) (bits_of (g.W.Target.sent c.args.target.now)) (bits_of (g.W.Target.sent c.encode_raw.new.target))) (sym is) tt;
+      status = at_most_one _ failed.status;
+      reported = λ tells told. subst (λ j. ReportsInput j (g.R.Source.coming c.args.source.now) (g.R.Source.behind c.args.source.now) (Serves g.W.Target c.args.target.now c.encode_raw.new.target) (Serves g.O.Target c.args.out.now c.args.out.now) c.refuse_encoding.result (g.E.Target.sent c.args.err.now) (g.E.Target.sent c.refuse_encoding.new.err)) (sym is) tt;
+    }

@@ -1,9 +1,10 @@
-use Rattle.std.proofs.Common.{rules, ◌≡◌, ◌*◌, ℤ, List, Option, [], Result, Ok, length, arith, sym, ◌∙◌, cond, Some, None, ap, subst, true, false, Bool, All, ◌≤◌}
+use Rattle.std.proofs.Common.{◌≡◌, ◌+◌, ◌*◌, ◌<◌, ℕ, Fits, w32, w64, ℤ, List, Option, [], Result, Ok, length, arith, sym, ◌∙◌, cond, Some, None, ap, subst, true, false, Bool, All, ◌≤◌}
 use Rattle.flac_bits.specs.State.{Cursor}
 use Rattle.flac_bits.specs.Layout.{run, Reason}
 use Rattle.flac_bits.proofs.Counting.{gone, failed_then}
 use Rattle.flac_bits.proofs.Telling.{gone_fault}
 use Rattle.std.proofs.lemmas.List.{take_all}
+use Rattle.std.proofs.lemmas.Nat.{mul-le}
 use Rattle.std.proofs.lemmas.Result.{err_from_is_err_and}
 use Rattle.flac_bits.specs.Signed.{FitsBits}
 use Rattle.flac_header.specs.Assignment.{code_of}
@@ -20,22 +21,62 @@ never : {P : Type 0} (b : Bool) → b ≡ false → b ≡ true → P
 never true e f = absurd cc
 never false e f = absurd cc
 
+-- the bits that can still come
+no_more : (new old : ℕ) → new ≤ old → new + 0 ≤ old
+no_more new old le = omega arith
+
+still : (next now old : ℕ) → next + 8 ≤ now → now ≤ old → next ≤ old
+still next now old p q = omega arith
+
+-- where a channel begins, and where it ends
+start_fits : (i c n : ℕ) → i < c → c ≤ 8 → n ≤ 65535 → Fits w64 (i * n)
+start_fits i c n lt few small = let le : i ≤ 8 = omega arith in omega (arith, mul-le i n 8 65535 le small)
+
+end_fits : (i c n : ℕ) → i < c → c ≤ 8 → n ≤ 65535 → Fits w64 (i * n + n)
+end_fits i c n lt few small = let le : i ≤ 8 = omega arith in omega (arith, mul-le i n 8 65535 le small)
+
+-- the depth of a channel
+deep_fits : (n bit : ℕ) → n ≤ 32 → bit ≤ 1 → Fits w32 (n + bit)
+deep_fits n bit few one = omega arith
+
+deep_33 : (n bit : ℕ) → 1 ≤ n → n ≤ 32 → bit ≤ 1 → (1 ≤ n + bit) × (n + bit ≤ 33)
+deep_33 n bit some few one = (omega arith, omega arith)
+
+-- the loop is over
+all_of : (i n : ℕ) → n ≤ i → i ≤ n → i ≡ n
+all_of i n p q = omega arith
+
+as_long : (n m : ℕ) → n ≡ m → n ≤ m
+as_long n m is = omega arith
+
+pub overflow_mul-start : goal.overflow_mul-start
+overflow_mul-start g c = let s = c.args.shape.now in start_fits c.loop-channel.channel s.channels s.block c.loop-channel-test.true s.few s.sized.1
+
+pub overflow_add-own : goal.overflow_add-own
+overflow_add-own g c = let s = c.args.shape.now in end_fits c.loop-channel.channel s.channels s.block c.loop-channel-test.true s.few s.sized.1
+
+pub overflow_add-shape : goal.overflow_add-shape
+overflow_add-shape g c = deep_fits _ _ c.args.shape.now.deep.1 c.side_bit.ensures.small
+
+pub subframe_here-requires-clause-depth : goal.subframe_here-requires-clause-depth
+subframe_here-requires-clause-depth g c = let deep = c.args.shape.now.deep in deep_33 _ _ deep.0 deep.1 c.side_bit.ensures.small
+
 pub returns-clause-reading : goal.returns-clause-reading
 returns-clause-reading g c = record {
-  spends = search rules;
+  spends = no_more _ _ c.loop-channel.invariant.0;
   counts = gone c.loop-channel.invariant.2;
-  memory = search rules;
+  memory = tt;
   reads = (λ known same.
       let l = c.loop-channel in
-      let e : l.channel ≡ c.args.shape.now.channels = omega (arith, c.loop-channel-test.false, l.auto.channel-end) in
-      sym (l.invariant.2.reads known) ∙ subframes_over c.args.shape.now.depth (code_of c.args.assignment) c.args.shape.now.block c.args.shape.now.limits (cond l.fits (Some (chunks l.channel c.args.shape.now.block l.samples)) None) l.channel c.args.shape.now.channels l.bits.cursor (omega (arith, c.loop-channel-test.false))
+      let e : l.channel ≡ c.args.shape.now.channels = all_of _ _ c.loop-channel-test.false l.auto.channel-end in
+      sym (l.invariant.2.reads known) ∙ subframes_over c.args.shape.now.depth (code_of c.args.assignment) c.args.shape.now.block c.args.shape.now.limits (cond l.fits (Some (chunks l.channel c.args.shape.now.block l.samples)) None) l.channel c.args.shape.now.channels l.bits.cursor c.loop-channel-test.false
       ∙ ap (λ k. okay (cond l.fits (Some (chunks k c.args.shape.now.block l.samples)) None, l.bits.cursor)) e);
 }
 
 pub loop-channel-preserved : goal.loop-channel-preserved
 loop-channel-preserved g c =
     let l = c.loop-channel in
-    let long : length l.samples ≡ c.args.shape.now.channels * c.args.shape.now.block = omega (arith, l.auto.samples, c.requires.places) in
+    let long : length l.samples ≡ c.args.shape.now.channels * c.args.shape.now.block = l.auto.samples ∙ c.requires.places in
     let own : length c.subframe_here.new.samples ≡ c.args.shape.now.block = omega (arith, c.subframe_here.auto.samples) in
     let next = turn c.args.bits.now l.bits c.subframe_here.new.bits c.args.shape.now.depth (code_of c.args.assignment) c.args.shape.now.block c.args.shape.now.limits l.fits c.in_ok-subframe_here.field-0 c.if-not-branch.fits l.channel c.args.shape.now.channels l.samples c.subframe_here.new.samples
     (run (subframes c.args.shape.now.depth (code_of c.args.assignment) c.args.shape.now.block c.args.shape.now.limits (Some []) 0 c.args.shape.now.channels) c.args.bits.now.cursor) l.invariant.2 c.loop-channel-test.true long own in
@@ -43,12 +84,12 @@ loop-channel-preserved g c =
     let within : l.channel * c.args.shape.now.block ≤ length l.samples = omega (arith, long, part_ends l.channel c.args.shape.now.channels c.args.shape.now.block c.loop-channel-test.true) in
     elim c.if-not-branch.branch [
       | then-not-branch w ↦ (
-        omega (arith, c.in_ok-subframe_here.ensures.reading.spends, l.invariant.0),
+        still _ _ _ c.in_ok-subframe_here.ensures.reading.spends l.invariant.0,
         λ yes. never c.if-not-branch.fits w.fits-is yes,
         next (both_false l.fits c.if-not-branch.fits c.in_ok-subframe_here.field-0 w.fits-is w.if-not-branch.true) c.in_ok-subframe_here.ensures.reading.counts reads,
       )
       | else-not-branch w ↦ (
-        omega (arith, c.in_ok-subframe_here.ensures.reading.spends, l.invariant.0),
+        still _ _ _ c.in_ok-subframe_here.ensures.reading.spends l.invariant.0,
         λ yes. all_more (FitsBits 34) l.channel c.args.shape.now.block l.samples c.subframe_here.new.samples within own (l.invariant.1 (sym w.fits-is ∙ yes)) (c.in_ok-subframe_here.ensures.small w.if-not-branch.false),
         next (both_true l.fits c.if-not-branch.fits c.in_ok-subframe_here.field-0 w.fits-is w.if-not-branch.false) c.in_ok-subframe_here.ensures.reading.counts reads,
       )
@@ -57,20 +98,24 @@ loop-channel-preserved g c =
 pub returns-clause-small : goal.returns-clause-small
 returns-clause-small g c = λ yes.
     let l = c.loop-channel in
-    let e : l.channel ≡ c.args.shape.now.channels = omega (arith, c.loop-channel-test.false, l.auto.channel-end) in
-    let long : length l.samples ≡ c.args.shape.now.channels * c.args.shape.now.block = omega (arith, l.auto.samples, c.requires.places) in
+    let e : l.channel ≡ c.args.shape.now.channels = all_of _ _ c.loop-channel-test.false l.auto.channel-end in
+    let long : length l.samples ≡ c.args.shape.now.channels * c.args.shape.now.block = l.auto.samples ∙ c.requires.places in
     let all : length l.samples ≡ l.channel * c.args.shape.now.block = long ∙ ap (λ k. k * c.args.shape.now.block) (sym e) in
-    subst (All (FitsBits 34)) (take_all (l.channel * c.args.shape.now.block) l.samples (omega (arith, all))) (l.invariant.1 yes)
+    subst (All (FitsBits 34)) (take_all (l.channel * c.args.shape.now.block) l.samples (as_long _ _ all)) (l.invariant.1 yes)
 
-pub returns-in_err-subframe_here-clause-reading : goal.returns-in_err-subframe_here-clause-reading
-returns-in_err-subframe_here-clause-reading g c = record {
-  spends = search rules;
-  counts = (let p = err_from_is_err_and c.from_residual.result c.from_residual.ensures.1 in
-      rw (p.1, p.2) (failed_then c.args.bits.now c.loop-channel.bits c.subframe_here.new.bits (gone c.loop-channel.invariant.2) c.in_err-subframe_here.ensures.reading.counts));
-  memory = search rules;
-  reads = (let p = err_from_is_err_and c.from_residual.result c.from_residual.ensures.1 in
-      let l = c.loop-channel in
-      let reads = rw c.side_bit.ensures.bit at c.in_err-subframe_here.ensures.reading.reads in
-      rw (p.1, p.2) (gone_fault c.args.bits.now l.bits c.subframe_here.new.bits _ l.invariant.2
-      (subframes_more c.args.shape.now.depth (code_of c.args.assignment) c.args.shape.now.block c.args.shape.now.limits (cond l.fits (Some (chunks l.channel c.args.shape.now.block l.samples)) None) l.channel c.args.shape.now.channels l.bits.cursor c.loop-channel-test.true) reads));
-}
+pub returns-in_err-subframe_here : goal.returns-in_err-subframe_here
+returns-in_err-subframe_here g c =
+    let p = err_from_is_err_and c.from_residual.result c.from_residual.ensures.1 in
+    let l = c.loop-channel in
+    let told = c.in_err-subframe_here.ensures.reading in
+    let reads = rw c.side_bit.ensures.bit at told.reads in
+    rw (p.1, p.2) (record {
+      small = tt;
+      reading = record {
+        spends = tt;
+        counts = failed_then c.args.bits.now l.bits c.subframe_here.new.bits (gone l.invariant.2) told.counts;
+        memory = told.memory;
+        reads = gone_fault c.args.bits.now l.bits c.subframe_here.new.bits _ l.invariant.2
+            (subframes_more c.args.shape.now.depth (code_of c.args.assignment) c.args.shape.now.block c.args.shape.now.limits (cond l.fits (Some (chunks l.channel c.args.shape.now.block l.samples)) None) l.channel c.args.shape.now.channels l.bits.cursor c.loop-channel-test.true) reads;
+      };
+    })

@@ -1,4 +1,4 @@
-use Rattle.std.proofs.Common.{List, ◌≡◌, ◌∙◌, ◌-◌, refl, sym, ap, subst, length, flat_map, ℕ, arith}
+use Rattle.std.proofs.Common.{List, ◌≡◌, ◌∙◌, ◌≤◌, ◌-◌, refl, sym, ap, subst, length, flat_map, ℕ, arith}
 use Rattle.std.proofs.lemmas.List.{with_items_is}
 use Rattle.std.specs.Vec.{with_items}
 use Rattle.flac_subframe.specs.Spelling.{subframe_spelling}
@@ -9,6 +9,26 @@ use Rattle.flac_frame.specs.Encoding.{block_of, partition_limit}
 use Rattle.flac_frame.specs.declared.frame_choice.FrameChoice.{FrameChoice}
 use Rattle.flac_frame.proofs.Frames.{many_channels, apart_choice}
 use Rattle.flac_frame.proofs.encode.choose_apart.Goals as goal
+
+pub choose_channels-choice-requires : goal.choose_channels-choice-requires
+choose_channels-choice-requires c =
+    let places = sym c.deref_mut.ensures.value in
+    record {
+      size = c.requires.size;
+      block = c.requires.block;
+      partition = c.requires.partition;
+      orders = c.requires.orders;
+      choices = subst (λ (l : List WideChoice). length c.args.subject.now.audio.now.channels ≤ length l) places c.requires.choices.many;
+      wide = subst (λ (l : List WideChoice). AllWide c.args.workspace.now.most l) places c.requires.choices.wide;
+    }
+
+pub returns-clause-many : goal.returns-clause-many
+returns-clause-many c =
+    let kept = c.choose_channels-choice.auto.subframes ∙ ap length c.deref_mut.ensures.value in
+    ap length (with_items_is c.args.choice.now.subframes c.choose_channels-choice.new.subframes (kept ∙ sym c.args.choice.now.subframes.ok.0)) ∙ kept
+
+pub returns-clause-room : goal.returns-clause-room
+returns-clause-room c = c.choose_channels-choice.ensures.room
 
 pub returns-clause-chosen : goal.returns-clause-chosen
 returns-clause-chosen c =
@@ -33,6 +53,6 @@ returns-clause-choices c =
     let long : length k.new.subframes ≡ c.args.choice.now.subframes.len = k.auto.subframes ∙ ap length c.deref_mut.ensures.value ∙ sym c.args.choice.now.subframes.ok.0 in
     let back : made.subframes.items ≡ k.new.subframes = with_items_is c.args.choice.now.subframes k.new.subframes long in
     record {
-      many = omega (arith, c.requires.choices.many, ap length back, k.auto.subframes, ap length c.deref_mut.ensures.value);
+      many = subst (λ n. length c.args.subject.now.audio.now.channels ≤ n) (sym (ap length back ∙ k.auto.subframes ∙ ap length c.deref_mut.ensures.value)) c.requires.choices.many;
       wide = subst (λ (l : List WideChoice). AllWide c.args.workspace.now.most l) (sym back) k.ensures.wide;
     }

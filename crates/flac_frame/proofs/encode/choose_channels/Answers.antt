@@ -1,8 +1,10 @@
-use Rattle.std.proofs.Common.{◌≡◌, ◌∙◌, refl, ap, sym, subst, ◌+◌, ◌*◌, ◌++◌, ◌≤◌, ◌<◌, length, take, drop, map, set, get_or, flat_map, All, [], ◌∷◌, List, ℤ, ℕ, vec_len, ◌^◌, arith}
+use Rattle.std.proofs.Common.{◌≡◌, ◌∙◌, refl, ap, sym, subst, ◌+◌, ◌*◌, ◌++◌, ◌≤◌, ◌<◌, length, take, drop, map, set, get_or, flat_map, All, [], ◌∷◌, List, ℤ, ℕ, vec_len, ◌^◌, Fits, w64, arith}
 use Rattle.std.proofs.lemmas.List.{length-map, length-take-le, take_all}
 use Rattle.std.proofs.lemmas.List.Elements.{All-set}
 use Rattle.std.proofs.lemmas.Nat.{mul-le}
+use borrow.Author.Count.{falls}
 use Rattle.flac_bits.specs.Signed.{FitsBits}
+use Rattle.flac_subframe.specs.Room.{Room}
 use Rattle.flac_subframe.specs.Spelling.{subframe_spelling}
 use Rattle.flac_subframe.specs.declared.wide.WideChoice.{WideChoice}
 use Rattle.flac_frame.specs.Audio.{Sound, IsSound}
@@ -11,45 +13,77 @@ use Rattle.flac_frame.specs.inner.Chosen.{AreChosen}
 use Rattle.flac_frame.specs.Encoding.{block_of, partition_limit}
 use Rattle.flac_frame.proofs.Chosen.{FirstChosen, none_chosen, one_chosen, all_chosen}
 use Rattle.flac_frame.proofs.Encoded.{block_more}
-use Rattle.flac_frame.proofs.Frames.{many_channels, part_small, bits_small}
-use Rattle.flac_frame.proofs.Rooms.{few_of, wide_for, wide_still}
+use Rattle.flac_frame.proofs.Frames.{many_channels, few_channels, part_small, bits_small}
+use Rattle.flac_frame.proofs.Rooms.{below_33, as_few, few_of, room_for, some_of, in_reach, wide_for, wide_still}
 use Rattle.flac_frame.proofs.Short.{one_short}
 use Rattle.flac_frame.proofs.Sounds.{limit_few}
 use Rattle.flac_frame.proofs.encode.choose_channels.Goals as goal
 
 -- channel i is one of the samples' channels
 in_range : {V : Type 0} (items : V → List ℤ) (xs : List V) (a : Sound) → IsSound a → map items xs ≡ a.channels → (i : ℕ) → i < length xs → i < length a.channels
-in_range items xs a good are i lt = omega (arith, lt, many_channels items xs a good are)
+in_range items xs a good are i lt = subst (λ n. i < n) (many_channels items xs a good are) lt
 
-pub part-requires-clause-channel : goal.part-requires-clause-channel
-part-requires-clause-channel c =
+-- how many bits the subframes so far take at most
+none_more : 0 ≤ 0 * 2097160
+none_more = omega arith
+
+one_at_least : (n : ℕ) → 0 < n → 1 ≤ n
+one_at_least n some = omega arith
+
+below : (i n : ℕ) → i < n → i ≤ n
+below i n lt = omega arith
+
+more_bits : (bits more i : ℕ) → bits ≤ i * 2097160 → more ≤ 2097160 → bits + more ≤ (i + 1) * 2097160
+more_bits bits more i few one = omega arith
+
+sum_fits : (bits more own i n : ℕ) → bits ≤ i * 2097160 → more ≡ own → own ≤ 2 ^ 61 → i < n → n ≤ 8 → Fits w64 (bits + more)
+sum_fits bits more own i n few is small lt many = omega arith
+
+pub bounds-subframes-i : goal.bounds-subframes-i
+bounds-subframes-i c =
     let e = c.channels-channels.ensures in
-    in_range (λ v. v.items) c.channels-channels.result.now c.args.subject.now.audio.now e.sound e.items c.loop-i.i c.loop-i-test.true
+    in_reach _ _ _ _ _ c.loop-i-test.true (many_channels (λ v. v.items) c.channels-channels.result.now c.args.subject.now.audio.now e.sound e.items) c.requires.choices c.loop-i.auto.subframes
 
-pub choose_plane-requires-clause-depth : goal.choose_plane-requires-clause-depth
-choose_plane-requires-clause-depth c =
-    let deep = bits_small c.args.subject.now.audio.now c.channels-channels.ensures.sound c.bits-depth.result c.bits-depth.ensures in
-    (deep.0, few_of c.bits-depth.result 32 33 deep.1 (omega arith))
-
-pub choose_plane-requires-clause-fits : goal.choose_plane-requires-clause-fits
-choose_plane-requires-clause-fits c =
+pub part-requires : goal.part-requires
+part-requires c =
     let e = c.channels-channels.ensures in
     let s = c.args.subject.now in
-    let lt = in_range (λ v. v.items) c.channels-channels.result.now s.audio.now e.sound e.items c.loop-i.i c.loop-i-test.true in
-    subst (All (FitsBits c.bits-depth.result)) (sym (c.widen.ensures ∙ c.part.ensures.part)) (part_small s.audio.now e.sound s.start s.size c.loop-i.i c.bits-depth.result c.bits-depth.ensures lt)
+    record { channel = in_range (λ v. v.items) c.channels-channels.result.now s.audio.now e.sound e.items c.loop-i.i c.loop-i-test.true; within = s.within }
 
-pub choose_plane-requires-clause-places : goal.choose_plane-requires-clause-places
-choose_plane-requires-clause-places c =
-    let a = c.args.subject.now.audio.now in
-    let many = length-map c.channels-channels.result.now (λ v. v.items) in
-    let same = ap (λ (l : List (List ℤ)). length l) c.channels-channels.ensures.items in
-    let lt : c.loop-i.i < length c.loop-i.subframes = omega (arith, c.loop-i-test.true, c.requires.choices, c.loop-i.auto.subframes, many, same) in
-    wide_for (partition_limit a) c.args.workspace.now.most _ c.requires.partition (c.loop-i.invariant.wide c.loop-i.i c.index-subframes-i.result lt)
+pub widen-requires : goal.widen-requires
+widen-requires c = c.loop-i.auto.samples ∙ c.requires.size ∙ sym c.part.ensures.long
+
+pub overflow_add-bits : goal.overflow_add-bits
+overflow_add-bits c =
+    let e = c.channels-channels.ensures in
+    sum_fits _ _ _ _ _ c.loop-i.invariant.few c.bits-bits.ensures c.choose_plane.ensures.small c.loop-i-test.true (few_channels (λ v. v.items) c.channels-channels.result.now c.args.subject.now.audio.now e.sound e.items).1
+
+pub choose_plane-requires : goal.choose_plane-requires
+choose_plane-requires c =
+    let e = c.channels-channels.ensures in
+    let s = c.args.subject.now in
+    let a = s.audio.now in
+    let deep = bits_small a e.sound c.bits-depth.result c.bits-depth.ensures in
+    let long = c.widen.auto.out ∙ c.loop-i.auto.samples ∙ c.requires.size in
+    let within = in_range (λ v. v.items) c.channels-channels.result.now a e.sound e.items c.loop-i.i c.loop-i-test.true in
+    let lt : c.loop-i.i < length c.loop-i.subframes = in_reach _ _ _ _ _ within refl c.requires.choices c.loop-i.auto.subframes in
+    record {
+      some = some_of _ _ long s.some;
+      block = room_for _ _ _ _ long (ap (λ (r : Room). r.block) c.loop-i.invariant.room) c.requires.block;
+      depth = (deep.0, few_of c.bits-depth.result 32 33 deep.1 below_33);
+      fits = subst (All (FitsBits c.bits-depth.result)) (sym (c.widen.ensures ∙ c.part.ensures.part)) (part_small a e.sound s.start s.size c.loop-i.i c.bits-depth.result c.bits-depth.ensures within);
+      partition = wide_still _ _ _ (ap (λ (r : Room). r.most) c.loop-i.invariant.room) c.requires.partition;
+      places = wide_for (partition_limit a) c.args.workspace.now.most _ c.requires.partition (c.loop-i.invariant.wide c.loop-i.i c.index-subframes-i.result lt);
+      orders = c.requires.orders;
+    }
+
+pub loop-i-smaller : goal.loop-i-smaller
+loop-i-smaller c = falls _ _ c.loop-i-test.true
 
 pub loop-i-init : goal.loop-i-init
 loop-i-init c = record {
   first = none_chosen (partition_limit c.args.subject.now.audio.now) c.args.subject.now.predictors.now c.bits-depth.result c.args.subject.now.size c.args.subframes.now;
-  few = omega arith;
+  few = none_more;
   wide = c.requires.wide;
   room = refl;
 }
@@ -69,7 +103,7 @@ loop-i-preserved c =
     let depth : ℕ = c.bits-depth.result in
     let start : ℕ = c.args.subject.now.start in
     let size : ℕ = c.args.subject.now.size in
-    let some : 1 ≤ size = omega (arith, c.args.subject.now.some) in
+    let some : 1 ≤ size = one_at_least size c.args.subject.now.some in
     let i = c.loop-i.i in
     let s = c.widen.new.out in
     let y = c.choose_plane.new.choice in
@@ -78,19 +112,19 @@ loop-i-preserved c =
     let e = c.choose_plane.ensures in
     let k = e.chosen in
     let block = block_of start size (take i a.channels) in
-    let long : length s ≡ size = omega (arith, c.widen.auto.out, c.loop-i.auto.samples, c.requires.size) in
+    let long : length s ≡ size = c.widen.auto.out ∙ c.loop-i.auto.samples ∙ c.requires.size in
     let within : i < length a.channels = in_range (λ v. v.items) c.channels-channels.result.now a w.sound w.items i c.loop-i-test.true in
-    let lt : i < length c.loop-i.subframes = omega (arith, within, c.requires.choices, c.loop-i.auto.subframes) in
-    let made = one_chosen most ps depth size deep.0 some c.loop-i.subframes i block y s c.loop-i.bits c.bits-bits.result (block_long start size i a.channels (omega (arith, within))) lt c.loop-i.invariant.first
+    let lt : i < length c.loop-i.subframes = in_reach _ _ _ _ _ within refl c.requires.choices c.loop-i.auto.subframes in
+    let made = one_chosen most ps depth size deep.0 some c.loop-i.subframes i block y s c.loop-i.bits c.bits-bits.result (block_long start size i a.channels (below i (length a.channels) within)) lt c.loop-i.invariant.first
     e.made k.valid k.samples k.least (c.bits-bits.ensures ∙ k.cost) long in
     let is : block ++ s ∷ [] ≡ block_of start size (take (i + 1) a.channels) = ap (λ k. block ++ k ∷ []) so ∙ sym (block_more start size a.channels i within) in
     let fits : All (FitsBits depth) s = subst (All (FitsBits depth)) (sym so) (part_small a w.sound start size i depth c.bits-depth.ensures within) in
-    let one = one_short most (limit_few a.profile a.rate) ps depth deep.0 _ s (omega (arith, long, some)) fits k.least in
-    let more : c.bits-bits.result ≤ 2097160 = few_bits depth (length s) c.bits-bits.result deep.1 (omega (arith, long, c.args.subject.now.few)) (omega (arith, c.bits-bits.ensures, k.cost, one)) in
+    let one = one_short most (limit_few a.profile a.rate) ps depth deep.0 _ s (some_of _ _ long some) fits k.least in
+    let more : c.bits-bits.result ≤ 2097160 = few_bits depth (length s) c.bits-bits.result deep.1 (as_few _ _ _ long c.args.subject.now.few) (as_few _ _ _ (c.bits-bits.ensures ∙ k.cost) one) in
     let here : 2 ^ c.args.workspace.now.most ≤ vec_len y.codings = wide_still _ _ _ e.places (c.loop-i.invariant.wide i c.index-subframes-i.result lt) in
     record {
       first = subst (λ b. FirstChosen most ps depth size (set c.loop-i.subframes i y) (i + 1) b (c.loop-i.bits + c.bits-bits.result)) is made;
-      few = omega (arith, c.loop-i.invariant.few, more);
+      few = more_bits _ _ _ c.loop-i.invariant.few more;
       wide = All-set (λ (v : WideChoice). 2 ^ c.args.workspace.now.most ≤ vec_len v.codings) c.loop-i.subframes i y here c.loop-i.invariant.wide;
       room = e.room ∙ c.loop-i.invariant.room;
     }
@@ -106,7 +140,7 @@ returns-clause-chosen c =
     let ps = c.args.subject.now.predictors.now in
     let size : ℕ = c.args.subject.now.size in
     let many = many_channels (λ v. v.items) c.channels-channels.result.now a e.sound e.items in
-    let k = whole c.args.subject.now.start size c.loop-i.i a.channels (omega (arith, c.loop-i-test.false, many)) (omega (arith, many)) in
+    let k = whole c.args.subject.now.start size c.loop-i.i a.channels (subst (λ n. n ≤ c.loop-i.i) many c.loop-i-test.false) (subst (λ n. c.loop-i.i ≤ n) many c.loop-i.auto.i-end) in
     subst (λ d. AreChosen (partition_limit a) ps d size c.loop-i.subframes (block_of c.args.subject.now.start size a.channels)) c.bits-depth.ensures
     (subst (λ b. AreChosen (partition_limit a) ps c.bits-depth.result size c.loop-i.subframes b) k.0 (all_chosen (partition_limit a) ps c.bits-depth.result size c.loop-i.subframes c.loop-i.i _ c.loop-i.bits k.1 c.loop-i.invariant.first).0)
 
@@ -117,6 +151,12 @@ returns-clause-bits c =
     let ps = c.args.subject.now.predictors.now in
     let size : ℕ = c.args.subject.now.size in
     let many = many_channels (λ v. v.items) c.channels-channels.result.now a e.sound e.items in
-    let k = whole c.args.subject.now.start size c.loop-i.i a.channels (omega (arith, c.loop-i-test.false, many)) (omega (arith, many)) in
+    let k = whole c.args.subject.now.start size c.loop-i.i a.channels (subst (λ n. n ≤ c.loop-i.i) many c.loop-i-test.false) (subst (λ n. c.loop-i.i ≤ n) many c.loop-i.auto.i-end) in
     (all_chosen (partition_limit a) ps c.bits-depth.result size c.loop-i.subframes c.loop-i.i _ c.loop-i.bits k.1 c.loop-i.invariant.first).1 ∙ ap (λ b. length (flat_map (subframe_spelling c.bits-depth.result) (forms_of ps c.loop-i.subframes b))) k.0
     ∙ ap (λ d. length (flat_map (subframe_spelling d) (forms_of ps c.loop-i.subframes (block_of c.args.subject.now.start size a.channels)))) c.bits-depth.ensures
+
+pub returns-clause-wide : goal.returns-clause-wide
+returns-clause-wide c = c.loop-i.invariant.wide
+
+pub returns-clause-room : goal.returns-clause-room
+returns-clause-room c = c.loop-i.invariant.room

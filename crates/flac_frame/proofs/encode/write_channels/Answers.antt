@@ -1,45 +1,67 @@
-use Rattle.std.proofs.Common.{◌≡◌, ◌∙◌, ap, sym, subst, ◌+◌, ◌++◌, ◌<◌, length, take, drop, get_or, [], ℕ, All, arith}
+use Rattle.std.proofs.Common.{◌≡◌, ◌∙◌, refl, ap, sym, subst, ◌+◌, ◌++◌, ◌<◌, ◌≤◌, length, take, drop, get_or, [], ℕ, All}
 use Rattle.std.proofs.lemmas.Result.{err_from_is_err_and}
+use borrow.Author.Count.{falls}
 use Rattle.flac_bits.specs.Signed.{FitsBits}
 use Rattle.flac_bits.specs.Written.{Adds, Fails, Writes}
-use Rattle.flac_bits.proofs.Writing.{towards_more, towards_fail}
+use Rattle.flac_bits.proofs.Writing.{towards_start, towards_more, towards_fail, towards_end}
 use Rattle.flac_subframe.specs.Family.{IsMadeIn, form_in}
+use Rattle.flac_subframe.specs.Room.{Room}
 use Rattle.flac_subframe.specs.Spelling.{subframe_spelling}
-use Rattle.flac_frame.proofs.Chosen.{made_next, text_next, text_behind, texts_same}
+use Rattle.flac_frame.specs.Chosen.{AreMade}
+use Rattle.flac_frame.specs.Encoding.{block_of}
+use Rattle.flac_frame.proofs.Chosen.{made_next, text_next, text_behind, text_last, texts_same}
 use Rattle.flac_frame.proofs.Encoded.{failed}
 use Rattle.flac_frame.proofs.Frames.{many_channels, part_small, bits_small}
-use Rattle.flac_frame.proofs.Rooms.{few_of}
+use Rattle.flac_frame.proofs.Rooms.{below_33, few_of, room_for, some_of, in_reach}
 use Rattle.flac_frame.proofs.encode.write_channels.Goals as goal
 
-pub part-requires-clause-channel : goal.part-requires-clause-channel
-part-requires-clause-channel g c =
+pub loop-i-init : goal.loop-i-init
+loop-i-init g c =
+    let s = c.args.subject.now in
+    record {
+      made = subst (λ l. AreMade s.predictors.now l (block_of s.start s.size s.audio.now.channels)) (sym c.as_slice-subframes.ensures.value) c.requires.made;
+      towards = towards_start _ _;
+      room = refl;
+    }
+
+pub bounds-subframes-i : goal.bounds-subframes-i
+bounds-subframes-i g c =
     let e = c.channels-channels.ensures in
-    omega (arith, c.loop-i-test.true, many_channels (λ v. v.items) c.channels-channels.result.now c.args.subject.now.audio.now e.sound e.items)
+    in_reach _ _ _ _ _ c.loop-i-test.true (many_channels (λ v. v.items) c.channels-channels.result.now c.args.subject.now.audio.now e.sound e.items) c.requires.choices (ap length c.as_slice-subframes.ensures.value)
 
-pub write_subframe_in-requires-clause-depth : goal.write_subframe_in-requires-clause-depth
-write_subframe_in-requires-clause-depth g c =
-    let deep = bits_small c.args.subject.now.audio.now c.channels-channels.ensures.sound c.bits-depth.result c.bits-depth.ensures in
-    (deep.0, few_of c.bits-depth.result 32 33 deep.1 (omega arith))
-
-pub write_subframe_in-requires-clause-fits : goal.write_subframe_in-requires-clause-fits
-write_subframe_in-requires-clause-fits g c =
+pub part-requires : goal.part-requires
+part-requires g c =
     let e = c.channels-channels.ensures in
     let s = c.args.subject.now in
-    let lt : c.loop-i.i < length s.audio.now.channels = omega (arith, c.loop-i-test.true, many_channels (λ v. v.items) c.channels-channels.result.now s.audio.now e.sound e.items) in
-    subst (All (FitsBits c.bits-depth.result)) (sym (c.widen.ensures ∙ c.part.ensures.part)) (part_small s.audio.now e.sound s.start s.size c.loop-i.i c.bits-depth.result c.bits-depth.ensures lt)
+    record { channel = subst (λ n. c.loop-i.i < n) (many_channels (λ v. v.items) c.channels-channels.result.now s.audio.now e.sound e.items) c.loop-i-test.true; within = s.within }
 
-pub write_subframe_in-requires-clause-made : goal.write_subframe_in-requires-clause-made
-write_subframe_in-requires-clause-made g c =
+pub widen-requires : goal.widen-requires
+widen-requires g c = c.loop-i.auto.samples ∙ c.requires.size ∙ sym c.part.ensures.long
+
+pub write_subframe_in-requires : goal.write_subframe_in-requires
+write_subframe_in-requires g c =
     let e = c.channels-channels.ensures in
     let s = c.args.subject.now in
     let cs = c.as_slice-subframes.result.now in
-    let lt : c.loop-i.i < length s.audio.now.channels = omega (arith, c.loop-i-test.true, many_channels (λ v. v.items) c.channels-channels.result.now s.audio.now e.sound e.items) in
-    let few : c.loop-i.i < length cs = omega (arith, lt, c.requires.choices, ap length c.as_slice-subframes.ensures.value) in
+    let deep = bits_small s.audio.now e.sound c.bits-depth.result c.bits-depth.ensures in
+    let long = c.widen.auto.out ∙ c.loop-i.auto.samples ∙ c.requires.size in
+    let so = sym (c.widen.ensures ∙ c.part.ensures.part) in
+    let lt : c.loop-i.i < length s.audio.now.channels = subst (λ n. c.loop-i.i < n) (many_channels (λ v. v.items) c.channels-channels.result.now s.audio.now e.sound e.items) c.loop-i-test.true in
+    let few : c.loop-i.i < length cs = in_reach _ _ _ _ _ lt refl c.requires.choices (ap length c.as_slice-subframes.ensures.value) in
     let next = made_next s.predictors.now c.bits-depth.result s.start s.size cs s.audio.now.channels c.loop-i.i c.index-subframes-i.result few lt c.index-subframes-i.is c.loop-i.invariant.made in
-    subst (IsMadeIn s.predictors.now c.index-subframes-i.result) (sym (c.widen.ensures ∙ c.part.ensures.part)) next.0
+    record {
+      some = some_of _ _ long s.some;
+      block = room_for _ _ _ _ long (ap (λ (r : Room). r.block) c.loop-i.invariant.room) c.requires.block;
+      depth = (deep.0, few_of c.bits-depth.result 32 33 deep.1 below_33);
+      fits = subst (All (FitsBits c.bits-depth.result)) so (part_small s.audio.now e.sound s.start s.size c.loop-i.i c.bits-depth.result c.bits-depth.ensures lt);
+      made = subst (IsMadeIn s.predictors.now c.index-subframes-i.result) so next.0;
+    }
 
-pub returns-in_err-write_subframe_in-clause-text : goal.returns-in_err-write_subframe_in-clause-text
-returns-in_err-write_subframe_in-clause-text g c =
+pub loop-i-smaller : goal.loop-i-smaller
+loop-i-smaller g c = falls _ _ c.loop-i-test.true
+
+pub returns-in_err-write_subframe_in : goal.returns-in_err-write_subframe_in
+returns-in_err-write_subframe_in g c =
     let p = err_from_is_err_and c.from_residual.result c.from_residual.ensures.1 in
     let e = c.channels-channels.ensures in
     let s = c.args.subject.now in
@@ -47,12 +69,15 @@ returns-in_err-write_subframe_in-clause-text g c =
     let depth : ℕ = c.bits-depth.result in
     let cs = c.as_slice-subframes.result.now in
     let so : c.widen.new.out ≡ take s.size (drop s.start (get_or a.channels c.loop-i.i [])) = c.widen.ensures ∙ c.part.ensures.part in
-    let lt : c.loop-i.i < length a.channels = omega (arith, c.loop-i-test.true, many_channels (λ v. v.items) c.channels-channels.result.now a e.sound e.items) in
-    let few : c.loop-i.i < length cs = omega (arith, lt, c.requires.choices, ap length c.as_slice-subframes.ensures.value) in
+    let lt : c.loop-i.i < length a.channels = subst (λ n. c.loop-i.i < n) (many_channels (λ v. v.items) c.channels-channels.result.now a e.sound e.items) c.loop-i-test.true in
+    let few : c.loop-i.i < length cs = in_reach _ _ _ _ _ lt refl c.requires.choices (ap length c.as_slice-subframes.ensures.value) in
     let text = text_next s.predictors.now depth s.start s.size cs a.channels c.loop-i.i c.index-subframes-i.result few lt c.index-subframes-i.is in
     let fails = towards_fail _ _ text c.loop-i.invariant.towards (subst (λ t. Fails (c.loop-i.writer.bits ++ subframe_spelling depth (form_in s.predictors.now c.index-subframes-i.result t)) c.loop-i.writer c.write_subframe_in.new.writer c.in_err-write_subframe_in.field-0.0) so c.in_err-write_subframe_in.ensures.text) in
-    rw (p.1, p.2) (subst (λ t. Writes t c.args.writer.now c.write_subframe_in.new.writer (failed c.in_err-write_subframe_in.field-0.0))
-    (texts_same s.predictors.now depth a.bits s.start s.size cs c.args.choice.now.subframes.items a.channels c.bits-depth.ensures c.as_slice-subframes.ensures.value) fails)
+    rw (p.1, p.2) (record {
+      text = subst (λ t. Writes t c.args.writer.now c.write_subframe_in.new.writer (failed c.in_err-write_subframe_in.field-0.0))
+          (texts_same s.predictors.now depth a.bits s.start s.size cs c.args.choice.now.subframes.items a.channels c.bits-depth.ensures c.as_slice-subframes.ensures.value) fails;
+      room = c.in_err-write_subframe_in.ensures.room ∙ c.loop-i.invariant.room;
+    })
 
 pub loop-i-preserved : goal.loop-i-preserved
 loop-i-preserved g c =
@@ -62,8 +87,8 @@ loop-i-preserved g c =
     let depth : ℕ = c.bits-depth.result in
     let cs = c.as_slice-subframes.result.now in
     let so : c.widen.new.out ≡ take s.size (drop s.start (get_or a.channels c.loop-i.i [])) = c.widen.ensures ∙ c.part.ensures.part in
-    let lt : c.loop-i.i < length a.channels = omega (arith, c.loop-i-test.true, many_channels (λ v. v.items) c.channels-channels.result.now a e.sound e.items) in
-    let few : c.loop-i.i < length cs = omega (arith, lt, c.requires.choices, ap length c.as_slice-subframes.ensures.value) in
+    let lt : c.loop-i.i < length a.channels = subst (λ n. c.loop-i.i < n) (many_channels (λ v. v.items) c.channels-channels.result.now a e.sound e.items) c.loop-i-test.true in
+    let few : c.loop-i.i < length cs = in_reach _ _ _ _ _ lt refl c.requires.choices (ap length c.as_slice-subframes.ensures.value) in
     let next = made_next s.predictors.now depth s.start s.size cs a.channels c.loop-i.i c.index-subframes-i.result few lt c.index-subframes-i.is c.loop-i.invariant.made in
     let text = text_next s.predictors.now depth s.start s.size cs a.channels c.loop-i.i c.index-subframes-i.result few lt c.index-subframes-i.is in
     record {
@@ -71,4 +96,18 @@ loop-i-preserved g c =
       towards = towards_more (text_behind s.predictors.now depth s.start s.size cs a.channels (c.loop-i.i + 1)) text c.loop-i.invariant.towards
           (subst (λ t. Adds (subframe_spelling depth (form_in s.predictors.now c.index-subframes-i.result t)) c.loop-i.writer c.write_subframe_in.new.writer) so c.in_ok-write_subframe_in.ensures.text);
       room = c.in_ok-write_subframe_in.ensures.room ∙ c.loop-i.invariant.room;
+    }
+
+pub returns : goal.returns
+returns g c =
+    let e = c.channels-channels.ensures in
+    let s = c.args.subject.now in
+    let a = s.audio.now in
+    let depth : ℕ = c.bits-depth.result in
+    let cs = c.as_slice-subframes.result.now in
+    let over = subst (λ n. n ≤ c.loop-i.i) (many_channels (λ v. v.items) c.channels-channels.result.now a e.sound e.items) c.loop-i-test.false in
+    record {
+      text = subst (λ t. Adds t c.args.writer.now c.loop-i.writer) (texts_same s.predictors.now depth a.bits s.start s.size cs c.args.choice.now.subframes.items a.channels c.bits-depth.ensures c.as_slice-subframes.ensures.value)
+          (towards_end (text_last s.predictors.now depth s.start s.size cs a.channels c.loop-i.i over) c.loop-i.invariant.towards);
+      room = c.loop-i.invariant.room;
     }

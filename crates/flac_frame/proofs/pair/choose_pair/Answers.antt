@@ -1,16 +1,72 @@
-use Rattle.std.proofs.Common.{List, [], ◌∷◌, ◌≡◌, ◌∙◌, sym, ap, subst, length, ℕ, All, arith}
-use Rattle.std.proofs.lemmas.List.{with_items_is}
+use Rattle.std.proofs.Common.{List, [], ◌∷◌, ◌≡◌, ◌∙◌, ◌+◌, ◌*◌, ◌≤◌, sym, ap, subst, length, ℕ, All, arith}
+use Rattle.std.proofs.lemmas.List.{with_items_is, length-take-le}
 use Rattle.std.specs.Vec.{with_items}
 use Rattle.flac_bits.specs.Signed.{FitsBits}
 use Rattle.flac_subframe.specs.declared.wide.WideChoice.{WideChoice}
 use Rattle.flac_frame.specs.declared.frame_choice.FrameChoice.{FrameChoice}
 use Rattle.flac_header.specs.Assignment.{code_of}
+use Rattle.flac_frame.specs.Audio.{samples_each}
 use Rattle.flac_frame.specs.Chosen.{AllWide}
 use Rattle.flac_frame.specs.Encoding.{block_of, partition_limit}
 use Rattle.flac_frame.specs.inner.Pair.{ArePlanes}
 use Rattle.flac_frame.proofs.PairLeast.{pair_choice}
+use Rattle.flac_frame.proofs.Rooms.{as_few, quarter}
 use Rattle.flac_frame.proofs.Sounds.{depth_small}
 use Rattle.flac_frame.proofs.pair.choose_pair.Goals as goal
+
+-- the parts that the places are split into
+second_room : (n all a : ℕ) → 4 * n ≤ all → a + n ≡ all → n ≤ a
+second_room n all a room first = omega arith
+
+third_room : (n all a b : ℕ) → 4 * n ≤ all → a + n ≡ all → b + n ≡ a → n ≤ b
+third_room n all a b room first second = omega arith
+
+fourth_room : (n all a b d : ℕ) → 4 * n ≤ all → a + n ≡ all → b + n ≡ a → d + n ≡ b → n ≤ d
+fourth_room n all a b d room first second third = omega arith
+
+pub split_at_mut-left-requires : goal.split_at_mut-left-requires
+split_at_mut-left-requires c = quarter _ _ c.requires.places
+
+pub split_at_mut-right-requires : goal.split_at_mut-right-requires
+split_at_mut-right-requires c = second_room _ _ _ c.requires.places c.split_at_mut-left.ensures.back_len
+
+pub split_at_mut-side-requires : goal.split_at_mut-side-requires
+split_at_mut-side-requires c = third_room _ _ _ _ c.requires.places c.split_at_mut-left.ensures.back_len c.split_at_mut-right.ensures.back_len
+
+pub split_pair-requires : goal.split_pair-requires
+split_pair-requires c =
+    let s = c.args.subject.now in
+    let first = c.split_at_mut-left.ensures.front_len in
+    let room = fourth_room s.size _ _ _ _ c.requires.places c.split_at_mut-left.ensures.back_len c.split_at_mut-right.ensures.back_len c.split_at_mut-side.ensures.back_len in
+    record {
+      two = c.requires.two;
+      within = subst (λ n. s.start + n ≤ samples_each s.audio.now.channels) (sym first) s.within;
+      right = c.split_at_mut-right.ensures.front_len ∙ sym first;
+      side = c.split_at_mut-side.ensures.front_len ∙ sym first;
+      middle = length-take-le s.size c.split_at_mut-side.result.1.now room ∙ sym first;
+    }
+
+pub choose_planes-assignment-requires : goal.choose_planes-assignment-requires
+choose_planes-assignment-requires c = record {
+  block = as_few _ _ _ (c.split_pair.auto.left ∙ c.split_at_mut-left.ensures.front_len) c.requires.block;
+  partition = c.requires.partition;
+  wide = c.requires.wide;
+  orders = c.requires.orders;
+}
+
+pub keep-requires : goal.keep-requires
+keep-requires c = record {
+  valid = c.choose_planes-assignment.ensures.valid;
+  two = subst (λ (l : List WideChoice). 2 ≤ length l) (sym c.deref_mut.ensures.value) c.requires.choices.many;
+}
+
+pub returns-clause-room : goal.returns-clause-room
+returns-clause-room c = c.choose_planes-assignment.ensures.room
+
+pub returns-clause-many : goal.returns-clause-many
+returns-clause-many c =
+    let kept = c.keep.auto.places ∙ ap length c.deref_mut.ensures.value in
+    ap length (with_items_is c.args.choice.now.subframes c.keep.new.places (kept ∙ sym c.args.choice.now.subframes.ok.0)) ∙ kept
 
 pub invariant_of-planes : goal.invariant_of-planes
 invariant_of-planes c =

@@ -1,52 +1,121 @@
-use Rattle.std.proofs.Common.{◌≡◌, ◌∙◌, ◌+◌, ap, subst, sym, length, All}
+use Rattle.std.proofs.Common.{◌≡◌, ◌∙◌, ◌+◌, ◌≤◌, ℕ, Fits, w32, ap, subst, sym, length, All, arith}
 use Rattle.flac_bits.specs.Signed.{FitsBits}
+use Rattle.flac_header.specs.Assignment.{code_of}
 use Rattle.flac_subframe.specs.Room.{Room}
+use Rattle.flac_frame.specs.Encoding.{partition_limit}
+use Rattle.flac_frame.specs.inner.Pair.{IsFirstLeast, IsPlane, pair_cost}
 use Rattle.flac_frame.proofs.Pairs.{side_long, middle_long, side_fits, middle_fits}
-use Rattle.flac_frame.proofs.Rooms.{room_for, some_of, wide_for}
+use Rattle.flac_frame.proofs.Rooms.{as_few, room_for, some_of, wide_for, wide_still}
 use Rattle.flac_frame.proofs.pair.choose_planes.Goals as goal
 
-pub choose_plane-requires-clause-places : goal.choose_plane-requires-clause-places
-choose_plane-requires-clause-places c = wide_for _ _ _ c.requires.partition c.requires.wide.left
+-- the depth of a plane
+within_33 : (n : ℕ) → (1 ≤ n) × (n ≤ 32) → (1 ≤ n) × (n ≤ 33)
+within_33 n few = let most = few.1 in (few.0, omega (arith, most))
 
-pub choose_plane-requires-2-clause-places : goal.choose_plane-requires-2-clause-places
-choose_plane-requires-2-clause-places c = wide_for _ _ _ c.requires.partition c.requires.wide.right
+one_more : (n : ℕ) → n ≤ 32 → (1 ≤ n + 1) × (n + 1 ≤ 33)
+one_more n few = (omega arith, omega arith)
 
-pub choose_plane-requires-3-clause-some : goal.choose_plane-requires-3-clause-some
-choose_plane-requires-3-clause-some c =
+more_fits : (n : ℕ) → n ≤ 32 → Fits w32 (n + 1)
+more_fits n few = omega arith
+
+-- the cost of a code, from equal parts
+same_cost : (l r s m a b c d : ℕ) → l ≡ a → r ≡ b → s ≡ c → m ≡ d → pair_cost l r s m ≡ pair_cost a b c d
+same_cost l r s m a b c d left right side middle = ap (λ k. pair_cost k r s m) left ∙ ap (λ k. pair_cost a k s m) right ∙ ap (λ k. pair_cost a b k m) side ∙ ap (pair_cost a b c) middle
+
+pub overflow_add-depth : goal.overflow_add-depth
+overflow_add-depth c = let p = c.args.planes.now in more_fits p.depth p.deep.1
+
+pub choose_plane-requires : goal.choose_plane-requires
+choose_plane-requires c =
     let p = c.args.planes.now in
+    record {
+      some = p.some;
+      block = c.requires.block;
+      depth = within_33 p.depth p.deep;
+      fits = p.left_fits;
+      partition = c.requires.partition;
+      places = wide_for _ _ _ c.requires.partition c.requires.wide.left;
+      orders = c.requires.orders;
+    }
+
+pub choose_plane-requires-2 : goal.choose_plane-requires-2
+choose_plane-requires-2 c =
+    let p = c.args.planes.now in
+    let room = c.choose_plane.ensures.room in
+    record {
+      some = some_of _ _ p.long p.some;
+      block = room_for _ _ _ _ p.long (ap (λ (r : Room). r.block) room) c.requires.block;
+      depth = within_33 p.depth p.deep;
+      fits = p.right_fits;
+      partition = wide_still _ _ _ (ap (λ (r : Room). r.most) room) c.requires.partition;
+      places = wide_for _ _ _ c.requires.partition c.requires.wide.right;
+      orders = c.requires.orders;
+    }
+
+pub choose_plane-requires-3 : goal.choose_plane-requires-3
+choose_plane-requires-3 c =
+    let p = c.args.planes.now in
+    let room = c.choose_plane-2.ensures.room ∙ c.choose_plane.ensures.room in
     let long : length p.side.now ≡ length p.left.now = ap length p.sides ∙ side_long p.left.now p.right.now p.long in
-    some_of _ _ long p.some
+    record {
+      some = some_of _ _ long p.some;
+      block = room_for _ _ _ _ long (ap (λ (r : Room). r.block) room) c.requires.block;
+      depth = one_more p.depth p.deep.1;
+      fits = subst (All (FitsBits (p.depth + 1))) (sym p.sides) (side_fits p.left.now p.right.now p.long p.depth p.deep.0 p.left_fits p.right_fits);
+      partition = wide_still _ _ _ (ap (λ (r : Room). r.most) room) c.requires.partition;
+      places = wide_for _ _ _ c.requires.partition c.requires.wide.side;
+      orders = c.requires.orders;
+    }
 
-pub choose_plane-requires-3-clause-block : goal.choose_plane-requires-3-clause-block
-choose_plane-requires-3-clause-block c =
+pub choose_plane-requires-4 : goal.choose_plane-requires-4
+choose_plane-requires-4 c =
     let p = c.args.planes.now in
-    let long : length p.side.now ≡ length p.left.now = ap length p.sides ∙ side_long p.left.now p.right.now p.long in
-    room_for _ _ _ _ long (ap (λ (r : Room). r.block) (c.choose_plane-2.ensures.room ∙ c.choose_plane.ensures.room)) c.requires.block
-
-pub choose_plane-requires-3-clause-fits : goal.choose_plane-requires-3-clause-fits
-choose_plane-requires-3-clause-fits c =
-    let p = c.args.planes.now in
-    subst (All (FitsBits (p.depth + 1))) (sym p.sides) (side_fits p.left.now p.right.now p.long p.depth p.deep.0 p.left_fits p.right_fits)
-
-pub choose_plane-requires-3-clause-places : goal.choose_plane-requires-3-clause-places
-choose_plane-requires-3-clause-places c = wide_for _ _ _ c.requires.partition c.requires.wide.side
-
-pub choose_plane-requires-4-clause-some : goal.choose_plane-requires-4-clause-some
-choose_plane-requires-4-clause-some c =
-    let p = c.args.planes.now in
+    let room = c.choose_plane-3.ensures.room ∙ c.choose_plane-2.ensures.room ∙ c.choose_plane.ensures.room in
     let long : length p.middle.now ≡ length p.left.now = ap length p.middles ∙ middle_long p.left.now p.right.now p.long in
-    some_of _ _ long p.some
+    record {
+      some = some_of _ _ long p.some;
+      block = room_for _ _ _ _ long (ap (λ (r : Room). r.block) room) c.requires.block;
+      depth = within_33 p.depth p.deep;
+      fits = subst (All (FitsBits p.depth)) (sym p.middles) (middle_fits p.left.now p.right.now p.long p.depth p.left_fits p.right_fits);
+      partition = wide_still _ _ _ (ap (λ (r : Room). r.most) room) c.requires.partition;
+      places = wide_for _ _ _ c.requires.partition c.requires.wide.middle;
+      orders = c.requires.orders;
+    }
 
-pub choose_plane-requires-4-clause-block : goal.choose_plane-requires-4-clause-block
-choose_plane-requires-4-clause-block c =
+pub least_assignment-requires : goal.least_assignment-requires
+least_assignment-requires c = record {
+  left = as_few _ _ _ c.bits.ensures c.choose_plane.ensures.small;
+  right = as_few _ _ _ c.bits-2.ensures c.choose_plane-2.ensures.small;
+  side = as_few _ _ _ c.bits-3.ensures c.choose_plane-3.ensures.small;
+  middle = as_few _ _ _ c.bits-4.ensures c.choose_plane-4.ensures.small;
+}
+
+pub returns : goal.returns
+returns c =
     let p = c.args.planes.now in
-    let long : length p.middle.now ≡ length p.left.now = ap length p.middles ∙ middle_long p.left.now p.right.now p.long in
-    room_for _ _ _ _ long (ap (λ (r : Room). r.block) (c.choose_plane-3.ensures.room ∙ c.choose_plane-2.ensures.room ∙ c.choose_plane.ensures.room)) c.requires.block
-
-pub choose_plane-requires-4-clause-fits : goal.choose_plane-requires-4-clause-fits
-choose_plane-requires-4-clause-fits c =
-    let p = c.args.planes.now in
-    subst (All (FitsBits p.depth)) (sym p.middles) (middle_fits p.left.now p.right.now p.long p.depth p.left_fits p.right_fits)
-
-pub choose_plane-requires-4-clause-places : goal.choose_plane-requires-4-clause-places
-choose_plane-requires-4-clause-places c = wide_for _ _ _ c.requires.partition c.requires.wide.middle
+    let most : ℕ = partition_limit c.args.subject.now.audio.now in
+    let ps = c.args.subject.now.predictors.now in
+    let l = c.choose_plane.ensures in
+    let r = c.choose_plane-2.ensures in
+    let s = c.choose_plane-3.ensures in
+    let m = c.choose_plane-4.ensures in
+    let code = code_of c.least_assignment.result.0 in
+    let cost = same_cost _ _ _ _ _ _ _ _ c.bits.ensures c.bits-2.ensures c.bits-3.ensures c.bits-4.ensures in
+    record {
+      planes = record {
+        lefts = record { chosen = l.chosen; made = l.made };
+        rights = record { chosen = r.chosen; made = r.made };
+        sides = subst (λ k. IsPlane most ps (p.depth + 1) k c.choose_plane-3.new.choice) p.sides (record { chosen = s.chosen; made = s.made });
+        middles = subst (λ k. IsPlane most ps p.depth k c.choose_plane-4.new.choice) p.middles (record { chosen = m.chosen; made = m.made });
+      };
+      valid = c.least_assignment.ensures.valid;
+      best = subst (λ f. IsFirstLeast f code) cost c.least_assignment.ensures.best;
+      bits = c.least_assignment.ensures.bits ∙ ap (λ f. f code) cost;
+      wide = record {
+        left = wide_still _ _ _ l.places c.requires.wide.left;
+        right = wide_still _ _ _ r.places c.requires.wide.right;
+        side = wide_still _ _ _ s.places c.requires.wide.side;
+        middle = wide_still _ _ _ m.places c.requires.wide.middle;
+      };
+      room = m.room ∙ s.room ∙ r.room ∙ l.room;
+    }

@@ -1,4 +1,4 @@
-use Rattle.std.proofs.Common.{◌≡◌, ◌≤◌, ◌+◌, ◌*◌, ◌/◌, [], ◌++◌, List, Bool, length, subst, arith}
+use Rattle.std.proofs.Common.{◌≡◌, ◌≤◌, ◌+◌, ◌*◌, ◌/◌, [], ◌++◌, List, Bool, true, false, Result, Ok, Err, length, refl, sym, subst, ◌∙◌, arith}
 use Rattle.flac_bits.specs.Bits.{bits_of, is_nil}
 use Rattle.flac_meta.specs.Info.{Info}
 use Rattle.flac_meta.specs.Spelling.{block_spelling}
@@ -6,6 +6,8 @@ use Rattle.flac_meta.specs.declared.block.Block.{Block}
 use Rattle.flac_meta.specs.declared.block.Block.TheVariants as block_of
 use Rattle.flac_native.specs.Given.{info_of}
 use Rattle.flac_native.specs.Writing.{AreCounted}
+use Rattle.flac_native.specs.declared.fault.EncodeFault.{EncodeFault}
+use Rattle.flac_native.specs.declared.fault.EncodeFault.TheVariants as fault
 use Rattle.flac_native.proofs.Planned.{planned, block_small, room_is}
 use Rattle.flac_native.proofs.Rooms.{room_of}
 use Rattle.flac_ogg.specs.declared.headers.Headers.{Headers}
@@ -15,6 +17,44 @@ use Rattle.flac_ogg.specs.Writing.{header_count, EncodesOgg, BeginsOgg}
 use Rattle.flac_ogg.proofs.SentOgg.{ogg_encodes}
 use Rattle.flac_ogg.proofs.Whole.{all_sent, some_sent}
 use Rattle.flac_ogg.proofs.encoding.encode_ogg.Goals as goal
+
+abbrev done : {X : Type 0} → X → Result X EncodeFault
+done x = Ok x
+
+abbrev failed : {X : Type 0} → EncodeFault → Result X EncodeFault
+failed e = Err e
+
+-- which fault is told
+same_fault : {X : Type 0} (e f : EncodeFault) → failed {X = X} e ≡ failed f → e ≡ f
+same_fault e f is = cc
+
+done_fails : {X : Type 0} (x : X) (e : EncodeFault) → done x ≡ failed e → ⊥
+done_fails x e is = absurd cc
+
+mapping_write : fault.BadMapping ≡ fault.Write → ⊥
+mapping_write e = absurd cc
+
+mapping_repeated : fault.BadMapping ≡ fault.RepeatedBlock → ⊥
+mapping_repeated e = absurd cc
+
+memory_write : fault.Memory ≡ fault.Write → ⊥
+memory_write e = absurd cc
+
+memory_repeated : fault.Memory ≡ fault.RepeatedBlock → ⊥
+memory_repeated e = absurd cc
+
+memory_mapping : fault.Memory ≡ fault.BadMapping → ⊥
+memory_mapping e = absurd cc
+
+write_repeated : fault.Write ≡ fault.RepeatedBlock → ⊥
+write_repeated e = absurd cc
+
+write_mapping : fault.Write ≡ fault.BadMapping → ⊥
+write_mapping e = absurd cc
+
+-- the list can be in an Ogg stream
+may_be : (found may : Bool) → found ≡ may → found ≡ true → may ≡ false → ⊥
+may_be found may e t f = absurd cc
 
 -- header packets of the STREAMINFO of the frames
 made_of : (info i : Info) (list : List Block) (h : Headers) → info ≡ i → AreHeaders (packet_spellings (header_count (length list)) info list []) h → AreHeaders (packet_spellings (header_count (length list)) i list []) h
@@ -32,69 +72,158 @@ send_stream-requires-clause-room g c = room_of c.args.plan.now c.args.audio.now 
 pub send_stream-requires-clause-pages : goal.send_stream-requires-clause-pages
 send_stream-requires-clause-pages g c = subst (λ n. 65307 * (n / 65025 + 1) ≤ c.in-Ok-page_room.pages.places) c.greatest.ensures c.in-Ok-page_room.ensures.places
 
-pub returns-in-Ok-send_stream-clause-written : goal.returns-in-Ok-send_stream-clause-written
-returns-in-Ok-send_stream-clause-written g c = λ known.
+pub returns-then-not-may_be_ogg : goal.returns-then-not-may_be_ogg
+returns-then-not-may_be_ogg g c = record {
+  written = tt;
+  begun = λ is. absurd (mapping_write is);
+  failed = λ is. absurd (mapping_write is);
+  risen = λ is. absurd (mapping_write is);
+  mapping = (λ is. sym c.may_be_ogg.ensures ∙ c.if-not-may_be_ogg.true, λ is. refl);
+  repeated = λ is. mapping_repeated (same_fault _ _ is);
+  whole = refl;
+  kept = λ other. refl;
+  names = refl;
+}
+
+pub returns-in_default : goal.returns-in_default
+returns-in_default g c = record {
+  written = tt;
+  begun = λ is. absurd (memory_write is);
+  failed = λ is. absurd (memory_write is);
+  risen = λ is. absurd (memory_write is);
+  mapping = (
+    λ is. absurd (memory_mapping (same_fault _ _ is)),
+    λ is. absurd (may_be _ _ c.may_be_ogg.ensures c.if-not-may_be_ogg.false is),
+  );
+  repeated = λ is. memory_repeated (same_fault _ _ is);
+  whole = refl;
+  kept = λ other. refl;
+  names = refl;
+}
+
+pub returns-in_default-new : goal.returns-in_default-new
+returns-in_default-new g c = record {
+  written = tt;
+  begun = λ is. absurd (memory_write is);
+  failed = λ is. absurd (memory_write is);
+  risen = λ is. absurd (memory_write is);
+  mapping = (
+    λ is. absurd (memory_mapping (same_fault _ _ is)),
+    λ is. absurd (may_be _ _ c.may_be_ogg.ensures c.if-not-may_be_ogg.false is),
+  );
+  repeated = λ is. memory_repeated (same_fault _ _ is);
+  whole = refl;
+  kept = λ other. refl;
+  names = refl;
+}
+
+pub returns-in_default-header_packets : goal.returns-in_default-header_packets
+returns-in_default-header_packets g c = record {
+  written = tt;
+  begun = λ is. absurd (memory_write is);
+  failed = λ is. absurd (memory_write is);
+  risen = λ is. absurd (memory_write is);
+  mapping = (
+    λ is. absurd (memory_mapping (same_fault _ _ is)),
+    λ is. absurd (may_be _ _ c.may_be_ogg.ensures c.if-not-may_be_ogg.false is),
+  );
+  repeated = λ is. memory_repeated (same_fault _ _ is);
+  whole = refl;
+  kept = λ other. refl;
+  names = refl;
+}
+
+pub returns-in_default-room : goal.returns-in_default-room
+returns-in_default-room g c = record {
+  written = tt;
+  begun = λ is. absurd (memory_write is);
+  failed = λ is. absurd (memory_write is);
+  risen = λ is. absurd (memory_write is);
+  mapping = (
+    λ is. absurd (memory_mapping (same_fault _ _ is)),
+    λ is. absurd (may_be _ _ c.may_be_ogg.ensures c.if-not-may_be_ogg.false is),
+  );
+  repeated = λ is. memory_repeated (same_fault _ _ is);
+  whole = refl;
+  kept = λ other. refl;
+  names = refl;
+}
+
+pub returns-in_default-page_room : goal.returns-in_default-page_room
+returns-in_default-page_room g c = record {
+  written = tt;
+  begun = λ is. absurd (memory_write is);
+  failed = λ is. absurd (memory_write is);
+  risen = λ is. absurd (memory_write is);
+  mapping = (
+    λ is. absurd (memory_mapping (same_fault _ _ is)),
+    λ is. absurd (may_be _ _ c.may_be_ogg.ensures c.if-not-may_be_ogg.false is),
+  );
+  repeated = λ is. memory_repeated (same_fault _ _ is);
+  whole = refl;
+  kept = λ other. refl;
+  names = refl;
+}
+
+pub returns-in-Ok-send_stream : goal.returns-in-Ok-send_stream
+returns-in-Ok-send_stream g c =
     let p = c.args.plan.now in
     let a = c.args.audio.now in
     let list = c.args.list.now in
     let s = c.in-Ok-new.frames in
     let h = c.in-Ok-header_packets.headers in
-    let old = bits_of (g.W.Target.sent c.args.target.now) in
-    let serial_is = c.in-Ok-header_packets.ensures.serial in
-    let least = s.least in
-    let greatest = s.greatest in
-    let counted : AreCounted p a least greatest s.points.items = c.in-Ok-new.ensures.counted in
     let made = made_of c.info-info.result _ list h c.info-info.ensures c.in-Ok-header_packets.ensures.made in
-    let first : List Bool = mapping_spelling (header_count (length list)) ++ block_spelling (is_nil list) (block_of.StreamInfo (info_of p a least greatest)) in
+    let first : List Bool = mapping_spelling (header_count (length list)) ++ block_spelling (is_nil list) (block_of.StreamInfo (info_of p a s.least s.greatest)) in
     let w = c.in-Ok-send_stream.ensures first (block_spellings list ++ []) made in
-    let whole = ogg_encodes g.W.Target p list a least greatest s.points.items h made c.args.target.now c.send_stream.new.target _ old (omega (arith, serial_is, c.ranges.serial.fits)) c.block_size-size.ensures.good c.requires c.blocks-blocks.ensures.good
-    c.blocks-blocks.ensures.fits counted w in
-    subst (λ n. EncodesOgg n p list a old (bits_of (g.W.Target.sent c.send_stream.new.target))) serial_is (all_sent h.serial p list a _ old _ whole (w.sends.sent known))
+    record {
+      written = λ known.
+          let old = bits_of (g.W.Target.sent c.args.target.now) in
+          let serial_is = c.in-Ok-header_packets.ensures.serial in
+          let counted : AreCounted p a s.least s.greatest s.points.items = c.in-Ok-new.ensures.counted in
+          let whole = ogg_encodes g.W.Target p list a s.least s.greatest s.points.items h made c.args.target.now c.send_stream.new.target _ old (omega (arith, serial_is, c.ranges.serial.fits)) c.block_size-size.ensures.good c.requires c.blocks-blocks.ensures.good
+          c.blocks-blocks.ensures.fits counted w in
+          subst (λ n. EncodesOgg n p list a old (bits_of (g.W.Target.sent c.send_stream.new.target))) serial_is (all_sent h.serial p list a _ old _ whole (w.sends.sent known));
+      begun = tt;
+      failed = tt;
+      risen = tt;
+      mapping = (
+        λ is. absurd (done_fails _ _ is),
+        λ is. absurd (may_be _ _ c.may_be_ogg.ensures c.if-not-may_be_ogg.false is),
+      );
+      repeated = λ is. done_fails _ _ is;
+      whole = tt;
+      kept = tt;
+      names = w.sends.names;
+    }
 
-pub returns-clause-begun : goal.returns-clause-begun
-returns-clause-begun g c = λ wrong known.
+pub returns : goal.returns
+returns g c =
     let p = c.args.plan.now in
     let a = c.args.audio.now in
     let list = c.args.list.now in
     let s = c.in-Ok-new.frames in
     let h = c.in-Ok-header_packets.headers in
-    let old = bits_of (g.W.Target.sent c.args.target.now) in
-    let serial_is = c.in-Ok-header_packets.ensures.serial in
-    let least = s.least in
-    let greatest = s.greatest in
-    let counted : AreCounted p a least greatest s.points.items = c.in-Ok-new.ensures.counted in
     let made = made_of c.info-info.result _ list h c.info-info.ensures c.in-Ok-header_packets.ensures.made in
-    let first : List Bool = mapping_spelling (header_count (length list)) ++ block_spelling (is_nil list) (block_of.StreamInfo (info_of p a least greatest)) in
+    let first : List Bool = mapping_spelling (header_count (length list)) ++ block_spelling (is_nil list) (block_of.StreamInfo (info_of p a s.least s.greatest)) in
     let w = c.in-Err.ensures first (block_spellings list ++ []) made in
-    let whole = ogg_encodes g.W.Target p list a least greatest s.points.items h made c.args.target.now c.send_stream.new.target _ old (omega (arith, serial_is, c.ranges.serial.fits)) c.block_size-size.ensures.good c.requires c.blocks-blocks.ensures.good
-    c.blocks-blocks.ensures.fits counted w in
-    let begun = w.sends.begun known in
-    subst (λ n. BeginsOgg n p list a old (bits_of (g.W.Target.sent c.send_stream.new.target))) serial_is (some_sent h.serial p list a _ begun.0 begun.1 old _ whole begun.2 begun.3)
-
-pub returns-clause-failed : goal.returns-clause-failed
-returns-clause-failed g c = λ wrong known.
-    let list = c.args.list.now in
-    let first : List Bool = mapping_spelling (header_count (length list)) ++ block_spelling (is_nil list) (block_of.StreamInfo (info_of c.args.plan.now c.args.audio.now c.in-Ok-new.frames.least c.in-Ok-new.frames.greatest)) in
-    let w = c.in-Err.ensures first (block_spellings list ++ []) (made_of c.info-info.result _ list c.in-Ok-header_packets.headers c.info-info.ensures c.in-Ok-header_packets.ensures.made) in
-    w.sends.rises known
-
-pub returns-clause-risen : goal.returns-clause-risen
-returns-clause-risen g c = λ wrong.
-    let list = c.args.list.now in
-    let first : List Bool = mapping_spelling (header_count (length list)) ++ block_spelling (is_nil list) (block_of.StreamInfo (info_of c.args.plan.now c.args.audio.now c.in-Ok-new.frames.least c.in-Ok-new.frames.greatest)) in
-    let w = c.in-Err.ensures first (block_spellings list ++ []) (made_of c.info-info.result _ list c.in-Ok-header_packets.headers c.info-info.ensures c.in-Ok-header_packets.ensures.made) in
-    w.sends.risen
-
-pub returns-clause-names : goal.returns-clause-names
-returns-clause-names g c =
-    let list = c.args.list.now in
-    let first : List Bool = mapping_spelling (header_count (length list)) ++ block_spelling (is_nil list) (block_of.StreamInfo (info_of c.args.plan.now c.args.audio.now c.in-Ok-new.frames.least c.in-Ok-new.frames.greatest)) in
-    let w = c.in-Err.ensures first (block_spellings list ++ []) (made_of c.info-info.result _ list c.in-Ok-header_packets.headers c.info-info.ensures c.in-Ok-header_packets.ensures.made) in
-    w.sends.names
-
-pub returns-in-Ok-send_stream-clause-names : goal.returns-in-Ok-send_stream-clause-names
-returns-in-Ok-send_stream-clause-names g c =
-    let list = c.args.list.now in
-    let first : List Bool = mapping_spelling (header_count (length list)) ++ block_spelling (is_nil list) (block_of.StreamInfo (info_of c.args.plan.now c.args.audio.now c.in-Ok-new.frames.least c.in-Ok-new.frames.greatest)) in
-    let w = c.in-Ok-send_stream.ensures first (block_spellings list ++ []) (made_of c.info-info.result _ list c.in-Ok-header_packets.headers c.info-info.ensures c.in-Ok-header_packets.ensures.made) in
-    w.sends.names
+    record {
+      written = tt;
+      begun = λ is known.
+          let old = bits_of (g.W.Target.sent c.args.target.now) in
+          let serial_is = c.in-Ok-header_packets.ensures.serial in
+          let counted : AreCounted p a s.least s.greatest s.points.items = c.in-Ok-new.ensures.counted in
+          let whole = ogg_encodes g.W.Target p list a s.least s.greatest s.points.items h made c.args.target.now c.send_stream.new.target _ old (omega (arith, serial_is, c.ranges.serial.fits)) c.block_size-size.ensures.good c.requires c.blocks-blocks.ensures.good
+          c.blocks-blocks.ensures.fits counted w in
+          let begun = w.sends.begun known in
+          subst (λ n. BeginsOgg n p list a old (bits_of (g.W.Target.sent c.send_stream.new.target))) serial_is (some_sent h.serial p list a _ begun.0 begun.1 old _ whole begun.2 begun.3);
+      failed = λ is. w.sends.rises;
+      risen = λ is. w.sends.risen;
+      mapping = (
+        λ is. absurd (write_mapping (same_fault _ _ is)),
+        λ is. absurd (may_be _ _ c.may_be_ogg.ensures c.if-not-may_be_ogg.false is),
+      );
+      repeated = λ is. write_repeated (same_fault _ _ is);
+      whole = refl;
+      kept = λ other. absurd (other refl);
+      names = w.sends.names;
+    }

@@ -16,6 +16,16 @@ use Rattle.flac_ogg.proofs.SentOgg.{some_blocks}
 use Rattle.flac_ogg.proofs.SentPackets.{SentPackets, packets_none, packets_more, packets_sent, packets_fail, last_is, sends_as, spelled_long, differ, agree}
 use Rattle.flac_ogg.proofs.encoding.send_frames.Goals as goal
 
+-- samples are left, and few
+more_left : (start all total done : ℕ) → start ≡ min total done → start < all → all ≡ total → done < total
+more_left start all total done e lt f = omega arith
+
+few_samples : (total planned : ℕ) → planned < 2 ^ 36 → planned ≡ total → total < 2 ^ 64
+few_samples total planned few e = omega arith
+
+one_block : (b n : ℕ) → b * suc n ≡ b * n + b
+one_block b n = omega (arith, mul-suc b n)
+
 pub loop-start-init : goal.loop-start-init
 loop-start-init g c =
     let p = c.args.planned.now.plan.now in
@@ -38,7 +48,7 @@ range-end-requires-clause-few g c =
     let n = c.loop-start.number in
     let total = samples_each c.args.planned.now.audio.now.channels in
     let q = planned p c.block_size-size.ensures.good in
-    let more : b * n < total = omega (arith, c.loop-start.invariant.start, c.loop-start-test.true, c.len-total.ensures) in
+    let more = more_left _ _ total (b * n) c.loop-start.invariant.start c.loop-start-test.true c.len-total.ensures in
     still_some b total n q.least more
 
 pub write-room-requires-clause-few : goal.write-room-requires-clause-few
@@ -51,8 +61,8 @@ write-room-requires-clause-few g c =
     let inv = c.loop-start.invariant in
     let q = planned p c.block_size-size.ensures.good in
     let f = fit p a c.requires.fits in
-    let few : total < 2 ^ 64 = omega (arith, q.total, f.total) in
-    let more : b * n < total = omega (arith, inv.start, c.loop-start-test.true, c.len-total.ensures) in
+    let few = few_samples total p.total q.total f.total in
+    let more = more_left _ _ total (b * n) inv.start c.loop-start-test.true c.len-total.ensures in
     let lt : n < blocks_in b total = still_some b total n q.least more in
     lt
 
@@ -69,8 +79,8 @@ paged-filled-requires g c =
     let inv = c.loop-start.invariant in
     let q = planned p c.block_size-size.ensures.good in
     let f = fit p a c.requires.fits in
-    let few : total < 2 ^ 64 = omega (arith, q.total, f.total) in
-    let more : b * n < total = omega (arith, inv.start, c.loop-start-test.true, c.len-total.ensures) in
+    let few = few_samples total p.total q.total f.total in
+    let more = more_left _ _ total (b * n) inv.start c.loop-start-test.true c.len-total.ensures in
     let lt : n < blocks_in b total = still_some b total n q.least more in
     let packet = c.bytes-packet.result.now in
     let is : IsSpelled p a n (bits_of packet) = subst (λ l. IsSpelled p a n (bits_of l)) (sym c.bytes-packet.ensures) c.write-room.ensures.frame in
@@ -88,10 +98,10 @@ returns-in_err-send_all g c =
     let inv = c.loop-start.invariant in
     let q = planned p c.block_size-size.ensures.good in
     let f = fit p a c.requires.fits in
-    let few : total < 2 ^ 64 = omega (arith, q.total, f.total) in
-    let more : b * n < total = omega (arith, inv.start, c.loop-start-test.true, c.len-total.ensures) in
+    let few = few_samples total p.total q.total f.total in
+    let more = more_left _ _ total (b * n) inv.start c.loop-start-test.true c.len-total.ensures in
     let lt : n < blocks_in b total = still_some b total n q.least more in
-    let up : b * suc n ≡ b * n + b = omega (arith, mul-suc b n) in
+    let up = one_block b n in
     let end : ℕ = c.range-end.result.end in
     let end_is : end ≡ min total (b * suc n) = omega (arith, c.range-end.ensures.range.start, c.range-end.ensures.range.size, c.range-end.ensures.range.some, up, more) in
     let serial = c.args.headers.now.serial in
@@ -120,10 +130,10 @@ loop-start-preserved g c =
     let inv = c.loop-start.invariant in
     let q = planned p c.block_size-size.ensures.good in
     let f = fit p a c.requires.fits in
-    let few : total < 2 ^ 64 = omega (arith, q.total, f.total) in
-    let more : b * n < total = omega (arith, inv.start, c.loop-start-test.true, c.len-total.ensures) in
+    let few = few_samples total p.total q.total f.total in
+    let more = more_left _ _ total (b * n) inv.start c.loop-start-test.true c.len-total.ensures in
     let lt : n < blocks_in b total = still_some b total n q.least more in
-    let up : b * suc n ≡ b * n + b = omega (arith, mul-suc b n) in
+    let up = one_block b n in
     let end : ℕ = c.range-end.result.end in
     let end_is : end ≡ min total (b * suc n) = omega (arith, c.range-end.ensures.range.start, c.range-end.ensures.range.size, c.range-end.ensures.range.some, up, more) in
     let serial = c.args.headers.now.serial in

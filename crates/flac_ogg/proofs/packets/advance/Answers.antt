@@ -1,7 +1,8 @@
-use Rattle.std.proofs.Common.{ℕ, true, false, cond, None, Some, sym, ap, ◌∙◌}
+use Rattle.std.proofs.Common.{◌≡◌, ◌<◌, ◌≤◌, ℕ, true, false, cond, None, Some, sym, ap, subst, ◌∙◌, arith}
 use Rattle.flac_bits.specs.declared.why.Why.{Why}
 use Rattle.flac_native.specs.Stream.{Stand, place_in}
 use Rattle.flac_native.specs.Track.{stand_of, piece_of}
+use Rattle.flac_pages.specs.Packets.{Met}
 use Rattle.flac_ogg.specs.Steps.{without_packet}
 use Rattle.flac_ogg.specs.Stream.{last_fault}
 use Rattle.flac_ogg.proofs.Arriving.{begun_there, on_ok_at}
@@ -10,64 +11,134 @@ use Rattle.flac_ogg.proofs.Breaking.{in_packet, in_next}
 use Rattle.flac_ogg.proofs.PagesRead.{gave_next, broke_next, broke_before}
 use Rattle.flac_ogg.proofs.packets.advance.Goals as goal
 
-pub returns-in-Ok-clause-steps : goal.returns-in-Ok-clause-steps
-returns-in-Ok-clause-steps g c = λ p at way known same.
-    let begun = begins_so c.args.pages.now c.next_packet.new.self c.in-Ok-true.field-0 true c.in-Ok-true.field-0-test c.in-Ok-true.ensures.begins in
+-- counts after two calls
+kept_then : (old mid new : ℕ) → mid ≡ old → mid ≤ new → old ≤ new
+kept_then old mid new e h = omega arith
+
+kept_same : (old new : ℕ) → new ≡ old → old ≤ new
+kept_same old new e = omega arith
+
+spends_then : (old mid new : ℕ) → mid ≤ old → new < mid → new < old
+spends_then old mid new h k = omega arith
+
+met_then : (why told : Why) (old mid new : ℕ) → why ≡ told → mid ≡ old → Met told mid new → Met why old new
+met_then why told old mid new e f met = subst (λ w. Met w old new) (sym e) (subst (λ n. Met told n new) f met)
+
+pub returns-in-Ok : goal.returns-in-Ok
+returns-in-Ok g c =
+    let old = c.args.pages.now in
+    let mid = c.next_packet.new.self in
+    let begun = begins_so old mid c.in-Ok-true.field-0 true c.in-Ok-true.field-0-test c.in-Ok-true.ensures.begins in
     let read = c.read_packet in
-    ok_step (λ part. piece_of read.new.track part) (stand_of c.args.track.now) p c.args.pages.now c.next_packet.new.self read.new.pages read.result c.in-Ok.part c.in-Ok.is at.stand begun known same (read.ensures.tells (begun_there at way)) (on_ok_at read.result _ _ (begun_there at way) read.ensures.ahead)
+    let ok = c.in-Ok.ensures in
+    record {
+      memory = λ frames. tt;
+      kept = kept_then old.errors mid.errors read.new.pages.errors begun.errors read.ensures.kept;
+      names = read.ensures.names ∙ begun.names;
+      meets = ok.meets ∙ begun.raised;
+      steps = λ p at way known same.
+          ok_step (λ part. piece_of read.new.track part) (stand_of c.args.track.now) p old mid read.new.pages read.result c.in-Ok.part c.in-Ok.is at.stand begun known same (read.ensures.tells (begun_there at way)) (on_ok_at read.result _ _ (begun_there at way) read.ensures.ahead);
+      broken = λ p at. tt;
+      gave = gave_next old mid read.new.pages read.result c.in-Ok.part c.in-Ok.is begun read.ensures.pages read.ensures.goes;
+      broke = tt;
+      stands = ok.stands;
+      spends = spends_then _ _ _ begun.room ok.spends;
+      goes = (λ known. ok.goes.0 (begun.known known), ok.goes.1 ∙ begun.errors);
+      made = ok.made;
+      next = ok.next;
+    }
 
-pub returns-in-Err-read_packet-clause-steps : goal.returns-in-Err-read_packet-clause-steps
-returns-in-Err-read_packet-clause-steps g c = λ p at way known same room.
-    let begun = begins_so c.args.pages.now c.next_packet.new.self c.in-Ok-true.field-0 true c.in-Ok-true.field-0-test c.in-Ok-true.ensures.begins in
+pub returns-in-Err-read_packet : goal.returns-in-Err-read_packet
+returns-in-Err-read_packet g c =
+    let old = c.args.pages.now in
+    let mid = c.next_packet.new.self in
+    let begun = begins_so old mid c.in-Ok-true.field-0 true c.in-Ok-true.field-0-test c.in-Ok-true.ensures.begins in
     let read = c.read_packet in
-    err_step (λ part. piece_of read.new.track part) (stand_of c.args.track.now) p c.args.pages.now c.next_packet.new.self read.new.pages read.result c.in-Err-read_packet.told c.packet_fault.result c.in-Err-read_packet.is at.stand begun known same (read.ensures.tells (begun_there at way))
-    (c.packet_fault.ensures.place p.stand (c.place-at.ensures ∙ ap (λ (s : Stand). place_in s.phase s.index) at.stand)) c.packet_fault.ensures.why room
+    let err = c.in-Err-read_packet.ensures in
+    let told = c.in-Err-read_packet.told in
+    let fault = c.packet_fault in
+    record {
+      memory = λ frames e. err.memory frames (sym fault.ensures.why ∙ e);
+      kept = kept_then old.errors mid.errors read.new.pages.errors begun.errors read.ensures.kept;
+      names = read.ensures.names ∙ begun.names;
+      meets = met_then fault.result.why told.1 old.raised mid.raised read.new.pages.raised fault.ensures.why begun.raised err.meets;
+      steps = λ p at way known same room.
+          err_step (λ part. piece_of read.new.track part) (stand_of c.args.track.now) p old mid read.new.pages read.result told fault.result c.in-Err-read_packet.is at.stand begun known same (read.ensures.tells (begun_there at way))
+          (fault.ensures.place p.stand (c.place-at.ensures ∙ ap (λ (s : Stand). place_in s.phase s.index) at.stand)) fault.ensures.why room;
+      broken = λ p at.
+          in_packet read.new.pages.count p told fault.result (fault.ensures.place p.stand (c.place-at.ensures ∙ ap (λ (s : Stand). place_in s.phase s.index) at.stand)) fault.ensures.why err.page (λ frames. err.memory (ap (λ (s : Stand). s.phase) at.stand ∙ frames));
+      gave = tt;
+      broke = broke_next old mid read.new.pages read.result told fault.result.why c.in-Err-read_packet.is fault.ensures.why begun read.ensures.pages read.ensures.page;
+      stands = tt;
+      spends = tt;
+      goes = tt;
+      made = tt;
+      next = tt;
+    }
 
-pub returns-in-Ok-end_here-clause-steps : goal.returns-in-Ok-end_here-clause-steps
-returns-in-Ok-end_here-clause-steps g c = λ p at way known same.
-    let over = begins_so c.args.pages.now c.next_packet.new.self c.in-Ok-false.field-0 false c.in-Ok-false.field-0-test c.in-Ok-false.ensures.begins in
-    end_step p c.args.pages.now c.next_packet.new.self over known ∙ c.in-Ok-end_here.ensures.ends p at way
+pub returns-in-Ok-end_here : goal.returns-in-Ok-end_here
+returns-in-Ok-end_here g c =
+    let old = c.args.pages.now in
+    let new = c.next_packet.new.self in
+    let over = begins_so old new c.in-Ok-false.field-0 false c.in-Ok-false.field-0-test c.in-Ok-false.ensures.begins in
+    record {
+      memory = λ frames. tt;
+      kept = kept_same old.errors new.errors over.errors;
+      names = over.names;
+      meets = over.raised;
+      steps = λ p at way known same. end_step p old new over known ∙ c.in-Ok-end_here.ensures.ends p at way;
+      broken = λ p at. tt;
+      gave = tt;
+      broke = tt;
+      stands = tt;
+      spends = tt;
+      goes = (over.known, over.errors);
+      made = tt;
+      next = tt;
+    }
 
-pub returns-in-Err-end_here-clause-steps : goal.returns-in-Err-end_here-clause-steps
-returns-in-Err-end_here-clause-steps g c = λ p at way known same room.
-    let over = begins_so c.args.pages.now c.next_packet.new.self c.in-Ok-false.field-0 false c.in-Ok-false.field-0-test c.in-Ok-false.ensures.begins in
-    end_step p c.args.pages.now c.next_packet.new.self over known ∙ c.in-Err-end_here.ensures.ends p at way
+pub returns-in-Err-end_here : goal.returns-in-Err-end_here
+returns-in-Err-end_here g c =
+    let old = c.args.pages.now in
+    let new = c.next_packet.new.self in
+    let over = begins_so old new c.in-Ok-false.field-0 false c.in-Ok-false.field-0-test c.in-Ok-false.ensures.begins in
+    let err = c.in-Err-end_here.ensures in
+    record {
+      memory = λ frames. err.memory;
+      kept = kept_same old.errors new.errors over.errors;
+      names = over.names;
+      meets = (λ e. absurd (err.quiet e), err.sink);
+      steps = λ p at way known same room. end_step p old new over known ∙ err.ends p at way;
+      broken = λ p at. (λ e. absurd (err.quiet e), λ e. absurd (err.memory e));
+      gave = tt;
+      broke = λ e known. absurd (err.quiet e);
+      stands = tt;
+      spends = tt;
+      goes = tt;
+      made = tt;
+      next = tt;
+    }
 
-pub returns-in-Err-clause-steps : goal.returns-in-Err-clause-steps
-returns-in-Err-clause-steps g c = λ p at way known same room.
+pub returns-in-Err : goal.returns-in-Err
+returns-in-Err g c =
+    let old = c.args.pages.now in
+    let new = c.next_packet.new.self in
+    let begins = c.in-Err.ensures.begins in
     let f : ℕ × Why = (c.in-Err.page, c.in-Err.why) in
-    fault_step p c.args.pages.now c.next_packet.new.self f c.in-Err.ensures.begins known same ∙ ap (λ b. without_packet p (last_fault p (cond b None (Some f)) (Some f))) (sym c.is_last.ensures) ∙ c.page_fault.ensures.fault p at way
-
-pub returns-in-Err-read_packet-clause-broken : goal.returns-in-Err-read_packet-clause-broken
-returns-in-Err-read_packet-clause-broken g c = λ p at.
-    in_packet c.read_packet.new.pages.count p c.in-Err-read_packet.told c.packet_fault.result (c.packet_fault.ensures.place p.stand (c.place-at.ensures ∙ ap (λ (s : Stand). place_in s.phase s.index) at.stand)) c.packet_fault.ensures.why c.in-Err-read_packet.ensures.page (λ frames. c.in-Err-read_packet.ensures.memory (ap (λ (s : Stand). s.phase) at.stand ∙ frames))
-
-pub returns-in-Err-end_here-clause-broken : goal.returns-in-Err-end_here-clause-broken
-returns-in-Err-end_here-clause-broken g c = λ p at. (λ e. absurd (c.in-Err-end_here.ensures.quiet e), λ e. absurd (c.in-Err-end_here.ensures.memory e))
-
-pub returns-in-Err-clause-broken : goal.returns-in-Err-clause-broken
-returns-in-Err-clause-broken g c = λ p at. in_next c.next_packet.new.self.count c.in-Err.page p c.page_fault.result c.page_fault.ensures.page c.in-Err.ensures.page (c.page_fault.ensures.memory c.in-Err.ensures.memory)
-
-pub returns-in-Ok-clause-meets : goal.returns-in-Ok-clause-meets
-returns-in-Ok-clause-meets g c =
-    let begun = begins_so c.args.pages.now c.next_packet.new.self c.in-Ok-true.field-0 true c.in-Ok-true.field-0-test c.in-Ok-true.ensures.begins in
-    c.in-Ok.ensures.meets ∙ begun.raised
-
-pub returns-in-Err-clause-meets : goal.returns-in-Err-clause-meets
-returns-in-Err-clause-meets g c = c.page_fault.ensures.met _ _ c.in-Err.ensures.begins.met
-
-pub returns-in-Ok-clause-gave : goal.returns-in-Ok-clause-gave
-returns-in-Ok-clause-gave g c =
-    let begun = begins_so c.args.pages.now c.next_packet.new.self c.in-Ok-true.field-0 true c.in-Ok-true.field-0-test c.in-Ok-true.ensures.begins in
-    gave_next c.args.pages.now c.next_packet.new.self c.read_packet.new.pages c.read_packet.result c.in-Ok.part c.in-Ok.is begun c.read_packet.ensures.pages c.read_packet.ensures.goes
-
-pub returns-in-Err-read_packet-clause-broke : goal.returns-in-Err-read_packet-clause-broke
-returns-in-Err-read_packet-clause-broke g c =
-    let begun = begins_so c.args.pages.now c.next_packet.new.self c.in-Ok-true.field-0 true c.in-Ok-true.field-0-test c.in-Ok-true.ensures.begins in
-    broke_next c.args.pages.now c.next_packet.new.self c.read_packet.new.pages c.read_packet.result c.in-Err-read_packet.told c.packet_fault.result.why c.in-Err-read_packet.is c.packet_fault.ensures.why begun c.read_packet.ensures.pages c.read_packet.ensures.page
-
-pub returns-in-Err-end_here-clause-broke : goal.returns-in-Err-end_here-clause-broke
-returns-in-Err-end_here-clause-broke g c = λ e known. absurd (c.in-Err-end_here.ensures.quiet e)
-
-pub returns-in-Err-clause-broke : goal.returns-in-Err-clause-broke
-returns-in-Err-clause-broke g c = broke_before c.args.pages.now c.next_packet.new.self (c.in-Err.page, c.in-Err.why) c.page_fault.result.why c.in-Err.ensures.begins c.in-Err.ensures.page
+    let fault = c.page_fault in
+    record {
+      memory = λ frames. fault.ensures.memory c.in-Err.ensures.memory;
+      kept = begins.errors;
+      names = begins.names;
+      meets = fault.ensures.met _ _ begins.met;
+      steps = λ p at way known same room.
+          fault_step p old new f begins known same ∙ ap (λ b. without_packet p (last_fault p (cond b None (Some f)) (Some f))) (sym c.is_last.ensures) ∙ fault.ensures.fault p at way;
+      broken = λ p at. in_next new.count c.in-Err.page p fault.result fault.ensures.page c.in-Err.ensures.page (fault.ensures.memory c.in-Err.ensures.memory);
+      gave = tt;
+      broke = broke_before old new f fault.result.why begins c.in-Err.ensures.page;
+      stands = tt;
+      spends = tt;
+      goes = tt;
+      made = tt;
+      next = tt;
+    }

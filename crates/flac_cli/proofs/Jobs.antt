@@ -1,0 +1,45 @@
+-- What is said of a job, where another of its kind is known.
+use Rattle.std.proofs.Common.{◌≡◌, ◌∙◌, ◌≤◌, ◌<◌, ℕ, Bool, List, Option, Some, None, Vec, Global, map, subst, ap, sym, arith}
+use denote.Bor.{Bor}
+use Rattle.flac_jobs.specs.declared.formats.ContainerKind.{ContainerKind}
+use Rattle.flac_jobs.specs.declared.formats.RawFormat.{RawFormat}
+use Rattle.flac_header.specs.declared.subset.Profile.{Profile}
+use Rattle.flac_jobs.specs.declared.jobs.Job.{Job}
+use Rattle.flac_jobs.specs.declared.jobs.Job.TheVariants as job
+use Rattle.flac_cli.specs.Asked.{Asked}
+use Rattle.flac_cli.specs.Encoded.{asked_for, HasEncoded, HasBegun}
+use Rattle.flac_cli.specs.Refusals.{CanBeEncoded}
+use Rattle.flac_cli.specs.Reports.{Files, Reports}
+use Rattle.flac_cli.specs.Streams.{profile_of}
+
+-- a job that encodes nothing
+module _ (o : Option Asked) (none : o ≡ None) where
+  pub none_encoded : (bytes : List ℕ) (before after : List Bool) → HasEncoded o bytes before after
+  none_encoded bytes before after = subst (λ a. HasEncoded a bytes before after) (sym none) tt
+
+  pub none_begun : (bytes : List ℕ) (before after : List Bool) → HasBegun o bytes before after
+  none_begun bytes before after = subst (λ a. HasBegun a bytes before after) (sym none) tt
+
+  pub none_accepted : (bytes : List ℕ) → CanBeEncoded o bytes
+  none_accepted bytes = subst (λ a. CanBeEncoded a bytes) (sym none) tt
+
+  pub none_refused : (bytes : List ℕ) (files : Files) (status : ℕ) (before after : List ℕ) → Reports o bytes files status before after
+  none_refused bytes files status before after = subst (λ a. Reports a bytes files status before after) (sym none) tt
+
+-- what an encoding asks for
+pub asked_is : (j : Job) (list : List ℕ) {input output : Bor (List ℕ)} {format : RawFormat} {container : ContainerKind} {comments : Vec (Bor (List ℕ)) Global} {lax : Bool} {predictors : Option (Bor (List ℕ))} (profile : Profile) (words : List (Bor (List ℕ)))
+    → j ≡ job.Encode input output format container comments lax predictors → profile ≡ profile_of lax → words ≡ comments.items
+    → asked_for j list ≡ Some (record { profile = profile; format = format; container = container; words = map (λ w. w.now) words; list = list })
+asked_is j list {format = format} {container = container} {comments = comments} profile words is of same =
+    ap (λ k. asked_for k list) is ∙ ap (λ p. Some (record { profile = p; format = format; container = container; words = map (λ w. w.now) comments.items; list = list })) (sym of)
+    ∙ ap (λ ws. Some (record { profile = profile; format = format; container = container; words = map (λ w. w.now) ws; list = list })) (sym same)
+
+-- a count that rose is not as it was
+pub rose : {X : Type 0} (a b : ℕ) → a < b → b ≡ a → X
+rose a b more same = absurd (omega (arith, more, same))
+
+pub at_most_one : (n : ℕ) → n ≡ 1 → n ≤ 1
+at_most_one n is = omega (arith, is)
+
+pub not_both : {X : Type 0} (n : ℕ) → n ≡ 1 → n ≡ 0 → X
+not_both n one none = absurd (omega (arith, one, none))

@@ -1,0 +1,45 @@
+-- What a subject has of the arguments that it is made of.
+use Rattle.std.proofs.Common.{◌≡◌, ◌*◌, ◌≤◌, ℕ, List, Result, sym, subst, arith}
+use Rattle.flac_bits.specs.Written.{Written}
+use Rattle.flac_bits.specs.declared.why.Why.{Why}
+use Rattle.flac_subframe.specs.declared.linear.LinearPredictor.{LinearPredictor}
+use Rattle.flac_subframe.specs.Handed.{AreWithin}
+use Rattle.flac_frame.specs.Audio.{Sound}
+use Rattle.flac_frame.specs.Chosen.{IsChoiceWith}
+use Rattle.flac_frame.specs.Encoding.{block_of, partition_limit, WritesFrameWith}
+use Rattle.flac_frame.specs.Frame.{limits_at}
+use Rattle.flac_frame.specs.declared.frame_choice.FrameChoice.{FrameChoice}
+
+-- ---- room for its samples
+
+pub few_in : (n room block : ℕ) → n ≤ room → block ≡ room → block ≤ 65535 → n ≤ 65535
+few_in n room block le is few = omega arith
+
+pub size_in : (size n room block : ℕ) → size ≡ n → n ≤ room → block ≡ room → size ≤ block
+size_in size n room block same le is = omega arith
+
+pub four_in : (size n room block long places : ℕ) → size ≡ n → n ≤ room → block ≡ room → long ≡ places → places ≡ 4 * block → 4 * size ≤ long
+four_in size n room block long places same le is all own = omega arith
+
+pub two_in : (size n room block long places : ℕ) → size ≡ n → n ≤ room → block ≡ room → long ≡ places → places ≡ 4 * block → 2 * size ≤ long
+two_in size n room block long places same le is all own = omega arith
+
+-- ---- its parts are the arguments
+
+pub partition_in : (a b : Sound) (most own : ℕ) → a ≡ b → partition_limit b ≤ most → own ≡ most → partition_limit a ≤ own
+partition_in a b most own same le is = subst (λ s. partition_limit s ≤ own) (sym same) (subst (λ m. partition_limit b ≤ m) (sym is) le)
+
+pub orders_in : (a b : Sound) (ps qs : List LinearPredictor) → a ≡ b → ps ≡ qs → AreWithin (limits_at b.profile b.rate).linear qs → AreWithin (limits_at a.profile a.rate).linear ps
+orders_in a b ps qs same is orders = subst (λ (s : Sound). AreWithin (limits_at s.profile s.rate).linear ps) (sym same) (subst (AreWithin (limits_at b.profile b.rate).linear) (sym is) orders)
+
+pub chosen_in : (ps qs : List LinearPredictor) (a b : Sound) (start s size n number m : ℕ) (c : FrameChoice) → ps ≡ qs → a ≡ b → start ≡ s → size ≡ n → number ≡ m
+    → IsChoiceWith ps a size number (block_of start size a.channels) c → IsChoiceWith qs b n m (block_of s n b.channels) c
+chosen_in ps qs a b start s size n number m c predictors sound starts sizes numbers is =
+    subst (λ k. IsChoiceWith qs b n k (block_of s n b.channels) c) numbers (subst (λ k. IsChoiceWith qs b k number (block_of s k b.channels) c) sizes (subst (λ k. IsChoiceWith qs b size number (block_of k size b.channels) c) starts
+    (subst (λ (k : Sound). IsChoiceWith qs k size number (block_of start size k.channels) c) sound (subst (λ k. IsChoiceWith k a size number (block_of start size a.channels) c) predictors is))))
+
+pub wrote_in : {X : Type 0} (ps qs : List LinearPredictor) (a b : Sound) (start s size n number m : ℕ) (old new : Written) (r : Result X Why) → ps ≡ qs → a ≡ b → start ≡ s → size ≡ n → number ≡ m
+    → WritesFrameWith ps a size number (block_of start size a.channels) old new r → WritesFrameWith qs b n m (block_of s n b.channels) old new r
+wrote_in ps qs a b start s size n number m old new r predictors sound starts sizes numbers is =
+    subst (λ k. WritesFrameWith qs b n k (block_of s n b.channels) old new r) numbers (subst (λ k. WritesFrameWith qs b k number (block_of s k b.channels) old new r) sizes (subst (λ k. WritesFrameWith qs b size number (block_of k size b.channels) old new r) starts
+    (subst (λ (k : Sound). WritesFrameWith qs k size number (block_of start size k.channels) old new r) sound (subst (λ k. WritesFrameWith k a size number (block_of start size a.channels) old new r) predictors is))))
