@@ -127,7 +127,10 @@ class Quiet:
         return time.perf_counter() - start
 
     def is_quiet(self):
-        return statistics.median(self.loop() for _ in range(3)) <= self.LONGEST * self.usual
+        found = sorted(self.loop() for _ in range(3))
+        # the machine may have been busy at the start
+        self.usual = min(self.usual, found[0])
+        return found[1] <= self.LONGEST * self.usual
 
     def finds_processor(self):
         for processor in self.processors:
@@ -373,7 +376,7 @@ def main():
     containers(seconds, runs)
     encoding(seconds, runs)
     if words.quiet:
-        print(f"\n{QUIET.counted} turns counted, {QUIET.left_out} were not quiet.")
+        print(f"\n{QUIET.counted} turns counted, {QUIET.left_out} were not quiet; the loop took {QUIET.usual * 1e3:.1f} ms at least.")
         return 0
     with_lists(seconds, max(1, runs // 2))
     growth(2, (1, 10) if words.quick else (1, 10, 100), runs)
