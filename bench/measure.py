@@ -51,6 +51,12 @@ OTHER_FORMS = [
 ]
 
 
+def keep(path):
+    """Keeps a file that was made, and waits until it is stored, which would else go on while programs are timed."""
+    os.rename(path + ".part", path)
+    os.sync()
+
+
 def audio(form, seconds):
     """A raw file of so many seconds of sound."""
     more = "" if form.channels == 2 else f"-{form.channels}"
@@ -62,7 +68,7 @@ def audio(form, seconds):
                 source = random.Random(f"bench {form.rate} {form.bits} {start}")
                 length = form.rate * min(10, seconds - start)
                 file.write(sounds.raw(make(source, form.rate, form.channels, (1 << (form.bits - 1)) - 1, length), form.bits))
-        os.rename(path + ".part", path)
+        keep(path)
     return path
 
 
@@ -85,7 +91,7 @@ def encoded(form, seconds, level, ogg=False):
     if not os.path.exists(path):
         words = ["--ogg", "--serial-number=1"] if ogg else []
         subprocess.run([REFERENCE, "-s", "-f", *words, *level_words(form, level), *raw_words(form), "-o", path + ".part", raw], check=True)
-        os.rename(path + ".part", path)
+        keep(path)
     return path
 
 
@@ -285,7 +291,7 @@ def own_list(form, seconds):
         taken = once(lists.making(path + ".part", sound))
         with open(path + ".part", "a", encoding="ascii") as file:
             file.write(f"# made in {taken:.0f} s\n")
-        os.rename(path + ".part", path)
+        keep(path)
         os.remove(sound)
     return path
 

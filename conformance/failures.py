@@ -122,7 +122,9 @@ def jobs():
 
 def listed_line(job, call, at):
     """What is due if LIST, which is opened after IN and before OUT, is not opened or read. Otherwise None."""
-    if job.listed is None or at["open"] != 2 or call not in ("open", "read"):
+    # the system is asked what LIST is before it is read, and what IN is afterwards
+    is_of_list = call in ("open", "read") or call == "statx" and at["read"] == 0
+    if job.listed is None or at["open"] != 2 or not is_of_list:
         return None
     return f"flac: LIST: cannot be {'opened' if call == 'open' else 'read'}"
 
