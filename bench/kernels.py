@@ -7,6 +7,7 @@ runs without it. A sample is one of one channel. What the compiler made one func
 """
 import argparse
 import collections
+import itertools
 import os
 import re
 import statistics
@@ -24,14 +25,14 @@ DECODING = {
     "residual values": r"Held::values|rice|residual",
     "restoration": r"restoration::",
     "digest": r"^md5::",
-    "joining, range, rows for the digest": r"advance::read_part",
-    "pulls and checks": r"Held::pull|BitReader::|sums::",
+    "joining, range, rows for the digest": r"flac_frame::(stereo|samples)::|digest::",
+    "pulls and checks": r"Held::pull|BitReader::|sums::|divided",
 }
 ENCODING = {
-    "differences, widths, bounds, totals": r"better_fixed|(narrowed|leaving|folding|pruning|survey|widths|cost)::",
+    "differences, widths, bounds, totals": r"choice::improve|(narrowed|leaving|folding|pruning|survey|widths|cost)::",
     "costs under a parameter": r"halves::",
     "first guess, range, copies": r"(choice|chosen|wasted)::|memmove|memset",
-    "writing": r"writing::|put_more|unsent::|BitWriter",
+    "writing, checks": r"writing::|put_more|unsent::|BitWriter|sums::|divided",
     "joining": r"flac_frame::",
     "raw input": r"flac_cli::",
     "digest": r"^md5::",
@@ -71,22 +72,33 @@ def kernels(label, commands, samples, parts, runs, folder, every):
         shares[part_of(name, parts)] += count
     cells = [f"{nanoseconds * shares[part] / met.total():.1f}" for part in [*parts, "the rest"]]
     measure.row(label, f"{nanoseconds:.1f}", *cells, f"{statistics.median(theirs) * 1e9 / samples:.1f}")
+    return shares
+
+
+def met_in(rows, parts):
+    """Reports the parts of which no row met a function: what they are found by is of an earlier program."""
+    for part in parts:
+        if not any(shares[part] for shares in rows):
+            print(f"bench/kernels: no function of '{part}' was met: mend its pattern in bench/kernels.py", file=sys.stderr)
 
 
 def decoding(seconds, runs, folder, every):
     measure.head("`flac test`", "program", *DECODING, "the rest", "`flac -t`")
-    for form in measure.FORMS:
-        for level in measure.LEVELS:
-            path = measure.encoded(form, seconds, level)
-            commands = [PROGRAM, "test", path], [measure.REFERENCE, "-t", "-s", path]
-            kernels(f"{form.label}, level {level}", commands, form.channels * form.rate * seconds, DECODING, runs, folder, every)
+    rows = []
+    for form, level in itertools.product(measure.FORMS, measure.LEVELS):
+        path = measure.encoded(form, seconds, level)
+        commands = [PROGRAM, "test", path], [measure.REFERENCE, "-t", "-s", path]
+        rows.append(kernels(f"{form.label}, level {level}", commands, form.channels * form.rate * seconds, DECODING, runs, folder, every))
+    met_in(rows, DECODING)
 
 
 def encoding(seconds, runs, folder, every):
     measure.head("`flac encode`", "program", *ENCODING, "the rest", "`flac`")
+    rows = []
     for form in measure.FORMS:
         words, reference = measure.encode_commands(form, seconds, folder)[2].values()
-        kernels(form.label, ([PROGRAM, *words[1:]], reference), form.channels * form.rate * seconds, ENCODING, runs, folder, every)
+        rows.append(kernels(form.label, ([PROGRAM, *words[1:]], reference), form.channels * form.rate * seconds, ENCODING, runs, folder, every))
+    met_in(rows, ENCODING)
 
 
 def main():
