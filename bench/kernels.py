@@ -16,7 +16,7 @@ import sys
 import tempfile
 
 import measure
-import predicting
+import searching
 
 # the program itself, without the script that builds it
 PROGRAM = os.path.abspath(os.environ.get("FLAC") or os.path.join(os.path.dirname(measure.HERE), "crates", "flac", "out", "flac"))
@@ -116,7 +116,7 @@ def main():
     print(f"Nanoseconds a sample; {measure.machine()}; {seconds} seconds of audio a row, {runs} runs in turn, load {os.getloadavg()[0]:.1f}")
     with tempfile.TemporaryDirectory() as folder:
         if words.predictors:
-            return predicting.table(folder, seconds, runs)
+            return searching.table(folder, seconds, runs)
         if not words.encoding:
             decoding(seconds, runs, folder, words.functions)
         encoding(seconds, runs, folder, words.functions)
