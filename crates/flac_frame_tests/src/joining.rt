@@ -43,30 +43,53 @@ fn channels(alloc: Global, kind: u32, length: usize) -> Result<(Vec<i32>, Vec<i3
     Ok((left, right))
 }
 
-/// One plane of two channels in a channel assignment, and its bit depth: channels of 16 bits as they are, their
-/// difference, or their middle, rounded down (RFC 9639, section 4.2).
-fn plane(alloc: Global, name: char, left: &[i32], right: &[i32]) -> Result<(Vec<i64>, u32), Fail> {
-    let mut samples = Vec::new(alloc);
-    for (left, right) in left.iter().zip(right.iter()) {
-        let (left, right) = (i64::from(*left), i64::from(*right));
-        let sample = match name {
-            'l' => left,
-            'r' => right,
-            's' => left - right,
-            _ => (left + right) >> 1,
-        };
-        samples.push(sample)?;
-    }
-    Ok((samples, if name == 's' { 17 } else { 16 }))
+/// A plane of two channels of 16 bits: one of them as it is, their difference, or their middle, rounded down (RFC 9639,
+/// section 4.2).
+#[derive(Clone, Copy)]
+enum Plane {
+    Left,
+    Right,
+    Side,
+    Middle,
 }
 
-/// The planes of a channel assignment by its code: left, right, side and middle (section 9.1.3).
-fn planes(code: u8) -> (char, char) {
+impl Plane {
+    /// Its sample for a sample of each channel.
+    fn sample(self, left: i32, right: i32) -> i64 {
+        let (left, right) = (i64::from(left), i64::from(right));
+        match self {
+            Plane::Left => left,
+            Plane::Right => right,
+            Plane::Side => left - right,
+            Plane::Middle => (left + right) >> 1,
+        }
+    }
+
+    /// Its samples.
+    fn samples(self, alloc: Global, left: &[i32], right: &[i32]) -> Result<Vec<i64>, Fail> {
+        let mut samples = Vec::new(alloc);
+        for (left, right) in left.iter().zip(right.iter()) {
+            samples.push(self.sample(*left, *right))?;
+        }
+        Ok(samples)
+    }
+
+    /// Its bit depth.
+    fn depth(self) -> u32 {
+        match self {
+            Plane::Left | Plane::Right | Plane::Middle => 16,
+            Plane::Side => 17,
+        }
+    }
+}
+
+/// The planes of a channel assignment by its code (section 9.1.3).
+fn planes(code: u8) -> (Plane, Plane) {
     match code {
-        8 => ('l', 's'),
-        9 => ('s', 'r'),
-        10 => ('m', 's'),
-        _ => ('l', 'r'),
+        8 => (Plane::Left, Plane::Side),
+        9 => (Plane::Side, Plane::Right),
+        10 => (Plane::Middle, Plane::Side),
+        _ => (Plane::Left, Plane::Right),
     }
 }
 
@@ -91,10 +114,10 @@ fn has_planes(alloc: Global, bytes: &[u8], left: &[i32], right: &[i32]) -> Resul
         at: HEADER_BITS,
         same: true,
     };
-    let (samples, depth) = plane(alloc, first, left, right)?;
-    subframe(alloc, &mut compared, &samples, depth)?;
-    let (samples, depth) = plane(alloc, second, left, right)?;
-    subframe(alloc, &mut compared, &samples, depth)?;
+    let samples = first.samples(alloc, left, right)?;
+    subframe(alloc, &mut compared, &samples, first.depth())?;
+    let samples = second.samples(alloc, left, right)?;
+    subframe(alloc, &mut compared, &samples, second.depth())?;
     let end = compared.at.wrapping_add(7) / 8;
     Ok(compared.same && end.wrapping_add(2) == bytes.len() as u64)
 }
