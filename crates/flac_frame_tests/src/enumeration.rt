@@ -4,7 +4,6 @@
 
 use crate::equals::EQUALS;
 use crate::subframes::{WRITTEN, all_fit, wide_of, written};
-use crate::wide::rice_bits;
 use flac_subframe::choose;
 use flac_vectors::{bursts, fields_of, pair_of};
 use std::alloc::Global;
@@ -27,7 +26,7 @@ pub(crate) struct Form {
     code: u32,
     parameter_bits: u32,
     partition_order: u32,
-    bits: u64,
+    pub(crate) bits: u64,
 }
 
 /// The coding of a partition: its parameter, or the width of its values for an escape, and how many bits it takes
@@ -91,6 +90,26 @@ fn width_of(values: &[i64]) -> u32 {
     most
 }
 
+/// A residual value as an unsigned number: 0, -1, 1, -2 and so on as 0, 1, 2, 3.
+fn folded(value: i64) -> u64 {
+    let twice = value.wrapping_mul(2);
+    if value < 0 {
+        (-1i64).wrapping_sub(twice).cast_unsigned()
+    } else {
+        twice.cast_unsigned()
+    }
+}
+
+/// What values take under a Rice parameter.
+fn rice_bits(values: &[i64], parameter: u32) -> u64 {
+    let mut bits = 0u64;
+    for value in values {
+        let length = (folded(*value) >> (parameter % 32)).wrapping_add(u64::from(parameter) + 1);
+        bits = bits.wrapping_add(length);
+    }
+    bits
+}
+
 /// The coding of a partition with the fewest bits. Each value counts for each parameter, and once for its width.
 fn cheapest(values: &[i64], parameter_bits: u32, priced: &mut u64) -> Coded {
     let count = values.len() as u64;
@@ -143,31 +162,34 @@ fn cost(values: &[i64], order: usize, size: usize, parameter_bits: u32, priced: 
     bits
 }
 
-/// Replaces the best form by one of the fixed predictor of an order with a method, if that takes fewer bits.
-fn try_method(
-    values: &[i64],
-    order: usize,
-    parameter_bits: u32,
-    before: u64,
-    best: &mut Form,
-    priced: &mut u64,
-) {
+/// The form of the fewest bits of the residual of an order, with either method and partition orders up to the greatest.
+/// Its code is that of the fixed predictor, and warm-up samples are not among its bits.
+pub(crate) fn least_residual(values: &[i64], order: usize, most: u32, priced: &mut u64) -> Form {
     let block = values.len().wrapping_add(order);
-    for partition_order in 0..9u32 {
-        let size = block >> partition_order;
-        if size << partition_order == block && size > order {
-            let cost = cost(values, order, size, parameter_bits, priced);
-            let bits = before.wrapping_add(cost);
-            if bits < best.bits {
-                *best = Form {
-                    code: order.min(4) as u32 + 8,
-                    parameter_bits,
-                    partition_order,
-                    bits,
-                };
+    let code = order.min(4) as u32 + 8;
+    let mut best = Form {
+        code,
+        parameter_bits: 4,
+        partition_order: 0,
+        bits: u64::MAX,
+    };
+    for parameter_bits in 4..6 {
+        for partition_order in 0..most.min(15) + 1 {
+            let size = block >> partition_order;
+            if size << partition_order == block && size > order {
+                let bits = cost(values, order, size, parameter_bits, priced);
+                if bits < best.bits {
+                    best = Form {
+                        code,
+                        parameter_bits,
+                        partition_order,
+                        bits,
+                    };
+                }
             }
         }
     }
+    best
 }
 
 /// The constant form if all samples are equal, or else the verbatim one.
@@ -183,16 +205,25 @@ fn plain_form(samples: &[i64], depth: u32) -> Form {
     }
 }
 
-/// The form of the fewest bits for samples of which one is odd or all are 0, and how often a value is priced.
-fn least(alloc: Global, samples: &[i64], depth: u32) -> Result<(Form, u64), Fail> {
+/// The form of the fewest bits for samples of which one is odd or all are 0, with partition orders up to the greatest,
+/// and how often a value is priced. The header of the subframe is not among its bits.
+pub(crate) fn least(
+    alloc: Global,
+    samples: &[i64],
+    depth: u32,
+    most: u32,
+) -> Result<(Form, u64), Fail> {
     let mut best = plain_form(samples, depth);
     let mut priced = 0;
     for order in 0..5usize {
         let values = residual(alloc, samples, order)?;
         if order < samples.len() && is_in_range(&values) {
-            let before = u64::from(depth).wrapping_mul(order as u64);
-            try_method(&values, order, 4, before, &mut best, &mut priced);
-            try_method(&values, order, 5, before, &mut best, &mut priced);
+            let warm_up = u64::from(depth).wrapping_mul(order as u64);
+            let mut form = least_residual(&values, order, most, &mut priced);
+            form.bits = form.bits.saturating_add(warm_up);
+            if form.bits < best.bits {
+                best = form;
+            }
         }
     }
     Ok((best, priced))
@@ -228,15 +259,9 @@ fn unary(compared: &mut Compared<'_>, zeros: u64) {
     number(compared, 1, 1);
 }
 
-/// A value under a Rice parameter: 0, -1, 1, -2 and so on are 0, 1, 2, 3, whose quotient is in unary and whose
-/// remainder comes after it.
+/// A value under a Rice parameter: its quotient is in unary, and its remainder comes after it.
 fn rice(compared: &mut Compared<'_>, value: i64, parameter: u32) {
-    let twice = value.unsigned_abs().wrapping_mul(2);
-    let folded = if value < 0 {
-        twice.wrapping_sub(1)
-    } else {
-        twice
-    };
+    let folded = folded(value);
     unary(compared, folded >> (parameter % 64));
     number(compared, folded.cast_signed(), parameter);
 }
@@ -328,7 +353,7 @@ pub(crate) fn subframe(
     let wasted = wasted_of(samples);
     let short = shortened(alloc, samples, wasted)?;
     let left = depth.saturating_sub(wasted);
-    let (form, priced) = least(alloc, &short, left)?;
+    let (form, priced) = least(alloc, &short, left, 8)?;
     let values = residual(alloc, &short, form.code.saturating_sub(8) as usize)?;
     header(compared, form.code, wasted);
     content(compared, &short, &values, left, form);

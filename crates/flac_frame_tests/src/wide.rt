@@ -3,6 +3,7 @@
 
 ghost use Rattle.std.specs.Prelude.{◌≡◌};
 
+use crate::enumeration::{least, least_residual};
 use crate::subframes::{all_fit, written};
 use flac_bits::{BitReader, BitWriter, Collected, Memory, Target, Why};
 use flac_subframe::{
@@ -155,90 +156,10 @@ fn they_are_read_again(rt: HostRuntime) -> Result<(), Fail> {
 
 // ---- the least of all forms, one after another
 
-/// A residual value as an unsigned number: 0, -1, 1, -2 and so on as 0, 1, 2, 3.
-fn folded(value: i64) -> u64 {
-    let twice = value.wrapping_mul(2);
-    if value < 0 {
-        (-1i64).wrapping_sub(twice).cast_unsigned()
-    } else {
-        twice.cast_unsigned()
-    }
-}
-
-/// What values take under a Rice parameter.
-pub(crate) fn rice_bits(values: &[i64], parameter: u32) -> u64 {
-    let mut bits = 0u64;
-    for value in values {
-        let length = (folded(*value) >> (parameter % 32)).wrapping_add(u64::from(parameter) + 1);
-        bits = bits.wrapping_add(length);
-    }
-    bits
-}
-
-/// What values take as numbers of the fewest bits.
-fn escape_bits(values: &[i64]) -> u64 {
-    let mut width = 0;
-    for value in values {
-        width = width.max(64 - folded(*value).leading_zeros());
-    }
-    u64::from(width)
-        .wrapping_mul(values.len() as u64)
-        .wrapping_add(5)
-}
-
-/// The fewest bits of a partition, with a parameter of 4 or 5 bits.
-fn partition_bits(values: &[i64], parameter_bits: u32) -> u64 {
-    let mut best = escape_bits(values);
-    for parameter in 0..(1u32 << (parameter_bits % 8)).saturating_sub(1) {
-        best = best.min(rice_bits(values, parameter));
-    }
-    best.wrapping_add(u64::from(parameter_bits))
-}
-
-/// The fewest bits of a residual at a method and a partition order, of a block of `size` samples in each partition.
-fn partitions_bits(values: &[i64], order: usize, size: usize, parameter_bits: u32) -> u64 {
-    let (first, rest) = values.split_at(size.saturating_sub(order).min(values.len()));
-    let mut bits = partition_bits(first, parameter_bits);
-    for part in rest.chunks(size.max(1)) {
-        bits = bits.wrapping_add(partition_bits(part, parameter_bits));
-    }
-    bits
-}
-
-/// The fewest bits of a residual of an order, with either method and partition orders up to the greatest.
-fn residual_bits(values: &[i64], order: usize, partition: u32) -> u64 {
-    let block = values.len().wrapping_add(order);
-    let mut best = u64::MAX;
-    for partition_order in 0..partition.min(15) + 1 {
-        let size = block >> partition_order;
-        if size << partition_order == block && size > order {
-            best = best.min(partitions_bits(values, order, size, 4));
-            best = best.min(partitions_bits(values, order, size, 5));
-        }
-    }
-    best.saturating_add(6)
-}
-
-/// Replaces samples by the differences of neighbours.
-fn difference(values: &mut Vec<i64>) {
-    for i in (1..values.len()).rev() {
-        values[i] = values[i].wrapping_sub(values[i - 1]);
-    }
-    if !values.is_empty() {
-        values.remove(0);
-    }
-}
-
 /// The fewest bits of a subframe of samples that are not all equal and of which one is odd.
-fn plain_bits(alloc: Global, samples: &[i64], partition: u32) -> Result<u64, Fail> {
-    let mut values = samples.to_vec(alloc)?;
-    let mut best = u64::from(DEPTH).wrapping_mul(samples.len() as u64);
-    for order in 0..5 {
-        let warm_up = u64::from(DEPTH) * order as u64;
-        best = best.min(residual_bits(&values, order, partition).saturating_add(warm_up));
-        difference(&mut values);
-    }
-    Ok(best.wrapping_add(8))
+fn least_bits(alloc: Global, samples: &[i64], partition: u32) -> Result<u64, Fail> {
+    let (form, _) = least(alloc, samples, DEPTH, partition)?;
+    Ok(form.bits.wrapping_add(8))
 }
 
 /// Whether a block takes as many bits as the least of all forms with partition orders up to 15, and more if they are up
@@ -247,8 +168,8 @@ fn is_least(alloc: Global, len: usize, run: usize) -> Result<bool, Fail> {
     let samples = bursts(alloc, len, run)?;
     let (wide, _) = written_in(alloc, &samples, DEPTH, 15, &[])?;
     let (narrow, _) = written_in(alloc, &samples, DEPTH, 8, &[])?;
-    let least = plain_bits(alloc, &samples, 15)?;
-    Ok(wide == least && wide < narrow && narrow == plain_bits(alloc, &samples, 8)?)
+    let least = least_bits(alloc, &samples, 15)?;
+    Ok(wide == least && wide < narrow && narrow == least_bits(alloc, &samples, 8)?)
 }
 
 #[test]
@@ -285,8 +206,9 @@ fn by_a_predictor(rt: HostRuntime) -> Result<(), Fail> {
     };
     let (bits, _) = written_in(alloc, &samples, DEPTH, 15, &[predictor])?;
     let (_, rest) = left.split_at(left.len().min(1));
-    let wanted = residual_bits(rest, 1, 15).wrapping_add(8 + 24 + 10);
-    assert!(rt; bits == wanted && wanted < plain_bits(alloc, &samples, 15)?);
+    let residual = least_residual(rest, 1, 15, &mut 0);
+    let wanted = residual.bits.wrapping_add(8 + 24 + 10);
+    assert!(rt; bits == wanted && wanted < least_bits(alloc, &samples, 15)?);
     Ok(())
 }
 
