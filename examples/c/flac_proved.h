@@ -114,6 +114,7 @@ uint32_t flac_proved_seek(const uint8_t *bytes, size_t size, uint64_t sample, st
  * info.greatest_block * info.channels. If there is room for all of them the cursor goes to the next frame; if not, nothing is written, and
  * the cursor stays: call again with a larger buffer. At the end, if cursor->offset is `size`, *len is 0.
  * Returns 0, or the number of the fault, at the place of the frame, counted from where the cursor was made; the cursor is then as it was.
+ * It is 8 if info is not as flac_proved_start or flac_proved_seek left it, and breaks a rule of STREAMINFO; and 2 if an allocation fails.
  * A frame is judged by itself and by STREAMINFO: that frames are numbered one after another, and the number and the MD5 of all samples, are
  * judged by the calls that read the whole stream. */
 uint32_t flac_proved_next(const uint8_t *bytes, size_t size, struct flac_proved_cursor *cursor, int32_t *out, size_t room, size_t *len,
@@ -152,8 +153,9 @@ struct flac_proved_tags {
  * Returns 0, or the number of the first reason of these:
  *   42 channels is 0 or above 8               43 count is no multiple of channels
  *   40 no frame header has a code for rate    41 bits is none of the above
- *   44 a sample does not fit its bits         45 2^36 samples of each channel, or more than 2^31 frames
- *   46 block_size is out of its range         47 more than 932067 points in the seek table
+ *   44 a sample does not fit its bits         45 2^36 samples of each channel or more
+ *   46 block_size is out of its range         45 more than 2^31 frames
+ *   47 more than 932067 points in the seek table
  *   7  the comments have more than 2^24 - 1 bytes
  *   37 seek_every and ogg are both not 0
  * or 2 if an allocation fails. */

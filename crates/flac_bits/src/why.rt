@@ -89,8 +89,8 @@ pub enum Why {
     PacketLength,
     /// The input ends, and no page was marked last (RFC 3533, section 6).
     NoEndPage,
-    /// The first page or packet is not that of FLAC in Ogg; on writing, comments do not come first, or there is a seek
-    /// table (section 10.1).
+    /// The first page or packet is not that of FLAC in Ogg; on writing, comments do not come first, or a seek
+    /// table is asked for (section 10.1).
     BadMapping,
     /// An earlier call of this value failed, and it goes no further.
     Spent,

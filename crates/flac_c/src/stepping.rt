@@ -119,8 +119,8 @@ fn step_alone(
 /// The frame must agree with STREAMINFO. It may have any number, and neither the number of all samples nor their MD5 is
 /// compared (RFC 9639, sections 8.2 and 9).
 ///
-/// Returns 0, or the number of the fault of the frame, or 2 if an allocation fails. The fault's place is the frame,
-/// counted from where the cursor was made. The cursor, `out` and `len` are unchanged then.
+/// Returns 0, or the number of the fault of the frame, or 8 if the cursor's stream information breaks a rule of
+/// STREAMINFO, or 2 if an allocation fails. The fault's place is the frame, counted from where the cursor was made. The cursor, `out` and `len` are unchanged then.
 #[unsafe(no_mangle)]
 pub extern "C" fn flac_proved_next(
     alloc: Global,

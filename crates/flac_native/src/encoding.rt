@@ -210,8 +210,8 @@ fn send_stream<W: Target>(
 /// The plan must fit the samples ([`Plan::fits`]).
 ///
 /// It goes over the samples twice: first it chooses how each frame is written, then it writes one after another. Beside
-/// the samples it holds the working arrays of one frame ([`EncodeBuffers`]), the seek points, up to 4096 bytes of what
-/// is written, and for each channel of each frame some 80 bytes and one for each partition of its residual, of which
+/// the samples it holds the working arrays of one frame ([`EncodeBuffers`]), the seek points, up to 16384 bytes of
+/// what is written, and for each channel of each frame some 80 bytes and one for each partition of its residual, of which
 /// the subset allows 256; no frame is held. If blocks have fewer than 192 samples, it keeps the choices of the first
 /// frames only, and makes the others again.
 ///

@@ -207,7 +207,8 @@ impl<C: Container> Reader<C> {
     }
 
     /// The number of the first sample of the frame that was lent last, counted from 0 in each channel. At the end of
-    /// the stream it is the number of samples of each channel. It stops at 2^64 - 1.
+    /// the stream it is the number of samples of each channel, or 0 if the reader is there since no frame held the
+    /// sample of a seek. It stops at 2^64 - 1.
     pub fn first_sample(&self) -> u64
         ensures { result ≡ self.now.first }
     {
@@ -215,7 +216,8 @@ impl<C: Container> Reader<C> {
     }
 
     /// The time at which the frame that was lent last begins: that of its first sample from the start of the stream,
-    /// rounded down to a nanosecond. At the end of the stream it is the time that all samples take.
+    /// rounded down to a nanosecond. At the end of the stream it is the time that all samples take, or 0 if no frame
+    /// held the sample of a seek.
     ///
     /// ```
     /// let at = reader.time().as_secs();

@@ -67,7 +67,7 @@ The comments take the place of all that IN has: without a COMMENT, OUT has none.
 vendor, which names the program that wrote the stream, becomes \"flac profile 1\".
 
 STREAMINFO, the other blocks and the frames stay as they are, but padding is written as
-zeros. The frames are not read. If the metadata is refused, nothing is written.
+zeros. The frames are not verified. If the metadata is refused, nothing is written.
 
 OUT has to be another file than IN: else it cannot be created, and IN stays as it is. If
 the job fails later, what was written before stays in OUT. But if OUT was a file with
