@@ -269,8 +269,10 @@ def module(door, made, listed, paths):
         door.expect(f"module, comments of {sound.name}", (library.vendor(stream), library.comments(stream)), (b"x", [text.encode() for text in COMMENTS]))
     try:
         library.encode([0], 44100, 2, 16)
+        said = "encoded"
     except flac_proved.NotEncoded as reason:
-        door.expect("module, reason", str(reason), "43 LengthsDiffer")
+        said = str(reason)
+    door.expect("module, reason", said, "43 LengthsDiffer")
 
 
 def sounds_of(made, sound):

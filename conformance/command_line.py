@@ -4,7 +4,6 @@ import os
 import program
 import vectors
 import vectors_lax
-from model import LAX
 from program import Wrong, expect, read
 
 
@@ -104,11 +103,9 @@ def cases(bench):
         yield f"{name}, OUT is no file", lambda data=data, words=words: program.succeeds(words[0], bench.put(data), "/dev/null", *words[1:])
         yield f"{name}, help on OUT", lambda words=words: said_in_help(words[0])
     yield "retag --lax", lambda: line(["retag", "--lax", good, bench.path(), "A=b"], 2, None)
-    if program.takes(LAX):
-        yield from lax_cases(bench)
+    yield from lax_cases(bench)
     for words in (["--lax"], ["--predictors", os.devnull]):
-        if program.encodes(*words):
-            yield f"encode, help on {words[0]}", lambda w=words: said_in_help("encode", w[0])
-            yield f"encode {words[0]}, OUT is IN", lambda w=words: output_is_input(bench, bytes(400), ["encode", *encode, *w])
-            yield f"encode {words[0]}, OUT is another file", lambda w=words: output_is_another(bench, bytes(400), ["encode", *encode, *w])
+        yield f"encode, help on {words[0]}", lambda w=words: said_in_help("encode", w[0])
+        yield f"encode {words[0]}, OUT is IN", lambda w=words: output_is_input(bench, bytes(400), ["encode", *encode, *w])
+        yield f"encode {words[0]}, OUT is another file", lambda w=words: output_is_another(bench, bytes(400), ["encode", *encode, *w])
     yield "test --predictors", lambda: line(["test", good, "--predictors", os.devnull], 2, None)

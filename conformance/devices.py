@@ -21,6 +21,7 @@ from program import Wrong, expect, read
 
 JOBS = int(os.environ.get("JOBS", os.cpu_count() or 1))
 ENCODE = ["--rate", "44100", "--channels", "2", "--bits", "16", "--block", "16"]
+LISTED = [*ENCODE, "--predictors", "LIST"]
 NATIVE, OGG = streams.native().data, streams.ogg().data
 RAW = b"".join((n * 401 % 65536).to_bytes(2, "little") for n in range(2 * 41))
 LIST = b"# a straight line\n3 0 2 -1\n1 0 -1\n"
@@ -28,10 +29,9 @@ LIST = b"# a straight line\n3 0 2 -1\n1 0 -1\n"
 READING = [("test", ["test", "IN"], NATIVE), ("test of Ogg", ["test", "IN"], OGG), ("list", ["list", "IN"], NATIVE)]
 WRITING = [("decode", ["decode", "IN", "OUT"], NATIVE), ("decode of Ogg", ["decode", "IN", "OUT"], OGG),
            ("retag", ["retag", "IN", "OUT", "A=b"], NATIVE), ("encode", ["encode", "IN", "OUT", *ENCODE], RAW),
-           ("encode in Ogg", ["encode", "IN", "OUT", *ENCODE, "--ogg"], RAW)]
-OUTSIDE = ("encode outside the subset", ["encode", "IN", "OUT", *(word.replace("44100", "700001") for word in ENCODE), "--lax"], RAW)
-LISTED = ("encode with a list", ["encode", "IN", "OUT", *ENCODE, "--predictors", "LIST"], RAW)
-"""Jobs that a program may lack."""
+           ("encode in Ogg", ["encode", "IN", "OUT", *ENCODE, "--ogg"], RAW),
+           ("encode outside the subset", ["encode", "IN", "OUT", *(word.replace("44100", "700001") for word in ENCODE), "--lax"], RAW),
+           ("encode with a list", ["encode", "IN", "OUT", *LISTED], RAW)]
 BEFORE = b"what is in OUT before\n" * 30
 NOBODY = 65534
 
@@ -270,9 +270,7 @@ def open_twice(place, words, source, how):
 
 def list_cases():
     """LIST is no file that can be read, or is one of the job's other files."""
-    words = LISTED[1]
-    if LISTED not in WRITING:
-        return
+    words = ["encode", "IN", "OUT", *LISTED]
 
     def refused(place, path, line, **more):
         """Neither IN nor OUT is touched."""
@@ -403,7 +401,6 @@ def main():
     parser.add_argument("--quick", action="store_true", help="the same: it takes seconds")
     parser.add_argument("--only", default="", help="only the cases whose name has this text")
     words, began = parser.parse_args(), time.time()
-    WRITING.extend([OUTSIDE] * program.encodes("--lax") + [LISTED] * program.encodes("--predictors", os.devnull))
     with tempfile.TemporaryDirectory() as folder, ThreadPoolExecutor(JOBS) as pool:
         os.chmod(folder, 0o755)
         binary = shutil.copy(program.BINARY, os.path.join(folder, "flac"))
@@ -414,7 +411,7 @@ def main():
         print(line, end="\n" if line else "")
     count = {state: sum(1 for one, _ in found if one == state) for state in ("passed", "failed")}
     print(f"devices: {len(every)} cases, {count['passed']} passed, {count['failed']} failed, {time.time() - began:.0f} seconds")
-    return 1 if count["failed"] else 0
+    return 1 if count["failed"] or not every else 0
 
 
 if __name__ == "__main__":

@@ -7,7 +7,7 @@ import program
 import reference
 import vectors
 from model import SUBSET
-from program import NotYet, Wrong, expect, read
+from program import NotCompared, Wrong, expect, read
 from reading import decode_case
 
 LEAST = ["-l", "0", "-b", "4096", "-m", "-r", "8", "-e"]
@@ -114,7 +114,7 @@ def least_case(sound, raw, bench, made):
     ours = encode(sound, raw, bench, "--block", "4096")
     theirs = made.path(f"{sound.name}.least.flac")
     if not corpus.made(theirs, corpus.REFERENCE, "-s", "-f", *LEAST, "-o", corpus.OUT, made.path(sound.name + ".wav")):
-        raise NotYet("the reference does not take this sound")
+        raise NotCompared("the reference does not take this sound")
     sizes = [os.path.getsize(path) - reference.frame_places(path)[0][0] for path in (ours, theirs)]
     if sizes[0] > sizes[1]:
         raise Wrong(f"{sizes[0]} bytes of frames, the reference writes {sizes[1]}")

@@ -26,6 +26,7 @@ from model import LAX, SUBSET
 from program import Wrong, expect, read
 from reading import decode_before_fault, decode_case, difference_case, list_before_fault, list_case, test_case, vector_case
 
+PROFILES = (SUBSET, LAX)
 GROUP = "outside the subset"
 
 
@@ -56,15 +57,14 @@ def subset_case(entry):
     expect(program.answer(entry.path), model.answer(read(entry.path)))
 
 
-def file_cases(made, bench, profiles):
+def file_cases(made, bench):
     for entry in made.lax:
         name = os.path.basename(entry.path)
         yield f"{GROUP}: model", name, lambda e=entry: model_agrees(e)
         yield f"{GROUP}: without --lax", name, lambda e=entry: subset_case(e)
-        if LAX in profiles:
-            yield f"{GROUP}: test", name, lambda e=entry: test_case(e, LAX)
-            yield f"{GROUP}: decode", name, lambda e=entry: decode_case(e, bench, LAX)
-            yield f"{GROUP}: list", name, lambda e=entry: list_case(e, LAX)
+        yield f"{GROUP}: test", name, lambda e=entry: test_case(e, LAX)
+        yield f"{GROUP}: decode", name, lambda e=entry: decode_case(e, bench, LAX)
+        yield f"{GROUP}: list", name, lambda e=entry: list_case(e, LAX)
 
 
 def inside_cases(made, bench):
@@ -75,15 +75,13 @@ def inside_cases(made, bench):
         yield "inside the subset, --lax: decode", name, lambda e=entry: decode_case(e, bench, LAX)
 
 
-def vector_cases(bench, profiles):
+def vector_cases(bench):
     """Each vector in each profile; what `list` and `decode` do before a fault; those of the subset with `--lax`."""
     known = {name: (data, due) for name, data, *due in vectors_lax.all_vectors()}
     for name, (data, due) in known.items():
         yield f"{GROUP}: vectors, reference", name, lambda n=name, d=data, a=due[1]: reference_agrees(n, d, a, bench)
-        for profile, answer in zip(profiles, due):
+        for profile, answer in zip(PROFILES, due):
             yield f"{GROUP}: vectors{', --lax' * len(profile.words)}", name, lambda d=data, a=answer, p=profile: vector_case(d, a, bench, p)
-    if LAX not in profiles:
-        return
     for name, (data, due) in known.items():
         yield f"{GROUP}: vectors, list", name, lambda d=data: list_before_fault(d, bench, LAX)
         yield f"{GROUP}: vectors, decode", name, lambda d=data: decode_before_fault(d, bench, LAX)
@@ -94,10 +92,10 @@ def vector_cases(bench, profiles):
         yield "vectors of the subset, --lax", name, lambda d=data, a=due: vector_case(d, a, bench, LAX)
 
 
-def partition_cases(made, bench, profiles):
+def partition_cases(made, bench):
     for entry in made.empty_partitions:
         data = read(entry.path)
-        for profile in profiles:
+        for profile in PROFILES:
             yield (f"{GROUP}: first partition of no values", f"{os.path.basename(entry.path)}, {profile.name}",
                    lambda d=data, p=profile: difference_case(d, partition_answer(d, p), bench, p))
 
@@ -123,9 +121,9 @@ def small(made):
     return into
 
 
-def damage_cases(made, quick, bench, profiles):
+def damage_cases(made, quick, bench):
     for entry in small(made):
-        for profile in profiles:
+        for profile in PROFILES:
             more = f"{', --lax' * len(profile.words)}"
             if entry.path.endswith(".oga"):
                 yield from damaged.pages_by_the_model(entry.path, 3 if quick else 12, bench, profile, f"{GROUP}: damage, Ogg{more}")
@@ -134,19 +132,12 @@ def damage_cases(made, quick, bench, profiles):
 
 
 def cases(made, quick, bench):
-    """All cases; without those of `--lax` where the program does not have it."""
-    profiles = (SUBSET, LAX) if program.takes(LAX) else (SUBSET,)
-    yield from file_cases(made, bench, profiles)
-    yield from vector_cases(bench, profiles)
-    yield from partition_cases(made, bench, profiles)
-    yield from damage_cases(made, quick, bench, profiles)
-    if LAX in profiles:
-        yield from inside_cases(made, bench)
-
-
-def without_lax():
-    """The line that tells what is not compared, where the program does not have `--lax`."""
-    return "" if program.takes(LAX) else "the program does not have --lax: outside the subset it is asked without it only"
+    """All cases."""
+    yield from file_cases(made, bench)
+    yield from vector_cases(bench)
+    yield from partition_cases(made, bench)
+    yield from damage_cases(made, quick, bench)
+    yield from inside_cases(made, bench)
 
 
 def coverage(entries):

@@ -15,7 +15,7 @@ import program
 import reference
 import vectors_lax
 from model import LAX, SUBSET
-from program import NotYet, Wrong, expect, read
+from program import NotCompared, Wrong, expect, read
 from reading import model_case
 
 GROUP = "encode --lax"
@@ -132,7 +132,7 @@ def least_case(sound, block, made, bench):
     theirs, wav = made.path(f"{sound.name}.{block}.least_lax.flac"), made.path(sound.name + ".wav")
     settings = [word for word in LEAST if word != "-m" or sound.channels == 2]
     if not corpus.made(theirs, corpus.REFERENCE, "-s", "-f", *settings, "-b", str(block), "-o", corpus.OUT, wav):
-        raise NotYet("the reference does not take this sound")
+        raise NotCompared("the reference does not take this sound")
     sizes = [sum(map(len, encoding.frames_of(path))) for path in (ours, theirs)]
     if sizes[0] > sizes[1]:
         raise Wrong(f"{sizes[0]} bytes of frames, the reference writes {sizes[1]}")
@@ -192,9 +192,7 @@ def gains():
 
 
 def cases(made, quick, bench):
-    """All cases; none if the program does not have the option."""
-    if not program.encodes("--lax"):
-        return
+    """All cases."""
     for index, (sound, block) in enumerate(rows(quick)):
         made.prepare(sound)
         for group, call, wanted in (
@@ -214,8 +212,3 @@ def cases(made, quick, bench):
     yield f"{GROUP}, bytes", "sixteen zeros of 5 bits", lambda: zeros_case(bench)
     for name, samples, words, due in fault_rows():
         yield f"{GROUP}, refusals", name, lambda s=samples, w=words, d=due: encoding.fault_case(s, w, d, bench)
-
-
-def without():
-    """The line that tells what is not compared, if the program does not have the option."""
-    return "" if program.encodes("--lax") else "the program does not have encode --lax: it is not compared"

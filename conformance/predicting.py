@@ -38,10 +38,6 @@ SPELLINGS = [("tabs and spaces", b"\t3\t0  2 -1 \n"), ("no end of line", b"3 0 2
 FORM = ["--rate", "44100", "--channels", "1", "--bits", "16"]
 
 
-def is_there():
-    return program.encodes("--predictors", os.devnull)
-
-
 def sounds(made, quick):
     """A handful of sounds, with block sizes: (sound, block, more words)."""
     of = outside.sound
@@ -290,9 +286,7 @@ def file_cases(made, quick, bench):
 
 
 def cases(made, quick, bench):
-    """All cases; none if the program does not have the option."""
-    if not is_there():
-        return
+    """All cases."""
     yield from file_cases(made, quick, bench)
     for name, text, samples, words, of, due in fault_rows():
         yield f"{GROUP}, refusals", name, lambda t=text, s=samples, w=words, o=of, d=due: fault_case(t, s, w, o, d, bench)
@@ -305,8 +299,3 @@ def cases(made, quick, bench):
     yield f"{GROUP}, same files", "OUT is LIST", lambda: out_is_list_case(bench)
     yield f"{GROUP}, same files", "IN is LIST", lambda: in_is_list_case(bench)
     yield f"{GROUP}, words", "no path", lambda: words_case(bench, "--predictors")
-
-
-def without():
-    """The line that tells what is not compared, if the program does not have the option."""
-    return "" if is_there() else "the program does not have encode --predictors: it is not compared"

@@ -1,5 +1,4 @@
 """Calls of the program under test, and the lines in which it tells faults."""
-import functools
 import itertools
 import os
 import re
@@ -14,8 +13,8 @@ BINARY = os.path.abspath(os.environ.get("FLAC") or os.path.join(ROOT, "crates", 
 PLACE = r"(?:marker|end|(?:block|frame|page) \d+)"
 
 
-class NotYet(Exception):
-    """The case is none for the program."""
+class NotCompared(Exception):
+    """There is nothing to compare the program with; the text tells why."""
 
 
 class Wrong(Exception):
@@ -31,19 +30,6 @@ def call(*words, limit=120):
     if result.returncode not in (0, 1, 2):
         raise Wrong(f"'{words[0]}' ended with status {result.returncode}: {result.stderr[-300:]!r}")
     return result.returncode, result.stdout, result.stderr
-
-
-@functools.cache
-def takes(profile):
-    """Whether the program has the words of a profile: it refuses a word that it does not know with status 2."""
-    return not profile.words or call("test", *profile.words, os.devnull)[0] != 2
-
-
-@functools.cache
-def encodes(*words):
-    """Whether `encode` has these words: a word that it does not know is refused with status 2. Nothing is written."""
-    form = ["--rate", "44100", "--channels", "1", "--bits", "16"]
-    return call("encode", os.devnull, "/nonexistent/a.flac", *form, *words)[0] != 2
 
 
 def succeeds(*words, limit=120):

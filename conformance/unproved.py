@@ -72,12 +72,13 @@ def main():
     parser.add_argument("--every", type=int, default=1, help="each Nth stream")
     words, began, failed = parser.parse_args(), time.time(), 0
     streams = [(name, data) for name, data, *_ in [*vectors.all_vectors(), *vectors_lax.all_vectors()]]
+    asked = dict(streams[::words.every])
     for profile in (SUBSET, LAX):
-        count, bad = compared(os.path.join(words.top, "crates", "flac"), profile, dict(streams[::words.every]))
+        count, bad = compared(os.path.join(words.top, "crates", "flac"), profile, asked)
         print(*bad, sep="\n", end="\n" if bad else "")
-        told = f"{count} streams, {len(bad)} failed" if count else "nothing is answered: the program is not built, or does not have these words"
+        told = f"{count} streams of {len(asked)} answered, {len(bad)} failed"
         print(f"unproved, {' '.join(('test', *profile.words))}: {told}, {time.time() - began:.0f} seconds", flush=True)
-        failed += len(bad) + (count == 0 and profile is SUBSET)
+        failed += len(bad) + len(asked) - count
     return 1 if failed else 0
 
 

@@ -3,7 +3,8 @@ ghost use Rattle.flac_pages.specs.Placed.{AreInOrder};
 
 use flac_bits::{BitReader, BitWriter, Collected, Memory, Pieces, Source, Why};
 use flac_pages::{
-    PacketAt, PacketBytes, PacketKind, PacketMarks, Pages, write_packet, write_packets,
+    Before, PacketAt, PacketBytes, PacketKind, PacketMarks, PageRoom, Pages, next_page,
+    write_packet, write_packets,
 };
 use flac_vectors::bytes_of;
 use std::alloc::Global;
@@ -150,6 +151,56 @@ fn reads_packets(rt: HostRuntime) -> Result<(), Fail> {
             assert!(rt; are_read(rt.alloc(), words, wanted, 1)?, "{row}");
             assert!(rt; are_read(rt.alloc(), words, wanted, 4096)?, "{row}");
         }
+    }
+    Ok(())
+}
+
+/// Pages that are read by themselves: the number, the flags, the position, the lacing values and the length of the body
+/// of each, and why no further one is read.
+const ALONE: &str =
+    "PAGE_0 PAGE_1 PAGE_2 PAGE_3 | 0 2 0 [51] 51, 1 0 0 [44] 44, 2 0 0 [22] 22, 3 4 16 [17] 17, NoEndPage
+PAGE_0 PAGE_1 PAGE_3 | 0 2 0 [51] 51, 1 0 0 [44] 44, PageOrder
+PAGE_0 PAGE_1 CUT | 0 2 0 [51] 51, 1 0 0 [44] 44, Truncated
+PAGE_0 PAGE_1 OTHER_BYTE | 0 2 0 [51] 51, 1 0 0 [44] 44, PageCheck
+PAGE_0 4f | 0 2 0 [51] 51, Truncated
+PAGE_1 | BadMapping";
+
+/// A page in text.
+fn told_page(alloc: Global, room: &PageRoom) -> Result<String, Fail> {
+    let (head, lacing, len) = (room.head(), room.lacing(), room.body().len());
+    let (number, flags, granule) = (head.sequence, head.flags, head.granule);
+    Ok(format!(in alloc; "{number} {flags} {granule} {lacing:?} {len}, ")?)
+}
+
+/// The pages of some bytes in text, at most five, and why no further one is read.
+fn told_alone(alloc: Global, bytes: &[u8], room: &mut PageRoom) -> Result<String, Fail> {
+    let mut reader = BitReader::new(Memory::new(bytes));
+    let mut text = String::new(alloc);
+    let mut before = None;
+    for _ in 0..5 {
+        if let Err(why) = next_page(&mut reader, room, before) {
+            text.push_str(&format!(in alloc; "{why:?}")?)?;
+            break;
+        }
+        text.push_str(&told_page(alloc, room)?)?;
+        let head = room.head();
+        before = Some(Before {
+            serial: head.serial,
+            sequence: head.sequence,
+            goes_on: false,
+        });
+    }
+    Ok(text)
+}
+
+#[test]
+fn reads_pages(rt: HostRuntime) -> Result<(), Fail> {
+    let mut room = PageRoom::new(rt.alloc())?;
+    for row in ALONE.lines() {
+        let (words, wanted) = row.split_once(" | ").unwrap_or((row, ""));
+        let bytes = pages_of(rt.alloc(), words)?;
+        let text = told_alone(rt.alloc(), &bytes, &mut room)?;
+        assert!(rt; text.as_str() == wanted, "{row}");
     }
     Ok(())
 }

@@ -406,7 +406,7 @@ fn bounds(rt: HostRuntime) -> Result<(), Fail> {
     // Three packets.
     let ogg = FlacProvedSettings { ogg: 1, ..SETTINGS };
     assert!(rt; bound(&ogg, 2) == 305);
-    // 3 frames of 16 samples at most, and 4 points of 18 bytes in a block with a header of 4 bytes.
+    // 3 frames of 16 samples at most, and 5 points of 18 bytes at most in a block with a header of 4 bytes.
     let sought = FlacProvedSettings {
         bits: 24,
         block_size: 16,

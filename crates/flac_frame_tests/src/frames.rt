@@ -1,6 +1,7 @@
 //! Frames from outside: of RFC 9639, appendix D.1, and worked by hand.
 
 ghost use Rattle.std.specs.Prelude.{◌≡◌, IfOk};
+ghost use Rattle.flac_frame.specs.Encoding.{most_in};
 
 use flac_bits::{BitReader, BitWriter, Collected, Memory, Target, Why};
 use flac_frame::{
@@ -21,6 +22,9 @@ use std::test::Fail;
 /// refused.
 const FRAMES: &str = "# Of the standard.
 16 4096 | fff869180000bf0358fd03128baa9a | 0 false Fixed 0 1 [25588] [10416]
+# The same samples from 4608 on, and as frame 3.
+16 4096 | fff96918e1888000cd0063f40028b057ab | 4608 true Variable 4608 1 [25588] [10416]
+16 4096 | fff869180300800063f40028b037a4 | 3 false Fixed 12288 1 [25588] [10416]
 # Left and side.
 16 16 | fff86988000f3b140000000103c02007803d83 | 0 false Fixed 0 16 [0, 1, 2, 3, 4, 5, 6, 7, 8, 9, 10, 11, 12, 13, 14, 15] [0, 1, 2, 3, 4, 5, 6, 7, 8, 9, 10, 11, 12, 13, 14, 15]
 # Out of range, and with another check.
@@ -282,6 +286,16 @@ fn audio_outside_the_subset(rt: HostRuntime) -> Result<(), Fail> {
     Ok(())
 }
 
+/// The working arrays for 33 samples. Those of the subset are made by the call that is for it alone.
+fn buffers_for(alloc: Global, profile: Profile) -> Result<EncodeBuffers, Why>
+    ensures { IfOk result (λ b. b ≡ record { block = 33; most = most_in profile }) }
+{
+    match profile {
+        Profile::Subset => EncodeBuffers::new(alloc, 33),
+        Profile::Lax => EncodeBuffers::new_in(alloc, Profile::Lax, 33),
+    }
+}
+
 /// Writes all samples, 33 at most, as frame 0, and returns how many bytes it has.
 pub(crate) fn write_all<W: Target>(
     alloc: Global,
@@ -294,7 +308,7 @@ pub(crate) fn write_all<W: Target>(
     if len == 0 || len > 33 {
         return Err(Why::BlockSize);
     }
-    let mut buffers = EncodeBuffers::new_in(alloc, audio.profile(), 33)?;
+    let mut buffers = buffers_for(alloc, audio.profile())?;
     let bytes = encode_frame(audio, 0..len, 0, &mut buffers, writer);
     drop(buffers);
     let bytes = bytes?;

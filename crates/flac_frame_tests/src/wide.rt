@@ -202,7 +202,7 @@ fn by_a_predictor(rt: HostRuntime) -> Result<(), Fail> {
     let alloc = rt.alloc();
     let (samples, left) = turning(alloc, 1024)?;
     let Some(predictor) = LinearPredictor::new(1, 0, &[-1]) else {
-        return Ok(());
+        return Err(Fail::new("no predictor"));
     };
     let (bits, _) = written_in(alloc, &samples, DEPTH, 15, &[predictor])?;
     let (_, rest) = left.split_at(left.len().min(1));

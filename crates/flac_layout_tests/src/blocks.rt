@@ -2,8 +2,8 @@
 
 use flac_bits::{BitReader, BitWriter, Collected, Memory, Why};
 use flac_meta::{
-    Block, BlockList, Bytes, Comments, CueIndices, CueSheet, CueTrack, CueTracks, SeekPoint,
-    SeekTable, Seen, StreamInfo, Texts, blocks_are_spelled, read_block, write_block,
+    Block, BlockList, Bytes, Comments, CueIndex, CueIndices, CueSheet, CueTrack, CueTracks,
+    SeekPoint, SeekTable, Seen, StreamInfo, Texts, blocks_are_spelled, read_block, write_block,
     write_comments,
 };
 use flac_vectors::bytes_of;
@@ -418,14 +418,58 @@ fn other_picture(alloc: Global) -> Block {
     }
 }
 
-/// A cue sheet of zeros, which has no tracks.
-fn sheet_of_zeros(alloc: Global) -> Block {
+/// A cue sheet of zeros with these tracks.
+fn sheet_of(tracks: Vec<CueTrack>) -> Block {
     Block::CueSheet(CueSheet {
         catalogue: [0; 128],
         lead_in: 0,
         cd: false,
-        tracks: CueTracks::from_vec(Vec::new(alloc)),
+        tracks: CueTracks::from_vec(tracks),
     })
+}
+
+const INDEX: CueIndex = CueIndex {
+    offset: 0,
+    number: 1,
+};
+
+/// A track of so many index points.
+fn track_of(alloc: Global, points: usize) -> Result<CueTrack, Fail> {
+    let indices = vec![in alloc; INDEX; points]?;
+    Ok(CueTrack {
+        offset: 0,
+        number: 1,
+        isrc: [0; 12],
+        audio: true,
+        pre_emphasis: false,
+        indices: CueIndices::from_vec(indices),
+    })
+}
+
+/// Why no list is made of a cue sheet of so many tracks, each of so many index points; nothing if one is made.
+fn fault_of_tracks(alloc: Global, count: usize, points: usize) -> Result<Option<Why>, Fail> {
+    let mut tracks = Vec::new(alloc);
+    for _ in 0..count {
+        tracks.push(track_of(alloc, points)?)?;
+    }
+    Ok(fault(alloc, sheet_of(tracks))?)
+}
+
+/// One byte counts the tracks, and one the index points of each track (RFC 9639, section 8.7).
+#[test]
+fn most_tracks_and_index_points(rt: HostRuntime) -> Result<(), Fail> {
+    let refused = Some(Why::CueSheet);
+    let rows = [
+        (255, 1, None),
+        (256, 1, refused),
+        (1, 255, None),
+        (1, 256, refused),
+    ];
+    for (tracks, points, wanted) in rows {
+        let found = fault_of_tracks(rt.alloc(), tracks, points)?;
+        assert!(rt; found == wanted, "{tracks} {points}");
+    }
+    Ok(())
 }
 
 /// Why no list is made of a cue sheet without tracks.
@@ -442,7 +486,7 @@ fn blocks_without_a_list(rt: HostRuntime) -> Result<(), Fail> {
     assert!(rt; padding == Ok(Some(Why::BlockLength)));
     let sheet = sheet_fault(rt.alloc())?;
     assert!(rt; sheet == Some(Why::CueSheet));
-    let zeros = fault(rt.alloc(), sheet_of_zeros(rt.alloc()));
+    let zeros = fault(rt.alloc(), sheet_of(Vec::new(rt.alloc())));
     assert!(rt; zeros == Ok(Some(Why::CueSheet)));
     Ok(())
 }

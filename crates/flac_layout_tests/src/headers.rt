@@ -24,7 +24,28 @@ const CHOSEN: &str = "16 44100 0 | fff86908000f30
 16 384000 0 | fff86e08000f9600b9
 4096 44100 0 | fff8c9080095
 4608 44100 0 | fff85908003c
-1000 44100 0 | fff879080003e7e5";
+1000 44100 0 | fff879080003e7e5
+192 44100 0 | fff8190800ba
+576 44100 0 | fff82908005b
+1152 44100 0 | fff8390800f9
+2304 44100 0 | fff84908009e
+256 44100 0 | fff889080013
+512 44100 0 | fff8990800b1
+1024 44100 0 | fff8a9080050
+2048 44100 0 | fff8b90800f2
+8192 96000 0 | fff8db0800e1
+16384 96000 0 | fff8eb080000
+32768 96000 0 | fff8fb0800a2
+16 88200 0 | fff86108000f80
+16 176400 0 | fff86208000fba
+16 192000 0 | fff86308000fac
+16 8000 0 | fff86408000fce
+16 16000 0 | fff86508000fd8
+16 22050 0 | fff86608000fe2
+16 24000 0 | fff86708000ff4
+16 32000 0 | fff86808000f26
+16 48000 0 | fff86a08000f0a
+16 96000 0 | fff86b08000f1c";
 
 fn read(bytes: &[u8]) -> Result<FrameHeader, Why> {
     read_header(&mut BitReader::new(Memory::new(bytes)))
@@ -118,12 +139,12 @@ fn chosen_bytes(alloc: Global, words: &str) -> Result<Vec<u8>, Fail> {
     }
 }
 
-/// Whether the header of a row is chosen.
+/// Whether the header of a row is chosen and written, and is read again.
 fn is_chosen(alloc: Global, row: &str) -> Result<bool, Fail> {
     let (words, wanted) = row.split_once(" |").unwrap_or((row, ""));
     let wanted = bytes_of(alloc, wanted)?;
     let found = chosen_bytes(alloc, words)?;
-    Ok(found.as_slice() == wanted.as_slice())
+    Ok(found.as_slice() == wanted.as_slice() && chosen(words)? == read(&wanted).ok())
 }
 
 #[test]

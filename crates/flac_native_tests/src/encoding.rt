@@ -120,6 +120,24 @@ fn blocks_of_plans(rt: HostRuntime) -> Result<(), Fail> {
     Ok(())
 }
 
+/// The number of the fault for which a point for each of so many blocks of 16 samples is refused, 0 if it is not.
+fn points_refused(alloc: Global, blocks: usize) -> Result<u8, Fail> {
+    let samples = vec![in alloc; 0; blocks.saturating_mul(16)]?;
+    let audio = Audio::new(44100, 16, vec![in alloc; samples]?)?;
+    match Plan::new(16, &audio, 1) {
+        Ok(_) => Ok(0),
+        Err(fault) => Ok(fault.number()),
+    }
+}
+
+/// A block of 2^24 - 1 bytes holds 932067 points of 18 bytes (RFC 9639, sections 8.1 and 8.5).
+#[test]
+fn points_of_plans(rt: HostRuntime) -> Result<(), Fail> {
+    assert!(rt; points_refused(rt.alloc(), 932_067)? == 0);
+    assert!(rt; points_refused(rt.alloc(), 932_068)? == 47);
+    Ok(())
+}
+
 /// What comes of a plan in a profile for one sample of another, of a rate and a depth: the number of the fault, and
 /// whether the plan fits the sample.
 fn named(alloc: Global, profile: Profile, own: Profile, format: &str) -> Result<(u8, bool), Fail> {

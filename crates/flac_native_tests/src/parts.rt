@@ -13,11 +13,6 @@ use std::mem::drop;
 use std::process::Abort;
 use std::test::Fail;
 
-/// The digest that the example states.
-const DIGEST: [u8; 16] = [
-    0x3E, 0x84, 0xB4, 0x18, 0x07, 0xDC, 0x69, 0x03, 0x07, 0x58, 0x6A, 0x3D, 0xAD, 0x1A, 0x2E, 0x0F,
-];
-
 /// Writes the samples of a frame of at most 2 as the digest's bytes of 16 bits, and returns how many these are.
 fn rows(frame: &FrameView<'_>, out: &mut [u8; 64]) -> usize {
     if frame.len() > 2 {

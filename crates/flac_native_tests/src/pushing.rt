@@ -167,10 +167,10 @@ fn blocks_alone(rt: HostRuntime) -> Result<(), Fail> {
 
 /// The number of the fault for which an encoder of blocks refuses a predictor of this many coefficients, or else 0.
 fn order_refused(alloc: Global, coefficients: &[i32]) -> Result<u8, Fail> {
-    let mut list = Vec::new(alloc);
-    if let Some(predictor) = LinearPredictor::new(2, 0, coefficients) {
-        list.push(predictor)?;
-    }
+    let Some(predictor) = LinearPredictor::new(2, 0, coefficients) else {
+        return Err(Fail::new("no predictor"));
+    };
+    let list = vec![in alloc; predictor]?;
     let mut encoder = BlockEncoder::new(alloc, &format())?;
     let outcome = encoder.set_predictors(list);
     drop(encoder);

@@ -11,7 +11,7 @@ use std::test::Fail;
 /// Streams of one channel, and why each is refused in the streamable subset and without its limits: rate and depth that
 /// STREAMINFO alone states, of 65537 Hz and 5 bits; the depth alone; blocks of 8192 samples, also above STREAMINFO's
 /// greatest block, and of 65535; 2^9 partitions of 16 samples; a linear predictor of order 13 at 44100 Hz; 2^9
-/// partitions of 512 samples; a rate field of 0, which states no rate; a stated depth that is not STREAMINFO's; and a
+/// partitions of 512 samples; a rate field of 0, which states 0 Hz; a stated depth that is not STREAMINFO's; and a
 /// frame of the subset.
 const ROWS: &str =
     "664c61438000002200100010000000000000100010400000001000000000000000000000000000000000fff86000000fc700000572 | frame 0: 14 NotSubset | none

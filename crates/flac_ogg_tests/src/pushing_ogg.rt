@@ -32,7 +32,7 @@ fn list_of(alloc: Global, comments: bool, paddings: usize) -> Result<BlockList, 
     Ok(BlockList::new(blocks)?)
 }
 
-/// An encoder of a format of 44100 Hz and 16 bits, with that block and one padding.
+/// An encoder of a format of 44100 Hz and 16 bits, with that block and so many paddings.
 fn encoder_of<W: Target + Drop>(
     alloc: Global,
     channels: u32,

@@ -5,7 +5,7 @@ use crate::tables::{
     PREFIXES, RETAGGINGS, SWEPT,
 };
 use flac_bits::{Collected, Counted, Memory, Pieces, Source, Target};
-use flac_cli::{ContainerKind, Job, RawFormat, Task, run};
+use flac_cli::{ContainerKind, Job, LineFault, RawFormat, Task, run};
 use flac_vectors::{
     ALTERNATING, EXAMPLE, EXAMPLE_INFO, EXAMPLE_TAGGED, LEFT_SIDE, NO_SAMPLES, ONE_SAMPLE, PAGES,
     RISING_ALONE, SILENT_ALONE, TWO_INFOS, append_word,
@@ -13,7 +13,7 @@ use flac_vectors::{
 use flac_words::job;
 use std::alloc::Global;
 use std::io;
-use std::io::Write;
+use std::io::{ErrorKind, Write};
 use std::process::Abort;
 use std::test::Fail;
 
@@ -553,6 +553,24 @@ fn words(rt: HostRuntime) -> Result<(), Fail> {
         let (line, answer) = split_row(row);
         let found = read_as(rt.alloc(), line)?;
         assert!(rt; is_answer(&found, answer), "{line}: {found}");
+    }
+    Ok(())
+}
+
+/// A command line that cannot be read: memory ran out, or a word is not UTF-8.
+#[test]
+fn words_not_read(rt: HostRuntime) -> Result<(), Fail> {
+    let rows = [
+        (ErrorKind::OutOfMemory, "1 flac: command: 2 Memory;"),
+        (
+            ErrorKind::InvalidData,
+            "2 flac: command: a word is not text;",
+        ),
+    ];
+    for (kind, wanted) in rows {
+        let fault = LineFault::reading(kind);
+        let text = refusal_of(rt.alloc(), fault.status, &fault.text)?;
+        assert!(rt; text.as_str() == wanted, "{wanted}");
     }
     Ok(())
 }

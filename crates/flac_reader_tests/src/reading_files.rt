@@ -207,10 +207,30 @@ fn copied(alloc: Global, stream: &[u8]) -> Result<Vec<u8>, Fail> {
 
 #[test]
 fn copy_of_a_stream(rt: HostRuntime) -> Result<(), Fail> {
-    let stream = hex::decode(rt.alloc(), EXAMPLE_TAGGED)?;
-    let copy = copied(rt.alloc(), &stream)?;
+    let alloc = rt.alloc();
+    let stream = hex::decode(alloc, EXAMPLE_TAGGED)?;
+    let copy = copied(alloc, &stream)?;
     let wanted = Ok((44100, false, 25588, 1));
-    assert!(rt; tags_and_peak(rt.alloc(), &copy, Keep::All) == wanted);
+    assert!(rt; tags_and_peak(alloc, &copy, Keep::All) == wanted);
+    let mut channels = vec![in alloc; Vec::new(alloc), Vec::new(alloc)]?;
+    gather_of(alloc, &copy, &mut channels)?;
+    let text = format!(in alloc; "{channels:?}")?;
+    assert!(rt; text.as_str() == "[[25588], [10416]]");
+    Ok(())
+}
+
+/// What is printed of a stream in memory by a reader over a decoder of it.
+fn over_a_decoder(alloc: Global, stream: &[u8]) -> Result<Printed, Fault> {
+    let decoder = Decoder::new(alloc, Memory::new(stream), Profile::Subset);
+    printed_and_dropped(Reader::over(alloc, decoder, Keep::Tags)?)
+}
+
+#[test]
+fn reader_over_a_decoder(rt: HostRuntime) -> Result<(), Fail> {
+    let stream = hex::decode(rt.alloc(), EXAMPLE_TAGGED)?;
+    assert!(rt; over_a_decoder(rt.alloc(), &stream) == Ok((44100, true, 25588, 1)));
+    let (at, why) = (Place::Marker, Why::Truncated);
+    assert!(rt; over_a_decoder(rt.alloc(), &[]) == Err(Fault { at, why }));
     Ok(())
 }
 

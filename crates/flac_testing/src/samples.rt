@@ -13,22 +13,23 @@ pub fn sample(alloc: Global) -> Result<Audio, Fail> {
 }
 
 /// A predictor of an order whose first coefficient is -1 and whose others are 0: 1001 and -1001 in turn leave nothing.
-fn predictor_of(order: usize) -> Option<LinearPredictor> {
+fn predictor_of(order: usize) -> Result<LinearPredictor, Fail> {
     let mut coefficients = [0; 32];
     coefficients[0] = -1;
-    LinearPredictor::new(1, 0, coefficients.get(..order).unwrap_or(&[]))
+    match LinearPredictor::new(1, 0, coefficients.get(..order).unwrap_or(&[])) {
+        Some(predictor) => Ok(predictor),
+        None => Err(Fail::new("no predictor")),
+    }
 }
 
 /// As many predictors of order 1, and after them one of another order, if this is not 0.
 pub fn list_of(alloc: Global, count: usize, order: usize) -> Result<Vec<LinearPredictor>, Fail> {
     let mut list = Vec::new(alloc);
     for _ in 0..count {
-        if let Some(predictor) = predictor_of(1) {
-            list.push(predictor)?;
-        }
+        list.push(predictor_of(1)?)?;
     }
-    if let Some(predictor) = predictor_of(order) {
-        list.push(predictor)?;
+    if order != 0 {
+        list.push(predictor_of(order)?)?;
     }
     Ok(list)
 }
