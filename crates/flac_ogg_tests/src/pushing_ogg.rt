@@ -223,6 +223,29 @@ fn read_again(rt: HostRuntime) -> Result<(), Fail> {
     Ok(())
 }
 
+/// How many header packets the first page of a stream states, in its bytes 35 and 36, if comments and so many paddings
+/// come after STREAMINFO.
+fn headers_stated(alloc: Global, paddings: usize) -> Result<u32, Fail> {
+    let encoder = encoder_of(alloc, 1, 16, paddings, Collected::new(alloc))?;
+    let target = encoder.finish()?;
+    let bytes = target.bytes();
+    if bytes.len() < 37 {
+        return Err(Fail::new("no first page"));
+    }
+    Ok(u32::from(bytes[35]) * 256 + u32::from(bytes[36]))
+}
+
+/// The mapping states how many header packets follow the first, or 0 if 16 bits cannot hold that (RFC 9639, section
+/// 10.1).
+#[test]
+fn header_packets_are_counted(rt: HostRuntime) -> Result<(), Fail> {
+    for (paddings, wanted) in [(0, 1), (65534, 65535), (65535, 0)] {
+        let found = headers_stated(rt.alloc(), paddings)?;
+        assert!(rt; found == wanted, "{paddings}");
+    }
+    Ok(())
+}
+
 /// The same samples, encoded at once.
 fn at_once(alloc: Global) -> Result<Collected, Fail> {
     let channels = vec![in alloc; (0..37).collect(alloc)?]?;
