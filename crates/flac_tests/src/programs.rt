@@ -10,7 +10,6 @@ use flac_vectors::{EXAMPLE_TAGGED, TEN_THOUSAND};
 use std::alloc::Global;
 use std::fs;
 use std::fs::File;
-use std::io::Read;
 use std::mem::drop;
 use std::test::Fail;
 
@@ -71,14 +70,6 @@ fn copy(alloc: Global, from: File, to: File) -> Result<(), Fail> {
 const TWO_AGAIN: &str =
     "664c614380000022100010000000000000000ac442f00000000000000000000000000000000000000000fff869180000bf0158fd01128b5ab2";
 
-/// The bytes of a file.
-fn bytes_of(alloc: Global, file: File) -> Result<Vec<u8>, Fail> {
-    let mut file = file;
-    let mut bytes = Vec::new(alloc);
-    file.read_to_end(&mut bytes)?;
-    Ok(bytes)
-}
-
 #[test]
 fn two_channels(rt: HostRuntime) -> Result<(), Fail> {
     let stream = hex::decode(rt.alloc(), EXAMPLE_TAGGED)?;
@@ -87,7 +78,7 @@ fn two_channels(rt: HostRuntime) -> Result<(), Fail> {
     assert!(rt; found.as_str() == "x: 25588");
     let to = File::create(&rt, "two_again.flac")?;
     copy(rt.alloc(), File::open(&rt, "two.flac")?, to)?;
-    let found = bytes_of(rt.alloc(), File::open(&rt, "two_again.flac")?)?;
+    let found = fs::read(&rt, "two_again.flac")?;
     let wanted = hex::decode(rt.alloc(), TWO_AGAIN)?;
     assert!(rt; found.as_slice() == wanted.as_slice());
     Ok(())

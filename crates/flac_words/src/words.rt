@@ -56,9 +56,9 @@ With --lax streams outside the streamable subset are written: rates up to 104857
 to 32 bits, blocks of up to 65535 samples, partition orders up to 15. Other players may
 refuse them.
 
-OUT has to be another file than IN: else it cannot be created, and IN stays as it is. If
-encoding fails, what was written before stays in OUT. But if OUT was a file with bytes,
-it stays as it was, and what was written is in OUT.part beside it.";
+OUT has to be another file than IN and LIST: else it cannot be created, and these stay
+as they are. If encoding fails, what was written before stays in OUT. But if OUT was a
+file with bytes, it stays as it was, and what was written is in OUT.part beside it.";
 
 const RETAG_EXAMPLE: &str = "Example:
   $ flac retag song.flac other.flac TITLE=Song ARTIST=Someone
