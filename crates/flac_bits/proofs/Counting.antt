@@ -3,10 +3,11 @@ use Rattle.std.proofs.Common.{◌≡◌, ℕ, ◌<◌, ◌≤◌, Bool, true, fa
 use Rattle.std.specs.Prelude.{⊤}
 use Rattle.flac_bits.specs.State.{State, Rises}
 use Rattle.flac_bits.specs.Layout.{Reason}
+use Rattle.flac_bits.specs.Reasons.{of_output}
 use Rattle.flac_bits.specs.Reading.{Counts}
 use Rattle.flac_bits.specs.inner.Reading.{Goes}
 use Rattle.flac_bits.specs.declared.why.Why.{Why}
-use Rattle.flac_bits.specs.declared.why.Why.TheVariants.{Read, Sink}
+use Rattle.flac_bits.specs.declared.why.Why.TheVariants.{Read}
 
 -- the clause Counts of a call that returned a value
 abbrev pub Answered : State → State → Type 0
@@ -40,22 +41,29 @@ failed_then old mid new a b =
 pub gone : {Y : Type 0} {old now : State} {rest whole : Result Y Reason} → Goes old now rest whole → Answered old now
 gone h = (h.known, h.errors, h.raised, h.behind, h.names)
 
--- the reasons of an error of a source or of a sink
+-- the reasons of an error of a source, or of the output
 abbrev pub is_device : Why → Bool
 is_device Read = true
-is_device Sink = true
-is_device _ = false
+is_device e = of_output e
+
+not_output : (e : Why) → is_device e ≡ false → of_output e ≡ false
+not_output Read other = refl
+not_output e other = other
 
 other_than : {e d : Why} → is_device e ≡ false → is_device d ≡ true → e ≡ d → ⊥
 other_than other device q = let t : false ≡ true = sym other ∙ ap is_device q ∙ device in cc
 
+-- a reason that is not of the output is none of the two
+pub none_of_output : {e d : Why} → of_output e ≡ false → of_output d ≡ true → e ≡ d → ⊥
+none_of_output none output q = let t : false ≡ true = sym none ∙ ap of_output q ∙ output in cc
+
 -- a refusal by another reason after a call that returned a value
 pub refused_then : {e : Why} (old new : State) → Answered old new → is_device e ≡ false → Failed e old new
-refused_then old new a other = (
+refused_then {e = e} old new a other = (
   omega (arith, a.1),
   λ k same. a.3 k,
   λ k q. absurd (other_than other refl q),
   a.4,
   λ q. absurd (other_than other refl q),
-  other_than other refl,
+  not_output e other,
 )

@@ -50,3 +50,5 @@ pub mod LittleNumbers
 pub mod Unchecked
 pub mod Pulled
 pub mod Dividing
+pub mod Bounds
+pub mod Within

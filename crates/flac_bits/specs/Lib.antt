@@ -19,6 +19,7 @@ pub mod Sending
 pub mod Unsent
 pub mod Standing
 pub mod Fencing
+pub mod Within
 pub mod Reasons
 pub mod Meant
 pub mod LittleEndian

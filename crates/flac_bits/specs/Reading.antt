@@ -1,17 +1,18 @@
 -- What a reading call does.
-use Rattle.std.specs.Prelude.{◌≡◌, ◌≢◌, ◌<◌, ◌≤◌, ◌+◌, ℕ, Bool, true, List, ◌++◌, Result, Ok, Err, OnOk, IfOk, IfErr, IsOkAnd, IsErrAnd, ◌⊎◌}
+use Rattle.std.specs.Prelude.{◌≡◌, ◌≢◌, ◌<◌, ◌≤◌, ◌+◌, ℕ, Bool, true, false, List, ◌++◌, Result, Ok, Err, OnOk, IfOk, IfErr, IsOkAnd, IsErrAnd, ◌⊎◌}
 use Rattle.flac_bits.specs.State.{Cursor, State, Rises, Consumes}
+use Rattle.flac_bits.specs.Reasons.{of_output}
 use Rattle.flac_bits.specs.Layout.{Layout, Reason, because, run}
 use Rattle.flac_bits.specs.Meaning.{Spells, Shows, IsCut}
 use Rattle.flac_bits.specs.declared.why.Why.{Why}
-use Rattle.flac_bits.specs.declared.why.Why.TheVariants.{Memory, Read, Sink}
+use Rattle.flac_bits.specs.declared.why.Why.TheVariants.{Memory, Read}
 
 -- Errors of the source are counted: a call that returns a value met none, and one that returns Read met one.
--- No reading call returns Sink. What comes after the bytes still to come stays, and so do the references that the
--- source goes through.
+-- No reading call returns an error of the output. What comes after the bytes still to come stays, and so do the
+-- references that the source goes through.
 abbrev pub Counts : {X : Type 0} → State → State → Result X Why → Type 0
 Counts old new (Ok x) = (old.known ≡ true → new.known ≡ true) × (new.errors ≡ old.errors) × (new.raised ≡ old.raised) × (old.known ≡ true → new.behind ≡ old.behind) × (new.names ≡ old.names)
-Counts old new (Err e) = (old.errors ≤ new.errors) × (old.known ≡ true → new.errors ≡ old.errors → new.behind ≡ old.behind) × (old.known ≡ true → e ≡ Read → old.raised < new.raised) × (new.names ≡ old.names) × (e ≡ Read → Rises old.raised new.raised) × (e ≡ Sink → ⊥)
+Counts old new (Err e) = (old.errors ≤ new.errors) × (old.known ≡ true → new.errors ≡ old.errors → new.behind ≡ old.behind) × (old.known ≡ true → e ≡ Read → old.raised < new.raised) × (new.names ≡ old.names) × (e ≡ Read → Rises old.raised new.raised) × (of_output e ≡ false)
 
 -- What was returned, seen by view, and the position of the reader after the call are what is read.
 abbrev pub Answers : {X Y : Type 0} → (X → Y) → Result (Y × Cursor) Reason → Cursor → Result X Why → Type 0

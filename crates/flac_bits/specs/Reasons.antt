@@ -1,5 +1,5 @@
--- The numbers of reasons, and the texts that are printed of them.
-use Rattle.std.specs.Prelude.{ℕ, List, codes}
+-- The numbers of reasons, the texts that are printed of them, and which reasons are errors of the output.
+use Rattle.std.specs.Prelude.{ℕ, Bool, true, false, List, codes}
 use Rattle.flac_bits.specs.declared.why.Why.{Why}
 use Rattle.flac_bits.specs.declared.why.Why.TheVariants.{Read, Memory, Truncated, BadMarker, NotStreamInfoFirst, ForbiddenType, BlockLength, BadStreamInfo, RepeatedBlock, SeekOrder, CueSheet, BadSync, ReservedCode, NotSubset, BadNumber, HeaderCheck, HeaderMismatch, Sequence, BlockSize, BadSubframe, BadPredictor, BadPartition, ResidualRange, NonzeroPadding, FrameTooLong, FrameCheck, SampleRange, TotalMismatch, Md5Mismatch, Sink, BadPage, PageCheck, PageOrder, OtherStream, PacketLength, NoEndPage, BadMapping, Spent, Write}
 
@@ -85,3 +85,9 @@ text_of NoEndPage = codes "36 NoEndPage"
 text_of BadMapping = codes "37 BadMapping"
 text_of Spent = codes "38 Spent"
 text_of Write = codes "39 Write"
+
+-- an error of what receives the output: of a sink that is handed items, or of a target that is sent bytes
+abbrev pub of_output : Why → Bool
+of_output Sink = true
+of_output Write = true
+of_output _ = false

@@ -10,3 +10,4 @@ pub mod Runs
 pub mod Pulling
 pub mod Unchecked
 pub mod Divided
+pub mod Within

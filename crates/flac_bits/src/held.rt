@@ -2,6 +2,7 @@
 
 ghost use Rattle.std.specs.Prelude.{◌≡◌, ◌≢◌, ◌<◌, ◌≤◌, ◌+◌, ◌-◌, ◌*◌, ◌/◌, ◌%◌, ◌^◌, ◌++◌, [], ℕ, List, Bool, true, false, length, take, drop, min, IfSome, Some, None, Ok, IsTrue, ◌↔◌, get_or, pos};
 ghost use Rattle.flac_bits.specs.declared.why.Why.TheVariants.{Truncated};
+ghost use Rattle.flac_bits.specs.Reasons.{of_output};
 ghost use Rattle.flac_bits.specs.Bits.{unsigned, bits_of};
 ghost use Rattle.flac_bits.specs.Meaning.{unary_bits};
 ghost use Rattle.flac_bits.specs.State.{past};
@@ -199,7 +200,7 @@ impl Held {
         ensures fence { self.now.fence.room ≡ Some 0 → result ≡ Why.FrameTooLong }
         ensures over { (self.now.fence.room ≡ Some 0 → ⊥) → result ≡ Why.Truncated }
         ensures memory { result ≢ Why.Memory }
-        ensures device { (result ≢ Why.Read) × (result ≢ Why.Sink) }
+        ensures device { (result ≢ Why.Read) × (of_output result ≡ false) }
     {
         match self.room {
             Some(0) => Why::FrameTooLong,

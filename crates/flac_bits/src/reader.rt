@@ -2,6 +2,7 @@
 
 ghost use Rattle.std.specs.Prelude.{◌≡◌, ◌≢◌, ◌<◌, ◌≤◌, ◌+◌, ◌^◌, ◌-◌, [], ℕ, true, IfOk, IfErr, OnOk, ◌*◌, length, take, IfSome, None, Some, Ok, false, get_or, pos};
 ghost use Rattle.flac_bits.specs.declared.why.Why.TheVariants.{Truncated};
+ghost use Rattle.flac_bits.specs.Reasons.{of_output};
 ghost use Rattle.flac_bits.specs.Bits.{is_nil};
 ghost use Rattle.flac_bits.specs.Bits.{unsigned, bits_of};
 ghost use Rattle.flac_bits.specs.State.{State, short_of, started, Consumes, without_fence};
@@ -464,7 +465,7 @@ impl<R: Source> BitReader<R> {
     pub fn short(&self) -> Why
         ensures short { self.now.known ≡ true → self.now.cursor.left ≡ [] → (self.now.cursor.mark.short ≡ Why.Read → ⊥) → result ≡ self.now.cursor.mark.short }
         ensures memory { result ≢ Why.Memory }
-        ensures device { (result ≢ Why.Read) × (result ≢ Why.Sink) }
+        ensures device { (result ≢ Why.Read) × (of_output result ≡ false) }
     {
         self.held.short()
     }

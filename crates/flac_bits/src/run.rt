@@ -96,8 +96,8 @@ fn next_codes(k: u32, values: &[i64], i: usize) -> Option<(u32, u64, usize)>
     Some((n, code, i + 1))
 }
 
-/// Adds the Rice codes of values from the index `from` on, as far as there is room and quotients are at most 30. Returns
-/// the index after the bytes, and where it stopped.
+/// Adds the Rice codes of values from the index `from` on, as far as there is room and quotients are at most 30.
+/// Returns the index after the bytes, and where it stopped.
 #[inline(always)]
 pub(crate) fn put_codes(
     rest: &mut Rest,

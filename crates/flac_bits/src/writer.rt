@@ -187,7 +187,8 @@ impl<W: Target> BitWriter<W> {
         self.put(k, low)
     }
 
-    /// Writes the codes of values from the index `from` on, as far as this needs no sending, and returns where it stopped.
+    /// Writes the codes of values from the index `from` on, as far as this needs no sending, and returns where it
+    /// stopped.
     #[inline(never)]
     fn put_ready(&mut self, k: u32, values: &[i64], from: usize) -> usize
         requires k { k ≤ 32 }

@@ -8,14 +8,16 @@ use Rattle.flac_bits.specs.State.{State, Mark, Cursor, past, the_end, started}
 use Rattle.flac_bits.specs.Layout.{because}
 use Rattle.flac_bits.specs.Meaning.{Spells}
 use Rattle.flac_bits.specs.Fence.{read_in}
-use Rattle.flac_bits.specs.Fencing.{lifted, fence_at}
-use Rattle.flac_bits.specs.Reading.{Reads, Counts, Answers}
+use Rattle.flac_bits.specs.Fencing.{lifted}
+use Rattle.flac_bits.specs.Within.{MeansWithin}
+use Rattle.flac_bits.specs.Reading.{Answers}
 use Rattle.flac_bits.specs.declared.why.Why.{Why}
 use Rattle.flac_bits.specs.declared.why.Why.TheVariants.{Truncated}
 use Rattle.flac_bits.proofs.Laws.{at_}
 use Rattle.flac_bits.proofs.Marks.{past-bytes}
 use Rattle.flac_bits.proofs.Meaning.{differ, one_way}
 use Rattle.flac_bits.proofs.Fences.{again_in, takes_in, refuses_in}
+use Rattle.flac_bits.proofs.Within.{reads_within}
 use Rattle.flac_bits.proofs.Fencing.{drop_bits}
 use Rattle.flac_bits.proofs.Holding.{length-bits_of}
 use Rattle.flac_meta.specs.Info.{Info, KeepsRules}
@@ -25,7 +27,6 @@ use Rattle.flac_frame.proofs.FrameTie.{frames_spelled, frames_bytes}
 use Rattle.flac_native.specs.Decoding.{beginning}
 use Rattle.flac_native.specs.Resuming.{at_frames}
 use Rattle.flac_native.specs.Stream.{framed, layout}
-use Rattle.flac_native.proofs.Bounds.{reads_within}
 use Rattle.flac_native.proofs.Deciding.{needs_bits}
 use Rattle.flac_native.proofs.Onwards.{as_part}
 use Rattle.flac_bits.proofs.Items.{spelled_some}
@@ -115,26 +116,17 @@ module _ (i : Info) (bytes : List ℕ) (rules : KeepsRules i) (few : length byte
         differ (f, at_ (bits_of (drop k bytes)) (past there.text (beginning Truncated))) (because why) (sym again ∙ ap (λ (l : List Bool). read_in (Some room) (frame Subset i None) (at_ l (beginning Truncated))) (sym there.split) ∙ e);
   }
 
-  -- a call that reads a frame behind a fence
-  pub frame_read : (s t : State) (held : Frame) (result : Result ⊤ Why) → s ≡ at_bytes bytes → Reads (λ _. held) (frame Subset i None) (started (fence_at 16777215 s)) t result → Counts (fence_at 16777215 s) t result → t.errors ≡ 0
-      → FrameRead i bytes held t.cursor.mark.bytes result
-  frame_read s t held result is reads counts quiet =
-      let within = reads_within (λ (_ : ⊤). held) 16777215 (frame Subset i None) (at_bytes bytes) t result (subst (λ (q : State). Reads (λ (_ : ⊤). held) (frame Subset i None) (started (fence_at 16777215 q)) t result) is reads) (subst (λ (q : State). Counts (fence_at 16777215 q) t result) is counts) in
-      let answers = within refl quiet in
-      read_answers held (lifted t).cursor result (subst (λ (c : Cursor). Answers (λ (_ : ⊤). held) (read_in (Some 16777215) (frame Subset i None) c) (lifted t).cursor result) here answers)
-
-  -- the same, step by step
-  pub filled : (src : List ℕ) (s f t u : State) (before : Option Before) (held : Frame) (result : Result ⊤ Why) (n : ℕ) → src ≡ bytes → s ≡ at_bytes src → f ≡ fence_at 16777215 s → before ≡ None
-      → Reads (λ _. held) (frame Subset i before) (started f) t result → Counts f t result → u ≡ lifted t → 0 ≡ u.errors → n ≡ u.cursor.mark.bytes
+  -- a call that reads a frame
+  pub filled : (src : List ℕ) (s t : State) (before : Option Before) (held : Frame) (result : Result ⊤ Why) (n : ℕ) → src ≡ bytes → s ≡ at_bytes src → before ≡ None
+      → MeansWithin (Some 16777215) (λ _. held) (frame Subset i before) s t result → 0 ≡ t.errors → n ≡ t.cursor.mark.bytes
       → FrameRead i bytes held n result
-  filled src s f t u before held result n same is fenced first reads counts lift quiet taken =
+  filled src s t before held result n same is first means quiet taken =
       let from : s ≡ at_bytes bytes = is ∙ ap (λ (l : List ℕ). at_bytes l) same in
-      let none = subst (λ (o : Option Before). Reads (λ (_ : ⊤). held) (frame Subset i o) (started f) t result) first reads in
-      let behind_fence = subst (λ (q : State). Reads (λ (_ : ⊤). held) (frame Subset i None) (started q) t result) fenced none in
-      let counted = subst (λ (q : State). Counts q t result) fenced counts in
-      let calm : t.errors ≡ 0 = sym (quiet ∙ ap (λ (q : State). q.errors) lift) in
-      let bytes_are : t.cursor.mark.bytes ≡ n = sym (taken ∙ ap (λ (q : State). q.cursor.mark.bytes) lift) in
-      subst (λ k. FrameRead i bytes held k result) bytes_are (frame_read s t held result from behind_fence counted calm)
+      let none = subst (λ (o : Option Before). MeansWithin (Some 16777215) (λ (_ : ⊤). held) (frame Subset i o) s t result) first means in
+      let there = subst (λ (q : State). MeansWithin (Some 16777215) (λ (_ : ⊤). held) (frame Subset i None) q t result) from none in
+      let answers = reads_within (Some 16777215) (λ (_ : ⊤). held) (frame Subset i None) (at_bytes bytes) t result there refl (sym quiet) in
+      subst (λ k. FrameRead i bytes held k result) (sym taken)
+      (read_answers held t.cursor result (subst (λ (c : Cursor). Answers (λ (_ : ⊤). held) (read_in (Some 16777215) (frame Subset i None) c) t.cursor result) here answers))
 
 -- what was read, by what was returned
 module _ {i : Info} {bytes : List ℕ} {held : Frame} {n : ℕ} (result : Result ⊤ Why) (r : FrameRead i bytes held n result) where

@@ -1,4 +1,5 @@
--- How long the least frame of a block is at most: that of the channels each by itself and verbatim is no shorter (RFC 9639, sections 9.1.3, 9.2.1 and 9.2.4).
+-- How long the least frame of a block is at most: that of the channels each by itself and verbatim is no shorter (RFC
+-- 9639, sections 9.1.3, 9.2.1 and 9.2.4).
 use Rattle.std.proofs.Common.{◌≡◌, ◌∙◌, refl, sym, ap, subst, ℕ, suc, ◌+◌, ◌-◌, ◌*◌, ◌^◌, ◌≤◌, ◌<◌, arith, mul-add, mul_assoc, mul-le-mul_left, mul-suc, ℤ, Bool, true, false, cond, ◌||◌, nat_lt, nat_le, List, [], ◌∷◌, ◌++◌, length, length-append, get_or, map, take, drop, Option, Some, None, All}
 use Rattle.std.proofs.lemmas.Bool.Decides.{nat_tests}
 use Rattle.std.proofs.lemmas.List.{length-map}

@@ -1,4 +1,5 @@
--- Any samples stand verbatim in a subframe, without the bits that all of them lack, and take no more bits there than they have.
+-- Any samples stand verbatim in a subframe, without the bits that all of them lack, and take no more bits there than
+-- they have.
 use Rattle.std.proofs.Common.{◌≡◌, ◌⊎◌, ◌∙◌, refl, sym, ap, subst, inl, inr, ℕ, zero, suc, ◌+◌, ◌-◌, ◌*◌, ◌≤◌, ◌<◌, arith, add-mul, mul-le-mul_left, ℤ, pos, negsuc, ◌+ℤ◌, List, [], ◌∷◌, length, length-append, map, flat_map, Some, All}
 use Rattle.std.specs.Int.{int_shr}
 use Rattle.std.proofs.lemmas.Bool.{cases_lt}

@@ -13,7 +13,7 @@ use crate::fault::{FlacProvedFault, in_c};
 use flac_bits::{BitReader, Memory, Why};
 use flac_frame::{FrameBuffers, FrameView};
 use flac_meta::StreamInfo;
-use flac_native::{Fault, LONGEST_FRAME, Place, Profile, bytes_from};
+use flac_native::{Fault, Place, Profile, bytes_from};
 use std::alloc::Global;
 
 /// Reads the frame with which these bytes begin, whatever its number is, and returns how many bytes it has.
@@ -29,9 +29,7 @@ fn fill_frame(bytes: &[u8], info: &StreamInfo, buffers: &mut FrameBuffers) -> Re
     // Read only for the proof, which then knows that a slice is shorter than 2^64 bytes.
     let _len = bytes.len();
     let mut bits = BitReader::new(Memory::new(bytes));
-    bits.fence(LONGEST_FRAME);
     let outcome = buffers.fill(&mut bits, info, Profile::Subset);
-    bits.lift();
     let taken = bits.bytes_taken();
     // Given back only for the proof, which then knows that a source in memory returns no error.
     let _source = bits.into_source();
@@ -120,7 +118,8 @@ fn step_alone(
 /// compared (RFC 9639, sections 8.2 and 9).
 ///
 /// Returns 0, or the number of the fault of the frame, or 8 if the cursor's stream information breaks a rule of
-/// STREAMINFO, or 2 if an allocation fails. The fault's place is the frame, counted from where the cursor was made. The cursor, `out` and `len` are unchanged then.
+/// STREAMINFO, or 2 if an allocation fails. The fault's place is the frame, counted from where the cursor was made. The
+/// cursor, `out` and `len` are unchanged then.
 #[unsafe(no_mangle)]
 pub extern "C" fn flac_proved_next(
     alloc: Global,

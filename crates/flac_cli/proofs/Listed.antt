@@ -1,4 +1,5 @@
--- One step through the digits of a word, the words of a line and the lines of a list of predictors, and the end of each.
+-- One step through the digits of a word, the words of a line and the lines of a list of predictors, and the end of
+-- each.
 use Rattle.std.proofs.Common.{◌≡◌, ◌+◌, ◌-◌, ◌*◌, ◌<◌, ◌≤◌, ◌⊎◌, ℕ, ℤ, pos, negsuc, Bool, true, cond, ltb, List, [], ◌∷◌, ◌++◌, length, take, drop, get_or, take_all, Option, Some, None, MatchOption, Ok, Err, inl, inr, refl, sym, ap, ◌∙◌, arith}
 use Rattle.std.specs.List.{All, AllPass, position_or_len, before_first, enumerate_from}
 use Rattle.std.proofs.lemmas.Bool.{cases_lt, cond-true, cond-false, lt-ltb, le-ltb, ltb-true, and_parts, false_from_ne_true}

@@ -1,6 +1,6 @@
 //! Encoding while an allocation fails: a call that returns `Memory` has sent nothing, and does its work when it is
-//! called again. So each test here passes whichever one of its allocations fails; by hand, `rt try --test --fail-alloc N`
-//! makes the one of number N fail.
+//! called again. So each test here passes whichever one of its allocations fails; by hand,
+//! `rt try --test --fail-alloc N` makes the one of number N fail.
 
 use crate::predicted::{Encoder, made, outside, predictors, wave};
 use crate::writes::{Written, write};

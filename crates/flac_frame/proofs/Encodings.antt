@@ -127,7 +127,8 @@ depth_left depth = leaves_test _ depth _ (leaves_or depth (depth_choice depth) (
 
 -- ---- the header
 
--- what a header has of what it was chosen for: its rate and depth are those of STREAMINFO, where these are what it was chosen for
+-- what a header has of what it was chosen for: its rate and depth are those of STREAMINFO, where these are what it was
+-- chosen for
 record Chosen (profile : Profile) (size rate code bits number : ℕ) (h : Header) : Type 0 where
   code_is : h.channel_code ≡ code
   fixed : h.variable ≡ false

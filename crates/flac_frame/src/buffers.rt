@@ -1,8 +1,10 @@
 //! Buffers for the samples of a frame.
 
 ghost use Rattle.std.specs.Prelude.{◌≡◌, ◌≤◌, ◌<◌, ◌*◌, length, min, Some, None, Err, OnOk, OnErr, IfOk, IfErr, ⊤, []};
-ghost use Rattle.flac_bits.specs.Reading.{Reads, Means, CallInPlace};
+ghost use Rattle.flac_bits.specs.Reading.{Reads, CallInPlace};
 ghost use Rattle.flac_bits.specs.State.{started};
+ghost use Rattle.flac_bits.specs.Fencing.{lifted};
+ghost use Rattle.flac_bits.specs.Within.{MeansWithin};
 ghost use Rattle.flac_header.specs.Header.{greatest_in};
 ghost use Rattle.flac_frame.specs.Frame.{frame, after};
 ghost use Rattle.flac_frame.specs.Kept.{nothing, Leaves};
@@ -19,6 +21,9 @@ use flac_header::{BlockingStrategy, Profile};
 use flac_meta::StreamInfo;
 use std::alloc::Global;
 use std::marker::Model;
+
+/// The most bytes that a frame can have: STREAMINFO states the sizes of frames in 24 bits (RFC 9639, section 8.2).
+pub const LONGEST_FRAME: u64 = 16777215;
 
 /// Buffers that the frames of a stream are read into, one after another. They are allocated once. They also keep what
 /// the next frame depends on: its number, the blocking strategy and the block size must follow from the frames before.
@@ -97,8 +102,8 @@ impl FrameBuffers {
     }
 
     /// Reads the next frame into the buffers, where [`FrameBuffers::view`] lends it (RFC 9639, section 9). The reader
-    /// should be at a whole byte: there the checks begin anew. The frame must agree with STREAMINFO and follow the
-    /// frames before.
+    /// should be at a whole byte: there the checks begin anew. The frame must agree with STREAMINFO, follow the frames
+    /// before, and have at most 16777215 bytes. No fence is left ([`BitReader::fence`]).
     ///
     /// The buffers must have room for the channels of STREAMINFO, and for its largest block size or the profile's,
     /// whichever is smaller.
@@ -108,7 +113,8 @@ impl FrameBuffers {
     /// before.
     ///
     /// - Those of [`flac_header::read_header`].
-    /// - [`Why::NotSubset`] if the profile is [`Profile::Subset`] and a field is outside the streamable subset (section 7).
+    /// - [`Why::NotSubset`] if the profile is [`Profile::Subset`] and a field is outside the streamable subset
+    ///   (section 7).
     /// - [`Why::HeaderMismatch`] if the rate, the number of channels or the depth is not that of STREAMINFO.
     /// - [`Why::Sequence`] if the number does not follow the frame before, or the blocking strategy changes.
     /// - [`Why::BlockSize`] if the block size does not fit STREAMINFO or the blocks before it.
@@ -116,6 +122,7 @@ impl FrameBuffers {
     ///   (section 9.2).
     /// - [`Why::NonzeroPadding`] or [`Why::FrameCheck`] at the end of the frame (section 9.3).
     /// - [`Why::SampleRange`] if the CRC-16 is right, and a sample does not fit its depth.
+    /// - [`Why::FrameTooLong`] if it does not end within 16777215 bytes.
     /// - Those of [`BitReader`]. Never [`Why::Memory`].
     pub fn fill<R: Source>(
         &mut self,
@@ -128,12 +135,15 @@ impl FrameBuffers {
         ensures room { (self.new.channels ≡ self.old.channels) × (self.new.max_block ≡ self.old.max_block) }
         ensures before { OnOk result (self.new.before ≡ Some (after self.old.before self.new.held)) }
         ensures refused { OnErr result ((self.new.before ≡ self.old.before) × (self.new.held ≡ nothing)) }
-        ensures reading { CallInPlace 40 (λ old. Means (λ _. self.new.held) (frame profile info.now self.old.before) (started old)) bits.old bits.new result }
+        ensures reading { CallInPlace 40 (λ _. MeansWithin (Some 16777215) (λ _. self.new.held) (frame profile info.now self.old.before) bits.old) (lifted bits.old) bits.new result }
     {
-        self.read_in(bits, info, profile)
+        bits.fence(LONGEST_FRAME);
+        let outcome = self.read_in(bits, info, profile);
+        bits.lift();
+        outcome
     }
 
-    /// Does what [`FrameBuffers::fill`] does.
+    /// Reads the next frame into the buffers, of any length up to a fence.
     fn read_in<R: Source>(
         &mut self,
         bits: &mut BitReader<R>,
@@ -193,7 +203,7 @@ impl FrameBuffers {
     ) -> Result<FrameView<'_>, Why>
         requires channels { info.now.channels ≤ self.old.channels }
         requires block { min info.now.greatest_block (greatest_in profile info.now.rate) ≤ self.old.max_block }
-        ensures reading { CallInPlace 40 (λ old. Means frame_of (frame profile info.now self.old.before) (started old)) bits.old bits.new result }
+        ensures reading { CallInPlace 40 (λ _. MeansWithin (Some 16777215) frame_of (frame profile info.now self.old.before) bits.old) (lifted bits.old) bits.new result }
         ensures* after { sem 𝓛 (follows_so the_row the_row self.entry.ghost_name none (λ _ _. ⊤) (λ last. Leaves self.old last frame_of result)) }
     {
         self.fill(bits, info, profile)?;

@@ -35,7 +35,7 @@ mod subject;
 mod view;
 
 pub use audio::Audio;
-pub use buffers::FrameBuffers;
+pub use buffers::{FrameBuffers, LONGEST_FRAME};
 pub use encode::{choose_frame, encode_frame, encode_frame_with, write_frame};
 pub use encode_buffers::EncodeBuffers;
 pub use frame_choice::FrameChoice;

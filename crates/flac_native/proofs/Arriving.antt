@@ -13,11 +13,11 @@ use Rattle.flac_bits.proofs.Laws.{at_}
 use Rattle.flac_bits.proofs.Items.{final, spelled_step, over_step, stops_step}
 use Rattle.flac_native.specs.Stream.{Piece, Progress, grammar, next}
 use Rattle.flac_native.specs.Item.{told}
-use Rattle.flac_native.specs.inner.Within.{IsOpen}
+use Rattle.flac_bits.specs.inner.Within.{IsOpen}
 use Rattle.flac_native.specs.Coming.{PartsCome, IsNext}
 use Rattle.flac_native.specs.declared.fault.Place.{Place}
 use Rattle.flac_native.specs.declared.fault.Fault.{Fault}
-use Rattle.flac_native.proofs.Bounds.{open_on, lifted_open, open_lifted, step_short}
+use Rattle.flac_bits.proofs.Bounds.{open_on, lifted_open, open_lifted, step_short}
 use Rattle.flac_native.proofs.Deciding.{needs_bits}
 
 -- ---- the first part, and the end

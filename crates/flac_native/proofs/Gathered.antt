@@ -98,7 +98,8 @@ sizes_with (x ∷ xs) t (suc n) least greatest bytes many e s =
 
 -- ---- frames so far
 
--- so many frames are known, of which the least and the greatest have so many bytes, all of them so many, and these are their points
+-- so many frames are known, of which the least and the greatest have so many bytes, all of them so many, and these are
+-- their points
 pub record Gathered (p : Cut) (a : Sound) (number offset least greatest : ℕ) (points : List SeekPoint) : Type 0 where
   pub frames : List (List Bool)
   pub many : length frames ≡ number

@@ -102,7 +102,7 @@ pub moves_refused : {C X Y : Type 0} (g : container.Ghosts C) (old new : Stage C
 moves_refused {C} {X} {Y} g old new view seen f h = go old.course h
   where
     goes : Goes g old new view (Err f) → Goes g old new seen (Err f)
-    goes h = record { gives = λ p at known same quiet room items end still. h.gives p at known same quiet (λ e. room (same_why f.why Memory e)) items end still; counts = record { met = tt; kept = h.counts.kept; read = h.counts.read; risen = h.counts.risen; sinkless = h.counts.sinkless; behind = h.counts.behind; names = h.counts.names }; passes = λ p at. tt; broken = h.broken; memory = h.memory; going = h.going; ends = h.ends; refused = h.refused }
+    goes h = record { gives = λ p at known same quiet room items end still. h.gives p at known same quiet (λ e. room (same_why f.why Memory e)) items end still; counts = record { met = tt; kept = h.counts.kept; read = h.counts.read; risen = h.counts.risen; output = h.counts.output; behind = h.counts.behind; names = h.counts.names }; passes = λ p at. tt; broken = h.broken; memory = h.memory; going = h.going; ends = h.ends; refused = h.refused }
 
     go : (k : Course) → MovesFrom g k old new view (Err f) → MovesFrom g k old new seen (Err f)
     go course.Begun h = goes h

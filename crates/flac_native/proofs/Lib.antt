@@ -3,7 +3,6 @@ pub mod Passing
 pub mod Arriving
 pub mod Handed
 pub mod Received
-pub mod Bounds
 pub mod Messages
 pub mod Threes
 pub mod SampleRows
@@ -39,7 +38,6 @@ pub mod Heads
 pub mod AnyMark
 pub mod ReadBack
 pub mod Whole
-pub mod Meant
 pub mod Unread
 pub mod BlockOrder
 pub mod Ordered

@@ -1,4 +1,5 @@
--- What stands before the frames of a stream that was read may be written with other comments, and is read again as these blocks.
+-- What stands before the frames of a stream that was read may be written with other comments, and is read again as
+-- these blocks.
 use Rattle.std.proofs.Common.{◌≡◌, ◌≤◌, ◌<◌, ℕ, zero, suc, Bool, true, false, nat_lt, List, [], ◌∷◌, length, get_or, None, refl, sym, ap, subst, ◌∙◌, arith}
 use Rattle.std.proofs.lemmas.Bool.Decides.{nat_tests}
 use Rattle.flac_bits.specs.Bits.{unsigned}

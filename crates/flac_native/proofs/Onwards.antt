@@ -26,7 +26,8 @@ use Rattle.flac_native.proofs.OneHead.{heads}
 
 -- ---- what a header is judged by, behind more frames and behind fewer
 
--- The same but for the first size, which is the same where the size before is that of the first, as it is with fixed blocking.
+-- The same but for the first size, which is the same where the size before is that of the first, as it is with fixed
+-- blocking.
 record Alike (new old : Before) : Type 0 where
   variable : new.variable ≡ old.variable
   number : new.next ≡ old.next

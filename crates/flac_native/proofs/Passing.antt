@@ -147,7 +147,7 @@ answers_seen {C} {X} g old new view (Ok x) h = go old.course h
     goes : Goes g old new view (Ok x) → Goes g old new (λ (o : Option Item). o) (Ok (view x))
     goes h = record {
       gives = λ p at known same quiet room items end still. h.gives p at known same quiet (no_fault x) items end still;
-      counts = record { met = h.counts.met; kept = h.counts.kept; read = tt; risen = tt; sinkless = tt; behind = h.counts.behind; names = h.counts.names };
+      counts = record { met = h.counts.met; kept = h.counts.kept; read = tt; risen = tt; output = tt; behind = h.counts.behind; names = h.counts.names };
       passes = h.passes;
       broken = λ p at. tt;
       memory = λ frames. tt;

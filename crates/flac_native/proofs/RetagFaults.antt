@@ -1,7 +1,8 @@
 -- The faults of retagging, told apart.
-use Rattle.std.proofs.Common.{◌≡◌, ◌≢◌, ◌<◌, ◌≤◌, ◌⊎◌, inl, inr, ℕ, true, Result, Ok, Err, Option, Some, None, Bool, List, refl, sym, ap, subst, ◌∙◌, arith}
+use Rattle.std.proofs.Common.{◌≡◌, ◌≢◌, ◌<◌, ◌≤◌, ◌⊎◌, inl, inr, ℕ, true, false, Result, Ok, Err, Option, Some, None, Bool, List, refl, sym, ap, subst, ◌∙◌, arith}
 use Rattle.std.specs.Prelude.{IfErr, IfSome}
 use Rattle.flac_bits.specs.State.{Cursor}
+use Rattle.flac_bits.specs.Reasons.{of_output}
 use Rattle.flac_bits.specs.declared.why.Why.{Why}
 use Rattle.flac_bits.specs.declared.why.Why.TheVariants as why
 use Rattle.flac_native.specs.Retag.{HasHead, is_before_frames, not_read, not_written, no_memory, too_long}
@@ -92,3 +93,7 @@ copy_behind f K (inr e) = rw e tt
 pub copy_placeless : (f : RetagFault) → (f ≡ not_read) ⊎ (f ≡ not_written) → f.at ≡ None → f ≡ not_written
 copy_placeless f (inl e) none = let p = sym none ∙ ap (λ (x : RetagFault). x.at) e in absurd cc
 copy_placeless f (inr e) none = e
+
+pub copy_output : (f : RetagFault) → (f ≡ not_read) ⊎ (f ≡ not_written) → IfSome f.at (λ _. of_output f.why ≡ false)
+copy_output f (inl e) = rw e refl
+copy_output f (inr e) = rw e tt

@@ -1,10 +1,11 @@
 -- What a decoder still has to return, and that each call returns the first of it.
-use Rattle.std.specs.Prelude.{◌≡◌, ◌≢◌, ◌≤◌, ◌<◌, ◌⊎◌, true, List, [], ◌∷◌, ◌++◌, Option, Some, None, Result, Ok, Err, IfOk, IfErr, IfSome}
+use Rattle.std.specs.Prelude.{◌≡◌, ◌≢◌, ◌≤◌, ◌<◌, ◌⊎◌, true, false, List, [], ◌∷◌, ◌++◌, Option, Some, None, Result, Ok, Err, IfOk, IfErr, IfSome}
 use Rattle.flac_bits.specs.State.{Rises, without_fence}
 use Rattle.flac_bits.specs.Items.{after}
 use Rattle.flac_bits.specs.Handing.{TakesAll, reason_of, IsOutside}
+use Rattle.flac_bits.specs.Reasons.{of_output}
 use Rattle.flac_bits.specs.declared.why.Why.{Why}
-use Rattle.flac_bits.specs.declared.why.Why.TheVariants.{Memory, Read, Sink, Spent}
+use Rattle.flac_bits.specs.declared.why.Why.TheVariants.{Memory, Read, Spent}
 use Rattle.flac_frame.specs.Lent.{frame_of}
 use Rattle.flac_native.specs.Stream.{Piece, marked, block, framed, Progress, grammar}
 use Rattle.flac_native.specs.Track.{IsAt, piece_of, stand_of}
@@ -87,14 +88,14 @@ GivesFirst g p old new track view result =
     → (items : List Item) (end : Option (Place × Why)) → StillGives (g.gives old) p items end → IsFirst (g.gives new) items end (seen_by view result) track
 
 -- Errors of the device are counted: a call that returns a value met none, and one that returns Read met one, unless it
--- was foretold, which is not counted. Each that is returned raises the count, if it can rise, and none is of a sink.
--- What comes after the bytes to come stays, and so do the references that the container goes through.
+-- was foretold, which is not counted. Each that is returned raises the count, if it can rise, and none is of the
+-- output. What comes after the bytes to come stays, and so do the references that the container goes through.
 pub record CountsIn {C X : Type 0} (g : container.Ghosts C) (track : Track) (old new : C) (result : Result X Fault) : Type 0 where
   pub met : IfOk result (λ _. (g.known old ≡ true → g.known new ≡ true) × (g.errors new ≡ g.errors old) × (g.raised new ≡ g.raised old) × (g.met new ≡ g.met old))
   pub kept : g.errors old ≤ g.errors new
   pub read : IfErr result (λ f. g.known old ≡ true → f.why ≡ Read → g.clear old track → g.raised old < g.raised new)
   pub risen : IfErr result (λ f. f.why ≡ Read → Rises (g.met old) (g.met new))
-  pub sinkless : IfErr result (λ f. f.why ≢ Sink)
+  pub output : IfErr result (λ f. of_output f.why ≡ false)
   pub behind : g.known old ≡ true → g.errors new ≡ g.errors old → g.behind new ≡ without_fence (g.behind old)
   pub names : g.names new ≡ g.names old
 

@@ -1,4 +1,3 @@
-pub mod Within
 pub mod Message
 pub mod Samples
 pub mod Stream

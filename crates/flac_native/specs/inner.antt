@@ -1,5 +1,4 @@
 -- What private contracts and proofs need, and no contract of an exported function.
-pub mod Within
 pub mod Writing
 pub mod Retag
 pub mod InOrder

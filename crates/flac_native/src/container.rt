@@ -1,9 +1,10 @@
 //! Containers: where a decoder reads the parts of a stream from.
 
-ghost use Rattle.std.specs.Prelude.{◌≡◌, ◌≢◌, ◌<◌, ◌≤◌, ℕ, Bool, true, List, Option, IfOk, IfErr, IfSome, Err};
+ghost use Rattle.std.specs.Prelude.{◌≡◌, ◌≢◌, ◌<◌, ◌≤◌, ℕ, Bool, true, false, List, Option, IfOk, IfErr, IfSome, Err};
 ghost use Rattle.std.specs.Borrow.{GName};
 ghost use Rattle.flac_bits.specs.State.{Behind, Rises, without_fence};
 ghost use Rattle.flac_bits.specs.Handing.{reason_of, IsOutside};
+ghost use Rattle.flac_bits.specs.Reasons.{of_output};
 ghost use Rattle.flac_bits.specs.declared.why.Why.TheVariants.{Memory};
 ghost use Rattle.flac_native.specs.Stream.{Piece, Progress, Stand, next};
 ghost use Rattle.flac_native.specs.Track.{IsAt, IsMadeAs, piece_of, stand_of};
@@ -82,7 +83,7 @@ pub trait Container {
     ///
     /// - [`Why::Read`]: the device returned an error.
     /// - [`Why::Memory`]: an allocation failed; never once the last metadata block was read.
-    /// - Any other reason, but not [`Why::Sink`]: the stream is refused there.
+    /// - Any other reason, but not [`Why::Sink`] or [`Why::Write`]: the stream is refused there.
     fn next(&mut self, track: &mut Track) -> Result<Option<Part>, Fault>
         requires { stands self.old (stand_of track.old) ≡ true }
         ensures stands { IfOk result (λ o. IfSome o (λ _. stands self.new (stand_of track.new) ≡ true)) }
@@ -92,8 +93,8 @@ pub trait Container {
         ensures kept { errors self.old ≤ errors self.new }
         ensures read { IfErr result (λ f. known self.old ≡ true → f.why ≡ Why.Read → clear self.old track.old → raised self.old < raised self.new) }
         ensures risen { IfErr result (λ f. f.why ≡ Why.Read → Rises (met self.old) (met self.new)) }
-        // No error of a sink is met.
-        ensures sinkless { IfErr result (λ f. f.why ≢ Why.Sink) }
+        // No error of a sink or a target is met.
+        ensures output { IfErr result (λ f. of_output f.why ≡ false) }
         ensures behind { known self.old ≡ true → errors self.new ≡ errors self.old → behind self.new ≡ without_fence (behind self.old) }
         ensures names { names self.new ≡ names self.old }
         // After the last metadata block no memory is allocated.

@@ -1,6 +1,6 @@
 //! Decodes into a sink.
 
-ghost use Rattle.std.specs.Prelude.{◌≡◌, ◌<◌, ℕ, Bool, true, List, OnOk, OnErr, ◌≤◌, Option, Some, IfOk, IfErr, is_some, codes};
+ghost use Rattle.std.specs.Prelude.{◌≡◌, ◌≢◌, ◌<◌, ℕ, Bool, true, List, OnOk, OnErr, ◌≤◌, Option, Some, IfOk, IfErr, is_some, codes};
 ghost use Rattle.std.specs.Borrow.{GName};
 ghost use Rattle.flac_bits.specs.State.{Rises, without_fence, short_of};
 ghost use Rattle.flac_frame.specs.Lent.{frame_of};
@@ -161,6 +161,7 @@ pub fn hand_out<C: Container, S: Sink>(
     // call returns it.
     ensures risen { IfErr result (λ f. f.why ≡ Why.Read → Rises (C.met container.old) (C.met container.new)) }
     ensures sink { IfErr result (λ f. f.why ≡ Why.Sink → Rises (S.errors sink.old) (S.errors sink.new)) }
+    ensures write { IfErr result (λ f. f.why ≢ Why.Write) }
     ensures behind { C.known container.old ≡ true → C.errors container.new ≡ C.errors container.old → C.behind container.new ≡ without_fence (C.behind container.old) }
     ensures names { S.names sink.new ≡ S.names sink.old }
     ensures container_names { C.names container.new ≡ C.names container.old }
@@ -213,6 +214,7 @@ pub fn decode<R: Source, S: Sink>(
     // call returns it.
     ensures risen { IfErr result (λ f. f.why ≡ Why.Read → Rises (R.raised source.old) (R.raised source.new)) }
     ensures sink { IfErr result (λ f. f.why ≡ Why.Sink → Rises (S.errors sink.old) (S.errors sink.new)) }
+    ensures write { IfErr result (λ f. f.why ≢ Why.Write) }
     ensures names { S.names sink.new ≡ S.names sink.old }
     ensures source_names { R.names source.new ≡ R.names source.old }
 {

@@ -33,6 +33,7 @@ pub(crate) fn write_each<W: Target>(
 ) -> Result<(), Why>
     ensures written { OnOk result ((more : List Block) → count ≡ length (blocks.now ++ more) → Advances (blocks_spelling more) (blocks_spelling (blocks.now ++ more)) writer.old writer.new) }
     ensures unread { IfErr result (λ e. e ≢ Why.Read) }
+    ensures sink { IfErr result (λ e. e ≢ Why.Sink) }
     ensures failed { IfErr result (λ e. (more : List Block) → count ≡ length (blocks.now ++ more) → MayBeWritten blocks.now → Fails (writer.old.bits ++ blocks_spelling (blocks.now ++ more)) writer.old writer.new e) }
 {
     for i in 0..blocks.len() {
@@ -211,9 +212,9 @@ fn send_stream<W: Target>(
 ///
 /// It goes over the samples twice: first it chooses how each frame is written, then it writes one after another. Beside
 /// the samples it holds the working arrays of one frame ([`EncodeBuffers`]), the seek points, up to 16384 bytes of
-/// what is written, and for each channel of each frame some 80 bytes and one for each partition of its residual, of which
-/// the subset allows 256; no frame is held. If blocks have fewer than 192 samples, it keeps the choices of the first
-/// frames only, and makes the others again.
+/// what is written, and for each channel of each frame some 80 bytes and one for each partition of its residual, of
+/// which the subset allows 256; no frame is held. If blocks have fewer than 192 samples, it keeps the choices of the
+/// first frames only, and makes the others again.
 ///
 /// ```
 /// let plan = Plan::new(4096, &audio, 0)?;

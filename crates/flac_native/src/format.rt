@@ -1,8 +1,9 @@
 //! STREAMINFO, and the buffers for its frames.
 
 ghost use Rattle.std.specs.Prelude.{◌≡◌, ◌≤◌, OnOk, OnErr, IfOk, IfErr, Some, None, min};
-ghost use Rattle.flac_bits.specs.Reading.{Reads, CallInPlace};
-ghost use Rattle.flac_bits.specs.State.{started};
+ghost use Rattle.flac_bits.specs.Reading.{CallInPlace};
+ghost use Rattle.flac_bits.specs.Fencing.{lifted};
+ghost use Rattle.flac_bits.specs.Within.{ReadsWithin};
 ghost use Rattle.flac_frame.specs.Frame.{frame, after};
 ghost use Rattle.flac_frame.specs.Kept.{nothing};
 ghost use Rattle.flac_header.specs.Header.{greatest_in};
@@ -12,9 +13,6 @@ use flac_frame::{FrameBuffers, FrameView};
 use flac_header::Profile;
 use flac_meta::StreamInfo;
 use std::alloc::Global;
-
-/// The most bytes that a frame can have: STREAMINFO states the sizes of frames in 24 bits (RFC 9639, section 8.2).
-pub const LONGEST_FRAME: u64 = 16777215;
 
 /// What [`FrameBuffers::fill`] does, proved by the reading of the layout.
 fn fill_here<R: Source>(
@@ -28,7 +26,7 @@ fn fill_here<R: Source>(
     ensures room { (buffers.new.channels ≡ buffers.old.channels) × (buffers.new.max_block ≡ buffers.old.max_block) }
     ensures before { OnOk result (buffers.new.before ≡ Some (after buffers.old.before buffers.new.held)) }
     ensures refused { OnErr result ((buffers.new.before ≡ buffers.old.before) × (buffers.new.held ≡ nothing)) }
-    ensures reading { CallInPlace 40 (λ old. Reads (λ _. buffers.new.held) (frame profile info.now buffers.old.before) (started old)) bits.old bits.new result }
+    ensures reading { CallInPlace 40 (λ _. ReadsWithin (Some 16777215) (λ _. buffers.new.held) (frame profile info.now buffers.old.before) bits.old) (lifted bits.old) bits.new result }
 {
     buffers.fill(bits, info, profile)
 }
@@ -44,8 +42,6 @@ pub(crate) struct Format {
 }
 
 impl Format {
-    ghost use Rattle.flac_bits.specs.Fencing.{lifted};
-    ghost use Rattle.flac_native.specs.Within.{ReadsWithin};
     ghost use Rattle.flac_frame.specs.Lent.{frame_of};
 
     /// Makes the buffers. Its only error is `Memory`: an allocation failed.
@@ -62,17 +58,14 @@ impl Format {
         })
     }
 
-    /// Reads the next frame into the buffers. It has at most 16777215 bytes.
+    /// Reads the next frame into the buffers.
     pub(crate) fn fill<R: Source>(&mut self, bits: &mut BitReader<R>) -> Result<(), Why>
         ensures reading { CallInPlace 40 (λ _. ReadsWithin (Some 16777215) (λ _. self.new.buffers.held) (frame self.old.profile self.old.info self.old.buffers.before) bits.old) (lifted bits.old) bits.new result }
         ensures before { OnOk result (self.new.buffers.before ≡ Some (after self.old.buffers.before self.new.buffers.held)) }
         ensures info { self.new.info ≡ self.old.info }
         ensures profile { self.new.profile ≡ self.old.profile }
     {
-        bits.fence(LONGEST_FRAME);
-        let outcome = fill_here(&mut self.buffers, bits, &self.info, self.profile);
-        bits.lift();
-        outcome
+        fill_here(&mut self.buffers, bits, &self.info, self.profile)
     }
 
     /// The frame that was read last.

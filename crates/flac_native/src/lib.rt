@@ -50,14 +50,13 @@ pub use fault::{EncodeFault, Fault, Place};
 pub use flac_bits::{
     BitReader, BitWriter, Collected, Counted, Memory, Pieces, Source, Target, Why,
 };
-pub use flac_frame::{Audio, EncodeBuffers, FrameView, SetupFault, greatest_order};
+pub use flac_frame::{Audio, EncodeBuffers, FrameView, LONGEST_FRAME, SetupFault, greatest_order};
 pub use flac_header::Profile;
 pub use flac_meta::{
     Block, BlockList, Bytes, Comments, CueIndex, CueIndices, CueSheet, CueTrack, CueTracks,
     Entries, Picture, SeekPoint, SeekTable, StreamInfo, Texts,
 };
 pub use flac_subframe::LinearPredictor;
-pub use format::LONGEST_FRAME;
 pub use item::Item;
 pub use laws::{
     blocks_are_in_order, calls_break_behind, encoded_are_read_back, encoded_are_resumed,

@@ -8,7 +8,7 @@ ghost use Rattle.flac_bits.specs.inner.Items.{step_at};
 ghost use Rattle.flac_bits.specs.Handing.{reason_of, IsOutside};
 ghost use Rattle.flac_bits.specs.inner.Handing.{StepsTo};
 ghost use Rattle.flac_native.specs.Stream.{marker, layout, room_in, Progress, grammar, may_end_in, next};
-ghost use Rattle.flac_native.specs.inner.Within.{ReadsWithinInRoom};
+ghost use Rattle.flac_bits.specs.inner.Within.{ReadsWithinInRoom};
 ghost use Rattle.flac_native.specs.Track.{IsAt, IsMadeAs, piece_of, stand_of, info_in, is_behind_blocks};
 ghost use Rattle.flac_native.specs.Item.{told};
 ghost use Rattle.flac_native.specs.Coming.{PartsCome};

@@ -3,6 +3,7 @@
 ghost use Rattle.std.specs.Prelude.{◌≡◌, ◌≢◌, ◌≤◌, ◌+◌, ◌++◌, [], true, false, OnOk, IfOk, IfErr, Some, None, ◌<◌, ◌⊎◌, Bool, List, OnErr, IfSome, IsErrAnd, Err};
 ghost use Rattle.flac_bits.specs.Fencing.{lifted};
 ghost use Rattle.flac_bits.specs.Reading.{Counts, ReadsInRoom};
+ghost use Rattle.flac_bits.specs.Reasons.{of_output};
 ghost use Rattle.flac_bits.specs.Items.{item, refused};
 ghost use Rattle.flac_bits.specs.inner.Items.{step_at};
 ghost use Rattle.flac_bits.specs.Handing.{reason_of};
@@ -188,6 +189,7 @@ fn write_renewed<W: Target>(
 ) -> Result<(), Why>
     ensures added { OnOk result (Adds (new_head comments.now kept.now) writer.old writer.new) }
     ensures unread { IfErr result (λ e. e ≢ Why.Read) }
+    ensures sink { IfErr result (λ e. e ≢ Why.Sink) }
     ensures failed { IfErr result (λ e. MayBeHead comments.now kept.now → Fails (writer.old.bits ++ new_head comments.now kept.now) writer.old writer.new e) }
 {
     let Some((info, others)) = kept.split_first() else {
@@ -203,6 +205,7 @@ fn write_renewed<W: Target>(
 pub(crate) fn renewed(alloc: Global, kept: &[Block], comments: &Comments) -> Result<Vec<u8>, Why>
     ensures head { IfOk result (λ head. bits_of head.items ≡ new_head comments.now kept.now) }
     ensures unread { IfErr result (λ e. e ≢ Why.Read) }
+    ensures output { IfErr result (λ e. of_output e ≡ false) }
     ensures memory { IfErr result (λ e. MayBeHead comments.now kept.now → e ≡ Why.Memory) }
 {
     let mut writer = BitWriter::new(Collected::new(alloc));
@@ -277,6 +280,7 @@ fn retag_from<R: Source, W: Target>(
     ensures nothing { IfErr result (λ f. f ≢ not_read → f ≢ not_written → target.new ≡ target.old) }
     ensures begun { IfErr result (λ f. (f ≡ not_read) ⊎ (f ≡ not_written) → reader.old.known ≡ true → W.known target.old ≡ true
         → BeginsRetagging (lifted reader.old).cursor.mark (lifted reader.old).cursor.left comments.now (bits_of (W.sent target.old)) (bits_of (W.sent target.new))) }
+    ensures output { IfErr result (λ f. IfSome f.at (λ _. of_output f.why ≡ false)) }
     ensures placeless { IfErr result (λ f. f.at ≡ None → f ≡ not_written) }
     ensures read { IfErr result (λ f. f.why ≡ Why.Read → reader.old.known ≡ true → reader.old.raised < reader.new.raised) }
     ensures write { IfErr result (λ f. f ≡ not_written → W.known target.old ≡ true → W.errors target.old < W.errors target.new) }
@@ -368,6 +372,8 @@ pub fn retag<R: Source, W: Target>(
         → BeginsRetagging (beginning (short_of ((R.behind source.old).fails))) (bits_of (R.coming source.old)) comments.now (bits_of (W.sent target.old)) (bits_of (W.sent target.new))) }
     // Only faults of the comments and of the target have no place. A device's error that is returned is counted.
     ensures placeless { IfErr result (λ f. f.at ≡ None → (f ≡ too_long) ⊎ (f ≡ not_written)) }
+    // So an error of a target is never at a place, and none is of a sink.
+    ensures output { IfErr result (λ f. IfSome f.at (λ _. of_output f.why ≡ false)) }
     ensures read { IfErr result (λ f. f.why ≡ Why.Read → R.known source.old ≡ true → R.raised source.old < R.raised source.new) }
     ensures write { IfErr result (λ f. f ≡ not_written → W.known target.old ≡ true → W.errors target.old < W.errors target.new) }
     // An error of a device is counted, if the count can rise, whatever is known of it.

@@ -4,8 +4,9 @@ ghost use Rattle.std.specs.Prelude.{◌≡◌, ◌≢◌, ◌≤◌, ◌+◌, co
 ghost use Rattle.std.specs.Borrow.{sem, follows_so};
 ghost use mathlib.Core.Option.{none};
 ghost use Rattle.flac_bits.specs.Reading.{ReadsInRoom, Call, CallInPlace, MeansInRoom};
+ghost use Rattle.flac_bits.specs.Reasons.{of_output};
 ghost use Rattle.flac_bits.specs.Fencing.{lifted};
-ghost use Rattle.flac_native.specs.Within.{ReadsWithin, MeansWithin};
+ghost use Rattle.flac_bits.specs.Within.{ReadsWithin, MeansWithin};
 ghost use Rattle.flac_meta.specs.Block.{block as block_layout, seen_after};
 ghost use Rattle.flac_native.specs.Resuming.{at_frames};
 ghost use Rattle.flac_frame.specs.Lent.{frame_of};
@@ -274,7 +275,7 @@ impl Track {
         ensures judged { (p : Progress) → IsAt self.old p → EndsBy (end_rules p.stand.info p.samples p.message) result }
         ensures quiet { IfErr result (λ e. e ≢ Why.Read) }
         ensures memory { IfErr result (λ e. e ≢ Why.Memory) }
-        ensures sinkless { IfErr result (λ e. e ≢ Why.Sink) }
+        ensures output { IfErr result (λ e. of_output e ≡ false) }
         // Nothing else changes.
         ensures stays { self.new ≡ record self.old { hasher = self.new.hasher } }
         ensures anew { is_some self.old.format ≡ true → Holds self.new.hasher [] }
@@ -308,7 +309,7 @@ fn judge(info: &StreamInfo, samples: u64, hasher: Md5) -> Result<(), Why>
     ensures judged { (count : ℕ) (message : List ℕ) → samples ≡ min count 18446744073709551615 → Holds hasher message → EndsBy (end_rules (Some info.now) count message) result }
     ensures quiet { IfErr result (λ e. e ≢ Why.Read) }
     ensures memory { IfErr result (λ e. e ≢ Why.Memory) }
-    ensures sinkless { IfErr result (λ e. e ≢ Why.Sink) }
+    ensures output { IfErr result (λ e. of_output e ≡ false) }
 {
     if info.total() != 0 && info.total() != samples {
         return Err(Why::TotalMismatch);

@@ -38,8 +38,8 @@ fn peaks_of_a_file(rt: HostRuntime) -> Result<(), Fail> {
     Ok(())
 }
 
-/// The end comes only if the digest is the one that the reference encoder states: its bytes are taken at four indices at a
-/// time, and from the rest of a block one by one.
+/// The end comes only if the digest is the one that the reference encoder states: its bytes are taken at four indices
+/// at a time, and from the rest of a block one by one.
 #[test]
 fn digest_of_pairs(rt: HostRuntime) -> Result<(), Fail> {
     let stream = hex::decode(rt.alloc(), PAIRS_24)?;

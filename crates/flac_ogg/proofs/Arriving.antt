@@ -1,5 +1,5 @@
 -- The items of packets come one after another.
-use Rattle.std.proofs.Common.{◌≡◌, ◌≢◌, ◌<◌, ◌≤◌, ℕ, zero, suc, ◌*◌, arith, Bool, true, List, [], ◌∷◌, ◌++◌, Option, Some, None, Result, Ok, Err, refl, sym, ap, subst, ◌∙◌, inl, inr, ◌⊎◌}
+use Rattle.std.proofs.Common.{◌≡◌, ◌≢◌, ◌<◌, ◌≤◌, ℕ, zero, suc, ◌*◌, arith, Bool, true, false, List, [], ◌∷◌, ◌++◌, Option, Some, None, Result, Ok, Err, refl, sym, ap, subst, ◌∙◌, inl, inr, ◌⊎◌}
 use Rattle.std.specs.Prelude.{OnOk, IfOk, IfErr, IfSome}
 use Rattle.std.specs.Borrow.{GName}
 use Rattle.flac_bits.specs.State.{Mark, State, Rises, short_of}
@@ -7,8 +7,9 @@ use Rattle.flac_bits.specs.Fencing.{lifted}
 use Rattle.flac_bits.specs.Reading.{Counts}
 use Rattle.flac_bits.specs.Items.{after}
 use Rattle.flac_bits.specs.Handing.{TakesAll, Hands, Decides, reason_of, IsOutside}
+use Rattle.flac_bits.specs.Reasons.{of_output}
 use Rattle.flac_bits.specs.declared.why.Why.{Why}
-use Rattle.flac_bits.specs.declared.why.Why.TheVariants.{Memory, Read, Sink, Truncated}
+use Rattle.flac_bits.specs.declared.why.Why.TheVariants.{Memory, Read, Truncated}
 use Rattle.flac_native.specs.Stream.{Piece, Progress, Stand, grammar, next}
 use Rattle.flac_native.specs.Track.{IsAt, stand_of}
 use Rattle.flac_native.specs.Item.{Item, told}
@@ -179,14 +180,14 @@ pub counts_both : {X : Type 0} (p q : Stands) (result : Result X Fault) → Went
 counts_both p q (Ok x) went meets = (went.0, went.1, went.1, meets)
 counts_both p q (Err e) went meets = tt
 
--- one that returns Read met one, and none is of a sink
+-- one that returns Read met one, and none is of the output
 pub read_risen : {X : Type 0} (old new : ℕ) (result : Result X Fault) → MeetsIn old new result → IfErr result (λ f. f.why ≡ Read → Rises old new)
 read_risen old new (Ok x) meets = tt
 read_risen old new (Err f) meets = meets.0
 
-pub none_of_sink : {X : Type 0} (old new : ℕ) (result : Result X Fault) → MeetsIn old new result → IfErr result (λ f. f.why ≢ Sink)
-none_of_sink old new (Ok x) meets = tt
-none_of_sink old new (Err f) meets = meets.1
+pub none_of_output : {X : Type 0} (old new : ℕ) (result : Result X Fault) → MeetsIn old new result → IfErr result (λ f. of_output f.why ≡ false)
+none_of_output old new (Ok x) meets = tt
+none_of_output old new (Err f) meets = meets.1
 
 come_next : {X : Type 0} (p : Progress) (a b : Ahead) (view : X → Piece) (x : X) (items : List Piece) (end : Option (Place × Why)) → packet_step p a ≡ item (view x) b → ItemsCome p a items end → (xs : List Piece) × ItemsCome (next p (view x)) b xs end
 come_next p a b view x [] end step i = absurd (final_item end (view x) b (sym (last_here p a end i) ∙ step))

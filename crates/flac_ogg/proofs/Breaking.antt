@@ -1,8 +1,9 @@
 -- Where it is told that a call was broken off: by the device, or where memory is wanting.
 use Rattle.std.proofs.Common.{◌≡◌, ◌≢◌, ℕ, Option, sym, ap, ◌∙◌, inl, inr}
 use Rattle.flac_bits.specs.Handing.{IsOutside}
+use Rattle.flac_bits.specs.Reasons.{of_output}
 use Rattle.flac_bits.specs.declared.why.Why.{Why}
-use Rattle.flac_bits.specs.declared.why.Why.TheVariants.{PacketLength, Read, Memory, Sink}
+use Rattle.flac_bits.specs.declared.why.Why.TheVariants.{PacketLength, Read, Memory}
 use Rattle.flac_native.specs.Stream.{Progress}
 use Rattle.flac_native.specs.declared.fault.Fault.{Fault}
 use Rattle.flac_native.specs.declared.fault.Place.TheVariants as place
@@ -34,10 +35,7 @@ none_due why e (inr memory) = absurd cc
 
 -- nor one that tells of a device
 pub due_met : (why : Why) (old new : ℕ) → why ≡ PacketLength → Met why old new
-due_met why old new e = (λ q. absurd (read_due (sym q ∙ e)), λ q. sink_due (sym q ∙ e))
+due_met why old new e = (λ q. absurd (read_due (sym q ∙ e)), ap of_output e)
   where
     read_due : Read ≡ PacketLength → ⊥
     read_due e = absurd cc
-
-    sink_due : Sink ≡ PacketLength → ⊥
-    sink_due e = absurd cc

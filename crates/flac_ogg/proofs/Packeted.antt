@@ -6,8 +6,8 @@ use Rattle.flac_bits.specs.Fencing.{lifted}
 use Rattle.flac_bits.specs.Reading.{ReadsInRoom}
 use Rattle.flac_bits.specs.declared.why.Why.{Why}
 use Rattle.flac_native.specs.Stream.{Piece, Stand, layout, layout_in, room_in}
-use Rattle.flac_native.specs.Within.{ReadsWithin}
-use Rattle.flac_native.specs.inner.Within.{ReadsWithinInRoom}
+use Rattle.flac_bits.specs.Within.{ReadsWithin}
+use Rattle.flac_bits.specs.inner.Within.{ReadsWithinInRoom}
 use Rattle.flac_native.specs.declared.track.Phase.{Phase}
 use Rattle.flac_native.specs.declared.track.Phase.TheVariants.{Opening, Blocks, Frames}
 use Rattle.flac_ogg.specs.Mapping.{mapping, is_first_block, packet_layout}

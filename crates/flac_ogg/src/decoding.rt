@@ -1,6 +1,6 @@
 //! Decodes a stream in either container.
 
-ghost use Rattle.std.specs.Prelude.{◌≡◌, true, List, IfOk, IfErr, None, Some, ◌<◌, ◌≤◌, ◌+◌, ◌++◌, [], OnOk, Ok, ◌⊎◌};
+ghost use Rattle.std.specs.Prelude.{◌≡◌, ◌≢◌, true, List, IfOk, IfErr, None, Some, ◌<◌, ◌≤◌, ◌+◌, ◌++◌, [], OnOk, Ok, ◌⊎◌};
 ghost use Rattle.flac_bits.specs.Bits.{bits_of};
 ghost use Rattle.flac_bits.specs.State.{short_of, Rises};
 ghost use Rattle.flac_native.specs.Stream.{Piece};
@@ -103,6 +103,7 @@ pub fn decode_ogg<R: Source, S: Sink>(
     // call returns it.
     ensures risen { IfErr result (λ f. f.why ≡ Why.Read → Rises (R.raised source.old) (R.raised source.new)) }
     ensures sink { IfErr result (λ f. f.why ≡ Why.Sink → Rises (S.errors sink.old) (S.errors sink.new)) }
+    ensures write { IfErr result (λ f. f.why ≢ Why.Write) }
     ensures kept { R.errors source.old ≤ R.errors source.new }
     ensures names { S.names sink.new ≡ S.names sink.old }
     ensures source_names { R.names source.new ≡ R.names source.old }
@@ -230,6 +231,7 @@ fn decode_as<R: Source, S: Sink>(
     // call returns it.
     ensures risen { IfErr result (λ f. f.why ≡ Why.Read → Rises (R.raised source.old) (R.raised source.new)) }
     ensures sink { IfErr result (λ f. f.why ≡ Why.Sink → Rises (S.errors sink.old) (S.errors sink.new)) }
+    ensures write { IfErr result (λ f. f.why ≢ Why.Write) }
     ensures names { S.names sink.new ≡ S.names sink.old }
     ensures source_names { R.names source.new ≡ R.names source.old }
 {
@@ -271,6 +273,7 @@ pub fn decode_any<R: Source, S: Sink>(
     // call returns it.
     ensures risen { IfErr result (λ f. f.why ≡ Why.Read → Rises (R.raised source.old) (R.raised source.new)) }
     ensures sink { IfErr result (λ f. f.why ≡ Why.Sink → Rises (S.errors sink.old) (S.errors sink.new)) }
+    ensures write { IfErr result (λ f. f.why ≢ Why.Write) }
     ensures names { S.names sink.new ≡ S.names sink.old }
     ensures source_names { R.names source.new ≡ R.names source.old }
 {

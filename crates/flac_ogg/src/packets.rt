@@ -6,13 +6,14 @@ ghost use Rattle.flac_ogg.specs.Mapping.{mapping, is_first_block, page_place, it
 ghost use Rattle.flac_native.specs.Stream.{Stand, place_in, Progress, next, room_in, layout_in, framed, frame_behind};
 ghost use Rattle.flac_native.specs.Track.{stand_of, IsAt, IsMadeAs, piece_of, kept, shown};
 ghost use Rattle.flac_bits.specs.Fencing.{lifted};
-ghost use Rattle.flac_native.specs.Within.{ReadsWithin};
-ghost use Rattle.flac_native.specs.inner.Within.{ReadsWithinInRoom};
+ghost use Rattle.flac_bits.specs.Within.{ReadsWithin};
+ghost use Rattle.flac_bits.specs.inner.Within.{ReadsWithinInRoom};
 ghost use Rattle.flac_native.specs.declared.track.Phase.TheVariants.{Opening, Blocks, Frames};
 ghost use Rattle.flac_ogg.specs.Telling.{IsUnderWay};
 ghost use Rattle.flac_ogg.specs.inner.Telling.{block_packet, first_packet, MeetsIn, StepIs, EndIs};
 ghost use Rattle.flac_pages.specs.Items.{packet_of, packet_mark, TellsItem, Meets, TellsPages, HasBehind, HasItsPage};
 ghost use Rattle.flac_bits.specs.Handing.{IsOutside};
+ghost use Rattle.flac_bits.specs.Reasons.{of_output};
 ghost use Rattle.flac_pages.specs.Packets.{Met, ahead, on_page};
 ghost use Rattle.flac_ogg.specs.Steps.{packet_step, without_packet, refused};
 ghost use Rattle.flac_ogg.specs.Stream.{last_fault};
@@ -226,7 +227,7 @@ fn block_due(track: &Track) -> Fault
 fn end_here(track: &mut Track) -> Result<(), Fault>
     ensures memory { IfErr result (λ f. f.why ≢ Why.Memory) }
     ensures quiet { IfErr result (λ f. f.why ≢ Why.Read) }
-    ensures sink { IfErr result (λ f. f.why ≢ Why.Sink) }
+    ensures output { IfErr result (λ f. of_output f.why ≡ false) }
     ensures ends { (p : Progress) → IsAt track.old p → IsUnderWay p.stand → EndIs (without_packet p None) result }
 {
     if !track.is_past_metadata() {

@@ -63,6 +63,7 @@ pub fn verify(alloc: Global, bytes: &[u8], profile: Profile) -> Result<(), Fault
     // No device is read, so none fails.
     ensures read { IfErr result (λ f. f.why ≢ Why.Read) }
     ensures sink { IfErr result (λ f. f.why ≢ Why.Sink) }
+    ensures write { IfErr result (λ f. f.why ≢ Why.Write) }
 {
     let mut source = Memory::new(bytes);
     let mut sink = Anything;

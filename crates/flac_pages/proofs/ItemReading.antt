@@ -144,7 +144,8 @@ item_ok x = Ok x
 no_item : {X : Type 0} (x : X) (why : Option ℕ × Why) → item_ok x ≡ Err why → ⊥
 no_item x why e = absurd cc
 
--- Behind a packet that is one item good pages give what they gave behind it. What the item's reader gives is needed only where no growth was refused.
+-- Behind a packet that is one item good pages give what they gave behind it. What the item's reader gives is needed
+-- only where no growth was refused.
 abbrev Gave : Behind → ℕ → Place → Type 0
 Gave b errors new = (new.known ≡ true) × (new.errors ≡ errors) × ((ahead new).lacing ≡ b.pieces) × ((ahead new).bytes ≡ b.bytes) × ((ahead new).fault ≡ b.fault) × ((ahead new).stop ≡ b.stop)
 

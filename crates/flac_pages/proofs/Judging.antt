@@ -5,8 +5,9 @@ use Rattle.std.specs.Borrow.{GName}
 use Rattle.std.specs.Option.{ForSome}
 use Rattle.flac_bits.specs.Bits.{is_nil}
 use Rattle.flac_bits.specs.State.{State, Behind, Rises, short_of, without_fence}
+use Rattle.flac_bits.specs.Reasons.{of_output}
 use Rattle.flac_bits.specs.declared.why.Why.{Why}
-use Rattle.flac_bits.specs.declared.why.Why.TheVariants.{Read, Memory, Sink, Truncated, PacketLength}
+use Rattle.flac_bits.specs.declared.why.Why.TheVariants.{Read, Memory, Truncated, PacketLength}
 use Rattle.flac_pages.specs.Packets.{Place, OnPage, Met, ahead, behind_of, behind_in, behind_left, on_page, BreaksAt}
 use Rattle.flac_pages.specs.inner.Packets.{Follows}
 use Rattle.flac_pages.specs.Items.{PacketEnd, whole, unended, cut_at, end_of, in_packet, behind_item, HasItsPage, CountsSo, numbers_of, GivesBack, JudgesPacket, GoesBehind}
@@ -137,8 +138,8 @@ end_back s name start fault errors pages old new (Err why) names is raised none 
       broke_since start old why.0 f there (ends.breaks (f.known there));
 }
 
-met_why : (fault : Option (ℕ × Why)) (errors lent raised : ℕ) (why : Why) → (fault ≡ None → errors ≡ 0) → ForSome fault (λ f. Met f.1 lent raised) → (why ≡ Read → 0 < errors) × (why ≡ Sink → ⊥) → Met (why_in fault why).1 lent raised
-met_why fault errors lent raised Truncated quiet met counts = (λ e. absurd cc, λ e. absurd cc)
+met_why : (fault : Option (ℕ × Why)) (errors lent raised : ℕ) (why : Why) → (fault ≡ None → errors ≡ 0) → ForSome fault (λ f. Met f.1 lent raised) → (why ≡ Read → 0 < errors) × (of_output why ≡ false) → Met (why_in fault why).1 lent raised
+met_why fault errors lent raised Truncated quiet met counts = (λ e. absurd cc, refl)
 met_why None errors lent raised Read quiet met counts = absurd (omega (arith, quiet refl, counts.0 refl))
 met_why (Some f) errors lent raised Read quiet met counts = met f refl
 met_why fault errors lent raised why quiet met counts = (λ e. absurd cc, counts.1)
@@ -152,7 +153,7 @@ broke_why page fault why known broke = tt
 -- where a reader of bits refused
 pub told_back : {X : Type 0} (s : State) (name : GName) (lent : ℕ) (page : OnPage) (fault seen : Option (ℕ × Why)) (errors : ℕ) (pages new : Place) (read : Result X Why) (why : Why) (told : Option ℕ × Why) → told ≡ why_in seen why → seen ≡ fault
     → s.names ≡ name ∷ lent ∷ (numbers_of page ++ pages.names) → new ≡ pages → (fault ≡ None → errors ≡ 0) → ForSome fault (λ f. Met f.1 lent pages.raised) → ForSome fault (λ f. page.known ≡ true → BreaksAt page f.0)
-    → (CountsSo read s.raised → (why ≡ Read → 0 < errors) × (why ≡ Sink → ⊥)) → GivesBack s name new read (Err told)
+    → (CountsSo read s.raised → (why ≡ Read → 0 < errors) × (of_output why ≡ false)) → GivesBack s name new read (Err told)
 told_back {X = X} s name lent page fault seen errors pages new read why told tells same names at quiet met broke so = record {
   lent = lent;
   page = page;
@@ -177,7 +178,7 @@ left_back s name lent page pages new names at = record {
   lent = lent;
   page = page;
   names = same_names s name lent page pages new new names at refl;
-  meets = λ counts. (λ e. absurd cc, λ e. absurd cc);
+  meets = λ counts. (λ e. absurd cc, refl);
   pages = λ counts known. tt;
 }
 

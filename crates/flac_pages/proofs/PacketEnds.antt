@@ -3,7 +3,7 @@ use Rattle.std.proofs.Common.{◌≡◌, ◌≢◌, ◌≤◌, ◌+◌, ℕ, len
 use Rattle.std.specs.Prelude.{⊤}
 use Rattle.flac_bits.specs.State.{Behind}
 use Rattle.flac_bits.specs.declared.why.Why.{Why}
-use Rattle.flac_bits.specs.declared.why.Why.TheVariants.{PacketLength, Read, Memory, Sink}
+use Rattle.flac_bits.specs.declared.why.Why.TheVariants.{PacketLength, Read, Memory}
 use Rattle.flac_pages.specs.Packets.{Place, ahead, behind_of, behind_in, broken_off}
 use Rattle.flac_pages.specs.inner.Packets.{Follows, Finds, Copies}
 use Rattle.flac_pages.specs.Items.{whole, unended, cut_at, end_in, end_of, cut_off, HasItsPage}
@@ -66,7 +66,7 @@ ends_inside old now new p f inside =
     let goes_on : new.more ≡ true = go new.more refl in
     record {
       errors = omega (arith, f.errors, p.errors);
-      met = (λ e. absurd (read_not e), λ e. absurd (sink_not e));
+      met = (λ e. absurd (read_not e), refl);
       names = f.names ∙ p.names;
       fault = λ known same.
           let behind : behind_of new ≡ behind_of old = f.behind (p.known known) ∙ p.behind known in
@@ -83,9 +83,6 @@ ends_inside old now new p f inside =
 
     read_not : PacketLength ≡ Read → ⊥
     read_not e = absurd cc
-
-    sink_not : PacketLength ≡ Sink → ⊥
-    sink_not e = absurd cc
 
     go : (b : Bool) → new.more ≡ b → new.more ≡ true
     go true e = e

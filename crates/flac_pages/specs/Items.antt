@@ -9,8 +9,9 @@ use Rattle.flac_bits.specs.Layout.{Layout, bits, Reason}
 use Rattle.flac_bits.specs.Lists.{list_of}
 use Rattle.flac_bits.specs.Meaning.{Spells, Shows, IsCut}
 use Rattle.flac_bits.specs.Fence.{InRoom, LeavesRoom, FillsRoom, read_in}
+use Rattle.flac_bits.specs.Reasons.{of_output}
 use Rattle.flac_bits.specs.declared.why.Why.{Why}
-use Rattle.flac_bits.specs.declared.why.Why.TheVariants.{Read, Memory, Sink, Truncated, FrameTooLong, PacketLength}
+use Rattle.flac_bits.specs.declared.why.Why.TheVariants.{Read, Memory, Truncated, FrameTooLong, PacketLength}
 use Rattle.flac_pages.specs.Packets.{Place, Met, ahead, rest_of, behind_of, OnPage, on_page, PassesPacket, BreaksAt}
 
 -- How a packet ends after the bytes that good pages have of it (RFC 3533, section 6).
@@ -147,7 +148,7 @@ Meets old new (Err e) = Met e.1 old new
 -- the count of a reader of bits that met no error before
 abbrev pub CountsSo : {X : Type 0} → Result X Why → ℕ → Type 0
 CountsSo (Ok x) raised = raised ≡ 0
-CountsSo (Err why) raised = (why ≡ Read → 0 < raised) × (why ≡ Sink → ⊥)
+CountsSo (Err why) raised = (why ≡ Read → 0 < raised) × (of_output why ≡ false)
 
 -- The result for the packet that was begun says which pages were read: those up to the start of the next packet, or, if
 -- a page is refused, those before it, in none of which the packet ends.

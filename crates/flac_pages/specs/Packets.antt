@@ -4,7 +4,8 @@ use Rattle.std.specs.Borrow.{GName}
 use Rattle.std.specs.List.{flat_map}
 use Rattle.flac_bits.specs.State.{Cursor, Behind, Rises}
 use Rattle.flac_bits.specs.declared.why.Why.{Why}
-use Rattle.flac_bits.specs.declared.why.Why.TheVariants.{Read, Sink}
+use Rattle.flac_bits.specs.Reasons.{of_output}
+use Rattle.flac_bits.specs.declared.why.Why.TheVariants.{Read}
 use Rattle.flac_pages.specs.declared.page.Before.{Before}
 use Rattle.flac_pages.specs.Page.{Page}
 use Rattle.flac_pages.specs.Pages.{Run, Stop, closed, broken, pages_behind, end_fault}
@@ -189,9 +190,9 @@ pub record BreaksAt (p : OnPage) (n : ℕ) : Type 0 where
 -- ---- what the calls of a reader do
 
 -- A call that failed for this reason: with Read it met an error of the device, whose count rose, if it could; and no
--- reader returns Sink.
+-- reader returns an error of the output.
 abbrev pub Met : Why → ℕ → ℕ → Type 0
-Met why old new = (why ≡ Read → Rises old new) × (why ≡ Sink → ⊥)
+Met why old new = (why ≡ Read → Rises old new) × (of_output why ≡ false)
 
 -- The next packet is begun, of which good pages have a lacing value. Or they have none: if there is no fault, all
 -- packets were read; or this is the fault, of the next page or after the page marked last.

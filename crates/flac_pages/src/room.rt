@@ -1,7 +1,8 @@
 //! The room that holds a page.
 
-ghost use Rattle.std.specs.Prelude.{◌≡◌, ◌≢◌, ◌≤◌, ◌<◌, ◌+◌, ◌*◌, ◌^◌, [], length, take, get_or, vec_len, OnOk, IfOk, IfErr, IfSome, OnErr};
+ghost use Rattle.std.specs.Prelude.{◌≡◌, ◌≢◌, ◌≤◌, ◌<◌, ◌+◌, ◌*◌, ◌^◌, [], length, take, get_or, vec_len, OnOk, IfOk, IfErr, IfSome, OnErr, false};
 ghost use Rattle.std.specs.List.{sum};
+ghost use Rattle.flac_bits.specs.Reasons.{of_output};
 ghost use Rattle.flac_bits.specs.Layout.{bits as number, run};
 ghost use Rattle.flac_bits.specs.Lists.{list_of};
 ghost use Rattle.flac_bits.specs.Reading.{Counts, Reads, Gives, CallInPlace};
@@ -113,7 +114,7 @@ impl PageRoom {
     fn fault(&self, before: Option<Before>) -> Option<Why>
         requires whole { length self.now.body ≡ sum self.now.lacing }
         ensures first { result ≡ first_broken (end_rules before self.now) }
-        ensures kind { IfSome result (λ e. (e ≢ Why.Read) × (e ≢ Why.Memory) × (e ≢ Why.Sink)) }
+        ensures kind { IfSome result (λ e. (e ≢ Why.Read) × (e ≢ Why.Memory) × (of_output e ≡ false)) }
     {
         let head = self.head;
         if head.sum != self.sum() {

@@ -97,6 +97,7 @@ head_ok g old now new keep kept from size x y far counts = record {
   met = (λ k. counts.met.0 (far.known k), counts.met.1 ∙ far.errors, counts.met.2 ∙ far.raised, counts.met.3 ∙ far.met);
   kept = omega (arith, counts.kept, far.errors);
   risen = tt;
+  output = tt;
 }
 
 pub head_err : {C X Y : Type 0} (g : container.Ghosts C) (old now new : Stage C) (keep : Keep) (kept : List Block) (from size : ℕ) (f : Fault) → HeadSoFar g old now keep kept from size → Counted {X = X} g now new (Err f) → Counted {X = Y} g old new (Err f)
@@ -104,6 +105,7 @@ head_err g old now new keep kept from size f far counts = record {
   met = tt;
   kept = omega (arith, counts.kept, far.errors);
   risen = λ is. subst (λ n. Rises n (g.met new.container)) far.met (counts.risen is);
+  output = counts.output;
 }
 
 -- no block is left
@@ -131,13 +133,13 @@ no_room at why is roomy = roomy (ap (λ k. Err k) is)
 
 -- an error's count is the same for every kind of answer
 pub err_counts : {C X Y : Type 0} (g : container.Ghosts C) (old new : Stage C) (f : Fault) → Counted {X = X} g old new (Err f) → Counted {X = Y} g old new (Err f)
-err_counts g old new f h = record { met = tt; kept = h.kept; risen = h.risen }
+err_counts g old new f h = record { met = tt; kept = h.kept; risen = h.risen; output = h.output }
 
 pub ok_counts : {C X Y : Type 0} (g : container.Ghosts C) (old new : Stage C) (x : X) (y : Y) → Counted {X = X} g old new (Ok x) → Counted {X = Y} g old new (Ok y)
-ok_counts g old new x y h = record { met = h.met; kept = h.kept; risen = tt }
+ok_counts g old new x y h = record { met = h.met; kept = h.kept; risen = tt; output = tt }
 
 pub same_counts : {C X : Type 0} (g : container.Ghosts C) (s : Stage C) (x : X) → Counted {X = X} g s s (Ok x)
-same_counts g s x = record { met = (λ k. k, refl, refl, refl); kept = omega arith; risen = tt }
+same_counts g s x = record { met = (λ k. k, refl, refl, refl); kept = omega arith; risen = tt; output = tt }
 
 -- the metadata was read
 pub head_read : {C : Type 0} (g : container.Ghosts C) (old new : Stage C) (keep : Keep) (kept : List Block) (start : ℕ) (x : ⊤) → Counted {X = ⊤} g old new (Ok x)

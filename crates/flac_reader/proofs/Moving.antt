@@ -1,6 +1,7 @@
 -- What one call of a decoder does to what it has still to give.
-use Rattle.std.proofs.Common.{◌≡◌, ◌≤◌, true, List, [], ◌∷◌, map, Option, Some, None, IfSome, Result, Ok, Err, IfOk, IfErr, refl, sym, ap, subst, ◌∙◌, arith}
+use Rattle.std.proofs.Common.{◌≡◌, ◌≤◌, true, false, List, [], ◌∷◌, map, Option, Some, None, IfSome, Result, Ok, Err, IfOk, IfErr, refl, sym, ap, subst, ◌∙◌, arith}
 use Rattle.std.proofs.lemmas.Result.{IfOk-weaker}
+use Rattle.flac_bits.specs.Reasons.{of_output}
 use Rattle.flac_bits.specs.State.{Rises}
 use Rattle.flac_bits.specs.declared.why.Why.{Why}
 use Rattle.flac_bits.specs.declared.why.Why.TheVariants.{Read, Spent}
@@ -117,14 +118,22 @@ moves_counted {C} {X} g old new view result moves = go old.course moves
         other : Spent ≡ Read → ⊥
         other e = absurd cc
 
+    none_over : (r : Result X Fault) → seen_by view r ≡ Ok None → IfErr r (λ f. of_output f.why ≡ false)
+    none_over (Ok y) e = tt
+    none_over (Err f) e = absurd (ok_err None f (sym e))
+
+    none_spent : (at : Place) (r : Result X Fault) → seen_by view r ≡ Err (record { at = at; why = Spent }) → IfErr r (λ f. of_output f.why ≡ false)
+    none_spent at (Ok y) e = tt
+    none_spent at (Err f) e = ap (λ (w : Fault). of_output w.why) (same_fault f _ e)
+
     goes : Goes g old new view result → Counted g old new result
-    goes h = record { met = IfOk-weaker result _ _ (λ x m. m) h.counts.met; kept = h.counts.kept; risen = h.counts.risen }
+    goes h = record { met = IfOk-weaker result _ _ (λ x m. m) h.counts.met; kept = h.counts.kept; risen = h.counts.risen; output = h.counts.output }
 
     go : (k : Course) → MovesFrom g k old new view result → Counted g old new result
     go course.Begun h = goes h
     go (course.Read part) h = goes h
-    go course.Over h = record { met = same result h.1; kept = still h.1; risen = over result h.0 }
-    go (course.Spent at) h = record { met = same result h.1; kept = still h.1; risen = spent at result h.0 }
+    go course.Over h = record { met = same result h.1; kept = still h.1; risen = over result h.0; output = none_over result h.0 }
+    go (course.Spent at) h = record { met = same result h.1; kept = still h.1; risen = spent at result h.0; output = none_spent at result h.0 }
 
 -- ---- what was given first
 

@@ -1,8 +1,9 @@
 -- Why a stream is not opened.
-use Rattle.std.proofs.Common.{◌≡◌, ◌<◌, ◌≤◌, ℕ, Bool, true, List, [], ◌∷◌, ◌++◌, filter, Option, Some, None, Result, Ok, Err, refl, sym, ap, subst, ◌∙◌, arith}
+use Rattle.std.proofs.Common.{◌≡◌, ◌<◌, ◌≤◌, ℕ, Bool, true, false, List, [], ◌∷◌, ◌++◌, filter, Option, Some, None, Result, Ok, Err, refl, sym, ap, subst, ◌∙◌, arith}
 use Rattle.std.specs.Prelude.{◌≢◌, ⊤}
 use Rattle.std.proofs.Common.{inl, inr}
 use Rattle.flac_bits.specs.Bits.{bits_of}
+use Rattle.flac_bits.specs.Reasons.{of_output}
 use Rattle.flac_bits.specs.State.{Rises, Mark}
 use Rattle.flac_bits.specs.Handing.{Reading}
 use Rattle.flac_bits.specs.declared.why.Why.{Why}
@@ -63,6 +64,7 @@ pub blocks_refused : {C : Type 0} (g : container.Ghosts C) (old last : Stage C) 
 blocks_refused g old last keep kept f counts head = record {
   kept = counts.kept;
   risen = counts.risen;
+  output = counts.output;
   refused = λ calm other blocks frames end comes. inl (head calm (had_room f other) blocks frames end comes);
 }
 
@@ -73,6 +75,7 @@ pub no_info_refused : {C : Type 0} (g : container.Ghosts C) (old last : Stage C)
 no_info_refused g old last keep kept x counts none head = record {
   kept = counts.kept;
   risen = λ is. absurd (other is);
+  output = refl;
   refused = λ calm other blocks frames end comes.
       let h = head calm (room x) blocks frames end comes in
       inr (refl, sym (first_kept keep blocks) ∙ ap first_info (sym h.0) ∙ none);
@@ -90,6 +93,7 @@ pub refuses_input : {C : Type 0} {g : container.Ghosts C} (r : Reading Piece Pla
 refuses_input {g = g} r s last p f known errors raised errors_left raised_left begun at gives is_known e m e' m' quiet h other = record {
   kept = omega (arith, h.kept, e, e');
   risen = λ is. subst (λ n. Rises raised n) m' (subst (λ n. Rises n (g.met last.container)) m (h.risen is));
+  output = h.output;
   refused = λ k same_errors same_raised blocks frames end is.
       h.refused (is_known ∙ k, e' ∙ same_errors ∙ sym e, quiet same_errors same_raised) other blocks frames end
       (begun_comes g s p (stream_items blocks frames) end begun at (is.parts, sym is.items, gives is.parts end is.read));
@@ -102,14 +106,16 @@ pub refuses_as : (r q : Reading Piece Place) (known knows : Bool) (errors raised
 refuses_as r q known knows errors raised now_errors now_raised errors_left raised_left f e n told same h = record {
   kept = omega (arith, h.kept, e);
   risen = λ is. subst (λ k. Rises k raised_left) n (h.risen is);
+  output = h.output;
   refused = λ k same_errors same_raised blocks frames end is. h.refused (told k) (same_errors ∙ sym e) (same_raised ∙ sym n) blocks frames end (same k blocks frames end is);
 }
 
 -- of an input whose first byte could not be read
-pub refuses_unread : (r : Reading Piece Place) (known : Bool) (errors raised errors_left raised_left : ℕ) (f : Fault) → errors ≤ errors_left → Rises raised raised_left → (known ≡ true → raised < raised_left) → RefusesInput r known errors raised errors_left raised_left f
-refuses_unread r known errors raised errors_left raised_left f kept risen more = record {
+pub refuses_unread : (r : Reading Piece Place) (known : Bool) (errors raised errors_left raised_left : ℕ) (f : Fault) → errors ≤ errors_left → Rises raised raised_left → of_output f.why ≡ false → (known ≡ true → raised < raised_left) → RefusesInput r known errors raised errors_left raised_left f
+refuses_unread r known errors raised errors_left raised_left f kept risen output more = record {
   kept = kept;
   risen = λ is. risen;
+  output = output;
   refused = λ k same_errors same_raised blocks frames end is. absurd (omega (arith, more k, same_raised));
 }
 

@@ -224,6 +224,7 @@ give_sample {g = g} old now new x going far same fewer takes = record {
     met = (far.known, far.errors, far.raised, far.met);
     kept = omega (arith, far.errors);
     risen = tt;
+    output = tt;
   });
   ended = λ e. absurd (some_none e);
   spent = tt;
@@ -252,6 +253,7 @@ give_end {g = g} old now next new going far same none gives enters =
         met = (λ k. met.met.0 (far.known k), met.met.1 ∙ far.errors, met.met.2 ∙ far.raised, met.met.3 ∙ far.met);
         kept = omega (arith, met.kept, far.errors);
         risen = tt;
+        output = tt;
       };
       ended = λ e. enters.1;
       spent = tt;
@@ -276,6 +278,7 @@ give_refusal {g = g} old now next new f going far same none gives over =
         met = tt;
         kept = omega (arith, met.kept, far.errors);
         risen = λ is. subst (λ n. Rises n (g.met (stage_of new.reader.decoder).container)) far.met (met.risen is);
+        output = met.output;
       };
       ended = λ e. over;
       spent = over;
@@ -294,6 +297,7 @@ give_no_more {g = g} old now new at going far same over = record {
     met = tt;
     kept = omega (arith, far.errors);
     risen = λ is. absurd (other is);
+    output = refl;
   });
   ended = λ e. over;
   spent = over;

@@ -142,6 +142,7 @@ search_ok g old now new info sample x y far counts = record {
   met = (λ k. counts.met.0 (far.known k), counts.met.1 ∙ far.errors, counts.met.2 ∙ far.raised, counts.met.3 ∙ far.met);
   kept = omega (arith, counts.kept, far.errors);
   risen = tt;
+  output = tt;
 }
 
 pub search_err : {C X Y : Type 0} (g : container.Ghosts C) (old now new : Stage C) (info : Info) (sample : ℕ) (f : Fault) → SearchSoFar g old now info sample → Counted {X = X} g now new (Err f) → Counted {X = Y} g old new (Err f)
@@ -149,6 +150,7 @@ search_err g old now new info sample f far counts = record {
   met = tt;
   kept = omega (arith, counts.kept, far.errors);
   risen = λ is. subst (λ n. Rises n (g.met new.container)) far.met (counts.risen is);
+  output = counts.output;
 }
 
 -- ---- what one call says
@@ -187,6 +189,7 @@ pub seek_refuses : {C : Type 0} {g : container.Ghosts C} (r : Reading Piece Plac
 seek_refuses {g = g} r info sample d new p f known errors raised errors_left raised_left begun at gives is_known e r0 m e' r' m' other counts refused = record {
   kept = omega (arith, counts.kept, e, e');
   risen = λ is. subst (λ n. Rises raised n) m' (subst (λ n. Rises n (g.met (stage_of new).container)) m (counts.risen is));
+  output = counts.output;
   refused = λ k same_errors same_raised frames end is.
       refused (is_known ∙ k, e' ∙ same_errors ∙ sym e, r' ∙ same_raised ∙ sym r0) (had_room f other) frames end (input_comes g r (stage_of d) p begun at gives frames end is);
 }
@@ -212,6 +215,7 @@ search_no_more g old now info sample at far = record {
   met = tt;
   kept = omega (arith, far.errors);
   risen = λ is. absurd (other is);
+  output = refl;
 }
   where
     other : Memory ≡ Read → ⊥

@@ -1,6 +1,7 @@
 -- What a decoder still has to return, and what a reader returns of it: the metadata blocks at once, and then one frame
 -- after another.
 use Rattle.std.specs.Prelude.{◌≡◌, ◌≤◌, ℕ, Bool, true, false, List, [], ◌∷◌, ◌++◌, map, filter, Option, Some, None, Result, Ok, Err, IfOk, IfErr, ⊤}
+use Rattle.flac_bits.specs.Reasons.{of_output}
 use Rattle.flac_bits.specs.State.{Rises}
 use Rattle.flac_bits.specs.Handing.{reason_of}
 use Rattle.flac_bits.specs.declared.why.Why.{Why}
@@ -54,11 +55,12 @@ abbrev pub HadRoom : {X : Type 0} → Result X Fault → Type 0
 HadRoom result = reason_of told result ≡ Err Memory → ⊥
 
 -- Errors of the device are counted: a call that returns a value met none, and one that returns Read raises the count,
--- if it can rise.
+-- if it can rise. No call returns an error of the output.
 pub record Counted {C X : Type 0} (g : container.Ghosts C) (old new : Stage C) (result : Result X Fault) : Type 0 where
   pub met : IfOk result (λ _. (g.known old.container ≡ true → g.known new.container ≡ true) × (g.errors new.container ≡ g.errors old.container) × (g.raised new.container ≡ g.raised old.container) × (g.met new.container ≡ g.met old.container))
   pub kept : g.errors old.container ≤ g.errors new.container
   pub risen : IfErr result (λ f. f.why ≡ Read → Rises (g.met old.container) (g.met new.container))
+  pub output : IfErr result (λ f. of_output f.why ≡ false)
 
 -- ---- the metadata
 

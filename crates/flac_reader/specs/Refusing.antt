@@ -1,7 +1,8 @@
 -- Why a stream is not opened.
-use Rattle.std.specs.Prelude.{◌≡◌, ◌≢◌, ◌≤◌, ◌⊎◌, ℕ, Bool, true, List, [], Option, Some, None}
+use Rattle.std.specs.Prelude.{◌≡◌, ◌≢◌, ◌≤◌, ◌⊎◌, ℕ, Bool, true, false, List, [], Option, Some, None}
 use Rattle.flac_bits.specs.State.{Rises}
 use Rattle.flac_bits.specs.Handing.{Reading}
+use Rattle.flac_bits.specs.Reasons.{of_output}
 use Rattle.flac_bits.specs.declared.why.Why.{Why}
 use Rattle.flac_bits.specs.declared.why.Why.TheVariants.{Memory, Read, NotStreamInfoFirst}
 use Rattle.flac_meta.specs.declared.block.Block.{Block}
@@ -23,19 +24,21 @@ abbrev pub IsRefusal : List Block → List Frame → Option (Place × Why) → F
 IsRefusal blocks frames end f = ((frames ≡ []) × (end ≡ Some (told f))) ⊎ ((f ≡ record { at = place.Block 0; why = NotStreamInfoFirst }) × (first_info blocks ≡ None))
 
 -- The metadata was refused from old on, and the decoder is in the state `last`: an error of the device raised the
--- count, and without one, and with memory, what was to come is refused in this way.
+-- count, and without one, and with memory, what was to come is refused in this way. No error of the output is met.
 pub record RefusedHead {C : Type 0} (g : container.Ghosts C) (old last : Stage C) (f : Fault) : Type 0 where
   pub kept : g.errors old.container ≤ g.errors last.container
   pub risen : f.why ≡ Read → Rises (g.met old.container) (g.met last.container)
+  pub output : of_output f.why ≡ false
   pub refused : IsCalm g old last → f.why ≢ Memory → (blocks : List Block) (frames : List Frame) (end : Option (Place × Why)) → Comes g old (stream_items blocks frames) end → IsRefusal blocks frames end f
 
 -- some decoder was left in such a state, unless memory ran out
 abbrev pub IsRefusedHead : {C : Type 0} → container.Ghosts C → Stage C → Fault → Type 0
 IsRefusedHead {C} g old f = f.why ≢ Memory → (last : Stage C) × RefusedHead g old last f
 
--- The input, which is known, was not opened for this reason. An error of the source raised its counts; without one, the
--- input is refused in this way.
+-- The input was not opened for this reason. An error of the source raised its counts, and none of the output is met;
+-- without one, and if the input is known, it is refused in this way.
 pub record RefusesInput (r : Reading Piece Place) (known : Bool) (errors raised errors_left raised_left : ℕ) (f : Fault) : Type 0 where
   pub kept : errors ≤ errors_left
   pub risen : f.why ≡ Read → Rises raised raised_left
+  pub output : of_output f.why ≡ false
   pub refused : known ≡ true → errors_left ≡ errors → raised_left ≡ raised → (blocks : List Block) (frames : List Frame) (end : Option (Place × Why)) → IsReadAs r blocks frames end → IsRefusal blocks frames end f

@@ -1,4 +1,5 @@
--- What values take at least under any parameter, where the sum of their quotients falls below their count between two parameters.
+-- What values take at least under any parameter, where the sum of their quotients falls below their count between two
+-- parameters.
 use Rattle.std.proofs.Common.{◌≡◌, inl, inr, ℕ, zero, suc, ◌+◌, ◌-◌, ◌*◌, ◌/◌, ◌^◌, ◌≤◌, arith, ℤ, List, [], ◌∷◌, length, map, min}
 use Rattle.std.specs.List.{sum_by}
 use Rattle.std.proofs.lemmas.List.Sums.{sum_by-cons}

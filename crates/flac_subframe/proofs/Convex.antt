@@ -1,4 +1,5 @@
--- The cost of values is convex in the parameter: where it rises it goes on rising, and where it falls it was greater before.
+-- The cost of values is convex in the parameter: where it rises it goes on rising, and where it falls it was greater
+-- before.
 use Rattle.std.proofs.Common.{◌≡◌, inl, inr, ℕ, zero, suc, ◌+◌, ◌-◌, ◌*◌, ◌/◌, ◌^◌, ◌≤◌, ◌<◌, arith, ℤ, List, [], ◌∷◌}
 use Rattle.std.specs.List.{sum_by}
 use Rattle.std.proofs.lemmas.List.Sums.{sum_by-cons}

@@ -4,7 +4,8 @@ use Rattle.std.proofs.lemmas.Bool.{cases_lt}
 use Rattle.std.proofs.lemmas.Nat.{mul-le}
 use Rattle.std.proofs.Math.Nat.{suc-mul}
 
--- one predictor: the width and the bits under parameter 0, a bound that is not asked for where the width is large, and t parameters
+-- one predictor: the width and the bits under parameter 0, a bound that is not asked for where the width is large, and
+-- t parameters
 pub within_limit : (n w v t old mid new : ℕ) → v ≤ 2 * n → (28 < w → v ≡ 0) → t ≤ 30 → t ≤ w → mid ≤ old + (2 * n + v) → new ≤ mid + t * n → new ≤ old + 32 * n
 within_limit n w v t old mid new few none most narrow a b = elim (cases_lt 28 w) [
   | inl wide ↦ omega (arith, none wide, mul-le t n 30 n most (omega arith), a, b)

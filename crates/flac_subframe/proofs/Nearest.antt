@@ -92,7 +92,8 @@ module _ (value slope bend v s' b' t' : ℤ) (first : s' ≡ v -ℤ value) (seco
       moved : (order : ℕ) (s : List ℤ) (i : ℕ) (a b c d b₁ c₁ d₁ : ℤ) → b₁ ≡ b → c₁ ≡ c → d₁ ≡ d → HoldsLast order s i a b c d → HoldsLast order s i a b₁ c₁ d₁
       moved order s i a b c d b₁ c₁ d₁ e f g all = rw (e, f, g) all
 
--- the first i samples are restored by the fixed predictor of an order, and the last of them and its differences are held
+-- the first i samples are restored by the fixed predictor of an order, and the last of them and its differences are
+-- held
 pub record GoesOn (order bits : ℕ) (r s : List ℤ) (i : ℕ) (value slope bend twist : ℤ) : Type 0 where
   pub so : RestoredTo (fixed_coefficients order) 0 bits r s i
   pub last : HoldsLast order s i value (second_of value slope) (third_of value slope bend) (fourth_of value slope bend twist)

@@ -108,7 +108,8 @@ module _ (most order : ℕ) (rs : List ℤ) (h : ℕ) (within : h ≤ most) (gre
   pub none_less : (n below : ℕ) → IsLeastCost (MayWrite h order rs) (residual_cost order rs) n → below ≤ n → (f : Codings) → MayWrite most order rs f → below ≤ residual_cost order rs f
   none_less n below all le f m = omega (arith, all.least.least f (narrower f m), all.is)
 
--- The block can be halved h times and not more, so a form of any partition order up to the greatest is one of those up to h.
+-- The block can be halved h times and not more, so a form of any partition order up to the greatest is one of those up
+-- to h.
 module _ (order h most : ℕ) (rs : List ℤ) (within : h ≤ most) (greatest : (p : ℕ) → p ≤ most → Halves order rs p → p ≤ h) where
   coarser_form : (f : Codings) → MayWrite most order rs f → MayWrite h order rs f
   coarser_form f m = record { method = m.method; few = greatest f.partition_order m.few (record { even = m.even; room = m.room }); even = m.even; room = m.room; each = m.each; codings = m.codings }

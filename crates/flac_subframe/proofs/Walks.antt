@@ -1,4 +1,5 @@
--- Parameters are tried from a middle one downwards and upwards, as long as one of the finest partitions gains by it: so none that is left out costs less.
+-- Parameters are tried from a middle one downwards and upwards, as long as one of the finest partitions gains by it: so
+-- none that is left out costs less.
 use Rattle.std.proofs.Common.{◌≡◌, inl, inr, refl, ℕ, zero, suc, ◌+◌, ◌-◌, ◌*◌, ◌/◌, ◌^◌, ◌≤◌, ◌<◌, arith, ℤ, List, [], ◌∷◌, ◌++◌, length, map, take, drop, All, min}
 use Rattle.std.specs.List.{sum_by}
 use Rattle.std.proofs.lemmas.Bool.{cases_lt}

@@ -65,8 +65,8 @@ fn pair(high: i64, low: i64) -> i64
 }
 
 /// Puts the factors for the first `half` words into places: for word j the coefficient j, and that `half` places after
-/// it. It is a call of its own: otherwise the compiler makes lanes of some of the loops that multiply by the factors for
-/// processors with AVX2, which take 1.2 to 2.7 times as long.
+/// it. It is a call of its own: otherwise the compiler makes lanes of some of the loops that multiply by the factors
+/// for processors with AVX2, which take 1.2 to 2.7 times as long.
 #[inline(never)]
 fn put_factors(coefficients: &[i64], half: usize, factors: &mut [i64])
     requires half { half ≤ length factors.old }

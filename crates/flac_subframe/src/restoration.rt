@@ -221,9 +221,9 @@ fn sample_of(sum: i64, shift: u32, residual: i64) -> i64
 /// Restores by a linear predictor of an order. The sums of products for the next samples are held beside the slice:
 /// each sample is multiplied by all coefficients once it is known, and is not read again. This is faster than
 /// [`restore_by`], whose loop reads the last samples again, and on processors with AVX2 by far: there the compiler
-/// makes lanes of that loop, which wait for the samples that were just stored. The result is whether each sample fits in
-/// `bits` bits. The loop has no exit, which is faster: after a sample that does not fit it goes on with numbers of no
-/// use, and those are left in the slice.
+/// makes lanes of that loop, which wait for the samples that were just stored. The result is whether each sample fits
+/// in `bits` bits. The loop has no exit, which is faster: after a sample that does not fit it goes on with numbers of
+/// no use, and those are left in the slice.
 #[inline(always)]
 fn restore_summed(
     order: usize,
@@ -260,8 +260,8 @@ fn restore_summed(
     is_below(wrong, bits)
 }
 
-/// Copies coefficients. It is a call of its own: otherwise the compiler makes lanes of more of the loops that multiply by
-/// the copy for processors with AVX2, which take up to twice as long. Of orders 10 to 12 it makes them all the same.
+/// Copies coefficients. It is a call of its own: otherwise the compiler makes lanes of more of the loops that multiply
+/// by the copy for processors with AVX2, which take up to twice as long. Of orders 10 to 12 it makes them all the same.
 #[inline(never)]
 fn copy_coefficients(coefficients: &[i64], places: &mut [i64])
     requires { length places.old ≡ length coefficients.now }

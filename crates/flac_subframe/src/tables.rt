@@ -25,9 +25,9 @@ pub(crate) struct SearchArrays<'a> {
     pub(crate) folds: &'a mut [u32],
 }
 
-/// How many places are left free between two working arrays, of which a loop reads one and writes the other. In blocks of
-/// 4096 samples they would otherwise stand a multiple of 4096 bytes apart, and a processor takes a load for one of what
-/// it has just stored if the addresses agree in their lowest twelve bits.
+/// How many places are left free between two working arrays, of which a loop reads one and writes the other. In blocks
+/// of 4096 samples they would otherwise stand a multiple of 4096 bytes apart, and a processor takes a load for one of
+/// what it has just stored if the addresses agree in their lowest twelve bits.
 pub(crate) const APART: usize = 256;
 
 /// An array with one value in all places. For the prover its result is any array of that length; the places of a

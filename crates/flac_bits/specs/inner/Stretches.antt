@@ -16,8 +16,8 @@ pub record IsRead (k : ℕ) (text : List Bool) (old : List ℤ) (from : ℕ) (ne
 abbrev pub top_bits : ℕ → ℕ → List Bool
 top_bits word count = unsigned count (word / 2 ^ (64 - count))
 
--- What is below the first bits of a word is the first bits of eight bytes that come next, with zeros in place of the last
--- of them.
+-- What is below the first bits of a word is the first bits of eight bytes that come next, with zeros in place of the
+-- last of them.
 abbrev pub Agrees : ℕ → ℕ → ℕ → Type 0
 Agrees word count eight = (zeros : ℕ) × (word % 2 ^ (64 - count) ≡ eight / 2 ^ count / 2 ^ zeros * 2 ^ zeros)
 

@@ -1,8 +1,8 @@
 -- For proofs of the search: the number of an entry of its tables.
 use Rattle.std.specs.Prelude.{ℕ, ◌+◌, ◌-◌, ◌*◌, ◌/◌, ◌%◌, ◌^◌}
 
--- A Rice parameter and the bits that a partition takes under it, in one number: the smaller of two has fewer bits, or as
--- many and the smaller parameter.
+-- A Rice parameter and the bits that a partition takes under it, in one number: the smaller of two has fewer bits, or
+-- as many and the smaller parameter.
 abbrev pub entry_number : ℕ → ℕ → ℕ
 entry_number parameter bits = 32 * bits + parameter
 

@@ -33,5 +33,8 @@ returns-clause-decides g c = λ known receives errors raised same.
 pub returns-clause-sink : goal.returns-clause-sink
 returns-clause-sink g c = c.hand_out-outcome.ensures.sink
 
+pub returns-clause-write : goal.returns-clause-write
+returns-clause-write g c = c.hand_out-outcome.ensures.write
+
 pub returns-clause-names : goal.returns-clause-names
 returns-clause-names g c = c.hand_out-outcome.ensures.names

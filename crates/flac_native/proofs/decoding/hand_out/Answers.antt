@@ -1,6 +1,7 @@
-use Rattle.std.proofs.Common.{◌≡◌, ◌∙◌, sym, ap, subst, Some, None}
+use Rattle.std.proofs.Common.{◌≡◌, ◌∙◌, refl, sym, ap, subst, Some, None}
 use Rattle.std.proofs.lemmas.Result.{err_from_is_err_and}
 use Rattle.flac_bits.proofs.Handing.{TakesAll-append}
+use Rattle.flac_bits.proofs.Counting.{none_of_output}
 use Rattle.flac_bits.specs.State.{without_fence}
 use Rattle.flac_native.specs.Track.{piece_of}
 use Rattle.flac_native.specs.Stream.{Progress, Stand, place_in}
@@ -15,6 +16,9 @@ use Rattle.flac_native.proofs.decoding.hand_out.Goals as goal
 
 sink_no_read : (w : Why) → w ≡ why.Sink → w ≡ why.Read → ⊥
 sink_no_read w e f = absurd cc
+
+sink_no_write : (w : Why) → w ≡ why.Sink → w ≡ why.Write → ⊥
+sink_no_write w e f = absurd cc
 
 pub returns-in-Ok-None : goal.returns-in-Ok-None
 returns-in-Ok-None g c =
@@ -32,6 +36,7 @@ returns-in-Ok-None g c =
       read = tt;
       risen = tt;
       sink = tt;
+      write = tt;
       behind = λ known same. step.behind (inv.knows known) step.counts.1 ∙ inv.behind known;
       names = inv.names;
       container_names = step.names ∙ inv.container_names;
@@ -52,7 +57,8 @@ returns-in-Err g c =
       kept = most_at _ _ _ inv.errors e.kept;
       read = λ known is clear. less_at _ _ _ inv.raised (e.read (inv.knows known) is (inv.clear known clear));
       risen = λ is. rises_at _ _ _ inv.met (e.risen is);
-      sink = λ is. absurd (e.sinkless is);
+      sink = λ is. absurd (none_of_output e.output refl is);
+      write = λ is. none_of_output e.output refl is;
       behind = λ known same. e.behind (inv.knows known) (same ∙ sym inv.errors) ∙ inv.behind known;
       names = inv.names;
       container_names = e.names ∙ inv.container_names;
@@ -75,6 +81,7 @@ returns-in_err-hand_at g c =
       read = λ known is clear. absurd (sink_no_read _ e.failed.1 is);
       risen = λ is. absurd (sink_no_read _ e.failed.1 is);
       sink = λ is. rises_at _ _ _ inv.received e.risen;
+      write = λ is. absurd (sink_no_write _ e.failed.1 is);
       behind = λ known same. step.behind (inv.knows known) step.counts.1 ∙ inv.behind known;
       names = c.hand_at.ensures.names ∙ inv.names;
       container_names = step.names ∙ inv.container_names;

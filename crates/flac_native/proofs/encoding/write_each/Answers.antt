@@ -6,7 +6,7 @@ use Rattle.flac_meta.specs.declared.block.Block.{Block}
 use Rattle.flac_native.specs.Writing.{blocks_spelling}
 use Rattle.flac_native.proofs.BlocksWritten.{blocks_step, before_table, behind_all}
 use Rattle.flac_native.proofs.Renewing.{was_written}
-use Rattle.flac_native.proofs.Unread.{never_read}
+use Rattle.flac_native.proofs.Unread.{never_read, never_sink}
 use Rattle.flac_native.proofs.encoding.write_each.Goals as goal
 
 -- one block more, of so many
@@ -49,3 +49,8 @@ pub returns-in_err-write_block-clause-unread : goal.returns-in_err-write_block-c
 returns-in_err-write_block-clause-unread g c =
     let p = err_from_is_err_and c.from_residual.result c.from_residual.ensures.1 in
     rw (p.1, p.2) (never_read _ c.index-blocks-i.result _ _ _ c.in_err-write_block.ensures.refused c.in_err-write_block.ensures.writes (λ f. f.reason))
+
+pub returns-in_err-write_block-clause-sink : goal.returns-in_err-write_block-clause-sink
+returns-in_err-write_block-clause-sink g c =
+    let p = err_from_is_err_and c.from_residual.result c.from_residual.ensures.1 in
+    rw (p.1, p.2) (never_sink _ c.index-blocks-i.result _ _ _ c.in_err-write_block.ensures.refused c.in_err-write_block.ensures.writes (λ f. f.reason))

@@ -1,6 +1,5 @@
-use Rattle.std.proofs.Common.{rules}
-use Rattle.flac_bits.specs.State.{started}
-use Rattle.flac_bits.proofs.Meaning.{reads}
+use Rattle.std.proofs.Common.{rules, Some}
+use Rattle.flac_bits.proofs.Within.{reads_within}
 use Rattle.flac_frame.specs.Frame.{frame}
 use Rattle.flac_native.proofs.format.fill_here.Goals as goal
 
@@ -9,5 +8,5 @@ returns-clause-reading g c = record {
   spends = search rules;
   counts = search rules;
   memory = search rules;
-  reads = reads (λ _. c.fill.new.self.held) (frame c.args.profile c.args.info.now c.args.buffers.now.before) (started c.args.bits.now) c.fill.new.bits c.fill.result c.fill.ensures.reading.reads;
+  reads = reads_within (Some 16777215) (λ _. c.fill.new.self.held) (frame c.args.profile c.args.info.now c.args.buffers.now.before) c.args.bits.now c.fill.new.bits c.fill.result c.fill.ensures.reading.reads;
 }

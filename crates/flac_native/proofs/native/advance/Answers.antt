@@ -27,7 +27,7 @@ returns-in-Err-end g c =
     let ended = c.in-Err-end.ensures in
     record {
       spends = tt;
-      counts = (no_fewer _ _ went.1, λ known same. went.3 known, λ known read. absurd (ended.quiet read), went.4, λ read. absurd (ended.quiet read), ended.sinkless);
+      counts = (no_fewer _ _ went.1, λ known same. went.3 known, λ known read. absurd (ended.quiet read), went.4, λ read. absurd (ended.quiet read), ended.output);
       memory = λ phase. ended.memory;
       broken = λ p at out. elim out [ inl e ↦ absurd (ended.quiet e) | inr e ↦ absurd (ended.memory e) ];
       steps = λ p at known same quiet room.

@@ -12,7 +12,7 @@ use Rattle.flac_native.specs.declared.container.Part.TheVariants as part
 use Rattle.flac_native.specs.declared.format.Format.{Format}
 use Rattle.flac_native.specs.declared.track.Phase.TheVariants as phase
 use Rattle.flac_native.specs.declared.track.Track.{Track}
-use Rattle.flac_native.proofs.Bounds.{refused_within}
+use Rattle.flac_bits.proofs.Bounds.{refused_within}
 use Rattle.flac_native.proofs.Giving.{same_why}
 use Rattle.flac_native.proofs.native.read_part.Goals as goal
 

@@ -7,7 +7,7 @@ use Rattle.flac_native.specs.Stream.{Progress, grammar, next, opening}
 use Rattle.flac_native.specs.Track.{is_behind_blocks, position_of}
 use Rattle.flac_native.specs.inner.Retag.{keeps}
 use Rattle.flac_native.specs.declared.position.Position.{Position}
-use Rattle.flac_native.proofs.Bounds.{so_far_lifted, open_on, lifted_open, step_short}
+use Rattle.flac_bits.proofs.Bounds.{so_far_lifted, open_on, lifted_open, step_short}
 use Rattle.flac_native.proofs.Metadata.{no_errors}
 use Rattle.flac_bits.specs.declared.why.Why.TheVariants as why
 use Rattle.flac_native.proofs.Blocks.{kept_are, kept_whole}
@@ -49,9 +49,6 @@ over q p at e = ap (λ (k : Position). is_behind_blocks k.phase) at ∙ e
 truncated_read : why.Truncated ≡ why.Read → ⊥
 truncated_read e = absurd cc
 
-truncated_sink : why.Truncated ≡ why.Sink → ⊥
-truncated_sink e = absurd cc
-
 pub returns : goal.returns
 returns g c =
     let inv = c.loop-alloc.invariant in
@@ -82,7 +79,7 @@ returns-then-unread-ne0 g c =
         λ known is. absurd (truncated_read is),
         went.4,
         λ is. absurd (truncated_read is),
-        λ is. absurd (truncated_sink is),
+        refl,
       );
       whole = tt;
       kept = tt;

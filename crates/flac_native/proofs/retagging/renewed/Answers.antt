@@ -1,9 +1,12 @@
 use Rattle.std.proofs.Common.{ap, ◌∙◌, nat_lt}
+use Rattle.std.proofs.lemmas.Result.{IfErr-weaker}
 use Rattle.flac_bits.specs.Bits.{bits_of}
+use Rattle.flac_bits.specs.Reasons.{of_output}
 use Rattle.flac_bits.specs.Written.{Written}
 use Rattle.flac_native.specs.inner.Retag.{new_head}
 use Rattle.flac_native.proofs.Heads.{Blank, head_collected}
 use Rattle.flac_native.proofs.Renewing.{new_head_whole}
+use Rattle.flac_native.proofs.Unread.{in_memory_output}
 use Rattle.flac_native.proofs.retagging.renewed.Goals as goal
 
 pub returns-in-Ok-clause-head : goal.returns-in-Ok-clause-head
@@ -19,3 +22,9 @@ returns-in-Ok-clause-head c =
 
 pub returns-in-Err-clause-memory : goal.returns-in-Err-clause-memory
 returns-in-Err-clause-memory c = λ may. c.in_memory.ensures.target (c.in-Err.ensures.failed may).reason
+
+pub returns-in-Err-clause-output : goal.returns-in-Err-clause-output
+returns-in-Err-clause-output c = in_memory_output c.in-Err.why c.in_memory.result c.in_memory.ensures.target c.in_memory.ensures.others c.in-Err.ensures.sink
+
+pub returns-in-Ok-clause-output : goal.returns-in-Ok-clause-output
+returns-in-Ok-clause-output c = IfErr-weaker c.into_bytes.result _ _ (λ e is. ap of_output is) c.into_bytes.ensures.memory

@@ -38,6 +38,9 @@ pub returns-clause-placeless : goal.returns-clause-placeless
 returns-clause-placeless g c =
     IfErr-weaker c.retag_from-outcome.result _ _ (λ f is none. inr (is none)) c.retag_from-outcome.ensures.placeless
 
+pub returns-clause-output : goal.returns-clause-output
+returns-clause-output g c = c.retag_from-outcome.ensures.output
+
 pub returns-clause-write : goal.returns-clause-write
 returns-clause-write g c = c.retag_from-outcome.ensures.write
 
@@ -99,6 +102,7 @@ returns-then-length-gt-MOST_BYTES g c = record {
   nothing = λ one other. refl;
   begun = λ either. absurd (long_device either);
   placeless = λ none. inl refl;
+  output = tt;
   read = λ is. absurd (length_no_read is);
   write = λ is. absurd (long_written is);
   read_risen = λ is. absurd (length_no_read is);

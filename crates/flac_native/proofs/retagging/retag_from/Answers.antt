@@ -10,7 +10,7 @@ use Rattle.flac_native.specs.declared.fault.Place.TheVariants as place
 use Rattle.flac_native.specs.declared.retagging.RetagFault.{RetagFault}
 use Rattle.flac_native.specs.inner.Retag.{AreKept, MayBeHead, new_head}
 use Rattle.flac_native.proofs.NewHead.{kept_may_be_head}
-use Rattle.flac_native.proofs.RetagFaults.{placed, placed_some, before_device, unread_device, write_no_read, has_head, no_fewer, no_rise, both_err, copy_calm, copy_behind, copy_placeless}
+use Rattle.flac_native.proofs.RetagFaults.{placed, placed_some, before_device, unread_device, write_no_read, has_head, no_fewer, no_rise, both_err, copy_calm, copy_behind, copy_placeless, copy_output}
 use Rattle.flac_native.proofs.Retagged.{all_retagged, some_retagged, head_begun}
 use Rattle.flac_native.proofs.retagging.retag_from.Goals as goal
 
@@ -40,6 +40,7 @@ returns-in-Err g c =
       nothing = λ one other. refl;
       begun = λ either known told. absurd (before_device at why (e.at known) either);
       placeless = λ none. absurd (placed_some at none);
+      output = e.counts.5;
       read = λ read known. e.counts.2 known read;
       write = λ is told. absurd (placed at why is);
       read_risen = e.counts.4;
@@ -63,6 +64,7 @@ returns-in-Err-renewed g c =
       nothing = λ one other. refl;
       begun = λ either known told. absurd (unread_device (place.Frame 0) w unread either);
       placeless = λ none. absurd (placed_some (place.Frame 0) none);
+      output = c.in-Err-renewed.ensures.output;
       read = λ read known. absurd (unread read);
       write = λ is told. absurd (placed (place.Frame 0) w is);
       read_risen = λ read. absurd (unread read);
@@ -88,6 +90,7 @@ returns g c =
           let begun = sends.begun told in
           head_begun (lifted c.args.reader.now).cursor c.in-Ok.kept.items c.read_kept.new.reader.cursor.left c.args.comments.now c.in-Ok-renewed.head.items (kept known) is _ _ begun.0 begun.1 (sym c.as_slice-2.ensures.value ∙ begun.2) begun.3;
       placeless = λ none. refl;
+      output = tt;
       read = λ read known. absurd (write_no_read read);
       write = λ is told. sends.rises told;
       read_risen = λ read. absurd (write_no_read read);
@@ -119,6 +122,7 @@ returns-in-Ok-send_all g c =
           let some = begun (counts.0 known) (sends.known told) in
           some_retagged cursor c.in-Ok.kept.items c.read_kept.new.reader.cursor.left c.args.comments.now c.in-Ok-renewed.head.items (kept known) is _ (g.W.Target.sent c.send_all.new.target) _ some.0 some.1 sent some.2 some.3) copy.begun;
       placeless = IfErr-weaker r _ _ (λ f. copy_placeless f) copy.fault;
+      output = IfErr-weaker r _ _ (λ f. copy_output f) copy.fault;
       read = IfErr-weaker r _ _ (λ f read is known. rw (← counts.2) (read is (counts.0 known))) copy.read;
       write = IfErr-weaker r _ _ (λ f write is told. rw (← sends.counted) (write (ap (λ (x : RetagFault). x.why) is) (sends.known told))) copy.write;
       read_risen = IfErr-weaker r _ _ (λ f risen is. rw (← counts.2) (risen is)) copy.read_risen;

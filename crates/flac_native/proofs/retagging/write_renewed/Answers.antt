@@ -3,7 +3,7 @@ use Rattle.std.proofs.lemmas.Result.{err_from_is_err_and}
 use Rattle.flac_meta.specs.declared.block.Block.TheVariants as block_of
 use Rattle.flac_native.proofs.BlocksWritten.{nil_is}
 use Rattle.flac_native.proofs.Renewing.{was_written, head_added, all_added, first_may, marker_failed, first_failed, note_failed, others_failed}
-use Rattle.flac_native.proofs.Unread.{never_read}
+use Rattle.flac_native.proofs.Unread.{never_read, never_sink}
 use Rattle.flac_native.proofs.retagging.write_renewed.Goals as goal
 
 pub returns-clause-added : goal.returns-clause-added
@@ -56,3 +56,13 @@ pub returns-in_err-write_comments-clause-unread : goal.returns-in_err-write_comm
 returns-in_err-write_comments-clause-unread g c =
     let p = err_from_is_err_and c.from_residual-in_err-write_comments.result c.from_residual-in_err-write_comments.ensures.1 in
     rw (p.1, p.2) (never_read _ (block_of.VorbisComment c.args.comments.now) _ _ _ c.in_err-write_comments.ensures.refused c.in_err-write_comments.ensures.writes (λ f. f.reason))
+
+pub returns-in_err-write_block-clause-sink : goal.returns-in_err-write_block-clause-sink
+returns-in_err-write_block-clause-sink g c =
+    let p = err_from_is_err_and c.from_residual-in_err-write_block.result c.from_residual-in_err-write_block.ensures.1 in
+    rw (p.1, p.2) (never_sink _ c.in-Some.info.now _ _ _ c.in_err-write_block.ensures.refused c.in_err-write_block.ensures.writes (λ f. f.reason))
+
+pub returns-in_err-write_comments-clause-sink : goal.returns-in_err-write_comments-clause-sink
+returns-in_err-write_comments-clause-sink g c =
+    let p = err_from_is_err_and c.from_residual-in_err-write_comments.result c.from_residual-in_err-write_comments.ensures.1 in
+    rw (p.1, p.2) (never_sink _ (block_of.VorbisComment c.args.comments.now) _ _ _ c.in_err-write_comments.ensures.refused c.in_err-write_comments.ensures.writes (λ f. f.reason))

@@ -1,4 +1,5 @@
-use Rattle.std.proofs.Common.{sym, ◌∙◌}
+use Rattle.std.proofs.Common.{ap, sym, ◌∙◌}
+use Rattle.flac_bits.specs.Reasons.{of_output}
 use Rattle.flac_ogg.proofs.Stepped.{due_here, over_here, refused_here}
 use Rattle.flac_ogg.proofs.packets.end_here.Goals as goal
 
@@ -10,3 +11,6 @@ returns-in-Ok-clause-ends c = λ p at way. over_here c.args.track.now p at way (
 
 pub returns-in-Err-clause-ends : goal.returns-in-Err-clause-ends
 returns-in-Err-clause-ends c = λ p at way. refused_here c.args.track.now p c.in-Err.why at way (sym c.is_past_metadata.ensures ∙ c.if-not-is_past_metadata.false) (c.in-Err.ensures.judged p at)
+
+pub returns-then-not-is_past_metadata-clause-output : goal.returns-then-not-is_past_metadata-clause-output
+returns-then-not-is_past_metadata-clause-output c = ap of_output c.block_due.ensures.why

@@ -1,7 +1,7 @@
 use Rattle.std.proofs.Common.{rules, Some}
 use Rattle.flac_native.specs.Stream.{frame_behind}
 use Rattle.flac_native.specs.Track.{stand_of, shown}
-use Rattle.flac_native.proofs.Meant.{reads_within}
+use Rattle.flac_bits.proofs.Within.{reads_within}
 use Rattle.flac_ogg.proofs.packets.frame_here.Goals as goal
 
 pub returns-clause-reading : goal.returns-clause-reading

@@ -1,6 +1,7 @@
 use Rattle.std.proofs.Common.{rules, ◌++◌, ℕ, Option, Result, Ok, ap, sym}
 use Rattle.std.proofs.lemmas.Result.{IfErr-weaker}
 use Rattle.flac_bits.specs.Bits.{bits_of}
+use Rattle.flac_bits.specs.Reasons.{of_output}
 use Rattle.flac_bits.specs.State.{Behind, short_of}
 use Rattle.flac_native.specs.Decoding.{beginning}
 use Rattle.flac_native.specs.declared.fault.Fault.{Fault}
@@ -36,7 +37,7 @@ returns-in-Err-clause-refused g c = λ other.
     let old = c.args.source in
     let mid = c.pull_front.new.source in
     let told = c.in-Err.ensures in
-    (mid, refuses_unread _ (R.known old) (R.errors old) (R.raised old) (R.errors mid) (R.raised mid) c.in-Err.fault told.kept told.risen told.rises)
+    (mid, refuses_unread _ (R.known old) (R.errors old) (R.raised old) (R.errors mid) (R.raised mid) c.in-Err.fault told.kept told.risen (ap of_output told.why) told.rises)
 
 pub returns-in-Ok-clause-opens : goal.returns-in-Ok-clause-opens
 returns-in-Ok-clause-opens g c = search rules

@@ -5,7 +5,7 @@ use Rattle.flac_frame.specs.Frame.{Frame}
 use Rattle.flac_frame.specs.Lent.{frame_of}
 use Rattle.flac_native.specs.Stream.{framed, next, frame_behind}
 use Rattle.flac_native.specs.Track.{IsAt, stand_of, shown}
-use Rattle.flac_native.proofs.Meant.{means_within, reads_within}
+use Rattle.flac_bits.proofs.Within.{means_within, reads_within}
 use Rattle.flac_native.proofs.track.Track.frame.Goals as goal
 
 pub returns-in_err-next_frame : goal.returns-in_err-next_frame

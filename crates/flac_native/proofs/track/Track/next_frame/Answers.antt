@@ -1,7 +1,7 @@
 use Rattle.std.proofs.Common.{rules, Some}
 use Rattle.flac_native.specs.Stream.{frame_behind}
 use Rattle.flac_native.specs.Track.{stand_of, shown}
-use Rattle.flac_native.proofs.Meant.{means_within}
+use Rattle.flac_bits.proofs.Within.{means_within}
 use Rattle.flac_native.proofs.track.Track.next_frame.Goals as goal
 
 pub returns-clause-reading : goal.returns-clause-reading

@@ -3,7 +3,7 @@ use Rattle.flac_bits.specs.Handing.{IsOutside}
 use Rattle.flac_native.specs.Track.{piece_of}
 use Rattle.flac_native.specs.declared.fault.Fault.{Fault}
 use Rattle.flac_ogg.specs.Decoding.{IsBrokenAt, BreaksInNext}
-use Rattle.flac_ogg.proofs.Arriving.{counts_both, read_risen, none_of_sink, clear_behind, read_rises, gives_there}
+use Rattle.flac_ogg.proofs.Arriving.{counts_both, read_risen, none_of_output, clear_behind, read_rises, gives_there}
 use Rattle.flac_ogg.proofs.packets.OggPacketsContainer.next.Goals as goal
 
 pub returns-clause-counts : goal.returns-clause-counts
@@ -24,8 +24,8 @@ returns-clause-gives g c = λ p at known same quiet room items end come.
 pub returns-clause-risen : goal.returns-clause-risen
 returns-clause-risen g c = read_risen c.args.self.now.pages.raised c.advance.new.pages.raised c.advance.result c.advance.ensures.meets
 
-pub returns-clause-sinkless : goal.returns-clause-sinkless
-returns-clause-sinkless g c = none_of_sink c.args.self.now.pages.raised c.advance.new.pages.raised c.advance.result c.advance.ensures.meets
+pub returns-clause-output : goal.returns-clause-output
+returns-clause-output g c = none_of_output c.args.self.now.pages.raised c.advance.new.pages.raised c.advance.result c.advance.ensures.meets
 
 pub returns-clause-broken : goal.returns-clause-broken
 returns-clause-broken g c = λ p at.

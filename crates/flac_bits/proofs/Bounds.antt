@@ -6,6 +6,8 @@ use Rattle.flac_bits.specs.Layout.{Layout, Reason, run, done, ◌>>=◌, and_the
 use Rattle.flac_bits.specs.Reading.{Reads, Counts}
 use Rattle.flac_bits.specs.Fence.{fenced, unfenced, read_in}
 use Rattle.flac_bits.specs.Fencing.{lifted, fence_at, all_left}
+use Rattle.flac_bits.specs.Within.{ReadsWithin}
+use Rattle.flac_bits.specs.inner.Within.{IsOpen}
 use Rattle.flac_bits.specs.Items.{Grammar, item}
 use Rattle.flac_bits.specs.inner.Items.{step_at}
 use Rattle.flac_bits.specs.declared.why.Why.{Why}
@@ -14,8 +16,6 @@ use Rattle.flac_bits.proofs.Meaning.{past-short}
 use Rattle.flac_bits.proofs.Fences.{answers_in}
 use Rattle.flac_bits.proofs.Items.{step_spelled}
 use Rattle.flac_bits.proofs.Handing.{SoFar, Far}
-use Rattle.flac_native.specs.Within.{ReadsWithin}
-use Rattle.flac_native.specs.inner.Within.{IsOpen}
 
 -- ---- no fence stands
 
@@ -61,17 +61,17 @@ unfenced_end n s t behind =
 
 -- ---- a call behind a fence, which is lifted then
 
-pub counts_within : {X : Type 0} (n : ℕ) (s t : State) (result : Result X Why) → Counts (fence_at n s) t result → Counts (lifted s) (lifted t) result
-counts_within n s t (Ok x) c = (c.0, c.1, c.2, λ known. ap without_fence (c.3 known), c.4)
-counts_within n s t (Err e) c = (c.0, λ known same. ap without_fence (c.1 known same), c.2, c.3, c.4, c.5)
+pub counts_fenced : {X : Type 0} (n : ℕ) (s t : State) (result : Result X Why) → Counts (fence_at n s) t result → Counts (lifted s) (lifted t) result
+counts_fenced n s t (Ok x) c = (c.0, c.1, c.2, λ known. ap without_fence (c.3 known), c.4)
+counts_fenced n s t (Err e) c = (c.0, λ known same. ap without_fence (c.1 known same), c.2, c.3, c.4, c.5)
 
 behind_is : {X : Type 0} (s t : State) (result : Result X Why) → Counts s t result → s.known ≡ true → t.errors ≡ s.errors → t.behind ≡ s.behind
 behind_is s t (Ok x) c known same = c.3 known
 behind_is s t (Err e) c known same = c.1 known same
 
-pub reads_within : {X Y : Type 0} (view : X → Y) (n : ℕ) (l : Layout Y) (s t : State) (result : Result X Why) → Reads view l (started (fence_at n s)) t result → Counts (fence_at n s) t result
+pub reads_fenced : {X Y : Type 0} (view : X → Y) (n : ℕ) (l : Layout Y) (s t : State) (result : Result X Why) → Reads view l (started (fence_at n s)) t result → Counts (fence_at n s) t result
     → ReadsWithin (Some n) view l s (lifted t) result
-reads_within view n l s t result reads counts known same =
+reads_fenced view n l s t result reads counts known same =
     answers_in view n l (started (lifted s)).cursor t.cursor (lifted t).cursor result (rw (fenced_start n s) at (reads known same)) (unfenced_end n s t (behind_is (fence_at n s) t result counts known same))
 
 -- ---- from one call to the next

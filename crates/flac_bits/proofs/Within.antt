@@ -5,11 +5,11 @@ use Rattle.flac_bits.specs.Layout.{Layout, because}
 use Rattle.flac_bits.specs.Reading.{Answers}
 use Rattle.flac_bits.specs.Fence.{read_in}
 use Rattle.flac_bits.specs.Fencing.{lifted}
+use Rattle.flac_bits.specs.Within.{ReadsWithin, DecodesWithin, MeansWithin}
 use Rattle.flac_bits.specs.declared.why.Why.{Why}
 use Rattle.flac_bits.proofs.Laws.{at_}
 use Rattle.flac_bits.proofs.Meaning.{read, is_ok_of, why_is, differ}
 use Rattle.flac_bits.proofs.Fences.{again_in, stops_in, takes_in, refuses_in}
-use Rattle.flac_native.specs.Within.{ReadsWithin, DecodesWithin, MeansWithin}
 
 decodes_within : {X Y : Type 0} (room : Option ℕ) (view : X → Y) (l : Layout Y) (old new : Cursor) (result : Result X Why) → Answers view (read_in room l old) new result → DecodesWithin room view l old new result
 decodes_within room view l old new (Ok x) answers = record {

@@ -4,7 +4,7 @@ use Rattle.flac_bits.specs.State.{State, short_of}
 use Rattle.flac_bits.specs.Layout.{Layout}
 use Rattle.flac_bits.specs.declared.why.Why.{Why}
 use Rattle.flac_bits.specs.declared.why.Why.TheVariants.{Memory}
-use Rattle.flac_native.specs.Within.{ReadsWithin}
+use Rattle.flac_bits.specs.Within.{ReadsWithin}
 
 -- the same unless memory ran out
 abbrev pub ReadsWithinInRoom : {X Y : Type 0} → Option ℕ → (X → Y) → Layout Y → State → State → Result X Why → Type 0
