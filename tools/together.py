@@ -32,6 +32,9 @@ VERDICTS = re.compile(r"^logic=\S.*\n?\Z", re.MULTILINE)
 TAKEN = re.compile(r"^(?:\./)?proofs/(\S+)/Proof\.antt: error\[reserved-name\]", re.MULTILINE)
 # a proof file that names what an edit took away: little is known of the contract, so the edit is tried alone
 NAMES = re.compile(r"has no field|is not in scope|has no `|was not admitted")
+# what a derive writes that is proved as a function is (of a type that is Copy, Clone writes none)
+DERIVES = re.compile(r"#\[derive\(([^)]*)\)\]\s*(?:(?:#\[[^\]]*\]|//[^\n]*)\s*)*(?:pub(?:\([a-z]+\))? )?(?:struct|enum) (\w+)")
+DERIVED = {"Clone": "clone", "Debug": "fmt", "PartialEq": "eq"}
 # what is taken of the kit's script: with another kit each edit is tried alone
 USES = ("KIT", "LIMITS", "REFUSED", "checked", "linked", "read_edit", "unread")
 
@@ -90,6 +93,15 @@ class Sources:
     def of_file(self, path):
         return [it for it in self.functions if it.file == path]
 
+    def names(self, block):
+        """The names of an impl's type and of its trait, as the prover has them: that of a reference begins with Ref or RefMut."""
+        words, references = [it for it in block.ty or [] if not it.startswith("'")], ""
+        while words[:1] == ["&"]:
+            is_mut = words[1:2] == ["mut"]
+            words, references = words[1 + is_mut :], references + ("RefMut" if is_mut else "Ref")
+        own, of = (self.made.named(it)[0] for it in (words, block.trait or ["Self"]))
+        return own and references + own, of
+
     def may_be(self, function, name, symbol):
         """Whether the prover's symbol may be this function's."""
         parts = symbol.split("::")
@@ -98,7 +110,7 @@ class Sources:
         if not function.block:
             return parts == [name, *function.module, function.name]
         # (a trait's impl goes by both names)
-        own, of = (self.made.named(it)[0] for it in (function.block.ty, function.block.trait or ["Self"]))
+        own, of = self.names(function.block)
         # (an impl for some of the type's arguments alone adds these, as Decoder+BitReader+R)
         return bool(own and of) and (parts[-2] == own + of * function.in_trait or parts[-2].startswith(f"{own}+") and not function.in_trait)
 
@@ -107,11 +119,21 @@ class Sources:
         and goes on. None for a trait's own method."""
         names = [*function.module]
         if function.block:
-            own, of = (self.made.named(it)[0] for it in (function.block.ty or [], function.block.trait or ["Self"]))
+            own, of = self.names(function.block)
             if function.block.is_trait or not own:
                 return None
             names.append(own + of * function.in_trait)
         return "/".join([*names, function.name])
+
+    def derived(self):
+        """Where below proofs/ the prover looks for the proofs of what the derives of this crate write."""
+        for path, data in self.data.items():
+            folders = path.removeprefix("src/").removesuffix(".rt").split("/")
+            module = [] if folders in (["lib"], ["main"]) else folders
+            for derives, name in DERIVES.findall(data.decode()):
+                traits = {it.strip() for it in derives.split(",")}
+                for trait in traits & DERIVED.keys() - ({"Clone"} if "Copy" in traits else set()):
+                    yield "/".join([*module, name + trait, DERIVED[trait]])
 
     def changed(self, path, text):
         """The functions whose bodies this text of the file changes, or None if it changes more than bodies, or a body that has items of
@@ -306,7 +328,8 @@ def without_proofs(rt, crate, sources, edits, taken=(), bare=True):
                 for name in PROOFS.intersection(names):
                     os.remove(f"{folder}/{name}")
                 with_no_proof(folder)
-        for place in {sources.place(it) for it in sources.functions if it not in changed} - {None, *taken}:
+        rest = {sources.place(it) for it in sources.functions if it not in changed}
+        for place in {*rest, *sources.derived()} - {None, *taken}:
             symbol = "::".join([crate.name, *place.split("/")])
             if not os.path.isdir(f"{room}/proofs/{place}") and not is_changed(symbol):
                 with_no_proof(f"{room}/proofs/{place}")
