@@ -259,67 +259,98 @@ fn container_of(given: &ArgMatches<'_>) -> Option<ContainerKind> {
     Some(ContainerKind::Ogg { serial })
 }
 
+/// A command of the program, and what its help says before and after the arguments.
+#[derive(Clone, Copy)]
+struct Usage {
+    name: &'static str,
+    about: &'static str,
+    example: &'static str,
+}
+
+/// The commands, in the order in which help lists them.
+const COMMANDS: [Usage; 5] = [
+    Usage {
+        name: "test",
+        about: "Decodes a stream, and prints how many frames and samples it has",
+        example: TEST_EXAMPLE,
+    },
+    Usage {
+        name: "decode",
+        about: "Decodes a stream to raw samples: interleaved, signed little-endian, whole bytes a sample",
+        example: DECODE_EXAMPLE,
+    },
+    Usage {
+        name: "list",
+        about: "Decodes a stream, and lists its metadata blocks",
+        example: LIST_EXAMPLE,
+    },
+    Usage {
+        name: "encode",
+        about: "Encodes raw samples: interleaved, signed little-endian, whole bytes a sample",
+        example: ENCODE_EXAMPLE,
+    },
+    Usage {
+        name: "retag",
+        about: "Writes a stream with other comments",
+        example: RETAG_EXAMPLE,
+    },
+];
+
 /// The command line of the program.
 fn command<'a>(alloc: Global) -> Result<Command<'a>, AllocError> {
-    let command = Command::new(alloc, "flac")
+    let mut command = Command::new(alloc, "flac")
         .about("Tests, decodes, lists, encodes and retags FLAC streams (RFC 9639)")
         .after_help(EXAMPLES)
         .subcommand_required(true);
-    let command = with(command, test_command(alloc))?;
-    let command = with(command, decode_command(alloc))?;
-    let command = with(command, list_command(alloc))?;
-    let command = with(command, encode_command(alloc))?;
-    with(command, retag_command(alloc))
+    for usage in COMMANDS {
+        command = command.subcommand(command_of(alloc, usage)?)?;
+    }
+    Ok(command)
 }
 
-/// The command with one more subcommand.
-fn with<'a>(
-    command: Command<'a>,
-    subcommand: Result<Command<'a>, AllocError>,
-) -> Result<Command<'a>, AllocError> {
-    command.subcommand(subcommand?)
-}
-
-/// The command `test`.
-fn test_command<'a>(alloc: Global) -> Result<Command<'a>, AllocError> {
-    let words = vec![in alloc; file(alloc, "IN", "The stream"), lax(alloc)]?;
-    Command::new(alloc, "test")
-        .about("Decodes a stream, and prints how many frames and samples it has")
-        .after_help(TEST_EXAMPLE)
+/// One of the commands.
+fn command_of<'a>(alloc: Global, usage: Usage) -> Result<Command<'a>, AllocError> {
+    let words = words_of(alloc, usage.name)?;
+    Command::new(alloc, usage.name)
+        .about(usage.about)
+        .after_help(usage.example)
         .args(words)
 }
 
-/// The command `decode`.
-fn decode_command<'a>(alloc: Global) -> Result<Command<'a>, AllocError> {
-    let words = vec![in alloc;
+/// The arguments of the command of this name.
+fn words_of<'a>(alloc: Global, name: &str) -> Result<Vec<Arg<'a>>, AllocError> {
+    if name == "encode" {
+        words_of_encode(alloc)
+    } else if name == "decode" {
+        words_of_decode(alloc)
+    } else if name == "retag" {
+        words_of_retag(alloc)
+    } else {
+        words_of_test(alloc)
+    }
+}
+
+/// The arguments of `test` and of `list`.
+fn words_of_test<'a>(alloc: Global) -> Result<Vec<Arg<'a>>, AllocError> {
+    Ok(vec![in alloc; file(alloc, "IN", "The stream"), lax(alloc)]?)
+}
+
+/// The arguments of `decode`.
+fn words_of_decode<'a>(alloc: Global) -> Result<Vec<Arg<'a>>, AllocError> {
+    Ok(vec![in alloc;
         file(alloc, "IN", "The stream"),
         file(alloc, "OUT", "The file that the samples are written to"),
         lax(alloc),
-    ]?;
-    Command::new(alloc, "decode")
-        .about(
-            "Decodes a stream to raw samples: interleaved, signed little-endian, whole bytes a sample",
-        )
-        .after_help(DECODE_EXAMPLE)
-        .args(words)
+    ]?)
 }
 
-/// The command `list`.
-fn list_command<'a>(alloc: Global) -> Result<Command<'a>, AllocError> {
-    let words = vec![in alloc; file(alloc, "IN", "The stream"), lax(alloc)]?;
-    Command::new(alloc, "list")
-        .about("Decodes a stream, and lists its metadata blocks")
-        .after_help(LIST_EXAMPLE)
-        .args(words)
-}
-
-/// The command `encode`.
-fn encode_command<'a>(alloc: Global) -> Result<Command<'a>, AllocError> {
-    let words = words_of_encode(alloc)?;
-    Command::new(alloc, "encode")
-        .about("Encodes raw samples: interleaved, signed little-endian, whole bytes a sample")
-        .after_help(ENCODE_EXAMPLE)
-        .args(words)
+/// The arguments of `retag`.
+fn words_of_retag<'a>(alloc: Global) -> Result<Vec<Arg<'a>>, AllocError> {
+    Ok(vec![in alloc;
+        file(alloc, "IN", "The stream"),
+        file(alloc, "OUT", "The file that the stream is written to"),
+        comments(alloc),
+    ]?)
 }
 
 /// The arguments of `encode`.
@@ -347,48 +378,33 @@ fn words_of_encode<'a>(alloc: Global) -> Result<Vec<Arg<'a>>, AllocError> {
             "0",
             "Samples from one point of a seek table to the next; 0: no table"
         ),
-        ogg(alloc),
+        flag(
+            alloc,
+            "ogg",
+            "Writes an Ogg stream, which has no seek table"
+        ),
         number(alloc, "serial", "1", "The number of the Ogg stream"),
         predictors(alloc),
-        lax_encode(alloc),
+        flag(
+            alloc,
+            "lax",
+            "Writes streams outside the streamable subset too, which other players may refuse"
+        ),
     ]?)
 }
 
-/// The command `retag`.
-fn retag_command<'a>(alloc: Global) -> Result<Command<'a>, AllocError> {
-    let words = vec![in alloc;
-        file(alloc, "IN", "The stream"),
-        file(alloc, "OUT", "The file that the stream is written to"),
-        comments(alloc),
-    ]?;
-    Command::new(alloc, "retag")
-        .about("Writes a stream with other comments")
-        .after_help(RETAG_EXAMPLE)
-        .args(words)
-}
-
-/// The option `--ogg`.
-fn ogg<'a>(alloc: Global) -> Arg<'a> {
-    Arg::new(alloc, "ogg")
-        .long("ogg")
+/// An option without a value.
+fn flag<'a>(alloc: Global, name: &'a str, help: &'a str) -> Arg<'a> {
+    Arg::new(alloc, name)
+        .long(name)
         .action(ArgAction::SetTrue)
-        .help("Writes an Ogg stream, which has no seek table")
+        .help(help)
 }
 
-/// The option `--lax`.
+/// The option `--lax` of the commands that read a stream.
 fn lax<'a>(alloc: Global) -> Arg<'a> {
-    Arg::new(alloc, "lax")
-        .long("lax")
-        .action(ArgAction::SetTrue)
-        .help("Accepts streams outside the streamable subset too, which are else refused with 14")
-}
-
-/// The option `--lax` of `encode`.
-fn lax_encode<'a>(alloc: Global) -> Arg<'a> {
-    Arg::new(alloc, "lax")
-        .long("lax")
-        .action(ArgAction::SetTrue)
-        .help("Writes streams outside the streamable subset too, which other players may refuse")
+    let help = "Accepts streams outside the streamable subset too, which are else refused with 14";
+    flag(alloc, "lax", help)
 }
 
 /// The option `--predictors`, whose value is a path.
