@@ -51,7 +51,7 @@ impl Write for Output {
 /// A new file beside one that has bytes. It takes the place of the old one when the job is done. Until then, and if the
 /// job fails, the old file stays as it was.
 #[derive(Drop)]
-pub struct Replacement {
+pub(crate) struct Replacement {
     part: String,
     path: PathBuf,
 }
@@ -63,7 +63,7 @@ impl Replacement {
     /// # Errors
     /// The new file cannot be stored, or cannot take the place of the old one: it stays beside it. After a job that
     /// failed: an empty new file cannot be removed.
-    pub fn end(self, rt: &HostRuntime, output: Output, status: u8) -> io::Result<()> {
+    pub(crate) fn end(self, rt: &HostRuntime, output: Output, status: u8) -> io::Result<()> {
         let Replacement { part, path } = self;
         if status == 0 {
             output.store()?;
@@ -116,7 +116,7 @@ impl<'a> Known<'a> {
 ///
 /// # Errors
 /// The file cannot be created, or it is one that the job reads.
-pub fn create(
+pub(crate) fn create(
     rt: &HostRuntime,
     path: &str,
     input: &Known<'_>,

@@ -4,6 +4,7 @@ ghost use Rattle.std.specs.Prelude.{◌≡◌, ◌≤◌, [], Some, None, length
 ghost use Rattle.flac_jobs.specs.Asks.{list_of};
 
 use crate::files::Known;
+use crate::job_files::FileRefused;
 use flac_jobs::Job;
 use std::fs::File;
 use std::io;
@@ -21,22 +22,13 @@ pub struct List<'a> {
     pub file: Option<Known<'a>>,
 }
 
-/// Why the list of a job cannot be used: its path, and what cannot be done with it.
-#[derive(Clone, Copy)]
-pub struct ListRefused<'a> {
-    /// The path of the list.
-    pub path: &'a str,
-    /// What cannot be done with it: `opened` or `read`.
-    pub what: &'static str,
-}
-
 impl<'a> List<'a> {
     /// Reads the list of a job, if it has one.
     ///
     /// # Errors
     /// The file cannot be opened, or it cannot be read: the system returns an error, it has more than 1 MiB, or memory
     /// ran out.
-    pub fn of(rt: &HostRuntime, job: &Job<'a>) -> Result<List<'a>, ListRefused<'a>>
+    pub fn of(rt: &HostRuntime, job: &Job<'a>) -> Result<List<'a>, FileRefused<'a>>
         ensures few { IfOk result (λ list. length list.text.items ≤ 1048576) }
         ensures none { list_of job.now ≡ None → IfOk result (λ list. list.text.items ≡ []) }
         ensures refused { IfErr result (λ refused. list_of job.now ≡ Some refused.path.now) }
@@ -48,12 +40,12 @@ impl<'a> List<'a> {
             });
         };
         let Ok(file) = File::open(rt, path) else {
-            return Err(ListRefused {
+            return Err(FileRefused {
                 path,
                 what: "opened",
             });
         };
-        List::read(rt, path, file).map_err(|_| ListRefused { path, what: "read" })
+        List::read(rt, path, file).map_err(|_| FileRefused { path, what: "read" })
     }
 
     /// Reads a list.

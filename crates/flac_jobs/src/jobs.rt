@@ -9,7 +9,7 @@ use crate::formats::{ContainerKind, RawFormat};
 ///
 /// `input` is the path of the file that is read, `output` that of the file that is written. A comment is a text
 /// `NAME=VALUE`. With `lax` streams outside the streamable subset (RFC 9639, section 7) are accepted too, and written.
-#[derive(Debug, Drop, PartialEq, Eq)]
+#[derive(Debug, Drop)]
 pub enum Job<'a> {
     /// Decodes a stream, and prints how many frames and samples it has.
     Test {

@@ -1,6 +1,6 @@
 //! Why a command line gives no job.
 
-ghost use Rattle.std.specs.Prelude.{◌≡◌, ◌≤◌};
+ghost use Rattle.std.specs.Prelude.{◌≡◌, ◌≢◌, ◌≤◌};
 
 use std::alloc::Global;
 use std::borrow::CowStr;
@@ -60,5 +60,22 @@ impl LineFault {
             text: CowStr::Borrowed("flac: command: a word is not text\n"),
             status: 2,
         }
+    }
+
+    /// Prints the text, and returns the status of the program: the fault's own, or 1 if help was asked for and cannot be
+    /// printed.
+    pub fn tell(&self, rt: &HostRuntime) -> u8
+        ensures fault { self.now.status ≢ 0 → result ≡ self.now.status }
+        ensures help { self.now.status ≡ 0 → result ≤ 1 }
+    {
+        if self.status == 0 {
+            if rt.print(&self.text).is_err() {
+                let _ = eprintln!(rt; "flac: command: 39 Write");
+                return 1;
+            }
+        } else {
+            let _ = rt.eprint(&self.text);
+        }
+        self.status
     }
 }

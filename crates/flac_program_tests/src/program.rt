@@ -10,8 +10,9 @@ use flac_vectors::{
     ALTERNATING, EXAMPLE, EXAMPLE_INFO, EXAMPLE_TAGGED, LEFT_SIDE, NO_SAMPLES, ONE_SAMPLE, PAGES,
     RISING_ALONE, SILENT_ALONE, TWO_INFOS, append_word,
 };
-use flac_words::job;
+use flac_words::{given_words, job};
 use std::alloc::Global;
+use std::borrow::CowStr;
 use std::io;
 use std::io::{ErrorKind, Write};
 use std::process::Abort;
@@ -661,4 +662,26 @@ fn no_table_in_ogg(rt: HostRuntime) {
     };
     let found = perform(alloc, &job, &[0xF4, 0x63, 0xB0, 0x28], 4096);
     assert!(rt; found.is(1, &[], "", "flac: a.raw: 37 BadMapping\n"));
+}
+
+/// What is printed in place of a job has the status of its fault.
+#[test]
+fn faults_are_told(rt: HostRuntime) {
+    let help = LineFault {
+        text: CowStr::Borrowed("Usage\n"),
+        status: 0,
+    };
+    assert!(rt; help.tell(&rt) == 0);
+    assert!(rt; LineFault::no_memory().tell(&rt) == 1);
+    assert!(rt; LineFault::no_equals().tell(&rt) == 2);
+}
+
+/// The command line of a test begins with the name of its program.
+#[test]
+fn words_are_given(rt: HostRuntime) {
+    let count = match given_words(&rt) {
+        Ok(words) => words.len(),
+        Err(_) => 0,
+    };
+    assert!(rt; count > 0);
 }

@@ -442,8 +442,13 @@ flac encode a.raw a.flac --rate 44100 --channels 2 --bits 16 --ogg --seek-every 
 flac encode a.raw a.flac --rate 44100 --channels 2 --bits 16 --ogg --seek-every 5 none | 2 flac: command: comment without =;
 flac | 2 error: 'flac' requires a subcommand but one was not provided;  [subcommands: test, decode, list, encode, retag, help];;Usage: flac <COMMAND>;;For more information, try '--help'.;
 flac test | 2 error: the following required arguments were not provided:;  <IN>;;Usage: flac test <IN>;;For more information, try '--help'.;
+flac list | 2 error: the following required arguments were not provided:;  <IN>;;Usage: flac list <IN>;;For more information, try '--help'.;
+flac retag a.flac b.flac --lax | 2 error: unexpected argument '--lax' found*
 flac decode a.flac | 2 error: the following required arguments were not provided:;  <OUT>;;Usage: flac decode <IN> <OUT>;;For more information, try '--help'.;
 flac play a.flac | 2 error: unrecognized subcommand 'play';;Usage: flac <COMMAND>;;For more information, try '--help'.;
 flac --help | 0 Tests*
-flac test --help | 0 *
-flac encode --help | 0 *"#;
+flac test --help | 0 Decodes a stream, and prints how many frames*
+flac decode --help | 0 Decodes a stream to raw samples*
+flac list --help | 0 Decodes a stream, and lists its metadata blocks;*
+flac encode --help | 0 Encodes raw samples*
+flac retag --help | 0 Writes a stream with other comments;*"#;

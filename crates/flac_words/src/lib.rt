@@ -3,4 +3,4 @@
 
 mod words;
 
-pub use words::job;
+pub use words::{given_words, job};

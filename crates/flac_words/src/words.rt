@@ -105,6 +105,23 @@ pub fn job<'a>(alloc: Global, words: &'a [String]) -> Result<Job<'a>, LineFault>
     }
 }
 
+/// The words of the command line, the program's name first.
+///
+/// # Errors
+/// What to print in place of a job: that memory ran out (status 1), or that a word is not UTF-8 (2).
+pub fn given_words(rt: &HostRuntime) -> Result<Vec<String>, LineFault>
+    ensures { IfErr result (λ fault. fault.status ≤ 2) }
+{
+    let given = match std::env::args(rt) {
+        Ok(given) => given,
+        Err(error) => return Err(LineFault::reading(error.kind())),
+    };
+    match given.collect(rt.alloc()) {
+        Ok(words) => Ok(words),
+        Err(_) => Err(LineFault::no_memory()),
+    }
+}
+
 /// Whether a comment of the job has no `=`.
 fn lacks_equals(job: &Job<'_>) -> bool {
     match job {
@@ -259,190 +276,239 @@ fn container_of(given: &ArgMatches<'_>) -> Option<ContainerKind> {
     Some(ContainerKind::Ogg { serial })
 }
 
-/// A command of the program, and what its help says before and after the arguments.
+/// A command of the program: its arguments, and what its help says before and after them.
 #[derive(Clone, Copy)]
 struct Usage {
     name: &'static str,
     about: &'static str,
+    words: &'static [Word],
     example: &'static str,
 }
 
-/// The commands, in the order in which help lists them.
-const COMMANDS: [Usage; 5] = [
-    Usage {
-        name: "test",
-        about: "Decodes a stream, and prints how many frames and samples it has",
-        example: TEST_EXAMPLE,
+/// An argument of a command.
+#[derive(Clone, Copy)]
+struct Word {
+    name: &'static str,
+    kind: WordKind,
+    help: &'static str,
+}
+
+/// What an argument is.
+#[derive(Clone, Copy)]
+enum WordKind {
+    /// The path of a file, which has to be given.
+    File,
+    /// As many comments as are given.
+    Comments,
+    /// An option without a value.
+    Flag,
+    /// An option whose value is the path of a list.
+    List,
+    /// An option whose value is a whole number below 2^32, and which has to be given.
+    Needed,
+    /// An option with this default, whose value is such a number.
+    Number(&'static str),
+}
+
+static TEST: Usage = Usage {
+    name: "test",
+    about: "Decodes a stream, and prints how many frames and samples it has",
+    words: &TEST_WORDS,
+    example: TEST_EXAMPLE,
+};
+
+static DECODE: Usage = Usage {
+    name: "decode",
+    about: "Decodes a stream to raw samples: interleaved, signed little-endian, whole bytes a sample",
+    words: &DECODE_WORDS,
+    example: DECODE_EXAMPLE,
+};
+
+static LIST: Usage = Usage {
+    name: "list",
+    about: "Decodes a stream, and lists its metadata blocks",
+    words: &TEST_WORDS,
+    example: LIST_EXAMPLE,
+};
+
+static ENCODE: Usage = Usage {
+    name: "encode",
+    about: "Encodes raw samples: interleaved, signed little-endian, whole bytes a sample",
+    words: &ENCODE_WORDS,
+    example: ENCODE_EXAMPLE,
+};
+
+static RETAG: Usage = Usage {
+    name: "retag",
+    about: "Writes a stream with other comments",
+    words: &RETAG_WORDS,
+    example: RETAG_EXAMPLE,
+};
+
+/// The arguments of `test` and of `list`.
+const TEST_WORDS: [Word; 2] = [STREAM, LAX];
+
+/// The arguments of `decode`.
+const DECODE_WORDS: [Word; 3] = [
+    STREAM,
+    Word {
+        name: "OUT",
+        kind: WordKind::File,
+        help: "The file that the samples are written to",
     },
-    Usage {
-        name: "decode",
-        about: "Decodes a stream to raw samples: interleaved, signed little-endian, whole bytes a sample",
-        example: DECODE_EXAMPLE,
+    LAX,
+];
+
+/// The arguments of `retag`.
+const RETAG_WORDS: [Word; 3] = [STREAM, STREAM_OUT, COMMENTS];
+
+/// The arguments of `encode`.
+const ENCODE_WORDS: [Word; 12] = [
+    Word {
+        name: "IN",
+        kind: WordKind::File,
+        help: "The raw samples",
     },
-    Usage {
-        name: "list",
-        about: "Decodes a stream, and lists its metadata blocks",
-        example: LIST_EXAMPLE,
+    STREAM_OUT,
+    COMMENTS,
+    Word {
+        name: "rate",
+        kind: WordKind::Needed,
+        help: "Samples a second",
     },
-    Usage {
-        name: "encode",
-        about: "Encodes raw samples: interleaved, signed little-endian, whole bytes a sample",
-        example: ENCODE_EXAMPLE,
+    Word {
+        name: "channels",
+        kind: WordKind::Needed,
+        help: "Channels, 1 to 8",
     },
-    Usage {
-        name: "retag",
-        about: "Writes a stream with other comments",
-        example: RETAG_EXAMPLE,
+    Word {
+        name: "bits",
+        kind: WordKind::Needed,
+        help: "Bits of a sample: 8, 12, 16, 20, 24 or 32; with --lax 4 to 32",
+    },
+    Word {
+        name: "block",
+        kind: WordKind::Number("4096"),
+        help: "Samples of a block, 16 to 16384; to 4608 at rates up to 48000; with --lax to 65535",
+    },
+    Word {
+        name: "seek-every",
+        kind: WordKind::Number("0"),
+        help: "Samples from one point of a seek table to the next; 0: no table",
+    },
+    Word {
+        name: "ogg",
+        kind: WordKind::Flag,
+        help: "Writes an Ogg stream, which has no seek table",
+    },
+    Word {
+        name: "serial",
+        kind: WordKind::Number("1"),
+        help: "The number of the Ogg stream",
+    },
+    Word {
+        name: "predictors",
+        kind: WordKind::List,
+        help: "The file of linear predictors that the encoder tries too",
+    },
+    Word {
+        name: "lax",
+        kind: WordKind::Flag,
+        help: "Writes streams outside the streamable subset too, which other players may refuse",
     },
 ];
 
+const STREAM: Word = Word {
+    name: "IN",
+    kind: WordKind::File,
+    help: "The stream",
+};
+
+const STREAM_OUT: Word = Word {
+    name: "OUT",
+    kind: WordKind::File,
+    help: "The file that the stream is written to",
+};
+
+const COMMENTS: Word = Word {
+    name: "COMMENT",
+    kind: WordKind::Comments,
+    help: "Comments, each NAME=VALUE",
+};
+
+/// The option `--lax` of `test`, `decode` and `list`.
+const LAX: Word = Word {
+    name: "lax",
+    kind: WordKind::Flag,
+    help: "Accepts streams outside the streamable subset too, which are else refused with 14",
+};
+
 /// The command line of the program.
 fn command<'a>(alloc: Global) -> Result<Command<'a>, AllocError> {
-    let mut command = Command::new(alloc, "flac")
+    let commands = commands(alloc)?;
+    Command::new(alloc, "flac")
         .about("Tests, decodes, lists, encodes and retags FLAC streams (RFC 9639)")
         .after_help(EXAMPLES)
-        .subcommand_required(true);
-    for usage in COMMANDS {
-        command = command.subcommand(command_of(alloc, usage)?)?;
+        .subcommand_required(true)
+        .subcommands(commands)
+}
+
+/// The commands of the program, in the order in which help lists them.
+fn commands<'a>(alloc: Global) -> Result<Vec<Command<'a>>, AllocError> {
+    let mut commands = Vec::new(alloc);
+    for usage in [&TEST, &DECODE, &LIST, &ENCODE, &RETAG] {
+        add_command(&mut commands, alloc, usage)?;
     }
-    Ok(command)
+    Ok(commands)
+}
+
+/// Adds a command.
+fn add_command<'a>(
+    commands: &mut Vec<Command<'a>>,
+    alloc: Global,
+    usage: &Usage,
+) -> Result<(), AllocError> {
+    commands.push(command_of(alloc, usage)?)?;
+    Ok(())
 }
 
 /// One of the commands.
-fn command_of<'a>(alloc: Global, usage: Usage) -> Result<Command<'a>, AllocError> {
-    let words = words_of(alloc, usage.name)?;
+fn command_of<'a>(alloc: Global, usage: &Usage) -> Result<Command<'a>, AllocError> {
+    let arguments = arguments(alloc, usage.words)?;
     Command::new(alloc, usage.name)
         .about(usage.about)
         .after_help(usage.example)
-        .args(words)
+        .args(arguments)
 }
 
-/// The arguments of the command of this name.
-fn words_of<'a>(alloc: Global, name: &str) -> Result<Vec<Arg<'a>>, AllocError> {
-    if name == "encode" {
-        words_of_encode(alloc)
-    } else if name == "decode" {
-        words_of_decode(alloc)
-    } else if name == "retag" {
-        words_of_retag(alloc)
-    } else {
-        words_of_test(alloc)
+/// The arguments of a command.
+fn arguments<'a>(alloc: Global, words: &[Word]) -> Result<Vec<Arg<'a>>, AllocError> {
+    let mut arguments = Vec::new(alloc);
+    for word in words {
+        arguments.push(argument(alloc, word))?;
+    }
+    Ok(arguments)
+}
+
+/// An argument of a command.
+fn argument<'a>(alloc: Global, word: &Word) -> Arg<'a> {
+    let argument = Arg::new(alloc, word.name).help(word.help);
+    match word.kind {
+        WordKind::File => argument.required(true),
+        WordKind::Comments => argument.num_args(0..),
+        WordKind::Flag => argument.long(word.name).action(ArgAction::SetTrue),
+        WordKind::List => option(argument, word.name, "LIST"),
+        WordKind::Needed => number(argument, word.name).required(true),
+        WordKind::Number(default) => number(argument, word.name).default_value(default),
     }
 }
 
-/// The arguments of `test` and of `list`.
-fn words_of_test<'a>(alloc: Global) -> Result<Vec<Arg<'a>>, AllocError> {
-    Ok(vec![in alloc; file(alloc, "IN", "The stream"), lax(alloc)]?)
+/// Makes an argument an option whose value is a whole number below 2^32.
+fn number<'a>(argument: Arg<'a>, name: &'a str) -> Arg<'a> {
+    option(argument, name, "N").value_parser(ValueParser::unsigned(0, 4294967295))
 }
 
-/// The arguments of `decode`.
-fn words_of_decode<'a>(alloc: Global) -> Result<Vec<Arg<'a>>, AllocError> {
-    Ok(vec![in alloc;
-        file(alloc, "IN", "The stream"),
-        file(alloc, "OUT", "The file that the samples are written to"),
-        lax(alloc),
-    ]?)
-}
-
-/// The arguments of `retag`.
-fn words_of_retag<'a>(alloc: Global) -> Result<Vec<Arg<'a>>, AllocError> {
-    Ok(vec![in alloc;
-        file(alloc, "IN", "The stream"),
-        file(alloc, "OUT", "The file that the stream is written to"),
-        comments(alloc),
-    ]?)
-}
-
-/// The arguments of `encode`.
-fn words_of_encode<'a>(alloc: Global) -> Result<Vec<Arg<'a>>, AllocError> {
-    Ok(vec![in alloc;
-        file(alloc, "IN", "The raw samples"),
-        file(alloc, "OUT", "The file that the stream is written to"),
-        comments(alloc),
-        needed(alloc, "rate", "Samples a second"),
-        needed(alloc, "channels", "Channels, 1 to 8"),
-        needed(
-            alloc,
-            "bits",
-            "Bits of a sample: 8, 12, 16, 20, 24 or 32; with --lax 4 to 32"
-        ),
-        number(
-            alloc,
-            "block",
-            "4096",
-            "Samples of a block, 16 to 16384; to 4608 at rates up to 48000; with --lax to 65535"
-        ),
-        number(
-            alloc,
-            "seek-every",
-            "0",
-            "Samples from one point of a seek table to the next; 0: no table"
-        ),
-        flag(
-            alloc,
-            "ogg",
-            "Writes an Ogg stream, which has no seek table"
-        ),
-        number(alloc, "serial", "1", "The number of the Ogg stream"),
-        predictors(alloc),
-        flag(
-            alloc,
-            "lax",
-            "Writes streams outside the streamable subset too, which other players may refuse"
-        ),
-    ]?)
-}
-
-/// An option without a value.
-fn flag<'a>(alloc: Global, name: &'a str, help: &'a str) -> Arg<'a> {
-    Arg::new(alloc, name)
-        .long(name)
-        .action(ArgAction::SetTrue)
-        .help(help)
-}
-
-/// The option `--lax` of the commands that read a stream.
-fn lax<'a>(alloc: Global) -> Arg<'a> {
-    let help = "Accepts streams outside the streamable subset too, which are else refused with 14";
-    flag(alloc, "lax", help)
-}
-
-/// The option `--predictors`, whose value is a path.
-fn predictors<'a>(alloc: Global) -> Arg<'a> {
-    Arg::new(alloc, "predictors")
-        .long("predictors")
-        .value_name("LIST")
-        .action(ArgAction::Set)
-        .help("The file of linear predictors that the encoder tries too")
-}
-
-/// A required argument: the path of a file.
-fn file<'a>(alloc: Global, name: &'a str, help: &'a str) -> Arg<'a> {
-    Arg::new(alloc, name).required(true).help(help)
-}
-
-/// The arguments that are comments.
-fn comments<'a>(alloc: Global) -> Arg<'a> {
-    Arg::new(alloc, "COMMENT")
-        .num_args(0..)
-        .help("Comments, each NAME=VALUE")
-}
-
-/// A required option, whose value is a whole number.
-fn needed<'a>(alloc: Global, name: &'a str, help: &'a str) -> Arg<'a> {
-    option(alloc, name).required(true).help(help)
-}
-
-/// An option with a default, whose value is a whole number.
-fn number<'a>(alloc: Global, name: &'a str, default: &'a str, help: &'a str) -> Arg<'a> {
-    option(alloc, name).default_value(default).help(help)
-}
-
-/// An option whose value is a whole number below 2^32.
-fn option<'a>(alloc: Global, name: &'a str) -> Arg<'a> {
-    Arg::new(alloc, name)
-        .long(name)
-        .value_name("N")
-        .action(ArgAction::Set)
-        .value_parser(ValueParser::unsigned(0, 4294967295))
+/// Makes an argument an option whose value has this name in help.
+fn option<'a>(argument: Arg<'a>, name: &'a str, value: &'a str) -> Arg<'a> {
+    argument.long(name).value_name(value).action(ArgAction::Set)
 }

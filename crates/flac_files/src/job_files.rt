@@ -1,0 +1,142 @@
+//! All files of a job.
+
+use crate::files::{Known, Output, Replacement, create};
+use crate::list::List;
+use flac_jobs::Job;
+use std::fs::File;
+
+/// The files of a job, opened.
+#[derive(Drop)]
+pub struct JobFiles<'a> {
+    /// What the job reads.
+    pub input: File,
+    /// Its list of predictors.
+    pub list: List<'a>,
+    /// What it writes to.
+    pub output: Output,
+    /// What is left to do when it has ended.
+    pub ending: Ending<'a>,
+}
+
+impl<'a> JobFiles<'a> {
+    /// Opens the files of a job: what it reads, its list of predictors if it has one, and what it writes.
+    ///
+    /// # Errors
+    /// A file cannot be opened, read or created, or what the job writes is a file that it reads.
+    pub fn open(rt: &HostRuntime, job: &Job<'a>) -> Result<JobFiles<'a>, FileRefused<'a>> {
+        let standard = StandIns::new(rt);
+        let path = job.input();
+        let Ok(input) = File::open(rt, path) else {
+            return Err(FileRefused {
+                path,
+                what: "opened",
+            });
+        };
+        let list = List::of(rt, job)?;
+        let (output, replacement) = created(rt, job, &input, &list)?;
+        let ending = Ending {
+            path: job.output(),
+            replacement,
+            standard,
+        };
+        Ok(JobFiles {
+            input,
+            list,
+            output,
+            ending,
+        })
+    }
+}
+
+/// Opens what a job writes to.
+///
+/// # Errors
+/// The file cannot be created, or it is one that the job reads.
+fn created<'a>(
+    rt: &HostRuntime,
+    job: &Job<'a>,
+    input: &File,
+    list: &List<'a>,
+) -> Result<(Output, Option<Replacement>), FileRefused<'a>> {
+    let Some(path) = job.output() else {
+        return Ok((Output::None, None));
+    };
+    let refused = FileRefused {
+        path,
+        what: "created",
+    };
+    let Ok(input) = Known::of(job.input(), input) else {
+        return Err(refused);
+    };
+    create(rt, path, &input, list.file.as_ref()).map_err(|_| refused)
+}
+
+/// What is left to do with the files of a job when it has ended.
+#[derive(Drop)]
+pub struct Ending<'a> {
+    path: Option<&'a str>,
+    replacement: Option<Replacement>,
+    standard: StandIns,
+}
+
+impl<'a> Ending<'a> {
+    /// Ends a job of this status, which wrote to `output`. If that is a new file beside one that has bytes, and the status
+    /// is 0, it is stored and takes the place of the old one. If the job failed, it keeps what was written, and the old
+    /// file stays as it was.
+    ///
+    /// # Errors
+    /// The job is done, but the new file cannot be stored, or cannot take the place of the old one.
+    pub fn end(self, rt: &HostRuntime, output: Output, status: u8) -> Result<(), FileRefused<'a>> {
+        let Ending {
+            path,
+            replacement,
+            standard: _standard,
+        } = self;
+        let (Some(path), Some(replacement)) = (path, replacement) else {
+            return Ok(());
+        };
+        match replacement.end(rt, output, status) {
+            Err(_) if status == 0 => Err(FileRefused {
+                path,
+                what: "replaced",
+            }),
+            _ => Ok(()),
+        }
+    }
+}
+
+/// Files that take the file descriptors of standard files that were closed when the program began. Else files of the
+/// job would get them.
+#[derive(Drop)]
+struct StandIns {
+    files: (Option<File>, Option<File>, Option<File>),
+}
+
+impl StandIns {
+    fn new(rt: &HostRuntime) -> StandIns {
+        StandIns {
+            files: (stand_in(rt), stand_in(rt), stand_in(rt)),
+        }
+    }
+}
+
+/// A file that takes the lowest free file descriptor.
+fn stand_in(rt: &HostRuntime) -> Option<File> {
+    File::open(rt, "/dev/null").ok()
+}
+
+/// A file of a job that cannot be used: its path, and what cannot be done with it.
+#[derive(Clone, Copy)]
+pub struct FileRefused<'a> {
+    /// The path of the file.
+    pub path: &'a str,
+    /// What cannot be done with it: `opened`, `read`, `created` or `replaced`.
+    pub what: &'static str,
+}
+
+impl FileRefused<'_> {
+    /// Prints the refusal on standard error.
+    pub fn tell(&self, rt: &HostRuntime) {
+        let _ = eprintln!(rt; "flac: {}: cannot be {}", self.path, self.what);
+    }
+}
