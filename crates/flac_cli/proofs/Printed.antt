@@ -51,6 +51,11 @@ module _ {T : Type 0} (g : target.Ghosts T) where
     rises = tt;
   }
 
+  -- what came of one more
+  pub printed_then : {X E : Type 0} {old mid new : T} (r : Result X E) → Printed old mid → Prints g mid new r → Prints g old new r
+  printed_then (Ok x) p q = all_printed (printed_more p q)
+  printed_then (Err e) p q = not_printed p q
+
   -- a text that was added was printed
   pub added_prints : {X E : Type 0} {text : List ℕ} {old new : T} {had has : List ℕ} (r : Result X E) → Adds g text old new had has r → Prints g old new r
   added_prints r p = record {

@@ -7,34 +7,18 @@ use crate::parts::Part;
 use flac_bits::{Target, Why};
 use flac_meta::{Block, Comments, CueSheet, CueTrack, Picture, SeekPoint, SeekTable, StreamInfo};
 
-/// Writes the name of a block's type.
-fn write_name<W: Target>(lines: &mut Lines<W>, block: &Block) -> Result<(), Why>
-    ensures { Prints W.Target lines.old.target lines.new.target result }
-{
-    let name = match block {
-        Block::StreamInfo(_) => "STREAMINFO",
-        Block::Padding(_) => "PADDING",
-        Block::Application { .. } => "APPLICATION",
-        Block::SeekTable(_) => "SEEKTABLE",
-        Block::VorbisComment(_) => "VORBIS_COMMENT",
-        Block::CueSheet(_) => "CUESHEET",
-        Block::Picture(_) => "PICTURE",
-        Block::Other { kind, .. } => {
-            let kind = Part::Number(u64::from(*kind));
-            return lines.put_parts(&[Part::Text("TYPE_"), kind]);
-        }
-    };
-    lines.put_parts(&[Part::Text(name)])
-}
-
-/// Writes the first line of a block.
-fn write_head<W: Target>(lines: &mut Lines<W>, index: u64, block: &Block) -> Result<(), Why>
-    ensures { Prints W.Target lines.old.target lines.new.target result }
-{
-    lines.put_parts(&[Part::Text("block "), Part::Number(index), Part::Text(" ")])?;
-    write_name(lines, block)?;
-    let length = Part::Number(block.length());
-    lines.put_parts(&[Part::Text(" "), length, Part::Text("\n")])
+/// The name of a block's type, after a space.
+fn name_of(block: &Block) -> Part<'static> {
+    match block {
+        Block::StreamInfo(_) => Part::Text(" STREAMINFO"),
+        Block::Padding(_) => Part::Text(" PADDING"),
+        Block::Application { .. } => Part::Text(" APPLICATION"),
+        Block::SeekTable(_) => Part::Text(" SEEKTABLE"),
+        Block::VorbisComment(_) => Part::Text(" VORBIS_COMMENT"),
+        Block::CueSheet(_) => Part::Text(" CUESHEET"),
+        Block::Picture(_) => Part::Text(" PICTURE"),
+        Block::Other { kind, .. } => Part::Number(" TYPE_", u64::from(*kind)),
+    }
 }
 
 /// Writes the fields of a block.
@@ -43,14 +27,12 @@ fn write_fields<W: Target>(lines: &mut Lines<W>, block: &Block) -> Result<(), Wh
 {
     match block {
         Block::StreamInfo(info) => write_info(lines, info),
-        Block::Application { id, .. } => {
-            lines.put_parts(&[Part::Text("  id "), Part::Hex(id), Part::Text("\n")])
-        }
+        Block::Application { id, .. } => lines.put_parts(&[Part::Hex("  id ", id)]),
         Block::SeekTable(table) => write_points(lines, table),
         Block::VorbisComment(comments) => write_comments(lines, comments),
         Block::CueSheet(sheet) => write_sheet(lines, sheet),
         Block::Picture(picture) => write_picture(lines, picture),
-        Block::Padding(_) | Block::Other { .. } => lines.put_parts(&[]),
+        Block::Padding(_) | Block::Other { .. } => Ok(()),
     }
 }
 
@@ -66,7 +48,11 @@ pub(crate) fn send_block<W: Target>(
 ) -> Result<(), Why>
     ensures { Prints W.Target lines.old.target lines.new.target result }
 {
-    write_head(lines, index, block)?;
+    lines.put_parts(&[
+        Part::Number("block ", index),
+        name_of(block),
+        Part::Number(" ", block.length()),
+    ])?;
     write_fields(lines, block)?;
     lines.send()
 }
@@ -76,25 +62,15 @@ fn write_info<W: Target>(lines: &mut Lines<W>, info: &StreamInfo) -> Result<(), 
     ensures { Prints W.Target lines.old.target lines.new.target result }
 {
     lines.put_parts(&[
-        Part::Text("  blocks "),
-        Part::Number(u64::from(info.least_block())),
-        Part::Text(" "),
-        Part::Number(u64::from(info.greatest_block())),
-        Part::Text(" frames "),
-        Part::Number(u64::from(info.least_frame())),
-        Part::Text(" "),
-        Part::Number(u64::from(info.greatest_frame())),
-        Part::Text(" rate "),
-        Part::Number(u64::from(info.rate())),
-        Part::Text(" channels "),
-        Part::Number(u64::from(info.channels())),
-        Part::Text(" depth "),
-        Part::Number(u64::from(info.depth())),
-        Part::Text(" samples "),
-        Part::Number(info.total()),
-        Part::Text("\n  md5 "),
-        Part::Hex(&info.digest()),
-        Part::Text("\n"),
+        Part::Number("  blocks ", u64::from(info.least_block())),
+        Part::Number(" ", u64::from(info.greatest_block())),
+        Part::Number(" frames ", u64::from(info.least_frame())),
+        Part::Number(" ", u64::from(info.greatest_frame())),
+        Part::Number(" rate ", u64::from(info.rate())),
+        Part::Number(" channels ", u64::from(info.channels())),
+        Part::Number(" depth ", u64::from(info.depth())),
+        Part::Number(" samples ", info.total()),
+        Part::Hex("\n  md5 ", &info.digest()),
     ])
 }
 
@@ -103,16 +79,12 @@ fn write_point<W: Target>(lines: &mut Lines<W>, point: &SeekPoint) -> Result<(),
     ensures { Prints W.Target lines.old.target lines.new.target result }
 {
     if point.is_placeholder() {
-        return lines.put_parts(&[Part::Text("  placeholder\n")]);
+        return lines.put_parts(&[Part::Text("  placeholder")]);
     }
     lines.put_parts(&[
-        Part::Text("  point "),
-        Part::Number(point.sample),
-        Part::Text(" "),
-        Part::Number(point.offset),
-        Part::Text(" "),
-        Part::Number(u64::from(point.length)),
-        Part::Text("\n"),
+        Part::Number("  point ", point.sample),
+        Part::Number(" ", point.offset),
+        Part::Number(" ", u64::from(point.length)),
     ])
 }
 
@@ -130,11 +102,9 @@ fn write_points<W: Target>(lines: &mut Lines<W>, table: &SeekTable) -> Result<()
 fn write_comments<W: Target>(lines: &mut Lines<W>, comments: &Comments) -> Result<(), Why>
     ensures { Prints W.Target lines.old.target lines.new.target result }
 {
-    let vendor = Part::Escaped(comments.vendor());
-    lines.put_parts(&[Part::Text("  vendor "), vendor, Part::Text("\n")])?;
+    lines.put_parts(&[Part::Escaped("  vendor ", comments.vendor())])?;
     for comment in comments.list.as_slice() {
-        let comment = Part::Escaped(comment.as_slice());
-        lines.put_parts(&[Part::Text("  comment "), comment, Part::Text("\n")])?;
+        lines.put_parts(&[Part::Escaped("  comment ", comment.as_slice())])?;
     }
     Ok(())
 }
@@ -153,13 +123,9 @@ fn write_sheet<W: Target>(lines: &mut Lines<W>, sheet: &CueSheet) -> Result<(), 
     ensures { Prints W.Target lines.old.target lines.new.target result }
 {
     lines.put_parts(&[
-        Part::Text("  catalogue "),
-        Part::Escaped(without_zeros(&sheet.catalogue)),
-        Part::Text(" lead_in "),
-        Part::Number(sheet.lead_in),
-        Part::Text(" cd "),
-        Part::Number(u64::from(sheet.cd)),
-        Part::Text("\n"),
+        Part::Escaped("  catalogue ", without_zeros(&sheet.catalogue)),
+        Part::Number(" lead_in ", sheet.lead_in),
+        Part::Number(" cd ", u64::from(sheet.cd)),
     ])?;
     for track in sheet.tracks.as_slice() {
         write_track(lines, track)?;
@@ -172,17 +138,15 @@ fn write_track_line<W: Target>(lines: &mut Lines<W>, track: &CueTrack) -> Result
     ensures { Prints W.Target lines.old.target lines.new.target result }
 {
     lines.put_parts(&[
-        Part::Text("  track "),
-        Part::Number(u64::from(track.number)),
-        Part::Text(" offset "),
-        Part::Number(track.offset),
-        Part::Text(" isrc "),
-        Part::Escaped(without_zeros(&track.isrc)),
-        Part::Text(" type "),
-        Part::Text(if track.audio { "audio" } else { "data" }),
-        Part::Text(" pre "),
-        Part::Number(u64::from(track.pre_emphasis)),
-        Part::Text("\n"),
+        Part::Number("  track ", u64::from(track.number)),
+        Part::Number(" offset ", track.offset),
+        Part::Escaped(" isrc ", without_zeros(&track.isrc)),
+        Part::Text(if track.audio {
+            " type audio"
+        } else {
+            " type data"
+        }),
+        Part::Number(" pre ", u64::from(track.pre_emphasis)),
     ])
 }
 
@@ -193,11 +157,8 @@ fn write_track<W: Target>(lines: &mut Lines<W>, track: &CueTrack) -> Result<(), 
     write_track_line(lines, track)?;
     for index in track.indices.as_slice() {
         lines.put_parts(&[
-            Part::Text("  index "),
-            Part::Number(u64::from(index.number)),
-            Part::Text(" offset "),
-            Part::Number(index.offset),
-            Part::Text("\n"),
+            Part::Number("  index ", u64::from(index.number)),
+            Part::Number(" offset ", index.offset),
         ])?;
     }
     Ok(())
@@ -208,22 +169,13 @@ fn write_picture<W: Target>(lines: &mut Lines<W>, picture: &Picture) -> Result<(
     ensures { Prints W.Target lines.old.target lines.new.target result }
 {
     lines.put_parts(&[
-        Part::Text("  type "),
-        Part::Number(u64::from(picture.kind)),
-        Part::Text(" media "),
-        Part::Escaped(picture.media.as_slice()),
-        Part::Text(" text "),
-        Part::Escaped(picture.text.as_slice()),
-        Part::Text(" size "),
-        Part::Number(u64::from(picture.width)),
-        Part::Text("x"),
-        Part::Number(u64::from(picture.height)),
-        Part::Text(" depth "),
-        Part::Number(u64::from(picture.depth)),
-        Part::Text(" colours "),
-        Part::Number(u64::from(picture.colours)),
-        Part::Text(" data "),
-        Part::Number(picture.bytes.as_slice().len() as u64),
-        Part::Text("\n"),
+        Part::Number("  type ", u64::from(picture.kind)),
+        Part::Escaped(" media ", picture.media.as_slice()),
+        Part::Escaped(" text ", picture.text.as_slice()),
+        Part::Number(" size ", u64::from(picture.width)),
+        Part::Number("x", u64::from(picture.height)),
+        Part::Number(" depth ", u64::from(picture.depth)),
+        Part::Number(" colours ", u64::from(picture.colours)),
+        Part::Number(" data ", picture.bytes.as_slice().len() as u64),
     ])
 }

@@ -6,18 +6,18 @@ use crate::lines::Lines;
 use flac_bits::{Target, Why};
 use hex::encode_to_slice;
 
-/// A part of a line.
+/// A part of a line: a text, mostly with a value behind it.
 #[derive(Clone, Copy)]
 pub(crate) enum Part<'a> {
-    /// A text.
+    /// A text alone.
     Text(&'a str),
-    /// A number, in decimal digits.
-    Number(u64),
-    /// Bytes as a text: those from 20 to 7E (hexadecimal) except the backslash as themselves, all others as `\x` and
-    /// two digits.
-    Escaped(&'a [u8]),
-    /// Bytes as hexadecimal digits, two lower-case ones for each byte.
-    Hex(&'a [u8]),
+    /// With a number, in decimal digits.
+    Number(&'a str, u64),
+    /// With bytes as a text: those from 20 to 7E (hexadecimal) except the backslash as themselves, all others as `\x`
+    /// and two digits.
+    Escaped(&'a str, &'a [u8]),
+    /// With bytes as hexadecimal digits, two lower-case ones for each byte.
+    Hex(&'a str, &'a [u8]),
 }
 
 /// A byte as two hexadecimal digits.
@@ -43,20 +43,22 @@ impl<W: Target> Lines<W> {
         }
     }
 
-    /// Adds bytes as a text.
-    fn put_escaped(&mut self, bytes: &[u8]) -> Result<(), Why>
+    /// Adds a text, and bytes as one.
+    fn put_escaped(&mut self, name: &str, bytes: &[u8]) -> Result<(), Why>
         ensures { Prints W.Target self.old.target self.new.target result }
     {
+        self.put(name)?;
         for byte in bytes {
             self.put_byte(*byte)?;
         }
         Ok(())
     }
 
-    /// Adds bytes as hexadecimal digits.
-    fn put_hex(&mut self, bytes: &[u8]) -> Result<(), Why>
+    /// Adds a text, and bytes as hexadecimal digits.
+    fn put_hex(&mut self, name: &str, bytes: &[u8]) -> Result<(), Why>
         ensures { Prints W.Target self.old.target self.new.target result }
     {
+        self.put(name)?;
         for byte in bytes {
             self.put_bytes(&digits_of(*byte))?;
         }
@@ -69,13 +71,13 @@ impl<W: Target> Lines<W> {
     {
         match part {
             Part::Text(text) => self.put(text),
-            Part::Number(number) => self.put_number(number),
-            Part::Escaped(bytes) => self.put_escaped(bytes),
-            Part::Hex(bytes) => self.put_hex(bytes),
+            Part::Number(name, number) => self.put_counted(name, number),
+            Part::Escaped(name, bytes) => self.put_escaped(name, bytes),
+            Part::Hex(name, bytes) => self.put_hex(name, bytes),
         }
     }
 
-    /// Adds the parts of a line.
+    /// Adds a line of these parts.
     ///
     /// # Errors
     /// [`Why::Write`] if the target fails.
@@ -85,6 +87,6 @@ impl<W: Target> Lines<W> {
         for part in parts {
             self.put_part(*part)?;
         }
-        Ok(())
+        self.put("\n")
     }
 }

@@ -1,5 +1,5 @@
 use Rattle.std.proofs.lemmas.Result.{err_from_is_err_and}
-use Rattle.flac_cli.proofs.Printed.{printed_more, not_printed, all_printed, none_printed}
+use Rattle.flac_cli.proofs.Printed.{printed_more, not_printed, printed_then, none_printed, added_prints}
 use Rattle.flac_cli.proofs.lines.Lines.put_parts.Goals as goal
 
 pub loop-part-init : goal.loop-part-init
@@ -14,4 +14,4 @@ returns-in_err-put_part g c =
     rw p.1 (not_printed g.W.Target c.loop-part.invariant c.in_err-put_part.ensures)
 
 pub returns : goal.returns
-returns g c = all_printed g.W.Target c.loop-part.invariant
+returns g c = printed_then g.W.Target _ c.loop-part.invariant (added_prints g.W.Target _ c.put.ensures)
