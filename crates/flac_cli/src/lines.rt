@@ -4,7 +4,6 @@ ghost use Rattle.std.specs.Prelude.{◌≡◌, ◌≤◌, ◌<◌, ◌+◌, ◌%
 ghost use Rattle.flac_native.specs.Places.{place_text};
 ghost use Rattle.flac_cli.specs.Lined.{text_at};
 ghost use Rattle.flac_cli.specs.inner.Lined.{Adds, at_place};
-ghost use Rattle.flac_cli.specs.inner.Outcomes.{placed};
 ghost use Rattle.flac_cli.specs.Reports.{fault_line};
 
 use flac_bits::{Target, Why, send_all};
@@ -135,6 +134,17 @@ impl<W: Target> Lines<W> {
         self.put_bytes(text.as_bytes())
     }
 
+    /// Adds two texts.
+    ///
+    /// # Errors
+    /// [`Why::Write`] if the target fails.
+    fn put_both(&mut self, first: &str, second: &str) -> Result<(), Why>
+        ensures { Adds W.Target (first.now ++ second.now) self.old.target self.new.target (take self.old.held self.old.bytes) (take self.new.held self.new.bytes) result }
+    {
+        self.put(first)?;
+        self.put(second)
+    }
+
     /// Adds a number in decimal digits.
     ///
     /// # Errors
@@ -178,31 +188,7 @@ impl<W: Target> Lines<W> {
         }
     }
 
-    /// Adds a text after that of its place: `frame 3: TEXT`.
-    ///
-    /// # Errors
-    /// [`Why::Write`] if the target fails.
-    fn put_placed(&mut self, place: Place, text: &str) -> Result<(), Why>
-        ensures { Adds W.Target (placed (Some place) text.now) self.old.target self.new.target (take self.old.held self.old.bytes) (take self.new.held self.new.bytes) result }
-    {
-        self.put_place(place)?;
-        self.put(": ")?;
-        self.put(text)
-    }
-
-    /// Adds a text after that of its line: `line 3: TEXT`.
-    ///
-    /// # Errors
-    /// [`Why::Write`] if the target fails.
-    fn put_numbered(&mut self, number: u64, text: &str) -> Result<(), Why>
-        ensures { Adds W.Target (text_at (At.Line number) text.now) self.old.target self.new.target (take self.old.held self.old.bytes) (take self.new.held self.new.bytes) result }
-    {
-        self.put_counted("line ", number)?;
-        self.put(": ")?;
-        self.put(text)
-    }
-
-    /// Adds the text of a reason, after that of its place or line, if it has one.
+    /// Adds the text of a reason, after that of its place or line, if it has one: `frame 3: TEXT`, `line 3: TEXT`.
     ///
     /// # Errors
     /// [`Why::Write`] if the target fails.
@@ -211,8 +197,14 @@ impl<W: Target> Lines<W> {
     {
         match at {
             At::Whole => self.put(text),
-            At::Place(place) => self.put_placed(place, text),
-            At::Line(number) => self.put_numbered(number, text),
+            At::Place(place) => {
+                self.put_place(place)?;
+                self.put_both(": ", text)
+            }
+            At::Line(number) => {
+                self.put_counted("line ", number)?;
+                self.put_both(": ", text)
+            }
         }
     }
 }
@@ -222,8 +214,7 @@ fn put_line<W: Target>(lines: &mut Lines<W>, path: &str, at: At, text: &str) -> 
     requires { lines.old.held ≡ 0 }
     ensures { Adds W.Target (fault_line path.now (text_at at text.now)) lines.old.target lines.new.target [] [] result }
 {
-    lines.put("flac: ")?;
-    lines.put(path)?;
+    lines.put_both("flac: ", path)?;
     lines.put(": ")?;
     lines.put_reason(at, text)?;
     lines.put("\n")?;

@@ -1,0 +1,11 @@
+use Rattle.std.proofs.lemmas.Result.{err_from_is_err_and}
+use Rattle.flac_cli.proofs.Lined.{adds_then, lost, adds_lost}
+use Rattle.flac_cli.proofs.lines.Lines.put_both.Goals as goal
+
+pub returns-in_err-put : goal.returns-in_err-put
+returns-in_err-put g c =
+    let p = err_from_is_err_and c.from_residual.result c.from_residual.ensures.1 in
+    rw p.1 (adds_lost g.W.Target (lost g.W.Target c.in_err-put.ensures))
+
+pub returns : goal.returns
+returns g c = adds_then g.W.Target _ c.in_ok-put.ensures c.put-2.ensures
