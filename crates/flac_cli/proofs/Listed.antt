@@ -1,8 +1,9 @@
 -- One step through the digits of a word, the words of a line and the lines of a list of predictors, and the end of
 -- each.
-use Rattle.std.proofs.Common.{◌≡◌, ◌+◌, ◌-◌, ◌*◌, ◌<◌, ◌≤◌, ◌⊎◌, ℕ, ℤ, pos, negsuc, Bool, true, cond, ltb, List, [], ◌∷◌, ◌++◌, length, take, drop, get_or, take_all, Option, Some, None, MatchOption, Ok, Err, inl, inr, refl, sym, ap, ◌∙◌, arith}
-use Rattle.std.specs.List.{All, AllPass, position_or_len, before_first, enumerate_from}
-use Rattle.std.proofs.lemmas.Bool.{cases_lt, cond-true, cond-false, lt-ltb, le-ltb, ltb-true, and_parts, false_from_ne_true}
+use Rattle.std.proofs.Common.{◌≡◌, ◌≢◌, ◌+◌, ◌-◌, ◌*◌, ◌<◌, ◌≤◌, ◌⊎◌, ℕ, ℤ, pos, negsuc, Bool, true, false, cond, ltb, List, [], ◌∷◌, ◌++◌, length, take, drop, get_or, take_all, Option, Some, None, MatchOption, Ok, Err, inl, inr, refl, sym, ap, ◌∙◌, arith}
+use Rattle.std.specs.Prelude.{◌==◌, nat_lt}
+use Rattle.std.specs.List.{All, AllPass, position_or_len, before_first, enumerate_from, filter, slice_split}
+use Rattle.std.proofs.lemmas.Bool.{cases_lt, cond-true, cond-false, eqb-true, eqb-false, lt-ltb, le-ltb, ltb-true, and_parts, false_from_ne_true}
 use Rattle.std.proofs.lemmas.Int.{ints}
 use Rattle.std.proofs.lemmas.List.{at_drop_more, at_drop_all}
 use Rattle.std.proofs.lemmas.List.FromFn.{length-enumerate_from, get_or-enumerate_from}
@@ -10,7 +11,7 @@ use Rattle.std.proofs.lemmas.List.Sums.{AllPass-from_list_all, list_all-from_All
 use Rattle.std.proofs.lemmas.Bool.Decides.{nat_tests}
 use Rattle.flac_bits.specs.Signed.{FitsBits}
 use Rattle.flac_subframe.specs.Bodies.{Chooses, linear}
-use Rattle.flac_cli.specs.Predictors.{digits_after, natural_in, number_in, numbers_after, fits, is_predictor, natural, predictor_with, line_of, line_in, lines_after}
+use Rattle.flac_cli.specs.Predictors.{is_blank, digits_after, natural_in, number_in, numbers_after, fits, is_predictor, natural, predictor_with, line_of, line_in, lines_after}
 
 -- ---- digits
 
@@ -45,21 +46,39 @@ before-position p xs r e = elim (cases_lt (position_or_len p xs) (length xs)) [
   | inr above ↦ let is : r ≡ None = e ∙ cond-false _ _ _ (le-ltb _ _ above) in rw is (sym (take_all _ _ above))
 ]
 
-pub numbers-next : (ws : List (List ℕ)) (i : ℕ) (w : List ℕ) (ns : List ℤ) (z : ℤ) → i < length ws → w ≡ get_or ws i w → number_in w ≡ Some z →
-    numbers_after ns (drop i ws) ≡ numbers_after (ns ++ z ∷ []) (drop (i + 1) ws)
-unfolding numbers_after
-numbers-next ws i w ns z within is e =
-    at_drop_more (numbers_after ns) ws i w within ∙ (rw (sym is) (rw e refl))
+-- the parts of a line between blanks, of which some are empty, and those that are words
+abbrev pub parts_of : (line : List ℕ) → List (List ℕ)
+parts_of line = slice_split is_blank (before_first (λ byte. byte == 35) line)
 
-pub numbers-none : (ws : List (List ℕ)) (i : ℕ) (w : List ℕ) (ns : List ℤ) → i < length ws → w ≡ get_or ws i w → number_in w ≡ None →
-    numbers_after ns (drop i ws) ≡ None
-unfolding numbers_after
-numbers-none ws i w ns within is e =
-    at_drop_more (numbers_after ns) ws i w within ∙ (rw (sym is) (rw e refl))
+abbrev pub words_in : List (List ℕ) → List (List ℕ)
+words_in parts = filter (λ word. nat_lt 0 (length word)) parts
 
-pub numbers-end : (ws : List (List ℕ)) (i : ℕ) (ns : List ℤ) → length ws ≤ i → numbers_after ns (drop i ws) ≡ Some ns
+pub no_bytes : (n : ℕ) (b : Bool) → b ≡ (n == 0) → b ≡ true → n ≡ 0
+no_bytes n b is e = eqb-true n 0 (sym is ∙ e)
+
+pub some_bytes : (n : ℕ) (b : Bool) → b ≡ (n == 0) → b ≡ false → 0 < n
+some_bytes n b is e = let h : n ≢ 0 = eqb-false n 0 (sym is ∙ e) in omega (arith, h)
+
+pub empty-next : (ws : List (List ℕ)) (i : ℕ) (w : List ℕ) (ns : List ℤ) → i < length ws → w ≡ get_or ws i w → length w ≡ 0 →
+    numbers_after ns (words_in (drop i ws)) ≡ numbers_after ns (words_in (drop (i + 1) ws))
+empty-next ws i w ns within is none =
+    at_drop_more (λ l. numbers_after ns (words_in l)) ws i w within ∙ (rw (sym is) (rw none refl))
+
+pub numbers-next : (ws : List (List ℕ)) (i : ℕ) (w : List ℕ) (ns : List ℤ) (z : ℤ) → i < length ws → w ≡ get_or ws i w → 0 < length w → number_in w ≡ Some z →
+    numbers_after ns (words_in (drop i ws)) ≡ numbers_after (ns ++ z ∷ []) (words_in (drop (i + 1) ws))
 unfolding numbers_after
-numbers-end ws i ns end = at_drop_all (numbers_after ns) ws i end
+numbers-next ws i w ns z within is some e =
+    at_drop_more (λ l. numbers_after ns (words_in l)) ws i w within ∙ (rw (sym is) (rw (lt-ltb 0 (length w) some) (rw e refl)))
+
+pub numbers-none : (ws : List (List ℕ)) (i : ℕ) (w : List ℕ) (ns : List ℤ) → i < length ws → w ≡ get_or ws i w → 0 < length w → number_in w ≡ None →
+    numbers_after ns (words_in (drop i ws)) ≡ None
+unfolding numbers_after
+numbers-none ws i w ns within is some e =
+    at_drop_more (λ l. numbers_after ns (words_in l)) ws i w within ∙ (rw (sym is) (rw (lt-ltb 0 (length w) some) (rw e refl)))
+
+pub numbers-end : (ws : List (List ℕ)) (i : ℕ) (ns : List ℤ) → length ws ≤ i → numbers_after ns (words_in (drop i ws)) ≡ Some ns
+unfolding numbers_after
+numbers-end ws i ns end = at_drop_all (λ l. numbers_after ns (words_in l)) ws i end
 
 -- ---- lines
 

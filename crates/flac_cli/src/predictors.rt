@@ -87,8 +87,10 @@ fn numbers_in(alloc: Global, line: &[u8]) -> Result<Option<Vec<i32>>, AllocError
     ensures { IfOk result (λ numbers. option_map (λ list. list.items) numbers ≡ numbers_after [] (words_of line.now)) }
 {
     let mut numbers = Vec::new(alloc);
-    let parts = without_comment(line).split(|byte| is_blank(*byte));
-    for word in parts.filter(|word| !word.is_empty()) {
+    for word in without_comment(line).split(|byte| is_blank(*byte)) {
+        if word.is_empty() {
+            continue;
+        }
         let Some(number) = number_in(word) else {
             return Ok(None);
         };
