@@ -1,6 +1,6 @@
 -- One step through the digits of a word, the words of a line and the lines of a list of predictors, and the end of
 -- each.
-use Rattle.std.proofs.Common.{◌≡◌, ◌≢◌, ◌+◌, ◌-◌, ◌*◌, ◌<◌, ◌≤◌, ◌⊎◌, ℕ, ℤ, pos, negsuc, Bool, true, false, cond, ltb, List, [], ◌∷◌, ◌++◌, length, take, drop, get_or, take_all, Option, Some, None, MatchOption, Ok, Err, inl, inr, refl, sym, ap, ◌∙◌, arith}
+use Rattle.std.proofs.Common.{◌≡◌, ◌≢◌, ◌+◌, ◌-◌, ◌*◌, ◌<◌, ◌≤◌, ◌⊎◌, ℕ, ℤ, pos, negsuc, Bool, true, false, cond, ltb, List, [], ◌∷◌, ◌++◌, length, take, drop, get_or, take_all, Option, Some, None, MatchOption, Ok, Err, inl, inr, refl, sym, ap, ◌∙◌, subst, arith}
 use Rattle.std.specs.Prelude.{◌==◌, nat_lt}
 use Rattle.std.specs.List.{All, AllPass, position_or_len, before_first, enumerate_from, filter, slice_split}
 use Rattle.std.proofs.lemmas.Bool.{cases_lt, cond-true, cond-false, eqb-true, eqb-false, lt-ltb, le-ltb, ltb-true, and_parts, false_from_ne_true}
@@ -127,9 +127,14 @@ predictor-made precision shift cs h = rw (fields-from precision shift cs h) refl
 pub predictor-none : (precision shift : ℕ) (cs : List ℤ) → (AreFields precision shift cs → ⊥) → predictor_with precision shift cs ≡ None
 predictor-none precision shift cs h = rw (false_from_ne_true _ (λ e. h (fields-to precision shift cs e))) refl
 
-pub line-read : (all rest cs : List ℤ) (y z : ℤ) (precision shift : ℕ) (r : Option (List Chooses)) → all ≡ y ∷ rest → rest ≡ z ∷ cs →
-    natural y ≡ Some precision → natural z ≡ Some shift → predictor_with precision shift cs ≡ r → line_of all ≡ r
-line-read all rest cs y z precision shift r one two p s e = rw one (rw two (rw p (rw s e)))
+pub line-read : (all : List ℤ) (precision shift : ℕ) (r : Option (List Chooses)) → 2 ≤ length all → natural (get_or all 0 (pos 0)) ≡ Some precision → natural (get_or all 1 (pos 0)) ≡ Some shift →
+    predictor_with precision shift (take (length all - 2) (drop 2 all)) ≡ r → line_of all ≡ r
+line-read [] precision shift r two p s e = absurd (omega arith)
+line-read (y ∷ []) precision shift r two p s e = absurd (omega arith)
+line-read (y ∷ z ∷ cs) precision shift r two p s e =
+    let a : natural y ≡ Some precision = p in
+    let b : natural z ≡ Some shift = s in
+    rw a (rw b (subst (λ l. predictor_with precision shift l ≡ r) (take_all (length (y ∷ z ∷ cs) - 2) cs (omega arith)) e))
 
 pub lines-next : (ls : List (List ℕ)) (i n : ℕ) (l : List ℕ) (found new : List Chooses) → i < length ls → l ≡ get_or ls i l → line_in l ≡ Some new →
     lines_after n found (drop i ls) ≡ lines_after (n + 1) (found ++ new) (drop (i + 1) ls)

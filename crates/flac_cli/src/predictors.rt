@@ -64,8 +64,8 @@ fn natural_in(word: &[u8]) -> Option<u32>
 fn number_in(word: &[u8]) -> Option<i32>
     ensures { result ≡ number_in word.now }
 {
-    if !word.is_empty() && word[0] == b'-' {
-        let number = natural_in(&word[1..])?;
+    if let [b'-', digits @ ..] = word {
+        let number = natural_in(digits)?;
         return Some(-(number as i32));
     }
     let number = natural_in(word)?;
@@ -124,11 +124,12 @@ enum Line {
 fn line_of(numbers: &[i32]) -> Line
     ensures { found_in result ≡ line_of numbers.now }
 {
-    let Some((precision, numbers)) = numbers.split_first() else {
-        return Line::Blank;
-    };
-    let Some((shift, coefficients)) = numbers.split_first() else {
-        return Line::Wrong;
+    let [precision, shift, coefficients @ ..] = numbers else {
+        return if numbers.is_empty() {
+            Line::Blank
+        } else {
+            Line::Wrong
+        };
     };
     let Some(precision) = natural(*precision) else {
         return Line::Wrong;

@@ -5,10 +5,10 @@ use Rattle.flac_cli.proofs.predictors.line_of.Goals as goal
 
 pub returns-in-Some-new : goal.returns-in-Some-new
 returns-in-Some-new c =
-    sym (line-read c.args.numbers.now c.in-Some.numbers.now c.in-Some-split_first.coefficients.now c.in-Some.precision.now c.in-Some-split_first.shift.now c.in-Some-natural.precision c.in-Some-natural-2.shift _ (search rules) (search rules) (search rules) (search rules)
+    sym (line-read c.args.numbers.now c.in-Some.precision c.in-Some-natural.shift _ c.in-len2-up.len_at_least (search rules) (search rules)
     (predictor-made _ _ _ (search (rules, c.in-Some-new.ensures.only)) ∙ ap (λ p. Some (p ∷ [])) (sym c.in-Some-new.ensures.some)))
 
 pub returns-in-None : goal.returns-in-None
 returns-in-None c =
-    sym (line-read c.args.numbers.now c.in-Some.numbers.now c.in-Some-split_first.coefficients.now c.in-Some.precision.now c.in-Some-split_first.shift.now c.in-Some-natural.precision c.in-Some-natural-2.shift _ (search rules) (search rules) (search rules) (search rules)
+    sym (line-read c.args.numbers.now c.in-Some.precision c.in-Some-natural.shift _ c.in-len2-up.len_at_least (search rules) (search rules)
     (predictor-none _ _ _ (λ h. false≢true (c.in-None.ensures.only.1 h))))
