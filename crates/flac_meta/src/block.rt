@@ -237,16 +237,16 @@ fn read_content<R: Source>(
     ensures spare { result ≡ Err Why.Memory → bits.old.known ≡ true → bits.new.errors ≡ bits.old.errors → (bits.old.cursor.mark.short ≡ Why.Memory → ⊥) → 1 < kind }
 {
     match kind {
-        0 => Ok(Block::StreamInfo(read_stream_info(bits)?)),
+        0 => read_stream_info(bits).map(Block::StreamInfo),
         1 => {
             skip_bytes(bits, length)?;
             Ok(Block::Padding(length))
         }
         2 => read_application(alloc, bits, length),
-        3 => Ok(Block::SeekTable(read_seek_table(alloc, bits, length / 18)?)),
-        4 => Ok(Block::VorbisComment(read_comments(alloc, bits, length)?)),
-        5 => Ok(Block::CueSheet(read_cue_sheet(alloc, bits, length)?)),
-        6 => Ok(Block::Picture(read_picture(alloc, bits, length)?)),
+        3 => read_seek_table(alloc, bits, length / 18).map(Block::SeekTable),
+        4 => read_comments(alloc, bits, length).map(Block::VorbisComment),
+        5 => read_cue_sheet(alloc, bits, length).map(Block::CueSheet),
+        6 => read_picture(alloc, bits, length).map(Block::Picture),
         _ => {
             let bytes = read_raw(alloc, bits, length)?;
             Ok(Block::Other { kind, bytes })

@@ -189,24 +189,19 @@ fn read_track<R: Source>(alloc: Global, bits: &mut BitReader<R>, left: u32) -> R
     if left < 35 {
         return Err(too_short(bits, left));
     }
-    let TrackFront {
-        offset,
-        number,
-        isrc,
-        audio,
-        pre_emphasis,
-    } = read_track_front(bits)?;
+    let front = read_track_front(bits)?;
+    let isrc = front.isrc;
     let count = read_count(bits, left - 35)?;
     if left - 36 < 12 * count as u32 {
         return Err(Why::BlockLength);
     }
     let indices = read_indices(alloc, bits, count)?;
     Ok(CueTrack {
-        offset,
-        number,
+        offset: front.offset,
+        number: front.number,
         isrc,
-        audio,
-        pre_emphasis,
+        audio: front.audio,
+        pre_emphasis: front.pre_emphasis,
         indices,
     })
 }
