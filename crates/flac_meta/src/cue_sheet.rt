@@ -293,9 +293,23 @@ pub(crate) fn read_cue_sheet<R: Source>(
 fn put_index<W: Target>(writer: &mut BitWriter<W>, index: &CueIndex) -> Result<(), Why>
     ensures { Writes (index_spelling index.now) writer.old writer.new result }
 {
-    writer.put(64, index.offset)?;
-    writer.put(8, index.number as u64)?;
-    put_zeros(writer, 8 * 3)
+    put_fields(
+        writer,
+        &[
+            Field {
+                bits: 64,
+                value: index.offset,
+            },
+            Field {
+                bits: 8,
+                value: index.number as u64,
+            },
+            Field {
+                bits: 8 * 3,
+                value: 0,
+            },
+        ],
+    )
 }
 
 /// Writes the index points of a track.
@@ -334,9 +348,17 @@ fn put_track_flags<W: Target>(writer: &mut BitWriter<W>, track: &CueTrack) -> Re
                 bits: 1,
                 value: emphasis,
             },
+            // 6 bits and 13 bytes are reserved
+            Field {
+                bits: 6 + 8 * 5,
+                value: 0,
+            },
+            Field {
+                bits: 8 * 8,
+                value: 0,
+            },
         ],
-    )?;
-    put_zeros(writer, 6 + 8 * 13)
+    )
 }
 
 /// Writes a track (RFC 9639, section 8.7.1).

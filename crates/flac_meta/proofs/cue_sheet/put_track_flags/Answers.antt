@@ -1,15 +1,18 @@
-use Rattle.std.proofs.Common.{◌+◌, ◌*◌, ◌∷◌, [], refl}
-use Rattle.std.proofs.lemmas.Result.{err_from_is_err_and}
+use Rattle.std.proofs.Common.{◌≡◌, ℕ, ◌+◌, ◌*◌, ◌∷◌, [], ◌++◌, sym, ap, subst, ◌∙◌, append_assoc}
+use Rattle.flac_bits.specs.Bits.{unsigned}
 use Rattle.flac_bits.specs.Forms.{joined}
-use Rattle.flac_bits.proofs.Writing.{towards_start, towards_more, towards_fail}
-use Rattle.flac_meta.specs.Spelling as s
-use Rattle.flac_meta.proofs.Steps.{fields_are, towards_done}
+use Rattle.flac_bits.specs.Written.{Writes}
+use Rattle.flac_meta.specs.Spelling.{zero_bits, each_spelled}
+use Rattle.flac_meta.proofs.Steps.{zeros_are, zeros_first}
 use Rattle.flac_meta.proofs.cue_sheet.put_track_flags.Goals as goal
 
-pub returns-in_err-put_fields : goal.returns-in_err-put_fields
-returns-in_err-put_fields g c =
-    let p = err_from_is_err_and c.from_residual.result c.from_residual.ensures.1 in
-    rw (p.1, p.2, ← c.flag-data.ensures.value, ← c.flag-emphasis.ensures.value) (towards_fail _ (joined (s.zero_bits (6 + 8 * 13) ∷ [])) (fields_are _ (joined (s.zero_bits (6 + 8 * 13) ∷ [])) _ refl) (towards_start _ c.args.writer.now) c.in_err-put_fields.ensures)
+-- the reserved bits as two fields
+flags_are : (kind emphasis : ℕ) → unsigned 1 kind ++ (unsigned 1 emphasis ++ (unsigned 46 0 ++ (unsigned 64 0 ++ []))) ≡ joined (unsigned 1 kind ∷ unsigned 1 emphasis ∷ zero_bits (6 + 8 * 13) ∷ [])
+flags_are kind emphasis =
+    let zeros : zero_bits (6 + 8 * 13) ≡ unsigned 46 0 ++ unsigned 64 0 = zeros_first 110 ∙ ap (λ z. unsigned 46 0 ++ z) (sym (zeros_are 64)) in
+    ap (λ z. unsigned 1 kind ++ (unsigned 1 emphasis ++ z)) (sym (append_assoc (unsigned 46 0) (unsigned 64 0) []) ∙ ap (λ z. z ++ []) (sym zeros))
 
 pub returns : goal.returns
-returns g c = rw (← c.flag-data.ensures.value, ← c.flag-emphasis.ensures.value) (towards_done (s.zero_bits (6 + 8 * 13)) c.put_zeros.new.writer c.put_zeros.result (towards_more (joined (s.zero_bits (6 + 8 * 13) ∷ [])) (fields_are _ (joined (s.zero_bits (6 + 8 * 13) ∷ [])) _ refl) (towards_start _ c.args.writer.now) c.in_ok-put_fields.ensures) c.put_zeros.ensures)
+unfolding each_spelled
+returns g c = rw (← c.flag-data.ensures.value, ← c.flag-emphasis.ensures.value)
+    (subst (λ t. Writes t c.args.writer.now c.put_fields.new.writer c.put_fields.result) (flags_are c.flag-data.result c.flag-emphasis.result) c.put_fields.ensures)

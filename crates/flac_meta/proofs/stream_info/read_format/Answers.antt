@@ -1,8 +1,9 @@
 use Rattle.std.proofs.lemmas.Result.{err_from_is_err_and}
 use Rattle.flac_bits.proofs.Counting.{answered_then, failed_then}
-use Rattle.std.proofs.Common.{rules, refl}
+use Rattle.std.proofs.Common.{refl}
 use Rattle.flac_bits.proofs.Telling.{told_then, told_fault}
 use Rattle.flac_meta.specs.Info.{info_format}
+use Rattle.flac_meta.proofs.Exits.{spends_then}
 use Rattle.flac_meta.proofs.stream_info.read_format.Goals as goal
 
 pub returns-in_err-channels-clause-reading : goal.returns-in_err-channels-clause-reading
@@ -38,7 +39,8 @@ returns-in_err-total-clause-reading g c =
 pub returns-clause-reading : goal.returns-clause-reading
 unfolding info_format
 returns-clause-reading g c = record {
-  spends = search rules;
+  spends = spends_then 20 0 c.args.bits.now.most c.take.new.self.most c.take-4.new.self.most c.in_ok-rate.ensures.reading.spends (spends_then 3 0 c.take.new.self.most c.take-2.new.self.most c.take-4.new.self.most c.in_ok-channels.ensures.reading.spends
+      (spends_then 5 36 c.take-2.new.self.most c.take-3.new.self.most c.take-4.new.self.most c.in_ok-depth.ensures.reading.spends c.in_ok-total.ensures.reading.spends));
   counts = answered_then c.args.bits.now c.take.new.self c.take-4.new.self c.in_ok-rate.ensures.reading.counts (answered_then c.take.new.self c.take-2.new.self c.take-4.new.self c.in_ok-channels.ensures.reading.counts (answered_then c.take-2.new.self c.take-3.new.self c.take-4.new.self c.in_ok-depth.ensures.reading.counts c.in_ok-total.ensures.reading.counts));
   reads = told_then c.args.bits.now c.take.new.self c.take-4.new.self _ c.in_ok-rate.ensures.reading.counts c.in_ok-rate.ensures.reading.reads (told_then c.take.new.self c.take-2.new.self c.take-4.new.self _ c.in_ok-channels.ensures.reading.counts c.in_ok-channels.ensures.reading.reads (told_then c.take-2.new.self c.take-3.new.self c.take-4.new.self _ c.in_ok-depth.ensures.reading.counts c.in_ok-depth.ensures.reading.reads (told_then c.take-3.new.self c.take-4.new.self c.take-4.new.self _ c.in_ok-total.ensures.reading.counts c.in_ok-total.ensures.reading.reads (λ known same. refl))));
 }

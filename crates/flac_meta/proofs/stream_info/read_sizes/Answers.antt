@@ -1,8 +1,9 @@
 use Rattle.std.proofs.lemmas.Result.{err_from_is_err_and}
 use Rattle.flac_bits.proofs.Counting.{answered_then, failed_then}
-use Rattle.std.proofs.Common.{rules, refl}
+use Rattle.std.proofs.Common.{refl}
 use Rattle.flac_bits.proofs.Telling.{told_then, told_fault}
 use Rattle.flac_meta.specs.Info.{info_sizes}
+use Rattle.flac_meta.proofs.Exits.{spends_then}
 use Rattle.flac_meta.proofs.stream_info.read_sizes.Goals as goal
 
 pub returns-in_err-greatest_block-clause-reading : goal.returns-in_err-greatest_block-clause-reading
@@ -38,7 +39,8 @@ returns-in_err-greatest_frame-clause-reading g c =
 pub returns-clause-reading : goal.returns-clause-reading
 unfolding info_sizes
 returns-clause-reading g c = record {
-  spends = search rules;
+  spends = spends_then 16 0 c.args.bits.now.most c.take.new.self.most c.take-4.new.self.most c.in_ok-least_block.ensures.reading.spends (spends_then 16 0 c.take.new.self.most c.take-2.new.self.most c.take-4.new.self.most c.in_ok-greatest_block.ensures.reading.spends
+      (spends_then 24 24 c.take-2.new.self.most c.take-3.new.self.most c.take-4.new.self.most c.in_ok-least_frame.ensures.reading.spends c.in_ok-greatest_frame.ensures.reading.spends));
   counts = answered_then c.args.bits.now c.take.new.self c.take-4.new.self c.in_ok-least_block.ensures.reading.counts (answered_then c.take.new.self c.take-2.new.self c.take-4.new.self c.in_ok-greatest_block.ensures.reading.counts (answered_then c.take-2.new.self c.take-3.new.self c.take-4.new.self c.in_ok-least_frame.ensures.reading.counts c.in_ok-greatest_frame.ensures.reading.counts));
   reads = told_then c.args.bits.now c.take.new.self c.take-4.new.self _ c.in_ok-least_block.ensures.reading.counts c.in_ok-least_block.ensures.reading.reads (told_then c.take.new.self c.take-2.new.self c.take-4.new.self _ c.in_ok-greatest_block.ensures.reading.counts c.in_ok-greatest_block.ensures.reading.reads (told_then c.take-2.new.self c.take-3.new.self c.take-4.new.self _ c.in_ok-least_frame.ensures.reading.counts c.in_ok-least_frame.ensures.reading.reads (told_then c.take-3.new.self c.take-4.new.self c.take-4.new.self _ c.in_ok-greatest_frame.ensures.reading.counts c.in_ok-greatest_frame.ensures.reading.reads (λ known same. refl))));
 }
