@@ -331,12 +331,14 @@ fn put_track_front<W: Target>(writer: &mut BitWriter<W>, track: &CueTrack) -> Re
     writer.put_bytes(&track.isrc)
 }
 
-/// Writes the flags of a track and the reserved bits after them.
+/// Writes the flags of a track, the reserved bits after them, and how many index points it has.
 fn put_track_flags<W: Target>(writer: &mut BitWriter<W>, track: &CueTrack) -> Result<(), Why>
-    ensures { Writes (joined (unsigned 1 (bit_value (not track.now.audio)) ∷ unsigned 1 (bit_value track.now.pre_emphasis) ∷ zero_bits (6 + 8 * 13) ∷ [])) writer.old writer.new result }
+    requires { length track.now.indices ≤ 255 }
+    ensures { Writes (joined (unsigned 1 (bit_value (not track.now.audio)) ∷ unsigned 1 (bit_value track.now.pre_emphasis) ∷ zero_bits (6 + 8 * 13) ∷ unsigned 8 (length track.now.indices) ∷ [])) writer.old writer.new result }
 {
     let data = flag(!track.audio);
     let emphasis = flag(track.pre_emphasis);
+    let count = track.indices.len();
     put_fields(
         writer,
         &[
@@ -357,6 +359,10 @@ fn put_track_flags<W: Target>(writer: &mut BitWriter<W>, track: &CueTrack) -> Re
                 bits: 8 * 8,
                 value: 0,
             },
+            Field {
+                bits: 8,
+                value: count as u64,
+            },
         ],
     )
 }
@@ -366,11 +372,9 @@ fn put_track<W: Target>(writer: &mut BitWriter<W>, track: &CueTrack) -> Result<(
     requires { length track.now.indices ≤ 255 }
     ensures { Writes (track_spelling track.now) writer.old writer.new result }
 {
-    let indices = track.indices.as_slice();
     put_track_front(writer, track)?;
     put_track_flags(writer, track)?;
-    writer.put(8, indices.len() as u64)?;
-    put_indices(writer, indices)
+    put_indices(writer, track.indices.as_slice())
 }
 
 /// Writes the tracks of a cue sheet.

@@ -1,4 +1,4 @@
-use Rattle.std.proofs.Common.{List, [], ◌∷◌, ◌≡◌, ◌∙◌, ◌+◌, ◌*◌, ◌≤◌, sym, ap, subst, length, ℕ, All, arith}
+use Rattle.std.proofs.Common.{List, [], ◌∷◌, ◌≡◌, ◌∙◌, ◌+◌, ◌*◌, ◌<◌, ◌≤◌, sym, ap, subst, length, ℕ, All, arith}
 use Rattle.std.proofs.lemmas.List.{with_items_is, length-take-le}
 use Rattle.std.specs.Vec.{with_items}
 use Rattle.flac_bits.specs.Signed.{FitsBits}
@@ -10,7 +10,7 @@ use Rattle.flac_frame.specs.Chosen.{AllWide}
 use Rattle.flac_frame.specs.Encoding.{block_of, partition_limit}
 use Rattle.flac_frame.specs.inner.Pair.{ArePlanes}
 use Rattle.flac_frame.proofs.PairLeast.{pair_choice}
-use Rattle.flac_frame.proofs.Rooms.{as_few, quarter}
+use Rattle.flac_frame.proofs.Rooms.{as_few, some_of, quarter}
 use Rattle.flac_frame.proofs.Sounds.{depth_small}
 use Rattle.flac_frame.proofs.pair.choose_pair.Goals as goal
 
@@ -23,6 +23,9 @@ third_room n all a b room first second = omega arith
 
 fourth_room : (n all a b d : ℕ) → 4 * n ≤ all → a + n ≡ all → b + n ≡ a → d + n ≡ b → n ≤ d
 fourth_room n all a b d room first second third = omega arith
+
+at_least_one : (n : ℕ) → 0 < n → 1 ≤ n
+at_least_one n some = omega arith
 
 pub split_at_mut-left-requires : goal.split_at_mut-left-requires
 split_at_mut-left-requires c = quarter _ _ c.requires.places
@@ -74,9 +77,10 @@ invariant_of-planes c =
     let a = c.args.subject.now.audio.now in
     let some = c.args.subject.now.some in
     let is = sym c.bits-depth.ensures in
+    let left_long = s.auto.left ∙ c.split_at_mut-left.ensures.front_len in
     record {
-      some = omega (arith, some, s.auto.left, c.split_at_mut-left.ensures.front_len);
-      long = omega (arith, s.auto.left, s.auto.right, c.split_at_mut-left.ensures.front_len, c.split_at_mut-right.ensures.front_len);
+      some = some_of _ _ left_long some;
+      long = s.auto.right ∙ c.split_at_mut-right.ensures.front_len ∙ sym left_long;
       sides = s.ensures.side;
       middles = s.ensures.middle;
       deep = rw c.bits-depth.ensures (depth_small a.profile a.bits c.channels-channels.ensures.sound.bits);
@@ -94,14 +98,14 @@ returns-clause-chosen c =
     let made : FrameChoice = record { code = c.code-code.result; bits = k.result.1; subframes = with_items c.args.choice.now.subframes c.keep.new.places } in
     let back : made.subframes.items ≡ c.keep.new.places = with_items_is c.args.choice.now.subframes c.keep.new.places (c.keep.auto.places ∙ ap length c.deref_mut.ensures.value ∙ sym c.args.choice.now.subframes.ok.0) in
     let planes = subst (λ b. ArePlanes (partition_limit a) c.args.subject.now.predictors.now b s.new.left s.new.right k.new.choices) c.bits-depth.ensures k.ensures.planes in
-    let long : length s.new.left ≡ n = omega (arith, s.auto.left, c.split_at_mut-left.ensures.front_len) in
-    let right_long : length s.new.right ≡ length s.new.left = omega (arith, s.auto.left, s.auto.right, c.split_at_mut-left.ensures.front_len, c.split_at_mut-right.ensures.front_len) in
+    let long : length s.new.left ≡ n = s.auto.left ∙ c.split_at_mut-left.ensures.front_len in
+    let right_long : length s.new.right ≡ length s.new.left = s.auto.right ∙ c.split_at_mut-right.ensures.front_len ∙ sym long in
     let front : length c.split_at_mut-left.result.0.now ≡ n = c.split_at_mut-left.ensures.front_len in
     let block : s.new.left ∷ s.new.right ∷ [] ≡ block_of c.args.subject.now.start n a.channels = s.ensures.block ∙ ap (λ (m : ℕ). block_of c.args.subject.now.start m a.channels) front in
     pair_choice c.args.subject.now.predictors.now a c.args.subject.now.number n s.new.left s.new.right (block_of c.args.subject.now.start n a.channels) k.new.choices (code_of k.result.0) planes k.ensures.best c.channels-channels.ensures.sound c.requires.orders
-    (omega (arith, c.args.subject.now.some)) c.args.subject.now.few long right_long s.ensures.left_fits s.ensures.right_fits block
+    (at_least_one n c.args.subject.now.some) c.args.subject.now.few long right_long s.ensures.left_fits s.ensures.right_fits block
     c.profile.result c.rate.result c.bits-depth.result c.chosen_in-header.result c.profile.ensures c.rate.ensures c.bits-depth.ensures (rw c.code-code.ensures.code at c.chosen_in-header.ensures.chosen) c.chosen_in-header.ensures.valid c.requires.number
-    made old (omega (arith, c.requires.choices.many, ap length c.deref_mut.ensures.value)) c.code-code.ensures.code (back ∙ c.keep.ensures.kept) k.ensures.bits
+    made old (subst (λ (l : List WideChoice). 2 ≤ length l) (sym c.deref_mut.ensures.value) c.requires.choices.many) c.code-code.ensures.code (back ∙ c.keep.ensures.kept) k.ensures.bits
 
 pub returns-clause-wide : goal.returns-clause-wide
 returns-clause-wide c = (c.keep.ensures.wide c.args.workspace.now.most c.choose_planes-assignment.ensures.wide (subst (λ l. AllWide c.args.workspace.now.most l) (sym c.deref_mut.ensures.value) c.requires.choices.wide)).0
@@ -113,6 +117,6 @@ returns-clause-choices c =
     let back : made.subframes.items ≡ c.keep.new.places = with_items_is c.args.choice.now.subframes c.keep.new.places (c.keep.auto.places ∙ ap length c.deref_mut.ensures.value ∙ sym c.args.choice.now.subframes.ok.0) in
     let wide = (c.keep.ensures.wide most c.choose_planes-assignment.ensures.wide (subst (λ l. AllWide most l) (sym c.deref_mut.ensures.value) c.requires.choices.wide)).1 in
     record {
-      many = omega (arith, c.requires.choices.many, ap length back, c.keep.auto.places, ap length c.deref_mut.ensures.value);
+      many = subst (λ n. 2 ≤ n) (sym (ap length back ∙ c.keep.auto.places ∙ ap length c.deref_mut.ensures.value)) c.requires.choices.many;
       wide = subst (λ (l : List WideChoice). AllWide most l) (sym back) wide;
     }
