@@ -39,6 +39,15 @@ more_bits bits more i few one = omega arith
 sum_fits : (bits more own i n : ℕ) → bits ≤ i * 2097160 → more ≡ own → own ≤ 2 ^ 61 → i < n → n ≤ 8 → Fits w64 (bits + more)
 sum_fits bits more own i n few is small lt many = omega arith
 
+-- where a channel's choice is, of 88 bytes each
+offset_fits : (i n : ℕ) → i < n → n ≤ 8 → Fits w64 (i * 88)
+offset_fits i n lt few = omega arith
+
+pub offset_bounds-subframes-i : goal.offset_bounds-subframes-i
+offset_bounds-subframes-i c =
+    let e = c.channels-channels.ensures in
+    offset_fits _ _ c.loop-i-test.true (few_channels (λ v. v.items) c.channels-channels.result.now c.args.subject.now.audio.now e.sound e.items).1
+
 pub bounds-subframes-i : goal.bounds-subframes-i
 bounds-subframes-i c =
     let e = c.channels-channels.ensures in

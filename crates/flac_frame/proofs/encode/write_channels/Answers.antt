@@ -1,4 +1,4 @@
-use Rattle.std.proofs.Common.{◌≡◌, ◌∙◌, refl, ap, sym, subst, ◌+◌, ◌++◌, ◌<◌, ◌≤◌, length, take, drop, get_or, [], ℕ, All}
+use Rattle.std.proofs.Common.{◌≡◌, ◌∙◌, refl, ap, sym, subst, ◌+◌, ◌*◌, ◌++◌, ◌<◌, ◌≤◌, length, take, drop, get_or, [], ℕ, All, Fits, w64, arith}
 use Rattle.std.proofs.lemmas.Result.{err_from_is_err_and}
 use borrow.Author.Count.{falls}
 use Rattle.flac_bits.specs.Signed.{FitsBits}
@@ -11,7 +11,7 @@ use Rattle.flac_frame.specs.Chosen.{AreMade}
 use Rattle.flac_frame.specs.Encoding.{block_of}
 use Rattle.flac_frame.proofs.Chosen.{made_next, text_next, text_behind, text_last, texts_same}
 use Rattle.flac_frame.proofs.Encoded.{failed}
-use Rattle.flac_frame.proofs.Frames.{many_channels, part_small, bits_small}
+use Rattle.flac_frame.proofs.Frames.{many_channels, few_channels, part_small, bits_small}
 use Rattle.flac_frame.proofs.Rooms.{below_33, few_of, room_for, some_of, in_reach}
 use Rattle.flac_frame.proofs.encode.write_channels.Goals as goal
 
@@ -23,6 +23,15 @@ loop-i-init g c =
       towards = towards_start _ _;
       room = refl;
     }
+
+-- where a channel's choice is, of 88 bytes each
+offset_fits : (i n : ℕ) → i < n → n ≤ 8 → Fits w64 (i * 88)
+offset_fits i n lt few = omega arith
+
+pub offset_bounds-subframes-i : goal.offset_bounds-subframes-i
+offset_bounds-subframes-i g c =
+    let e = c.channels-channels.ensures in
+    offset_fits _ _ c.loop-i-test.true (few_channels (λ v. v.items) c.channels-channels.result.now c.args.subject.now.audio.now e.sound e.items).1
 
 pub bounds-subframes-i : goal.bounds-subframes-i
 bounds-subframes-i g c =

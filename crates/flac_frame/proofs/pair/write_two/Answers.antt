@@ -1,13 +1,42 @@
-use Rattle.std.proofs.Common.{[], ◌∷◌, ◌∙◌, ap, sym, subst, arith}
+use Rattle.std.proofs.Common.{◌≡◌, ℕ, ◌+◌, ◌<◌, ◌≤◌, All, [], ◌∷◌, ◌∙◌, refl, ap, sym, subst, arith}
 use Rattle.std.proofs.lemmas.Result.{err_from_is_err_and}
+use Rattle.flac_bits.specs.Signed.{FitsBits}
 use Rattle.flac_bits.specs.Written.{Writes}
+use Rattle.flac_subframe.specs.Room.{Room}
 use Rattle.flac_bits.proofs.Writing.{fails_first, writes_then}
 use Rattle.flac_frame.specs.Chosen.{AreMade}
 use Rattle.flac_frame.specs.Frame.{side_bit}
 use Rattle.flac_frame.proofs.Chosen.{first_made, second_made, pair_texts}
 use Rattle.flac_frame.proofs.Encoded.{failed}
+use Rattle.flac_frame.proofs.Rooms.{some_of, room_for}
 use Rattle.flac_frame.proofs.Sounds.{depth_small}
 use Rattle.flac_frame.proofs.pair.write_two.Goals as goal
+
+-- the depth of what a channel assignment keeps
+same_depth : (bits side depth own : ℕ) → depth ≡ bits → own ≡ side → bits + side ≡ depth + own
+same_depth bits side depth own is same = rw (is, same) refl
+
+pub write_subframe_in-requires-clause-some : goal.write_subframe_in-requires-clause-some
+write_subframe_in-requires-clause-some g c = c.requires.some
+
+pub write_subframe_in-requires-clause-block : goal.write_subframe_in-requires-clause-block
+write_subframe_in-requires-clause-block g c = c.requires.block
+
+pub write_subframe_in-requires-clause-fits : goal.write_subframe_in-requires-clause-fits
+write_subframe_in-requires-clause-fits g c =
+    let side = c.side_bit.ensures.bit ∙ ap (λ k. side_bit k 0) c.assignment-assignment.ensures.code in
+    subst (λ d. All (FitsBits d) c.args.first.now) (same_depth _ _ _ _ c.bits-depth.ensures side) c.requires.first_fits
+
+pub write_subframe_in-requires-2-clause-some : goal.write_subframe_in-requires-2-clause-some
+write_subframe_in-requires-2-clause-some g c = some_of _ _ c.requires.second c.requires.some
+
+pub write_subframe_in-requires-2-clause-block : goal.write_subframe_in-requires-2-clause-block
+write_subframe_in-requires-2-clause-block g c = room_for _ _ _ _ c.requires.second (ap (λ (r : Room). r.block) c.in_ok-write_subframe_in.ensures.room) c.requires.block
+
+pub write_subframe_in-requires-2-clause-fits : goal.write_subframe_in-requires-2-clause-fits
+write_subframe_in-requires-2-clause-fits g c =
+    let side = c.side_bit-2.ensures.bit ∙ ap (λ k. side_bit k 1) c.assignment-assignment.ensures.code in
+    subst (λ d. All (FitsBits d) c.args.second.now) (same_depth _ _ _ _ c.bits-depth.ensures side) c.requires.second_fits
 
 pub overflow_add-left_depth : goal.overflow_add-left_depth
 overflow_add-left_depth g c = let a = c.args.subject.now.audio.now in omega (arith, depth_small a.profile a.bits c.channels-channels.ensures.sound.bits, c.bits-depth.ensures, c.side_bit.ensures.small)
