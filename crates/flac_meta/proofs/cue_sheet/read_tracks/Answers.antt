@@ -1,4 +1,4 @@
-use Rattle.std.proofs.Common.{◌+◌, ◌-◌, ◌*◌, ◌++◌, ◌∷◌, [], length, refl, ap}
+use Rattle.std.proofs.Common.{◌≡◌, ℕ, ◌+◌, ◌-◌, ◌*◌, ◌^◌, ◌<◌, ◌≤◌, ◌++◌, ◌∷◌, [], length, Fits, w32, refl, ap, arith}
 use Rattle.std.proofs.lemmas.Result.{err_from_is_err_and}
 use Rattle.flac_bits.specs.State.{Cursor}
 use Rattle.flac_bits.specs.Layout.{run, and_then}
@@ -11,6 +11,37 @@ use Rattle.flac_meta.specs.declared.cue_sheet.CueTrack.{CueTrack}
 use Rattle.flac_meta.proofs.Exits.{had_room, same_room, less_left, spends_turn, spends_none, gone_is}
 use Rattle.flac_meta.proofs.Turns.{tracks_more, tracks_same, tracks_last, tracks_left}
 use Rattle.flac_meta.proofs.cue_sheet.read_tracks.Goals as goal
+
+-- the bytes of a track that was read
+track_fits : (n own left : ℕ) → n ≡ own → 36 + 12 * own ≤ left → 36 + 12 * n ≤ left
+track_fits n own left is fits = omega arith
+
+few_left : (left most : ℕ) → left ≤ most → most < 2 ^ 24 → left < 2 ^ 24
+few_left left most le few = omega arith
+
+size_fits : (n left most : ℕ) → 36 + 12 * n ≤ left → left ≤ most → most < 2 ^ 24 → Fits w32 (36 + 12 * n)
+size_fits n left most fits le few = omega arith
+
+indices_fit : (n left most : ℕ) → 36 + 12 * n ≤ left → left ≤ most → most < 2 ^ 24 → Fits w32 (12 * n)
+indices_fit n left most fits le few = omega arith
+
+number_fits : (n left most : ℕ) → 36 + 12 * n ≤ left → left ≤ most → most < 2 ^ 24 → Fits w32 n
+number_fits n left most fits le few = omega arith
+
+pub read_track-requires : goal.read_track-requires
+read_track-requires g c = few_left _ _ c.loop-i.invariant.0 c.requires
+
+pub overflow_cast-left : goal.overflow_cast-left
+overflow_cast-left g c = number_fits _ _ _ (track_fits _ _ _ (ap length c.as_slice.ensures) c.in_ok-track.ensures.fits) c.loop-i.invariant.0 c.requires
+
+pub overflow_mul-left : goal.overflow_mul-left
+overflow_mul-left g c = indices_fit _ _ _ (track_fits _ _ _ (ap length c.as_slice.ensures) c.in_ok-track.ensures.fits) c.loop-i.invariant.0 c.requires
+
+pub overflow_add-left : goal.overflow_add-left
+overflow_add-left g c = size_fits _ _ _ (track_fits _ _ _ (ap length c.as_slice.ensures) c.in_ok-track.ensures.fits) c.loop-i.invariant.0 c.requires
+
+pub overflow_sub-left : goal.overflow_sub-left
+overflow_sub-left g c = track_fits _ _ _ (ap length c.as_slice.ensures) c.in_ok-track.ensures.fits
 
 pub returns-in_err-track : goal.returns-in_err-track
 returns-in_err-track g c =
