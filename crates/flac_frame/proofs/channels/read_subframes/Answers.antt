@@ -49,6 +49,10 @@ all_of i n p q = omega arith
 as_long : (n m : ℕ) → n ≡ m → n ≤ m
 as_long n m is = omega arith
 
+-- the channels before are within the places
+within_all : (i c n all : ℕ) → i < c → all ≡ c * n → i * n ≤ all
+within_all i c n all lt is = omega (arith, is, part_ends i c n lt)
+
 pub overflow_mul-start : goal.overflow_mul-start
 overflow_mul-start g c = let s = c.args.shape.now in start_fits c.loop-channel.channel s.channels s.block c.loop-channel-test.true s.few s.sized.1
 
@@ -81,7 +85,7 @@ loop-channel-preserved g c =
     let next = turn c.args.bits.now l.bits c.subframe_here.new.bits c.args.shape.now.depth (code_of c.args.assignment) c.args.shape.now.block c.args.shape.now.limits l.fits c.in_ok-subframe_here.field-0 c.if-not-branch.fits l.channel c.args.shape.now.channels l.samples c.subframe_here.new.samples
     (run (subframes c.args.shape.now.depth (code_of c.args.assignment) c.args.shape.now.block c.args.shape.now.limits (Some []) 0 c.args.shape.now.channels) c.args.bits.now.cursor) l.invariant.2 c.loop-channel-test.true long own in
     let reads = rw c.side_bit.ensures.bit at c.in_ok-subframe_here.ensures.reading.reads in
-    let within : l.channel * c.args.shape.now.block ≤ length l.samples = omega (arith, long, part_ends l.channel c.args.shape.now.channels c.args.shape.now.block c.loop-channel-test.true) in
+    let within : l.channel * c.args.shape.now.block ≤ length l.samples = within_all l.channel c.args.shape.now.channels c.args.shape.now.block (length l.samples) c.loop-channel-test.true long in
     elim c.if-not-branch.branch [
       | then-not-branch w ↦ (
         still _ _ _ c.in_ok-subframe_here.ensures.reading.spends l.invariant.0,

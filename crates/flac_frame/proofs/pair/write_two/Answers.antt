@@ -1,4 +1,4 @@
-use Rattle.std.proofs.Common.{◌≡◌, ℕ, ◌+◌, ◌<◌, ◌≤◌, All, [], ◌∷◌, ◌∙◌, refl, ap, sym, subst, arith}
+use Rattle.std.proofs.Common.{◌≡◌, ℕ, ◌+◌, ◌≤◌, All, Fits, w32, [], ◌∷◌, ◌∙◌, refl, ap, sym, subst, arith}
 use Rattle.std.proofs.lemmas.Result.{err_from_is_err_and}
 use Rattle.flac_bits.specs.Signed.{FitsBits}
 use Rattle.flac_bits.specs.Written.{Writes}
@@ -38,23 +38,27 @@ write_subframe_in-requires-2-clause-fits g c =
     let side = c.side_bit-2.ensures.bit ∙ ap (λ k. side_bit k 1) c.assignment-assignment.ensures.code in
     subst (λ d. All (FitsBits d) c.args.second.now) (same_depth _ _ _ _ c.bits-depth.ensures side) c.requires.second_fits
 
+deep_fits : (own depth bit : ℕ) → depth ≡ own → own ≤ 32 → bit ≤ 1 → Fits w32 (depth + bit)
+deep_fits own depth bit is few one = omega arith
+
+deep_33 : (own depth bit : ℕ) → depth ≡ own → (1 ≤ own) × (own ≤ 32) → bit ≤ 1 → (1 ≤ depth + bit) × (depth + bit ≤ 33)
+deep_33 own depth bit is few one = (omega arith, omega arith)
+
 pub overflow_add-left_depth : goal.overflow_add-left_depth
-overflow_add-left_depth g c = let a = c.args.subject.now.audio.now in omega (arith, depth_small a.profile a.bits c.channels-channels.ensures.sound.bits, c.bits-depth.ensures, c.side_bit.ensures.small)
+overflow_add-left_depth g c = let a = c.args.subject.now.audio.now in deep_fits _ _ _ c.bits-depth.ensures (depth_small a.profile a.bits c.channels-channels.ensures.sound.bits).1 c.side_bit.ensures.small
 
 pub overflow_add-right_depth : goal.overflow_add-right_depth
-overflow_add-right_depth g c = let a = c.args.subject.now.audio.now in omega (arith, depth_small a.profile a.bits c.channels-channels.ensures.sound.bits, c.bits-depth.ensures, c.side_bit-2.ensures.small)
+overflow_add-right_depth g c = let a = c.args.subject.now.audio.now in deep_fits _ _ _ c.bits-depth.ensures (depth_small a.profile a.bits c.channels-channels.ensures.sound.bits).1 c.side_bit-2.ensures.small
 
 pub write_subframe_in-requires-clause-depth : goal.write_subframe_in-requires-clause-depth
 write_subframe_in-requires-clause-depth g c =
     let a = c.args.subject.now.audio.now in
-    let deep = depth_small a.profile a.bits c.channels-channels.ensures.sound.bits in
-    (omega (arith, deep.0, c.bits-depth.ensures), omega (arith, deep.1, c.bits-depth.ensures, c.side_bit.ensures.small))
+    deep_33 _ _ _ c.bits-depth.ensures (depth_small a.profile a.bits c.channels-channels.ensures.sound.bits) c.side_bit.ensures.small
 
 pub write_subframe_in-requires-2-clause-depth : goal.write_subframe_in-requires-2-clause-depth
 write_subframe_in-requires-2-clause-depth g c =
     let a = c.args.subject.now.audio.now in
-    let deep = depth_small a.profile a.bits c.channels-channels.ensures.sound.bits in
-    (omega (arith, deep.0, c.bits-depth.ensures), omega (arith, deep.1, c.bits-depth.ensures, c.side_bit-2.ensures.small))
+    deep_33 _ _ _ c.bits-depth.ensures (depth_small a.profile a.bits c.channels-channels.ensures.sound.bits) c.side_bit-2.ensures.small
 
 pub write_subframe_in-requires-clause-made : goal.write_subframe_in-requires-clause-made
 write_subframe_in-requires-clause-made g c =
