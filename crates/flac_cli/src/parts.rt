@@ -6,7 +6,7 @@ use crate::lines::Lines;
 use flac_bits::{Target, Why};
 use hex::encode_to_slice;
 
-/// A part of a line: a text, mostly with a value behind it.
+/// A part of a line: a text, mostly with a value after it.
 #[derive(Clone, Copy)]
 pub(crate) enum Part<'a> {
     /// A text alone.
