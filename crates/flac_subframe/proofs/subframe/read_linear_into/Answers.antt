@@ -1,5 +1,5 @@
 use Rattle.std.proofs.Common.{rules, arith, sym, ◌∙◌, ◌≡◌, length, take, drop, get_or, ◌+◌, ◌-◌, ◌≤◌, ◌<◌, ◌++◌, ℕ, ℤ, List, All, refl}
-use Rattle.std.proofs.lemmas.List.{length-take, length-append, length-take-le, get_or_append_left, get_or-append-add}
+use Rattle.std.proofs.lemmas.List.{length-append, length-take-le, get_or_append_left, get_or-append-add}
 use Rattle.std.specs.List.{AllWithin}
 use Rattle.flac_bits.specs.Signed.{FitsBits}
 use Rattle.flac_subframe.specs.Subframe.{Predictor}
@@ -24,6 +24,9 @@ left_is n out taken size e h = omega arith
 enough_places : (n : ℕ) (made warm_up rest s : List ℤ) → made ≡ warm_up ++ rest → length warm_up ≡ n → n ≤ length s → n ≤ length made
 enough_places n made warm_up rest s e long within = rw (e, length-append) (omega arith)
 
+same_size : (a b n : ℕ) → a ≡ n → b ≡ n → a ≤ b
+same_size a b n e f = omega arith
+
 left_of : (n m : ℕ) → n < m → n ≤ m
 left_of n m h = omega arith
 
@@ -39,8 +42,8 @@ returns-in_err-signed_partition g c =
         reads = λ known same.
             let n = length c.args.coefficients.now in
             let s = c.args.samples.now in
-            let within : n ≤ length s = omega (arith, c.requires.places.0) in
-            let front : length (take n s) ≡ n = omega (arith, length-take n s) in
+            let within : n ≤ length s = left_of _ _ c.requires.places.0 in
+            let front = length-take-le n s within in
             linear_fails_first c.args.depth (length s) c.args.limit n c.args.bits.now.cursor _ (rw front at (c.in_err-signed_partition.ensures.reading.reads known same));
       };
     })
@@ -57,8 +60,8 @@ returns-in_err-_precision g c =
         reads = λ known same.
             let n = length c.args.coefficients.now in
             let s = c.args.samples.now in
-            let within : n ≤ length s = omega (arith, c.requires.places.0) in
-            let front : length (take n s) ≡ n = omega (arith, length-take n s) in
+            let within : n ≤ length s = left_of _ _ c.requires.places.0 in
+            let front = length-take-le n s within in
             let counts = c.in_ok-signed_partition.ensures.reading.counts in
             let warm = rw front at (c.in_ok-signed_partition.ensures.reading.reads known counts.1) in
             linear_fails_next c.args.depth (length s) c.args.limit n c.args.bits.now.cursor c.signed_partition.new.self.cursor c.signed_partition.new.values warm _
@@ -78,8 +81,8 @@ returns-in_err-read_residual g c =
         reads = λ known same.
             let n = length c.args.coefficients.now in
             let s = c.args.samples.now in
-            let within : n ≤ length s = omega (arith, c.requires.places.0) in
-            let front : length (take n s) ≡ n = omega (arith, length-take n s) in
+            let within : n ≤ length s = left_of _ _ c.requires.places.0 in
+            let front = length-take-le n s within in
             let long : length c.signed_partition.new.values ≡ n = c.signed_partition.auto.values ∙ front in
             let size = left_over n c.signed_partition.new.values s long within in
             let counts = c.in_ok-signed_partition.ensures.reading.counts in
@@ -100,11 +103,11 @@ returns-clause-reading g c = record {
   reads = (λ known same.
       let n = length c.args.coefficients.now in
       let s = c.args.samples.now in
-      let within : n ≤ length s = omega (arith, c.requires.places.0) in
-      let front : length (take n s) ≡ n = omega (arith, length-take n s) in
+      let within : n ≤ length s = left_of _ _ c.requires.places.0 in
+      let front = length-take-le n s within in
       let long : length c.signed_partition.new.values ≡ n = c.signed_partition.auto.values ∙ front in
       let size = left_over n c.signed_partition.new.values s long within in
-      let left : length c.read_residual.new.out ≡ length s - n = omega (arith, c.read_residual.auto.out, size) in
+      let left = left_is n _ _ _ c.read_residual.auto.out size in
       let counts = c.in_ok-signed_partition.ensures.reading.counts in
       let after = c.in_ok-_precision.ensures.reading.counts in
       let same_then = after.1 ∙ counts.1 in
@@ -114,7 +117,7 @@ returns-clause-reading g c = record {
       let rest = rw size at (c.in_ok-read_residual.ensures.reading.reads (after.0 (counts.0 known)) (same ∙ sym same_then)) in
       let whole = places_are n c.signed_partition.new.values c.read_residual.new.out s long within left in
       let fits = restored_same c.in_ok-_precision.shift c.args.depth c.read_predictor.new.coefficients c.read_predictor.new.coefficients c.signed_partition.new.values c.read_residual.new.out _ c.restore_linear.new.samples c.restore_linear.result refl whole
-      (omega (arith, c.read_predictor.auto.coefficients, long)) c.restore_linear.ensures.restored c.restore_linear.ensures.fits c.restore_linear.ensures.only in
+      (same_size _ _ _ c.read_predictor.auto.coefficients long) c.restore_linear.ensures.restored c.restore_linear.ensures.fits c.restore_linear.ensures.only in
       linear_read c.args.depth (length s) c.args.limit n c.args.bits.now.cursor c.signed_partition.new.self.cursor c.signed_partition.new.values warm c.read_predictor.new.bits.cursor p chosen c.read_residual.new.bits.cursor c.read_residual.new.out c.restore_linear.new.samples c.restore_linear.result rest fits);
 }
 

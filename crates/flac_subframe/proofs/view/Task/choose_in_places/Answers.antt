@@ -1,4 +1,4 @@
-use Rattle.std.proofs.Common.{arith, ◌≡◌, ◌∙◌, ◌+◌, ◌-◌, ◌*◌, ◌≤◌, ◌<◌, ◌^◌, ℕ, ℤ, List, All, length, map, take, sym}
+use Rattle.std.proofs.Common.{arith, rules, Fits, w64, ◌≡◌, ◌∙◌, ◌+◌, ◌-◌, ◌*◌, ◌≤◌, ◌<◌, ◌^◌, ℕ, ℤ, List, All, length, map, take, sym}
 use Rattle.std.proofs.lemmas.List.{take-append-le, length-take-le, length-map}
 use Rattle.flac_subframe.specs.declared.content.SubframeForm.{SubframeForm}
 use Rattle.flac_subframe.proofs.Places.{power_le}
@@ -22,9 +22,6 @@ narrowed_fit a b e h = rw e h
 some_left : (n m : ℕ) → m ≡ n → 0 < n → 0 < m
 some_left n m e h = rw e h
 
-few_left : (n m : ℕ) → m ≡ n → n ≤ 65535 → m ≤ 65535
-few_left n m e h = rw e h
-
 enough_left : (n m more all : ℕ) → m ≡ n → 2 * n + 256 ≤ all → more + (n + 256) ≡ all → m ≤ more
 enough_left n m more all e h s = omega arith
 
@@ -36,6 +33,18 @@ before a b h = omega arith
 
 as_few : (n m each all priced : ℕ) → m ≡ n → priced ≤ all * (each * m) → priced ≤ all * (each * n)
 as_few n m each all priced e h = rw e at h
+
+short_sum : (n : ℕ) → n ≤ 65535 → Fits w64 (n + 256)
+short_sum n h = search rules
+
+two_thirds : (p n m more : ℕ) → p ≡ n → 3 * n ≤ m → more + p ≡ m → 2 * n ≤ more
+two_thirds p n m more e h s = omega arith
+
+as_long : (p n m : ℕ) → p ≡ n → m ≡ p → n ≤ m
+as_long p n m e f = omega arith
+
+up_to : (n m all : ℕ) → m ≡ n → n ≤ all → m ≤ all
+up_to n m all e h = rw e h
 
 a_third : (p n m : ℕ) → p ≡ n → 3 * n ≤ m → p ≤ m
 a_third p n m e h = omega arith
@@ -99,7 +108,7 @@ split_at_mut-codings-requires c = a_third _ _ _ c.power.ensures c.requires.bytes
 
 pub invariant_of-subject : goal.invariant_of-subject
 invariant_of-subject c = let task = c.args.self.now in record {
-  few = few_left _ _ (same_length _ _ _ c.without_wasted-wasted.ensures.shortened) task.few;
+  few = up_to _ _ _ (same_length _ _ _ c.without_wasted-wasted.ensures.shortened) task.few;
   depth = depth_left task.depth _ task.deep;
   halved = task.halved;
   fits = c.without_wasted-wasted.ensures.fits;
@@ -122,3 +131,22 @@ returns-clause-coarse c = λ few. as_few _ _ 32 _ _ (same_length _ _ _ c.without
 
 pub returns-clause-priced : goal.returns-clause-priced
 returns-clause-priced c = as_few _ _ 93 _ _ (same_length _ _ _ c.without_wasted-wasted.ensures.shortened) c.search_within-priced.ensures.priced
+
+pub search_within-priced-requires-clause-arrays : goal.search_within-priced-requires-clause-arrays
+search_within-priced-requires-clause-arrays c = let same = same_length _ _ _ c.without_wasted-wasted.ensures.shortened in record {
+  wide = enough_left _ _ _ _ same c.requires.longs c.split_at_mut-shortened.ensures.back_len;
+  values = enough_left _ _ _ _ same c.requires.shorts c.split_at_mut-narrowed.ensures.back_len;
+  folds = up_to _ _ _ same c.requires.folds;
+}
+
+pub search_within-priced-requires-clause-widths : goal.search_within-priced-requires-clause-widths
+search_within-priced-requires-clause-widths c = two_thirds _ _ _ _ c.power.ensures c.requires.bytes c.split_at_mut-codings.ensures.back_len
+
+pub search_within-priced-requires-clause-codings : goal.search_within-priced-requires-clause-codings
+search_within-priced-requires-clause-codings c = as_long _ _ _ c.power.ensures c.split_at_mut-codings.ensures.front_len
+
+pub overflow_add-count : goal.overflow_add-count
+overflow_add-count c = short_sum _ c.args.self.now.few
+
+pub overflow_add-count-2 : goal.overflow_add-count-2
+overflow_add-count-2 c = short_sum _ c.args.self.now.few
