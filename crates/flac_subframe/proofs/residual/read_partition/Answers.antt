@@ -34,7 +34,7 @@ unfolding partition escaped coded
 returns-then-parameter-escape-clause-reading g c = record {
   spends = search rules;
   counts = answered_then c.args.bits.now c.take.new.self c.signed_partition.new.self c.in_ok-parameter.ensures.reading.counts (answered_then c.take.new.self c.take-then-parameter-escape.new.self c.signed_partition.new.self c.in_ok-width.ensures.reading.counts c.in_ok-signed_partition.ensures.reading.counts);
-  memory = search rules;
+  memory = tt;
   reads = search rules;
 }
 
@@ -43,6 +43,6 @@ unfolding partition escaped coded
 returns-clause-reading g c = record {
   spends = search rules;
   counts = answered_then c.args.bits.now c.take.new.self c.rice_partition.new.self c.in_ok-parameter.ensures.reading.counts c.in_ok-rice_partition.ensures.reading.counts;
-  memory = search rules;
+  memory = tt;
   reads = search rules;
 }

@@ -43,6 +43,6 @@ pub returns-clause-reading : goal.returns-clause-reading
 returns-clause-reading g c = record {
   spends = search rules;
   counts = search rules;
-  memory = search rules;
+  memory = tt;
   reads = (λ known same. parts_read (parameter_bits_of c.args.method) c.args.order c.args.size c.args.count c.args.bits.now c.loop-i.bits c.loop-i.out c.loop-i.start c.loop-i.end c.loop-i.i (omega (arith, c.requires.some, c.loop-i-test.false)) c.loop-i-test.false c.loop-i.invariant known);
 }

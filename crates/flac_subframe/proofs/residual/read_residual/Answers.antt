@@ -32,7 +32,7 @@ pub returns-clause-reading : goal.returns-clause-reading
 returns-clause-reading g c = record {
   spends = search rules;
   counts = answered_then c.args.bits.now c.read_residual_header.new.bits c.read_partitions.new.bits c.in_ok-method.ensures.reading.counts c.in_ok-read_partitions.ensures.reading.counts;
-  memory = search rules;
+  memory = tt;
   reads = (λ known same.
       let counts = c.in_ok-method.ensures.reading.counts in
       let h : ℕ × ℕ = (method_code c.in_ok-method.method, c.in_ok-method.partition_order) in

@@ -12,7 +12,7 @@ pub returns-clause-reading : goal.returns-clause-reading
 returns-clause-reading g c = record {
   spends = search rules;
   counts = search rules;
-  memory = search rules;
+  memory = tt;
   reads = (λ known same.
       let kept = stored c.args.depth c.in_ok-sample.sample (omega (arith, c.requires.depth.1)) c.in_ok-sample.ensures.fits in
       rw (c.fill.ensures.after (λ y is. is), kept) (constant_read c.args.depth (length c.args.samples.now) c.args.bits.now.cursor c.take_signed.new.self.cursor c.in_ok-sample.sample c.in_ok-sample.ensures.fits (c.in_ok-sample.ensures.reading.reads known same)));

@@ -27,6 +27,9 @@ enough_places n made warm_up rest s e long within = rw (e, length-append) (omega
 same_size : (a b n : ℕ) → a ≡ n → b ≡ n → a ≤ b
 same_size a b n e f = omega arith
 
+none_less : (a b c : ℕ) → b + 0 ≤ a → c + 0 ≤ b → c + 0 ≤ a
+none_less a b c p q = omega arith
+
 left_of : (n m : ℕ) → n < m → n ≤ m
 left_of n m h = omega arith
 
@@ -73,9 +76,9 @@ returns-in_err-read_residual g c =
 
 pub returns-clause-reading : goal.returns-clause-reading
 returns-clause-reading g c = record {
-  spends = search rules;
+  spends = none_less _ _ _ c.in_ok-signed_partition.ensures.reading.spends c.in_ok-read_residual.ensures.reading.spends;
   counts = answered_then c.args.bits.now c.signed_partition.new.self c.read_residual.new.bits c.in_ok-signed_partition.ensures.reading.counts c.in_ok-read_residual.ensures.reading.counts;
-  memory = search rules;
+  memory = tt;
   reads = (λ known same.
       let n = c.args.order in
       let s = c.args.samples.now in

@@ -1,4 +1,4 @@
-use Rattle.std.proofs.Common.{arith, rules, refl, ◌+◌, Bool, nat_eq, nat_lt, ◌∷◌, [], Result, Ok}
+use Rattle.std.proofs.Common.{arith, rules, refl, ◌≢◌, ◌+◌, ◌≤◌, ℕ, Bool, nat_eq, nat_lt, ◌∷◌, [], Result, Ok}
 use Rattle.std.proofs.lemmas.Result.{err_from_is_err_and}
 use Rattle.flac_bits.proofs.Counting.{answered_then, failed_then, refused_then}
 use Rattle.flac_bits.proofs.Telling.{told_then, told_fault}
@@ -6,9 +6,15 @@ use Rattle.flac_subframe.proofs.Bounds.{all_fit_15}
 use Rattle.flac_subframe.proofs.Judged.{told_past, told_broken}
 use Rattle.flac_bits.specs.State.{Cursor}
 use Rattle.flac_bits.specs.Layout.{Reason, unless_broken}
-use Rattle.flac_bits.specs.declared.why.Why.TheVariants.{BadPredictor}
+use Rattle.flac_bits.specs.declared.why.Why.TheVariants.{BadPredictor, Memory}
 use Rattle.flac_subframe.specs.Subframe.{predictor}
 use Rattle.flac_subframe.proofs.subframe.read_predictor.Goals as goal
+
+bad_predictor : BadPredictor ≢ Memory
+bad_predictor = λ q. cc
+
+none_less : (a b c d : ℕ) → b + 4 ≤ a → c + 5 ≤ b → d + 0 ≤ c → d + 0 ≤ a
+none_less a b c d p q r = omega arith
 
 abbrev judged : Bool → Cursor → Result (Unit {0} × Cursor) Reason
 judged broken d = unless_broken (record { broken = broken; why = BadPredictor } ∷ []) (Ok (tt, d))
@@ -33,18 +39,18 @@ returns-in_err-signed_partition g c =
 
 pub returns-then-low-eq15 : goal.returns-then-low-eq15
 unfolding predictor
-returns-then-low-eq15 g c = record { shift = tt; fits = tt; reading = record { spends = tt; counts = refused_then c.args.bits.now c.take.new.self c.in_ok-low.ensures.reading.counts refl; memory = λ q. cc; reads = told_then c.args.bits.now c.take.new.self c.take.new.self _ c.in_ok-low.ensures.reading.counts c.in_ok-low.ensures.reading.reads (told_broken {read = judged (nat_eq c.in_ok-low.field-0 15) c.take.new.self.cursor} c.take.new.self c.take.new.self _ (search rules)) } }
+returns-then-low-eq15 g c = record { shift = tt; fits = tt; reading = record { spends = tt; counts = refused_then c.args.bits.now c.take.new.self c.in_ok-low.ensures.reading.counts refl; memory = bad_predictor; reads = told_then c.args.bits.now c.take.new.self c.take.new.self _ c.in_ok-low.ensures.reading.counts c.in_ok-low.ensures.reading.reads (told_broken {read = judged (nat_eq c.in_ok-low.field-0 15) c.take.new.self.cursor} c.take.new.self c.take.new.self _ (search rules)) } }
 
 pub returns-then-shift-gt15 : goal.returns-then-shift-gt15
 unfolding predictor
-returns-then-shift-gt15 g c = record { shift = tt; fits = tt; reading = record { spends = tt; counts = refused_then c.args.bits.now c.take-2.new.self (answered_then c.args.bits.now c.take.new.self c.take-2.new.self c.in_ok-low.ensures.reading.counts c.in_ok-shift.ensures.reading.counts) refl; memory = λ q. cc; reads = told_then c.args.bits.now c.take.new.self c.take-2.new.self _ c.in_ok-low.ensures.reading.counts c.in_ok-low.ensures.reading.reads (told_past {read = judged (nat_eq c.in_ok-low.field-0 15) c.take.new.self.cursor} c.take.new.self c.take-2.new.self c.take.new.self.cursor _ (search rules) (told_then c.take.new.self c.take-2.new.self c.take-2.new.self _ c.in_ok-shift.ensures.reading.counts c.in_ok-shift.ensures.reading.reads (told_broken {read = judged (nat_lt 15 c.in_ok-shift.field-0) c.take-2.new.self.cursor} c.take-2.new.self c.take-2.new.self _ (search rules)))) } }
+returns-then-shift-gt15 g c = record { shift = tt; fits = tt; reading = record { spends = tt; counts = refused_then c.args.bits.now c.take-2.new.self (answered_then c.args.bits.now c.take.new.self c.take-2.new.self c.in_ok-low.ensures.reading.counts c.in_ok-shift.ensures.reading.counts) refl; memory = bad_predictor; reads = told_then c.args.bits.now c.take.new.self c.take-2.new.self _ c.in_ok-low.ensures.reading.counts c.in_ok-low.ensures.reading.reads (told_past {read = judged (nat_eq c.in_ok-low.field-0 15) c.take.new.self.cursor} c.take.new.self c.take-2.new.self c.take.new.self.cursor _ (search rules) (told_then c.take.new.self c.take-2.new.self c.take-2.new.self _ c.in_ok-shift.ensures.reading.counts c.in_ok-shift.ensures.reading.reads (told_broken {read = judged (nat_lt 15 c.in_ok-shift.field-0) c.take-2.new.self.cursor} c.take-2.new.self c.take-2.new.self _ (search rules)))) } }
 
 pub returns-clause-reading : goal.returns-clause-reading
 unfolding predictor
 returns-clause-reading g c = record {
-  spends = search rules;
+  spends = none_less _ _ _ _ c.in_ok-low.ensures.reading.spends c.in_ok-shift.ensures.reading.spends c.in_ok-signed_partition.ensures.reading.spends;
   counts = answered_then c.args.bits.now c.take.new.self c.signed_partition.new.self c.in_ok-low.ensures.reading.counts (answered_then c.take.new.self c.take-2.new.self c.signed_partition.new.self c.in_ok-shift.ensures.reading.counts c.in_ok-signed_partition.ensures.reading.counts);
-  memory = search rules;
+  memory = tt;
   reads = told_then c.args.bits.now c.take.new.self c.signed_partition.new.self _ c.in_ok-low.ensures.reading.counts c.in_ok-low.ensures.reading.reads (told_past {read = judged (nat_eq c.in_ok-low.field-0 15) c.take.new.self.cursor} c.take.new.self c.signed_partition.new.self c.take.new.self.cursor _ (search rules) (told_then c.take.new.self c.take-2.new.self c.signed_partition.new.self _ c.in_ok-shift.ensures.reading.counts c.in_ok-shift.ensures.reading.reads (told_past {read = judged (nat_lt 15 c.in_ok-shift.field-0) c.take-2.new.self.cursor} c.take-2.new.self c.signed_partition.new.self c.take-2.new.self.cursor _ (search rules) (told_then c.take-2.new.self c.signed_partition.new.self c.signed_partition.new.self _ c.in_ok-signed_partition.ensures.reading.counts c.in_ok-signed_partition.ensures.reading.reads (λ known same. refl)))));
 }
 
