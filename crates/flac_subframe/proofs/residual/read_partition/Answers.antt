@@ -1,9 +1,13 @@
-use Rattle.std.proofs.Common.{rules}
+use Rattle.std.proofs.Common.{arith, rules, ◌<◌, ◌≤◌, ℕ}
 use Rattle.std.proofs.lemmas.Result.{err_from_is_err_and}
 use Rattle.flac_bits.proofs.Counting.{answered_then, failed_then}
 use Rattle.flac_bits.specs.Layout as L
 use Rattle.flac_subframe.specs.Residual.{partition, escaped, coded}
+use Rattle.flac_subframe.proofs.Bounds.{all_fit_32, residuals_fit}
 use Rattle.flac_subframe.proofs.residual.read_partition.Goals as goal
+
+below : (n m : ℕ) → n < m → n ≤ m
+below n m h = omega arith
 
 pub returns-in_err-parameter : goal.returns-in_err-parameter
 unfolding partition escaped coded
@@ -46,3 +50,9 @@ returns-clause-reading g c = record {
   memory = tt;
   reads = search rules;
 }
+
+pub returns-then-parameter-escape-clause-fits : goal.returns-then-parameter-escape-clause-fits
+returns-then-parameter-escape-clause-fits g c = all_fit_32 c.in_ok-width.field-0 _ (below _ 32 c.in_ok-width.ensures.small) c.in_ok-signed_partition.ensures.fits
+
+pub returns-clause-fits : goal.returns-clause-fits
+returns-clause-fits g c = residuals_fit _ c.in_ok-rice_partition.ensures.fits

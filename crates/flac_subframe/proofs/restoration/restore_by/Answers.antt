@@ -1,13 +1,64 @@
-use Rattle.std.proofs.Common.{arith, ◌≡◌, ◌+◌, ◌-◌, pos, sym}
+use Rattle.std.proofs.Common.{arith, ◌≡◌, ◌+◌, ◌-◌, ◌≤◌, ◌<◌, ℕ, pos, refl, sym}
+use Rattle.std.proofs.lemmas.Bool.{false≢true}
 use Rattle.std.proofs.lemmas.List.{get_or-set_same}
 use Rattle.flac_subframe.specs.Numbers.{sample_at}
 use Rattle.flac_subframe.specs.Prediction.{prediction}
-use Rattle.flac_subframe.proofs.Restoring.{restored_more, stops, done}
+use Rattle.flac_subframe.proofs.Bounds.{stored}
+use Rattle.flac_subframe.proofs.Restoring.{RestoredTo, restored_more, stops, done}
 use Rattle.flac_subframe.proofs.Nearest.{fits_before, sum_near}
 use Rattle.flac_subframe.proofs.restoration.restore_by.Goals as goal
 
-pub predict_at-requires-clause-fits : goal.predict_at-requires-clause-fits
-predict_at-requires-clause-fits c = fits_before c.args.bits c.loop-i.samples c.loop-i.i c.requires.bits (omega arith) c.loop-i.invariant.so.fits
+within : (i n m : ℕ) → i < n → m ≡ n → i ≤ m
+within i n m h e = omega arith
+
+at_most_63 : (n : ℕ) → n ≤ 33 → n ≤ 63
+at_most_63 n h = omega arith
+
+any_below : (n : ℕ) → 0 ≤ n
+any_below n = omega arith
+
+last_below : (n : ℕ) → 1 ≤ n → n - 1 < n
+last_below n h = omega arith
+
+not_both : (k n m : ℕ) → n ≡ m → n ≤ k → k < m → ⊥
+not_both k n m e h g = omega arith
+
+pub predict_at-requires : goal.predict_at-requires
+predict_at-requires c = let l = c.loop-i in record {
+  some = c.requires.some;
+  few = c.requires.few;
+  order = c.requires.order;
+  small = c.requires.small;
+  shift = c.requires.shift;
+  enough = l.auto.i;
+  within = within _ _ _ c.loop-i-test.true l.auto.samples;
+  fits = fits_before c.args.bits l.samples l.i c.requires.bits (within _ _ _ c.loop-i-test.true l.auto.samples) l.invariant.so.fits;
+  near = l.invariant.near;
+}
+
+pub fits_bits-requires : goal.fits_bits-requires
+fits_bits-requires c = record { positive = c.requires.positive; small = at_most_63 _ c.requires.bits }
+
+pub loop-i-init : goal.loop-i-init
+loop-i-init c =
+    let order = c.args.order in
+    let s = c.args.samples.now in
+    let so : RestoredTo c.args.coefficients.now c.args.shift c.args.bits s s order = record {
+      warm_up = λ k h. refl;
+      later = λ k g h. absurd (not_both _ _ _ c.requires.order g h);
+      rest = λ k h. refl;
+      fits = λ k h. c.requires.warm_up k (pos 0) (any_below k) h;
+    } in
+    record { so = so; near = stored c.args.bits (sample_at s (order - 1)) c.requires.bits (so.fits (order - 1) (last_below order c.requires.some)) }
+
+pub returns-then-not-fits_bits-clause-restored : goal.returns-then-not-fits_bits-clause-restored
+returns-then-not-fits_bits-clause-restored c = λ t. absurd (false≢true t)
+
+pub returns-then-not-fits_bits-clause-fits : goal.returns-then-not-fits_bits-clause-fits
+returns-then-not-fits_bits-clause-fits c = λ t. absurd (false≢true t)
+
+pub returns-clause-only : goal.returns-clause-only
+returns-clause-only c = λ s so fit. refl
 
 pub returns-then-not-fits_bits-clause-only : goal.returns-then-not-fits_bits-clause-only
 returns-then-not-fits_bits-clause-only c = λ t all fit.

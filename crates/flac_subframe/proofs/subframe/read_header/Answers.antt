@@ -72,3 +72,12 @@ returns-clause-reading g c = record {
   memory = tt;
   reads = told_then c.args.bits.now c.take.new.self c.read_wasted.new.bits _ c.in_ok-zero.ensures.reading.counts c.in_ok-zero.ensures.reading.reads (told_then c.take.new.self c.take-2.new.self c.read_wasted.new.bits _ c.in_ok-code.ensures.reading.counts c.in_ok-code.ensures.reading.reads (told_then c.take-2.new.self c.take-3.new.self c.read_wasted.new.bits _ c.in_ok-flag.ensures.reading.counts c.in_ok-flag.ensures.reading.reads (told_past {read = judged c.in_ok-zero.zero c.in_ok-code.code c.in_ok-flag.flag c.args.depth c.args.block c.args.limits.now.linear c.take-3.new.self.cursor} c.take-3.new.self c.read_wasted.new.bits c.take-3.new.self.cursor _ (search rules) (told_then c.take-3.new.self c.read_wasted.new.bits c.read_wasted.new.bits _ c.in_ok-wasted.ensures.reading.counts c.in_ok-wasted.ensures.reading.reads (λ known same. rw c.in-Some.ensures.code refl)))));
 }
+
+pub returns-clause-kind : goal.returns-clause-kind
+returns-clause-kind g c = c.in-Some.ensures.within
+
+pub returns-clause-order : goal.returns-clause-order
+returns-clause-order g c = rw c.order.ensures at c.if-order-block.false
+
+pub returns-clause-left : goal.returns-clause-left
+returns-clause-left g c = c.in_ok-wasted.ensures.left
