@@ -1,6 +1,9 @@
-use Rattle.std.proofs.Common.{arith, ◌≡◌, ◌+◌, ◌-◌, ◌≤◌, ◌<◌, ℕ, pos, refl, sym}
+use Rattle.std.proofs.Common.{arith, ◌≡◌, ◌+◌, ◌-◌, ◌≤◌, ◌<◌, ◌^◌, ◌+ℤ◌, ℕ, ℤ, SFits, w64, to_z, of_z, pos, refl, sym}
 use Rattle.std.proofs.lemmas.Bool.{false≢true}
 use Rattle.std.proofs.lemmas.List.{get_or-set_same}
+use Rattle.std.proofs.lemmas.Int.{ints}
+use Rattle.std.specs.Int.RustNames.{unsigned_abs}
+use Rattle.flac_bits.specs.Signed.{FitsBits}
 use Rattle.flac_subframe.specs.Numbers.{sample_at}
 use Rattle.flac_subframe.specs.Prediction.{prediction}
 use Rattle.flac_subframe.proofs.Bounds.{stored}
@@ -14,6 +17,9 @@ within i n m h e = omega arith
 at_most_63 : (n : ℕ) → n ≤ 33 → n ≤ 63
 at_most_63 n h = omega arith
 
+itself : (n : ℕ) → n ≤ n
+itself n = omega arith
+
 any_below : (n : ℕ) → 0 ≤ n
 any_below n = omega arith
 
@@ -22,6 +28,14 @@ last_below n h = omega arith
 
 not_both : (k n m : ℕ) → n ≡ m → n ≤ k → k < m → ⊥
 not_both k n m e h g = omega arith
+
+sum_fits : (p x y : ℤ) → unsigned_abs p ≤ 2 ^ 51 → x ≡ y → FitsBits 32 y → SFits w64 (to_z w64 (of_z w64 p) +ℤ to_z w64 (of_z w64 x))
+sum_fits p x y small same fit = rw same (grind (arith, ints, fit.low, fit.high))
+
+pub overflow_add-sample : goal.overflow_add-sample
+overflow_add-sample c =
+    let l = c.loop-i in
+    sum_fits c.predict_at.result _ _ c.predict_at.ensures.small (l.invariant.so.rest l.i (itself l.i)) (c.requires.residual l.i (pos 0) l.auto.i c.loop-i-test.true)
 
 pub predict_at-requires : goal.predict_at-requires
 predict_at-requires c = let l = c.loop-i in record {

@@ -1,4 +1,4 @@
-use Rattle.std.proofs.Common.{◌≡◌, ◌∙◌, ◌+◌, ◌≤◌, ℕ, ℤ, List, All, length, take, ap, arith, refl, sym}
+use Rattle.std.proofs.Common.{◌≡◌, ◌∙◌, ◌+◌, ◌≤◌, ℕ, ℤ, List, All, length, ap, arith, refl, sym}
 use Rattle.std.proofs.lemmas.List.{length-take-le}
 use Rattle.flac_bits.specs.Signed.{FitsBits}
 use Rattle.flac_subframe.proofs.restoration.restore_wide.Goals as goal

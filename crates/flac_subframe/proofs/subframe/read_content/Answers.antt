@@ -1,4 +1,4 @@
-use Rattle.std.proofs.Common.{◌≡◌, ◌∙◌, ◌+◌, ◌≤◌, ℕ, ℤ, Bool, true, false, Option, List, Result, length, nat_eq, nat_lt, ap, arith, refl}
+use Rattle.std.proofs.Common.{◌≡◌, ◌∙◌, ◌+◌, ◌≤◌, ℕ, Bool, true, false, Result, length, nat_eq, nat_lt, ap, arith, refl}
 use Rattle.std.proofs.lemmas.Bool.{lt-ltb, le-ltb, ne_eqb}
 use Rattle.flac_bits.specs.Layout.{Layout, bind, choose, done}
 use Rattle.flac_bits.specs.Reading.{CallInPlace, Reads}

@@ -1,4 +1,4 @@
-use Rattle.std.proofs.Common.{rules, arith, sym, ◌∙◌, ◌≡◌, length, take, get_or, ◌+◌, ◌-◌, ◌≤◌, ◌<◌, ◌++◌, ℕ, ℤ, List, All, refl}
+use Rattle.std.proofs.Common.{arith, sym, ◌∙◌, ◌≡◌, length, ◌+◌, ◌-◌, ◌≤◌, ◌<◌, ◌++◌, ℕ, ℤ, List, All, refl}
 use Rattle.std.proofs.lemmas.List.{length-append, length-take-le, get_or_append_left, get_or-append-add}
 use Rattle.std.specs.List.{AllWithin}
 use Rattle.flac_bits.specs.Signed.{FitsBits}

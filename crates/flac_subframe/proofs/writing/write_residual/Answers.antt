@@ -33,6 +33,7 @@ six = omega arith
 
 cut_evenly : (n order k p : ℕ) → 0 < p → k ≡ p → (n + order) % p ≡ 0 → order < (n + order) / p → n + (n + order) / p ≡ (n + order) / p - order + k * ((n + order) / p)
 cut_evenly n order k p some e even room = rw e (omega arith)
+
 pub returns : goal.returns
 returns g c =
     let f = codings_lent c.args.choice.now in

@@ -48,6 +48,7 @@ up_to n m all e h = rw e h
 
 a_third : (p n m : ℕ) → p ≡ n → 3 * n ≤ m → p ≤ m
 a_third p n m e h = omega arith
+
 pub returns-clause-least : goal.returns-clause-least
 returns-clause-least c =
     let task = c.args.self.now in let dropped = c.without_wasted-wasted in let best = c.search_within-priced in
