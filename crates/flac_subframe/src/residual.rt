@@ -15,7 +15,7 @@ use crate::numbers::power;
 use flac_bits::{BitReader, Source, Why};
 
 /// Reads the values of one partition.
-#[tactic(auto, unfolding(crate::specs::Residual::partition, crate::specs::Residual::escaped, crate::specs::Residual::coded), using(crate::proofs::Bounds::all_fit_32, crate::proofs::Bounds::residuals_fit, crate::proofs::Samples::no_bits))]
+#[tactic(auto, unfolding(crate::specs::Residual::partition, crate::specs::Residual::escaped, crate::specs::Residual::coded), using(crate::proofs::Samples::no_bits))]
 fn read_partition<R: Source>(
     bits: &mut BitReader<R>,
     method: CodingMethod,
