@@ -1,7 +1,7 @@
-use Rattle.std.proofs.Common.{◌≡◌, ◌≤◌, ℕ, Bool, true, false, Result, Ok, Err, [], take, drop, refl, sym, ap, ◌∙◌, arith}
+use Rattle.std.proofs.Common.{◌≡◌, ◌<◌, ◌≤◌, ◌++◌, ℕ, zero, suc, Bool, true, false, Option, Some, None, List, Result, Ok, Err, [], take, drop, refl, sym, ap, ◌∙◌, arith}
 use Rattle.flac_bits.specs.declared.why.Why.{Why}
 use Rattle.flac_bits.specs.Bits.{bits_of}
-use Rattle.flac_bits.specs.Store.{Store}
+use Rattle.flac_bits.specs.Store.{Store, passed, hides_late}
 use Rattle.flac_bits.specs.inner.Store.{seen}
 use Rattle.flac_bits.proofs.Marks.{pulled_mark}
 use Rattle.flac_bits.proofs.Standing.{came_bits, came_most, none_left}
@@ -17,6 +17,51 @@ went_on r a b = cc
 
 refused : (r : Result Bool Why) (e : Why) → r ≡ Err e → r ≡ Ok false → ⊥
 refused r e a b = cc
+
+up_to : (a b d : ℕ) → a ≤ b → b ≤ d → a ≤ d
+up_to a b d x y = omega (arith, x, y)
+
+no_less : (n : ℕ) → 0 ≤ n
+no_less n = omega arith
+
+failed : (r : Result Bool Why) (e : Why) → r ≡ Err e → r ≡ Ok true → ⊥
+failed r e a b = cc
+
+none_passed : (w : List Bool) → w ≡ [] → passed [] w ++ w ≡ []
+none_passed w is = rw is refl
+
+none_late : (room : Option ℕ) → hides_late room 0 0 ≡ true
+none_late None = refl
+none_late (Some zero) = refl
+none_late (Some (suc n)) = refl
+
+pub slice_bounds-both_checked-count : goal.slice_bounds-both_checked-count
+slice_bounds-both_checked-count g c = up_to _ _ _ c.self.invariant.0 c.self.invariant.1
+
+pub invariant_of-self : goal.invariant_of-self
+invariant_of-self g c =
+    let none = ap (λ (s : Store). s.word) c.self.view_is ∙ c.requires.taken.0 in
+    (no_less 0, no_less 0, no_less 8192, none_passed c.self.inside.word none, c.pull.auto.buf ∙ c.self.told, no_less 0, no_less 8192, none_late c.self.inside.room)
+
+pub invariant_of-self-in-Err : goal.invariant_of-self-in-Err
+invariant_of-self-in-Err g c =
+    let none = ap (λ (s : Store). s.word) c.self.view_is ∙ c.requires.taken.0 in
+    (no_less 0, no_less 0, no_less 8192, none_passed c.self.inside.word none, c.pull.auto.buf ∙ c.self.told, no_less 0, no_less 8192, refl)
+
+pub returns-in-Ok-eq0-clause-more : goal.returns-in-Ok-eq0-clause-more
+returns-in-Ok-eq0-clause-more g c = λ is. absurd (went_on _ is refl)
+
+pub returns-in-Ok-eq0-clause-word : goal.returns-in-Ok-eq0-clause-word
+returns-in-Ok-eq0-clause-word g c = ap (λ (s : Store). s.word) c.self.view_is ∙ c.requires.taken.0
+
+pub returns-in-Ok-clause-word : goal.returns-in-Ok-clause-word
+returns-in-Ok-clause-word g c = ap (λ (s : Store). s.word) c.self.view_is ∙ c.requires.taken.0
+
+pub returns-in-Err-clause-more : goal.returns-in-Err-clause-more
+returns-in-Err-clause-more g c = λ is. absurd (failed _ _ refl is)
+
+pub returns-in-Err-clause-word : goal.returns-in-Err-clause-word
+returns-in-Err-clause-word g c = ap (λ (s : Store). s.word) c.self.view_is ∙ c.requires.taken.0
 
 pub returns-in-Ok-eq0-clause-pulls : goal.returns-in-Ok-eq0-clause-pulls
 returns-in-Ok-eq0-clause-pulls g c =
