@@ -4,3 +4,4 @@ pub mod HeaderTie
 pub mod Writes
 pub mod Judged
 pub mod Lengths
+pub mod Parted

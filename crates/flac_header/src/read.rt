@@ -1,11 +1,13 @@
 //! Reading of frame headers.
 
-ghost use Rattle.std.specs.Prelude.{◌≡◌, ◌<◌, ◌+◌, ◌^◌, IfOk};
+ghost use Rattle.std.specs.Prelude.{◌≡◌, ◌<◌, ◌+◌, ◌^◌, IfOk, false, nat_eq};
 ghost use Rattle.flac_bits.specs.Reading.{Reads, Means, CallInPlace};
 ghost use Rattle.flac_bits.specs.State.{started};
 ghost use Rattle.flac_bits.specs.Number.{number};
 ghost use Rattle.flac_bits.specs.Coded.{IsNumber};
 ghost use Rattle.flac_header.specs.Header.{size_field, rate_field, rate_of_code, header, IsSize, IsRate};
+ghost use Rattle.flac_header.specs.Strategy.{is_variable};
+ghost use Rattle.flac_header.specs.inner.Codes.{codes};
 
 use crate::blocking_strategy::BlockingStrategy;
 use crate::frame_header::FrameHeader;
@@ -81,10 +83,20 @@ fn number_here<R: Source>(bits: &mut BitReader<R>, max_bits: u32) -> Result<u64,
     read_number(bits, max_bits)
 }
 
-/// Reads a header from its first bit on; the checks began there.
-#[tactic(auto, unfolding(crate::specs::Header::header))]
-fn read_fields<R: Source>(bits: &mut BitReader<R>) -> Result<FrameHeader, Why>
-    ensures reading { CallInPlace 40 (Reads (λ h. h) header) bits.old bits.new result }
+/// What is before the coded number of a header.
+struct Codes {
+    strategy: BlockingStrategy,
+    size_code: u8,
+    rate_code: u8,
+    channel_code: u8,
+    depth_code: u8,
+}
+
+/// Reads the sync code of a header, its blocking strategy and its codes.
+#[tactic(auto, unfolding(crate::specs::inner::Codes::codes))]
+fn read_codes<R: Source>(bits: &mut BitReader<R>) -> Result<Codes, Why>
+    ensures fits { IfOk result (λ k. (0 < k.size_code) × (k.size_code < 16) × (k.rate_code < 15) × (k.channel_code < 11) × (k.depth_code < 8) × (nat_eq k.depth_code 3 ≡ false)) }
+    ensures reading { CallInPlace 32 (Reads (λ k. record { variable = is_variable k.strategy; size_code = k.size_code; rate_code = k.rate_code; channel_code = k.channel_code; depth_code = k.depth_code }) codes) bits.old bits.new result }
 {
     if bits.take(15)? != 0x7FFC {
         return Err(Why::BadSync);
@@ -110,6 +122,26 @@ fn read_fields<R: Source>(bits: &mut BitReader<R>) -> Result<FrameHeader, Why>
     if bits.take(1)? != 0 {
         return Err(Why::ReservedCode);
     }
+    Ok(Codes {
+        strategy,
+        size_code,
+        rate_code,
+        channel_code,
+        depth_code,
+    })
+}
+
+/// Reads a header from its first bit on; the checks began there.
+fn read_fields<R: Source>(bits: &mut BitReader<R>) -> Result<FrameHeader, Why>
+    ensures reading { CallInPlace 40 (Reads (λ h. h) header) bits.old bits.new result }
+{
+    let Codes {
+        strategy,
+        size_code,
+        rate_code,
+        channel_code,
+        depth_code,
+    } = read_codes(bits)?;
     let number = number_here(bits, strategy.number_bits())?;
     let size = read_size(bits, size_code)?;
     let rate = read_rate(bits, rate_code)?;

@@ -1,147 +1,182 @@
-use Rattle.std.proofs.Common.{rules, arith, refl, ap, ◌∙◌, ◌≡◌, ◌≤◌, ℕ, false, Bool, nat_eq, nat_lt, not, ◌∷◌, [], Result, Ok}
-use Rattle.std.proofs.lemmas.Bool.{ne_eqb}
+use Rattle.std.proofs.Common.{refl, sym, ◌∙◌, not, nat_eq, ℕ, ◌+◌, ◌<◌, ◌≤◌, Bool, false, ◌≡◌, ◌∷◌, [], Result, Ok, arith}
 use Rattle.std.proofs.lemmas.Bool.Decides.{nat_tests}
+use Rattle.std.proofs.lemmas.Bool.{ne_eqb}
 use Rattle.std.proofs.lemmas.Result.{err_from_is_err_and}
 use Rattle.flac_bits.specs.State.{Cursor}
 use Rattle.flac_bits.specs.Layout.{Reason, unless_broken}
 use Rattle.flac_bits.specs.declared.why.Why.{Why}
-use Rattle.flac_bits.specs.declared.why.Why.TheVariants.{BadSync, ReservedCode, HeaderCheck, Memory}
+use Rattle.flac_bits.specs.declared.why.Why.TheVariants.{HeaderCheck, Memory}
 use Rattle.flac_bits.proofs.Counting.{answered_then, failed_then, refused_then}
 use Rattle.flac_bits.proofs.Telling.{told_then, told_fault}
-use Rattle.flac_header.specs.Header.{header, number_bits}
+use Rattle.flac_header.specs.inner.Codes.{behind_codes}
 use Rattle.flac_header.proofs.Judged.{told_past, told_broken}
+use Rattle.flac_header.proofs.Parted.{behind, told_header}
 use Rattle.flac_header.proofs.read.read_fields.Goals as goal
 
 -- one rule at the end of a field
 abbrev judged : Bool → Why → Cursor → Result (Unit {0} × Cursor) Reason
 judged broken why d = unless_broken (record { broken = broken; why = why } ∷ []) (Ok (tt, d))
 
-at_most_10 : (n : ℕ) → n ≤ 10 → nat_lt 10 n ≡ false
-at_most_10 n h = grind (arith, nat_tests)
+no_other : (a b : ℕ) → a ≡ b → not (nat_eq a b) ≡ false
+no_other a b h = grind (arith, nat_tests)
 
-sync_no_memory : BadSync ≡ Memory → ⊥
-sync_no_memory q = cc
+spent : (a b d e f g : ℕ) → b + 32 ≤ a → d + 8 ≤ b → e + 0 ≤ d → f + 0 ≤ e → g + 8 ≤ f → g + 40 ≤ a
+spent a b d e f g h i j k l = omega (arith, h, i, j, k, l)
 
-code_no_memory : ReservedCode ≡ Memory → ⊥
-code_no_memory q = cc
+some : (n : ℕ) → 0 < n → 1 ≤ n
+some n h = omega (arith, h)
 
 check_no_memory : HeaderCheck ≡ Memory → ⊥
 check_no_memory q = cc
 
-pub returns-in_err-take : goal.returns-in_err-take
-unfolding header
-returns-in_err-take g c =
+pub returns-in_err-strategy : goal.returns-in_err-strategy
+returns-in_err-strategy g c =
     let p = err_from_is_err_and c.from_residual.result c.from_residual.ensures.1 in
-    rw (p.1, p.2) (record { reading = record { spends = tt; counts = c.in_err-take.ensures.reading.counts; memory = c.in_err-take.ensures.reading.memory; reads = told_fault c.args.bits.now c.take.new.self _ c.in_err-take.ensures.reading.reads } })
-
-pub returns-then-branch-ne32764 : goal.returns-then-branch-ne32764
-unfolding header
-returns-then-branch-ne32764 g c =
-    record { reading = record { spends = tt; counts = refused_then c.args.bits.now c.take.new.self c.in_ok-take.ensures.reading.counts refl; memory = sync_no_memory; reads = told_then c.args.bits.now c.take.new.self c.take.new.self _ c.in_ok-take.ensures.reading.counts c.in_ok-take.ensures.reading.reads (told_broken {read = judged (not (nat_eq c.in_ok-take.field-0 0x7FFC)) BadSync c.take.new.self.cursor} c.take.new.self c.take.new.self _ (rw (ne_eqb c.in_ok-take.field-0 0x7FFC c.if-branch-ne32764.true) refl)) } }
-
-pub returns-in_err-bit : goal.returns-in_err-bit
-unfolding header
-returns-in_err-bit g c =
-    let p = err_from_is_err_and c.from_residual-in_err-bit.result c.from_residual-in_err-bit.ensures.1 in
-    rw (p.1, p.2) (record { reading = record { spends = tt; counts = failed_then c.args.bits.now c.take.new.self c.take-2.new.self c.in_ok-take.ensures.reading.counts c.in_err-bit.ensures.reading.counts; memory = c.in_err-bit.ensures.reading.memory; reads = told_then c.args.bits.now c.take.new.self c.take-2.new.self _ c.in_ok-take.ensures.reading.counts c.in_ok-take.ensures.reading.reads (told_past {read = judged (not (nat_eq c.in_ok-take.field-0 0x7FFC)) BadSync c.take.new.self.cursor} c.take.new.self c.take-2.new.self c.take.new.self.cursor _ (rw c.if-branch-ne32764.false refl) (told_fault c.take.new.self c.take-2.new.self _ c.in_err-bit.ensures.reading.reads)) } })
-
-pub returns-in_err-size_code : goal.returns-in_err-size_code
-unfolding header
-returns-in_err-size_code g c =
-    let p = err_from_is_err_and c.from_residual-in_err-size_code.result c.from_residual-in_err-size_code.ensures.1 in
-    rw (p.1, p.2) (record { reading = record { spends = tt; counts = failed_then c.args.bits.now c.take.new.self c.take-3.new.self c.in_ok-take.ensures.reading.counts (failed_then c.take.new.self c.take-2.new.self c.take-3.new.self c.in_ok-bit.ensures.reading.counts c.in_err-size_code.ensures.reading.counts); memory = c.in_err-size_code.ensures.reading.memory; reads = told_then c.args.bits.now c.take.new.self c.take-3.new.self _ c.in_ok-take.ensures.reading.counts c.in_ok-take.ensures.reading.reads (told_past {read = judged (not (nat_eq c.in_ok-take.field-0 0x7FFC)) BadSync c.take.new.self.cursor} c.take.new.self c.take-3.new.self c.take.new.self.cursor _ (rw c.if-branch-ne32764.false refl) (told_then c.take.new.self c.take-2.new.self c.take-3.new.self _ c.in_ok-bit.ensures.reading.counts c.in_ok-bit.ensures.reading.reads (told_fault c.take-2.new.self c.take-3.new.self _ c.in_err-size_code.ensures.reading.reads))) } })
-
-pub returns-then-size_code-eq0 : goal.returns-then-size_code-eq0
-unfolding header
-returns-then-size_code-eq0 g c =
-    record { reading = record { spends = tt; counts = refused_then c.args.bits.now c.take-3.new.self (answered_then c.args.bits.now c.take.new.self c.take-3.new.self c.in_ok-take.ensures.reading.counts (answered_then c.take.new.self c.take-2.new.self c.take-3.new.self c.in_ok-bit.ensures.reading.counts c.in_ok-size_code.ensures.reading.counts)) refl; memory = code_no_memory; reads = told_then c.args.bits.now c.take.new.self c.take-3.new.self _ c.in_ok-take.ensures.reading.counts c.in_ok-take.ensures.reading.reads (told_past {read = judged (not (nat_eq c.in_ok-take.field-0 0x7FFC)) BadSync c.take.new.self.cursor} c.take.new.self c.take-3.new.self c.take.new.self.cursor _ (rw c.if-branch-ne32764.false refl) (told_then c.take.new.self c.take-2.new.self c.take-3.new.self _ c.in_ok-bit.ensures.reading.counts c.in_ok-bit.ensures.reading.reads (told_then c.take-2.new.self c.take-3.new.self c.take-3.new.self _ c.in_ok-size_code.ensures.reading.counts c.in_ok-size_code.ensures.reading.reads (told_broken {read = judged (nat_eq c.in_ok-size_code.field-0 0) ReservedCode c.take-3.new.self.cursor} c.take-3.new.self c.take-3.new.self _ (rw c.if-size_code-eq0.true refl))))) } }
-
-pub returns-in_err-rate_code : goal.returns-in_err-rate_code
-unfolding header
-returns-in_err-rate_code g c =
-    let p = err_from_is_err_and c.from_residual-in_err-rate_code.result c.from_residual-in_err-rate_code.ensures.1 in
-    rw (p.1, p.2) (record { reading = record { spends = tt; counts = failed_then c.args.bits.now c.take.new.self c.take-4.new.self c.in_ok-take.ensures.reading.counts (failed_then c.take.new.self c.take-2.new.self c.take-4.new.self c.in_ok-bit.ensures.reading.counts (failed_then c.take-2.new.self c.take-3.new.self c.take-4.new.self c.in_ok-size_code.ensures.reading.counts c.in_err-rate_code.ensures.reading.counts)); memory = c.in_err-rate_code.ensures.reading.memory; reads = told_then c.args.bits.now c.take.new.self c.take-4.new.self _ c.in_ok-take.ensures.reading.counts c.in_ok-take.ensures.reading.reads (told_past {read = judged (not (nat_eq c.in_ok-take.field-0 0x7FFC)) BadSync c.take.new.self.cursor} c.take.new.self c.take-4.new.self c.take.new.self.cursor _ (rw c.if-branch-ne32764.false refl) (told_then c.take.new.self c.take-2.new.self c.take-4.new.self _ c.in_ok-bit.ensures.reading.counts c.in_ok-bit.ensures.reading.reads (told_then c.take-2.new.self c.take-3.new.self c.take-4.new.self _ c.in_ok-size_code.ensures.reading.counts c.in_ok-size_code.ensures.reading.reads (told_past {read = judged (nat_eq c.in_ok-size_code.field-0 0) ReservedCode c.take-3.new.self.cursor} c.take-3.new.self c.take-4.new.self c.take-3.new.self.cursor _ (rw (ne_eqb c.in_ok-size_code.field-0 0 c.if-size_code-eq0.false) refl) (told_fault c.take-3.new.self c.take-4.new.self _ c.in_err-rate_code.ensures.reading.reads))))) } })
-
-pub returns-then-rate_code-eq15 : goal.returns-then-rate_code-eq15
-unfolding header
-returns-then-rate_code-eq15 g c =
-    record { reading = record { spends = tt; counts = refused_then c.args.bits.now c.take-4.new.self (answered_then c.args.bits.now c.take.new.self c.take-4.new.self c.in_ok-take.ensures.reading.counts (answered_then c.take.new.self c.take-2.new.self c.take-4.new.self c.in_ok-bit.ensures.reading.counts (answered_then c.take-2.new.self c.take-3.new.self c.take-4.new.self c.in_ok-size_code.ensures.reading.counts c.in_ok-rate_code.ensures.reading.counts))) refl; memory = code_no_memory; reads = told_then c.args.bits.now c.take.new.self c.take-4.new.self _ c.in_ok-take.ensures.reading.counts c.in_ok-take.ensures.reading.reads (told_past {read = judged (not (nat_eq c.in_ok-take.field-0 0x7FFC)) BadSync c.take.new.self.cursor} c.take.new.self c.take-4.new.self c.take.new.self.cursor _ (rw c.if-branch-ne32764.false refl) (told_then c.take.new.self c.take-2.new.self c.take-4.new.self _ c.in_ok-bit.ensures.reading.counts c.in_ok-bit.ensures.reading.reads (told_then c.take-2.new.self c.take-3.new.self c.take-4.new.self _ c.in_ok-size_code.ensures.reading.counts c.in_ok-size_code.ensures.reading.reads (told_past {read = judged (nat_eq c.in_ok-size_code.field-0 0) ReservedCode c.take-3.new.self.cursor} c.take-3.new.self c.take-4.new.self c.take-3.new.self.cursor _ (rw (ne_eqb c.in_ok-size_code.field-0 0 c.if-size_code-eq0.false) refl) (told_then c.take-3.new.self c.take-4.new.self c.take-4.new.self _ c.in_ok-rate_code.ensures.reading.counts c.in_ok-rate_code.ensures.reading.reads (told_broken {read = judged (nat_eq c.in_ok-rate_code.field-0 15) ReservedCode c.take-4.new.self.cursor} c.take-4.new.self c.take-4.new.self _ (rw c.if-rate_code-eq15.true refl))))))) } }
-
-pub returns-in_err-channel_code : goal.returns-in_err-channel_code
-unfolding header
-returns-in_err-channel_code g c =
-    let p = err_from_is_err_and c.from_residual-in_err-channel_code.result c.from_residual-in_err-channel_code.ensures.1 in
-    rw (p.1, p.2) (record { reading = record { spends = tt; counts = failed_then c.args.bits.now c.take.new.self c.take-5.new.self c.in_ok-take.ensures.reading.counts (failed_then c.take.new.self c.take-2.new.self c.take-5.new.self c.in_ok-bit.ensures.reading.counts (failed_then c.take-2.new.self c.take-3.new.self c.take-5.new.self c.in_ok-size_code.ensures.reading.counts (failed_then c.take-3.new.self c.take-4.new.self c.take-5.new.self c.in_ok-rate_code.ensures.reading.counts c.in_err-channel_code.ensures.reading.counts))); memory = c.in_err-channel_code.ensures.reading.memory; reads = told_then c.args.bits.now c.take.new.self c.take-5.new.self _ c.in_ok-take.ensures.reading.counts c.in_ok-take.ensures.reading.reads (told_past {read = judged (not (nat_eq c.in_ok-take.field-0 0x7FFC)) BadSync c.take.new.self.cursor} c.take.new.self c.take-5.new.self c.take.new.self.cursor _ (rw c.if-branch-ne32764.false refl) (told_then c.take.new.self c.take-2.new.self c.take-5.new.self _ c.in_ok-bit.ensures.reading.counts c.in_ok-bit.ensures.reading.reads (told_then c.take-2.new.self c.take-3.new.self c.take-5.new.self _ c.in_ok-size_code.ensures.reading.counts c.in_ok-size_code.ensures.reading.reads (told_past {read = judged (nat_eq c.in_ok-size_code.field-0 0) ReservedCode c.take-3.new.self.cursor} c.take-3.new.self c.take-5.new.self c.take-3.new.self.cursor _ (rw (ne_eqb c.in_ok-size_code.field-0 0 c.if-size_code-eq0.false) refl) (told_then c.take-3.new.self c.take-4.new.self c.take-5.new.self _ c.in_ok-rate_code.ensures.reading.counts c.in_ok-rate_code.ensures.reading.reads (told_past {read = judged (nat_eq c.in_ok-rate_code.field-0 15) ReservedCode c.take-4.new.self.cursor} c.take-4.new.self c.take-5.new.self c.take-4.new.self.cursor _ (rw (ne_eqb c.in_ok-rate_code.field-0 15 c.if-rate_code-eq15.false) refl) (told_fault c.take-4.new.self c.take-5.new.self _ c.in_err-channel_code.ensures.reading.reads))))))) } })
-
-pub returns-then-channel_code-gt10 : goal.returns-then-channel_code-gt10
-unfolding header
-returns-then-channel_code-gt10 g c =
-    record { reading = record { spends = tt; counts = refused_then c.args.bits.now c.take-5.new.self (answered_then c.args.bits.now c.take.new.self c.take-5.new.self c.in_ok-take.ensures.reading.counts (answered_then c.take.new.self c.take-2.new.self c.take-5.new.self c.in_ok-bit.ensures.reading.counts (answered_then c.take-2.new.self c.take-3.new.self c.take-5.new.self c.in_ok-size_code.ensures.reading.counts (answered_then c.take-3.new.self c.take-4.new.self c.take-5.new.self c.in_ok-rate_code.ensures.reading.counts c.in_ok-channel_code.ensures.reading.counts)))) refl; memory = code_no_memory; reads = told_then c.args.bits.now c.take.new.self c.take-5.new.self _ c.in_ok-take.ensures.reading.counts c.in_ok-take.ensures.reading.reads (told_past {read = judged (not (nat_eq c.in_ok-take.field-0 0x7FFC)) BadSync c.take.new.self.cursor} c.take.new.self c.take-5.new.self c.take.new.self.cursor _ (rw c.if-branch-ne32764.false refl) (told_then c.take.new.self c.take-2.new.self c.take-5.new.self _ c.in_ok-bit.ensures.reading.counts c.in_ok-bit.ensures.reading.reads (told_then c.take-2.new.self c.take-3.new.self c.take-5.new.self _ c.in_ok-size_code.ensures.reading.counts c.in_ok-size_code.ensures.reading.reads (told_past {read = judged (nat_eq c.in_ok-size_code.field-0 0) ReservedCode c.take-3.new.self.cursor} c.take-3.new.self c.take-5.new.self c.take-3.new.self.cursor _ (rw (ne_eqb c.in_ok-size_code.field-0 0 c.if-size_code-eq0.false) refl) (told_then c.take-3.new.self c.take-4.new.self c.take-5.new.self _ c.in_ok-rate_code.ensures.reading.counts c.in_ok-rate_code.ensures.reading.reads (told_past {read = judged (nat_eq c.in_ok-rate_code.field-0 15) ReservedCode c.take-4.new.self.cursor} c.take-4.new.self c.take-5.new.self c.take-4.new.self.cursor _ (rw (ne_eqb c.in_ok-rate_code.field-0 15 c.if-rate_code-eq15.false) refl) (told_then c.take-4.new.self c.take-5.new.self c.take-5.new.self _ c.in_ok-channel_code.ensures.reading.counts c.in_ok-channel_code.ensures.reading.reads (told_broken {read = judged (nat_lt 10 c.in_ok-channel_code.field-0) ReservedCode c.take-5.new.self.cursor} c.take-5.new.self c.take-5.new.self _ (search rules))))))))) } }
-
-pub returns-in_err-depth_code : goal.returns-in_err-depth_code
-unfolding header
-returns-in_err-depth_code g c =
-    let p = err_from_is_err_and c.from_residual-in_err-depth_code.result c.from_residual-in_err-depth_code.ensures.1 in
-    rw (p.1, p.2) (record { reading = record { spends = tt; counts = failed_then c.args.bits.now c.take.new.self c.take-6.new.self c.in_ok-take.ensures.reading.counts (failed_then c.take.new.self c.take-2.new.self c.take-6.new.self c.in_ok-bit.ensures.reading.counts (failed_then c.take-2.new.self c.take-3.new.self c.take-6.new.self c.in_ok-size_code.ensures.reading.counts (failed_then c.take-3.new.self c.take-4.new.self c.take-6.new.self c.in_ok-rate_code.ensures.reading.counts (failed_then c.take-4.new.self c.take-5.new.self c.take-6.new.self c.in_ok-channel_code.ensures.reading.counts c.in_err-depth_code.ensures.reading.counts)))); memory = c.in_err-depth_code.ensures.reading.memory; reads = told_then c.args.bits.now c.take.new.self c.take-6.new.self _ c.in_ok-take.ensures.reading.counts c.in_ok-take.ensures.reading.reads (told_past {read = judged (not (nat_eq c.in_ok-take.field-0 0x7FFC)) BadSync c.take.new.self.cursor} c.take.new.self c.take-6.new.self c.take.new.self.cursor _ (rw c.if-branch-ne32764.false refl) (told_then c.take.new.self c.take-2.new.self c.take-6.new.self _ c.in_ok-bit.ensures.reading.counts c.in_ok-bit.ensures.reading.reads (told_then c.take-2.new.self c.take-3.new.self c.take-6.new.self _ c.in_ok-size_code.ensures.reading.counts c.in_ok-size_code.ensures.reading.reads (told_past {read = judged (nat_eq c.in_ok-size_code.field-0 0) ReservedCode c.take-3.new.self.cursor} c.take-3.new.self c.take-6.new.self c.take-3.new.self.cursor _ (rw (ne_eqb c.in_ok-size_code.field-0 0 c.if-size_code-eq0.false) refl) (told_then c.take-3.new.self c.take-4.new.self c.take-6.new.self _ c.in_ok-rate_code.ensures.reading.counts c.in_ok-rate_code.ensures.reading.reads (told_past {read = judged (nat_eq c.in_ok-rate_code.field-0 15) ReservedCode c.take-4.new.self.cursor} c.take-4.new.self c.take-6.new.self c.take-4.new.self.cursor _ (rw (ne_eqb c.in_ok-rate_code.field-0 15 c.if-rate_code-eq15.false) refl) (told_then c.take-4.new.self c.take-5.new.self c.take-6.new.self _ c.in_ok-channel_code.ensures.reading.counts c.in_ok-channel_code.ensures.reading.reads (told_past {read = judged (nat_lt 10 c.in_ok-channel_code.field-0) ReservedCode c.take-5.new.self.cursor} c.take-5.new.self c.take-6.new.self c.take-5.new.self.cursor _ (rw (at_most_10 c.in_ok-channel_code.field-0 c.if-channel_code-gt10.false) refl) (told_fault c.take-5.new.self c.take-6.new.self _ c.in_err-depth_code.ensures.reading.reads))))))))) } })
-
-pub returns-then-depth_code-eq3 : goal.returns-then-depth_code-eq3
-unfolding header
-returns-then-depth_code-eq3 g c =
-    record { reading = record { spends = tt; counts = refused_then c.args.bits.now c.take-6.new.self (answered_then c.args.bits.now c.take.new.self c.take-6.new.self c.in_ok-take.ensures.reading.counts (answered_then c.take.new.self c.take-2.new.self c.take-6.new.self c.in_ok-bit.ensures.reading.counts (answered_then c.take-2.new.self c.take-3.new.self c.take-6.new.self c.in_ok-size_code.ensures.reading.counts (answered_then c.take-3.new.self c.take-4.new.self c.take-6.new.self c.in_ok-rate_code.ensures.reading.counts (answered_then c.take-4.new.self c.take-5.new.self c.take-6.new.self c.in_ok-channel_code.ensures.reading.counts c.in_ok-depth_code.ensures.reading.counts))))) refl; memory = code_no_memory; reads = told_then c.args.bits.now c.take.new.self c.take-6.new.self _ c.in_ok-take.ensures.reading.counts c.in_ok-take.ensures.reading.reads (told_past {read = judged (not (nat_eq c.in_ok-take.field-0 0x7FFC)) BadSync c.take.new.self.cursor} c.take.new.self c.take-6.new.self c.take.new.self.cursor _ (rw c.if-branch-ne32764.false refl) (told_then c.take.new.self c.take-2.new.self c.take-6.new.self _ c.in_ok-bit.ensures.reading.counts c.in_ok-bit.ensures.reading.reads (told_then c.take-2.new.self c.take-3.new.self c.take-6.new.self _ c.in_ok-size_code.ensures.reading.counts c.in_ok-size_code.ensures.reading.reads (told_past {read = judged (nat_eq c.in_ok-size_code.field-0 0) ReservedCode c.take-3.new.self.cursor} c.take-3.new.self c.take-6.new.self c.take-3.new.self.cursor _ (rw (ne_eqb c.in_ok-size_code.field-0 0 c.if-size_code-eq0.false) refl) (told_then c.take-3.new.self c.take-4.new.self c.take-6.new.self _ c.in_ok-rate_code.ensures.reading.counts c.in_ok-rate_code.ensures.reading.reads (told_past {read = judged (nat_eq c.in_ok-rate_code.field-0 15) ReservedCode c.take-4.new.self.cursor} c.take-4.new.self c.take-6.new.self c.take-4.new.self.cursor _ (rw (ne_eqb c.in_ok-rate_code.field-0 15 c.if-rate_code-eq15.false) refl) (told_then c.take-4.new.self c.take-5.new.self c.take-6.new.self _ c.in_ok-channel_code.ensures.reading.counts c.in_ok-channel_code.ensures.reading.reads (told_past {read = judged (nat_lt 10 c.in_ok-channel_code.field-0) ReservedCode c.take-5.new.self.cursor} c.take-5.new.self c.take-6.new.self c.take-5.new.self.cursor _ (rw (at_most_10 c.in_ok-channel_code.field-0 c.if-channel_code-gt10.false) refl) (told_then c.take-5.new.self c.take-6.new.self c.take-6.new.self _ c.in_ok-depth_code.ensures.reading.counts c.in_ok-depth_code.ensures.reading.reads (told_broken {read = judged (nat_eq c.in_ok-depth_code.field-0 3) ReservedCode c.take-6.new.self.cursor} c.take-6.new.self c.take-6.new.self _ (rw c.if-depth_code-eq3.true refl))))))))))) } }
-
-pub returns-in_err-take-2 : goal.returns-in_err-take-2
-unfolding header
-returns-in_err-take-2 g c =
-    let p = err_from_is_err_and c.from_residual-in_err-take-2.result c.from_residual-in_err-take-2.ensures.1 in
-    rw (p.1, p.2) (record { reading = record { spends = tt; counts = failed_then c.args.bits.now c.take.new.self c.take-7.new.self c.in_ok-take.ensures.reading.counts (failed_then c.take.new.self c.take-2.new.self c.take-7.new.self c.in_ok-bit.ensures.reading.counts (failed_then c.take-2.new.self c.take-3.new.self c.take-7.new.self c.in_ok-size_code.ensures.reading.counts (failed_then c.take-3.new.self c.take-4.new.self c.take-7.new.self c.in_ok-rate_code.ensures.reading.counts (failed_then c.take-4.new.self c.take-5.new.self c.take-7.new.self c.in_ok-channel_code.ensures.reading.counts (failed_then c.take-5.new.self c.take-6.new.self c.take-7.new.self c.in_ok-depth_code.ensures.reading.counts c.in_err-take-2.ensures.reading.counts))))); memory = c.in_err-take-2.ensures.reading.memory; reads = told_then c.args.bits.now c.take.new.self c.take-7.new.self _ c.in_ok-take.ensures.reading.counts c.in_ok-take.ensures.reading.reads (told_past {read = judged (not (nat_eq c.in_ok-take.field-0 0x7FFC)) BadSync c.take.new.self.cursor} c.take.new.self c.take-7.new.self c.take.new.self.cursor _ (rw c.if-branch-ne32764.false refl) (told_then c.take.new.self c.take-2.new.self c.take-7.new.self _ c.in_ok-bit.ensures.reading.counts c.in_ok-bit.ensures.reading.reads (told_then c.take-2.new.self c.take-3.new.self c.take-7.new.self _ c.in_ok-size_code.ensures.reading.counts c.in_ok-size_code.ensures.reading.reads (told_past {read = judged (nat_eq c.in_ok-size_code.field-0 0) ReservedCode c.take-3.new.self.cursor} c.take-3.new.self c.take-7.new.self c.take-3.new.self.cursor _ (rw (ne_eqb c.in_ok-size_code.field-0 0 c.if-size_code-eq0.false) refl) (told_then c.take-3.new.self c.take-4.new.self c.take-7.new.self _ c.in_ok-rate_code.ensures.reading.counts c.in_ok-rate_code.ensures.reading.reads (told_past {read = judged (nat_eq c.in_ok-rate_code.field-0 15) ReservedCode c.take-4.new.self.cursor} c.take-4.new.self c.take-7.new.self c.take-4.new.self.cursor _ (rw (ne_eqb c.in_ok-rate_code.field-0 15 c.if-rate_code-eq15.false) refl) (told_then c.take-4.new.self c.take-5.new.self c.take-7.new.self _ c.in_ok-channel_code.ensures.reading.counts c.in_ok-channel_code.ensures.reading.reads (told_past {read = judged (nat_lt 10 c.in_ok-channel_code.field-0) ReservedCode c.take-5.new.self.cursor} c.take-5.new.self c.take-7.new.self c.take-5.new.self.cursor _ (rw (at_most_10 c.in_ok-channel_code.field-0 c.if-channel_code-gt10.false) refl) (told_then c.take-5.new.self c.take-6.new.self c.take-7.new.self _ c.in_ok-depth_code.ensures.reading.counts c.in_ok-depth_code.ensures.reading.reads (told_past {read = judged (nat_eq c.in_ok-depth_code.field-0 3) ReservedCode c.take-6.new.self.cursor} c.take-6.new.self c.take-7.new.self c.take-6.new.self.cursor _ (rw (ne_eqb c.in_ok-depth_code.field-0 3 c.if-depth_code-eq3.false) refl) (told_fault c.take-6.new.self c.take-7.new.self _ c.in_err-take-2.ensures.reading.reads))))))))))) } })
-
-pub returns-then-branch-ne0 : goal.returns-then-branch-ne0
-unfolding header
-returns-then-branch-ne0 g c =
-    record { reading = record { spends = tt; counts = refused_then c.args.bits.now c.take-7.new.self (answered_then c.args.bits.now c.take.new.self c.take-7.new.self c.in_ok-take.ensures.reading.counts (answered_then c.take.new.self c.take-2.new.self c.take-7.new.self c.in_ok-bit.ensures.reading.counts (answered_then c.take-2.new.self c.take-3.new.self c.take-7.new.self c.in_ok-size_code.ensures.reading.counts (answered_then c.take-3.new.self c.take-4.new.self c.take-7.new.self c.in_ok-rate_code.ensures.reading.counts (answered_then c.take-4.new.self c.take-5.new.self c.take-7.new.self c.in_ok-channel_code.ensures.reading.counts (answered_then c.take-5.new.self c.take-6.new.self c.take-7.new.self c.in_ok-depth_code.ensures.reading.counts c.in_ok-take-2.ensures.reading.counts)))))) refl; memory = code_no_memory; reads = told_then c.args.bits.now c.take.new.self c.take-7.new.self _ c.in_ok-take.ensures.reading.counts c.in_ok-take.ensures.reading.reads (told_past {read = judged (not (nat_eq c.in_ok-take.field-0 0x7FFC)) BadSync c.take.new.self.cursor} c.take.new.self c.take-7.new.self c.take.new.self.cursor _ (rw c.if-branch-ne32764.false refl) (told_then c.take.new.self c.take-2.new.self c.take-7.new.self _ c.in_ok-bit.ensures.reading.counts c.in_ok-bit.ensures.reading.reads (told_then c.take-2.new.self c.take-3.new.self c.take-7.new.self _ c.in_ok-size_code.ensures.reading.counts c.in_ok-size_code.ensures.reading.reads (told_past {read = judged (nat_eq c.in_ok-size_code.field-0 0) ReservedCode c.take-3.new.self.cursor} c.take-3.new.self c.take-7.new.self c.take-3.new.self.cursor _ (rw (ne_eqb c.in_ok-size_code.field-0 0 c.if-size_code-eq0.false) refl) (told_then c.take-3.new.self c.take-4.new.self c.take-7.new.self _ c.in_ok-rate_code.ensures.reading.counts c.in_ok-rate_code.ensures.reading.reads (told_past {read = judged (nat_eq c.in_ok-rate_code.field-0 15) ReservedCode c.take-4.new.self.cursor} c.take-4.new.self c.take-7.new.self c.take-4.new.self.cursor _ (rw (ne_eqb c.in_ok-rate_code.field-0 15 c.if-rate_code-eq15.false) refl) (told_then c.take-4.new.self c.take-5.new.self c.take-7.new.self _ c.in_ok-channel_code.ensures.reading.counts c.in_ok-channel_code.ensures.reading.reads (told_past {read = judged (nat_lt 10 c.in_ok-channel_code.field-0) ReservedCode c.take-5.new.self.cursor} c.take-5.new.self c.take-7.new.self c.take-5.new.self.cursor _ (rw (at_most_10 c.in_ok-channel_code.field-0 c.if-channel_code-gt10.false) refl) (told_then c.take-5.new.self c.take-6.new.self c.take-7.new.self _ c.in_ok-depth_code.ensures.reading.counts c.in_ok-depth_code.ensures.reading.reads (told_past {read = judged (nat_eq c.in_ok-depth_code.field-0 3) ReservedCode c.take-6.new.self.cursor} c.take-6.new.self c.take-7.new.self c.take-6.new.self.cursor _ (rw (ne_eqb c.in_ok-depth_code.field-0 3 c.if-depth_code-eq3.false) refl) (told_then c.take-6.new.self c.take-7.new.self c.take-7.new.self _ c.in_ok-take-2.ensures.reading.counts c.in_ok-take-2.ensures.reading.reads (told_broken {read = judged (not (nat_eq c.in_ok-take-2.field-0 0)) ReservedCode c.take-7.new.self.cursor} c.take-7.new.self c.take-7.new.self _ (rw (ne_eqb c.in_ok-take-2.field-0 0 c.if-branch-ne0.true) refl))))))))))))) } }
+    let cut = c.in_err-strategy.ensures.reading in
+    rw (p.1, p.2) (record { reading = record { spends = tt; counts = cut.counts; memory = cut.memory; reads = told_header c.args.bits.now c.read_codes.new.bits (told_fault c.args.bits.now c.read_codes.new.bits behind cut.reads) } })
 
 pub returns-in_err-number : goal.returns-in_err-number
-unfolding header
+unfolding behind_codes
 returns-in_err-number g c =
-    let most = c.number_bits.ensures ∙ ap number_bits c.from_bit-strategy.ensures in
     let p = err_from_is_err_and c.from_residual-in_err-number.result c.from_residual-in_err-number.ensures.1 in
-    rw (p.1, p.2) (record { reading = record { spends = tt; counts = failed_then c.args.bits.now c.take.new.self c.number_here.new.bits c.in_ok-take.ensures.reading.counts (failed_then c.take.new.self c.take-2.new.self c.number_here.new.bits c.in_ok-bit.ensures.reading.counts (failed_then c.take-2.new.self c.take-3.new.self c.number_here.new.bits c.in_ok-size_code.ensures.reading.counts (failed_then c.take-3.new.self c.take-4.new.self c.number_here.new.bits c.in_ok-rate_code.ensures.reading.counts (failed_then c.take-4.new.self c.take-5.new.self c.number_here.new.bits c.in_ok-channel_code.ensures.reading.counts (failed_then c.take-5.new.self c.take-6.new.self c.number_here.new.bits c.in_ok-depth_code.ensures.reading.counts (failed_then c.take-6.new.self c.take-7.new.self c.number_here.new.bits c.in_ok-take-2.ensures.reading.counts c.in_err-number.ensures.reading.counts)))))); memory = c.in_err-number.ensures.reading.memory; reads = told_then c.args.bits.now c.take.new.self c.number_here.new.bits _ c.in_ok-take.ensures.reading.counts c.in_ok-take.ensures.reading.reads (told_past {read = judged (not (nat_eq c.in_ok-take.field-0 0x7FFC)) BadSync c.take.new.self.cursor} c.take.new.self c.number_here.new.bits c.take.new.self.cursor _ (rw c.if-branch-ne32764.false refl) (told_then c.take.new.self c.take-2.new.self c.number_here.new.bits _ c.in_ok-bit.ensures.reading.counts c.in_ok-bit.ensures.reading.reads (told_then c.take-2.new.self c.take-3.new.self c.number_here.new.bits _ c.in_ok-size_code.ensures.reading.counts c.in_ok-size_code.ensures.reading.reads (told_past {read = judged (nat_eq c.in_ok-size_code.field-0 0) ReservedCode c.take-3.new.self.cursor} c.take-3.new.self c.number_here.new.bits c.take-3.new.self.cursor _ (rw (ne_eqb c.in_ok-size_code.field-0 0 c.if-size_code-eq0.false) refl) (told_then c.take-3.new.self c.take-4.new.self c.number_here.new.bits _ c.in_ok-rate_code.ensures.reading.counts c.in_ok-rate_code.ensures.reading.reads (told_past {read = judged (nat_eq c.in_ok-rate_code.field-0 15) ReservedCode c.take-4.new.self.cursor} c.take-4.new.self c.number_here.new.bits c.take-4.new.self.cursor _ (rw (ne_eqb c.in_ok-rate_code.field-0 15 c.if-rate_code-eq15.false) refl) (told_then c.take-4.new.self c.take-5.new.self c.number_here.new.bits _ c.in_ok-channel_code.ensures.reading.counts c.in_ok-channel_code.ensures.reading.reads (told_past {read = judged (nat_lt 10 c.in_ok-channel_code.field-0) ReservedCode c.take-5.new.self.cursor} c.take-5.new.self c.number_here.new.bits c.take-5.new.self.cursor _ (rw (at_most_10 c.in_ok-channel_code.field-0 c.if-channel_code-gt10.false) refl) (told_then c.take-5.new.self c.take-6.new.self c.number_here.new.bits _ c.in_ok-depth_code.ensures.reading.counts c.in_ok-depth_code.ensures.reading.reads (told_past {read = judged (nat_eq c.in_ok-depth_code.field-0 3) ReservedCode c.take-6.new.self.cursor} c.take-6.new.self c.number_here.new.bits c.take-6.new.self.cursor _ (rw (ne_eqb c.in_ok-depth_code.field-0 3 c.if-depth_code-eq3.false) refl) (told_then c.take-6.new.self c.take-7.new.self c.number_here.new.bits _ c.in_ok-take-2.ensures.reading.counts c.in_ok-take-2.ensures.reading.reads (told_past {read = judged (not (nat_eq c.in_ok-take-2.field-0 0)) ReservedCode c.take-7.new.self.cursor} c.take-7.new.self c.number_here.new.bits c.take-7.new.self.cursor _ (rw c.if-branch-ne0.false refl) (told_fault c.take-7.new.self c.number_here.new.bits _ (rw most at c.in_err-number.ensures.reading.reads)))))))))))))) } })
+    let first = c.in_ok-strategy.ensures.reading in
+    let cut = c.in_err-number.ensures.reading in
+    rw (p.1, p.2) (record {
+      reading = record {
+        spends = tt;
+        counts = failed_then c.args.bits.now c.read_codes.new.bits c.number_here.new.bits first.counts cut.counts;
+        memory = cut.memory;
+        reads = told_header c.args.bits.now c.number_here.new.bits (told_then c.args.bits.now c.read_codes.new.bits c.number_here.new.bits behind first.counts first.reads
+            (told_fault c.read_codes.new.bits c.number_here.new.bits _ (rw c.number_bits.ensures at cut.reads)));
+      };
+    })
 
 pub returns-in_err-size : goal.returns-in_err-size
-unfolding header
+unfolding behind_codes
 returns-in_err-size g c =
-    let most = c.number_bits.ensures ∙ ap number_bits c.from_bit-strategy.ensures in
     let p = err_from_is_err_and c.from_residual-in_err-size.result c.from_residual-in_err-size.ensures.1 in
-    rw (p.1, p.2) (record { reading = record { spends = tt; counts = failed_then c.args.bits.now c.take.new.self c.read_size.new.bits c.in_ok-take.ensures.reading.counts (failed_then c.take.new.self c.take-2.new.self c.read_size.new.bits c.in_ok-bit.ensures.reading.counts (failed_then c.take-2.new.self c.take-3.new.self c.read_size.new.bits c.in_ok-size_code.ensures.reading.counts (failed_then c.take-3.new.self c.take-4.new.self c.read_size.new.bits c.in_ok-rate_code.ensures.reading.counts (failed_then c.take-4.new.self c.take-5.new.self c.read_size.new.bits c.in_ok-channel_code.ensures.reading.counts (failed_then c.take-5.new.self c.take-6.new.self c.read_size.new.bits c.in_ok-depth_code.ensures.reading.counts (failed_then c.take-6.new.self c.take-7.new.self c.read_size.new.bits c.in_ok-take-2.ensures.reading.counts (failed_then c.take-7.new.self c.number_here.new.bits c.read_size.new.bits c.in_ok-number.ensures.reading.counts c.in_err-size.ensures.reading.counts))))))); memory = c.in_err-size.ensures.reading.memory; reads = told_then c.args.bits.now c.take.new.self c.read_size.new.bits _ c.in_ok-take.ensures.reading.counts c.in_ok-take.ensures.reading.reads (told_past {read = judged (not (nat_eq c.in_ok-take.field-0 0x7FFC)) BadSync c.take.new.self.cursor} c.take.new.self c.read_size.new.bits c.take.new.self.cursor _ (rw c.if-branch-ne32764.false refl) (told_then c.take.new.self c.take-2.new.self c.read_size.new.bits _ c.in_ok-bit.ensures.reading.counts c.in_ok-bit.ensures.reading.reads (told_then c.take-2.new.self c.take-3.new.self c.read_size.new.bits _ c.in_ok-size_code.ensures.reading.counts c.in_ok-size_code.ensures.reading.reads (told_past {read = judged (nat_eq c.in_ok-size_code.field-0 0) ReservedCode c.take-3.new.self.cursor} c.take-3.new.self c.read_size.new.bits c.take-3.new.self.cursor _ (rw (ne_eqb c.in_ok-size_code.field-0 0 c.if-size_code-eq0.false) refl) (told_then c.take-3.new.self c.take-4.new.self c.read_size.new.bits _ c.in_ok-rate_code.ensures.reading.counts c.in_ok-rate_code.ensures.reading.reads (told_past {read = judged (nat_eq c.in_ok-rate_code.field-0 15) ReservedCode c.take-4.new.self.cursor} c.take-4.new.self c.read_size.new.bits c.take-4.new.self.cursor _ (rw (ne_eqb c.in_ok-rate_code.field-0 15 c.if-rate_code-eq15.false) refl) (told_then c.take-4.new.self c.take-5.new.self c.read_size.new.bits _ c.in_ok-channel_code.ensures.reading.counts c.in_ok-channel_code.ensures.reading.reads (told_past {read = judged (nat_lt 10 c.in_ok-channel_code.field-0) ReservedCode c.take-5.new.self.cursor} c.take-5.new.self c.read_size.new.bits c.take-5.new.self.cursor _ (rw (at_most_10 c.in_ok-channel_code.field-0 c.if-channel_code-gt10.false) refl) (told_then c.take-5.new.self c.take-6.new.self c.read_size.new.bits _ c.in_ok-depth_code.ensures.reading.counts c.in_ok-depth_code.ensures.reading.reads (told_past {read = judged (nat_eq c.in_ok-depth_code.field-0 3) ReservedCode c.take-6.new.self.cursor} c.take-6.new.self c.read_size.new.bits c.take-6.new.self.cursor _ (rw (ne_eqb c.in_ok-depth_code.field-0 3 c.if-depth_code-eq3.false) refl) (told_then c.take-6.new.self c.take-7.new.self c.read_size.new.bits _ c.in_ok-take-2.ensures.reading.counts c.in_ok-take-2.ensures.reading.reads (told_past {read = judged (not (nat_eq c.in_ok-take-2.field-0 0)) ReservedCode c.take-7.new.self.cursor} c.take-7.new.self c.read_size.new.bits c.take-7.new.self.cursor _ (rw c.if-branch-ne0.false refl) (told_then c.take-7.new.self c.number_here.new.bits c.read_size.new.bits _ c.in_ok-number.ensures.reading.counts (rw most at c.in_ok-number.ensures.reading.reads) (told_fault c.number_here.new.bits c.read_size.new.bits _ c.in_err-size.ensures.reading.reads)))))))))))))) } })
+    let first = c.in_ok-strategy.ensures.reading in
+    let number = c.in_ok-number.ensures.reading in
+    let cut = c.in_err-size.ensures.reading in
+    let last = c.read_size.new.bits in
+    rw (p.1, p.2) (record {
+      reading = record {
+        spends = tt;
+        counts = failed_then c.args.bits.now c.read_codes.new.bits last first.counts (failed_then c.read_codes.new.bits c.number_here.new.bits last number.counts cut.counts);
+        memory = cut.memory;
+        reads = told_header c.args.bits.now last (told_then c.args.bits.now c.read_codes.new.bits last behind first.counts first.reads
+            (told_then c.read_codes.new.bits c.number_here.new.bits last _ number.counts (rw c.number_bits.ensures at number.reads)
+            (told_fault c.number_here.new.bits last _ cut.reads)));
+      };
+    })
 
 pub returns-in_err-rate : goal.returns-in_err-rate
-unfolding header
+unfolding behind_codes
 returns-in_err-rate g c =
-    let most = c.number_bits.ensures ∙ ap number_bits c.from_bit-strategy.ensures in
     let p = err_from_is_err_and c.from_residual-in_err-rate.result c.from_residual-in_err-rate.ensures.1 in
-    rw (p.1, p.2) (record { reading = record { spends = tt; counts = failed_then c.args.bits.now c.take.new.self c.read_rate.new.bits c.in_ok-take.ensures.reading.counts (failed_then c.take.new.self c.take-2.new.self c.read_rate.new.bits c.in_ok-bit.ensures.reading.counts (failed_then c.take-2.new.self c.take-3.new.self c.read_rate.new.bits c.in_ok-size_code.ensures.reading.counts (failed_then c.take-3.new.self c.take-4.new.self c.read_rate.new.bits c.in_ok-rate_code.ensures.reading.counts (failed_then c.take-4.new.self c.take-5.new.self c.read_rate.new.bits c.in_ok-channel_code.ensures.reading.counts (failed_then c.take-5.new.self c.take-6.new.self c.read_rate.new.bits c.in_ok-depth_code.ensures.reading.counts (failed_then c.take-6.new.self c.take-7.new.self c.read_rate.new.bits c.in_ok-take-2.ensures.reading.counts (failed_then c.take-7.new.self c.number_here.new.bits c.read_rate.new.bits c.in_ok-number.ensures.reading.counts (failed_then c.number_here.new.bits c.read_size.new.bits c.read_rate.new.bits c.in_ok-size.ensures.reading.counts c.in_err-rate.ensures.reading.counts)))))))); memory = c.in_err-rate.ensures.reading.memory; reads = told_then c.args.bits.now c.take.new.self c.read_rate.new.bits _ c.in_ok-take.ensures.reading.counts c.in_ok-take.ensures.reading.reads (told_past {read = judged (not (nat_eq c.in_ok-take.field-0 0x7FFC)) BadSync c.take.new.self.cursor} c.take.new.self c.read_rate.new.bits c.take.new.self.cursor _ (rw c.if-branch-ne32764.false refl) (told_then c.take.new.self c.take-2.new.self c.read_rate.new.bits _ c.in_ok-bit.ensures.reading.counts c.in_ok-bit.ensures.reading.reads (told_then c.take-2.new.self c.take-3.new.self c.read_rate.new.bits _ c.in_ok-size_code.ensures.reading.counts c.in_ok-size_code.ensures.reading.reads (told_past {read = judged (nat_eq c.in_ok-size_code.field-0 0) ReservedCode c.take-3.new.self.cursor} c.take-3.new.self c.read_rate.new.bits c.take-3.new.self.cursor _ (rw (ne_eqb c.in_ok-size_code.field-0 0 c.if-size_code-eq0.false) refl) (told_then c.take-3.new.self c.take-4.new.self c.read_rate.new.bits _ c.in_ok-rate_code.ensures.reading.counts c.in_ok-rate_code.ensures.reading.reads (told_past {read = judged (nat_eq c.in_ok-rate_code.field-0 15) ReservedCode c.take-4.new.self.cursor} c.take-4.new.self c.read_rate.new.bits c.take-4.new.self.cursor _ (rw (ne_eqb c.in_ok-rate_code.field-0 15 c.if-rate_code-eq15.false) refl) (told_then c.take-4.new.self c.take-5.new.self c.read_rate.new.bits _ c.in_ok-channel_code.ensures.reading.counts c.in_ok-channel_code.ensures.reading.reads (told_past {read = judged (nat_lt 10 c.in_ok-channel_code.field-0) ReservedCode c.take-5.new.self.cursor} c.take-5.new.self c.read_rate.new.bits c.take-5.new.self.cursor _ (rw (at_most_10 c.in_ok-channel_code.field-0 c.if-channel_code-gt10.false) refl) (told_then c.take-5.new.self c.take-6.new.self c.read_rate.new.bits _ c.in_ok-depth_code.ensures.reading.counts c.in_ok-depth_code.ensures.reading.reads (told_past {read = judged (nat_eq c.in_ok-depth_code.field-0 3) ReservedCode c.take-6.new.self.cursor} c.take-6.new.self c.read_rate.new.bits c.take-6.new.self.cursor _ (rw (ne_eqb c.in_ok-depth_code.field-0 3 c.if-depth_code-eq3.false) refl) (told_then c.take-6.new.self c.take-7.new.self c.read_rate.new.bits _ c.in_ok-take-2.ensures.reading.counts c.in_ok-take-2.ensures.reading.reads (told_past {read = judged (not (nat_eq c.in_ok-take-2.field-0 0)) ReservedCode c.take-7.new.self.cursor} c.take-7.new.self c.read_rate.new.bits c.take-7.new.self.cursor _ (rw c.if-branch-ne0.false refl) (told_then c.take-7.new.self c.number_here.new.bits c.read_rate.new.bits _ c.in_ok-number.ensures.reading.counts (rw most at c.in_ok-number.ensures.reading.reads) (told_then c.number_here.new.bits c.read_size.new.bits c.read_rate.new.bits _ c.in_ok-size.ensures.reading.counts c.in_ok-size.ensures.reading.reads (told_fault c.read_size.new.bits c.read_rate.new.bits _ c.in_err-rate.ensures.reading.reads))))))))))))))) } })
+    let first = c.in_ok-strategy.ensures.reading in
+    let number = c.in_ok-number.ensures.reading in
+    let size = c.in_ok-size.ensures.reading in
+    let cut = c.in_err-rate.ensures.reading in
+    let last = c.read_rate.new.bits in
+    rw (p.1, p.2) (record {
+      reading = record {
+        spends = tt;
+        counts = failed_then c.args.bits.now c.read_codes.new.bits last first.counts (failed_then c.read_codes.new.bits c.number_here.new.bits last number.counts
+            (failed_then c.number_here.new.bits c.read_size.new.bits last size.counts cut.counts));
+        memory = cut.memory;
+        reads = told_header c.args.bits.now last (told_then c.args.bits.now c.read_codes.new.bits last behind first.counts first.reads
+            (told_then c.read_codes.new.bits c.number_here.new.bits last _ number.counts (rw c.number_bits.ensures at number.reads)
+            (told_then c.number_here.new.bits c.read_size.new.bits last _ size.counts size.reads
+            (told_fault c.read_size.new.bits last _ cut.reads))));
+      };
+    })
 
-pub returns-in_err-take-3 : goal.returns-in_err-take-3
-unfolding header
-returns-in_err-take-3 g c =
-    let most = c.number_bits.ensures ∙ ap number_bits c.from_bit-strategy.ensures in
-    let p = err_from_is_err_and c.from_residual-in_err-take-3.result c.from_residual-in_err-take-3.ensures.1 in
-    rw (p.1, p.2) (record { reading = record { spends = tt; counts = failed_then c.args.bits.now c.take.new.self c.take-8.new.self c.in_ok-take.ensures.reading.counts (failed_then c.take.new.self c.take-2.new.self c.take-8.new.self c.in_ok-bit.ensures.reading.counts (failed_then c.take-2.new.self c.take-3.new.self c.take-8.new.self c.in_ok-size_code.ensures.reading.counts (failed_then c.take-3.new.self c.take-4.new.self c.take-8.new.self c.in_ok-rate_code.ensures.reading.counts (failed_then c.take-4.new.self c.take-5.new.self c.take-8.new.self c.in_ok-channel_code.ensures.reading.counts (failed_then c.take-5.new.self c.take-6.new.self c.take-8.new.self c.in_ok-depth_code.ensures.reading.counts (failed_then c.take-6.new.self c.take-7.new.self c.take-8.new.self c.in_ok-take-2.ensures.reading.counts (failed_then c.take-7.new.self c.number_here.new.bits c.take-8.new.self c.in_ok-number.ensures.reading.counts (failed_then c.number_here.new.bits c.read_size.new.bits c.take-8.new.self c.in_ok-size.ensures.reading.counts (failed_then c.read_size.new.bits c.read_rate.new.bits c.take-8.new.self c.in_ok-rate.ensures.reading.counts c.in_err-take-3.ensures.reading.counts))))))))); memory = c.in_err-take-3.ensures.reading.memory; reads = told_then c.args.bits.now c.take.new.self c.take-8.new.self _ c.in_ok-take.ensures.reading.counts c.in_ok-take.ensures.reading.reads (told_past {read = judged (not (nat_eq c.in_ok-take.field-0 0x7FFC)) BadSync c.take.new.self.cursor} c.take.new.self c.take-8.new.self c.take.new.self.cursor _ (rw c.if-branch-ne32764.false refl) (told_then c.take.new.self c.take-2.new.self c.take-8.new.self _ c.in_ok-bit.ensures.reading.counts c.in_ok-bit.ensures.reading.reads (told_then c.take-2.new.self c.take-3.new.self c.take-8.new.self _ c.in_ok-size_code.ensures.reading.counts c.in_ok-size_code.ensures.reading.reads (told_past {read = judged (nat_eq c.in_ok-size_code.field-0 0) ReservedCode c.take-3.new.self.cursor} c.take-3.new.self c.take-8.new.self c.take-3.new.self.cursor _ (rw (ne_eqb c.in_ok-size_code.field-0 0 c.if-size_code-eq0.false) refl) (told_then c.take-3.new.self c.take-4.new.self c.take-8.new.self _ c.in_ok-rate_code.ensures.reading.counts c.in_ok-rate_code.ensures.reading.reads (told_past {read = judged (nat_eq c.in_ok-rate_code.field-0 15) ReservedCode c.take-4.new.self.cursor} c.take-4.new.self c.take-8.new.self c.take-4.new.self.cursor _ (rw (ne_eqb c.in_ok-rate_code.field-0 15 c.if-rate_code-eq15.false) refl) (told_then c.take-4.new.self c.take-5.new.self c.take-8.new.self _ c.in_ok-channel_code.ensures.reading.counts c.in_ok-channel_code.ensures.reading.reads (told_past {read = judged (nat_lt 10 c.in_ok-channel_code.field-0) ReservedCode c.take-5.new.self.cursor} c.take-5.new.self c.take-8.new.self c.take-5.new.self.cursor _ (rw (at_most_10 c.in_ok-channel_code.field-0 c.if-channel_code-gt10.false) refl) (told_then c.take-5.new.self c.take-6.new.self c.take-8.new.self _ c.in_ok-depth_code.ensures.reading.counts c.in_ok-depth_code.ensures.reading.reads (told_past {read = judged (nat_eq c.in_ok-depth_code.field-0 3) ReservedCode c.take-6.new.self.cursor} c.take-6.new.self c.take-8.new.self c.take-6.new.self.cursor _ (rw (ne_eqb c.in_ok-depth_code.field-0 3 c.if-depth_code-eq3.false) refl) (told_then c.take-6.new.self c.take-7.new.self c.take-8.new.self _ c.in_ok-take-2.ensures.reading.counts c.in_ok-take-2.ensures.reading.reads (told_past {read = judged (not (nat_eq c.in_ok-take-2.field-0 0)) ReservedCode c.take-7.new.self.cursor} c.take-7.new.self c.take-8.new.self c.take-7.new.self.cursor _ (rw c.if-branch-ne0.false refl) (told_then c.take-7.new.self c.number_here.new.bits c.take-8.new.self _ c.in_ok-number.ensures.reading.counts (rw most at c.in_ok-number.ensures.reading.reads) (told_then c.number_here.new.bits c.read_size.new.bits c.take-8.new.self _ c.in_ok-size.ensures.reading.counts c.in_ok-size.ensures.reading.reads (told_then c.read_size.new.bits c.read_rate.new.bits c.take-8.new.self _ c.in_ok-rate.ensures.reading.counts c.in_ok-rate.ensures.reading.reads (told_fault c.read_rate.new.bits c.take-8.new.self _ c.in_err-take-3.ensures.reading.reads)))))))))))))))) } })
+pub returns-in_err-take : goal.returns-in_err-take
+unfolding behind_codes
+returns-in_err-take g c =
+    let p = err_from_is_err_and c.from_residual-in_err-take.result c.from_residual-in_err-take.ensures.1 in
+    let first = c.in_ok-strategy.ensures.reading in
+    let number = c.in_ok-number.ensures.reading in
+    let size = c.in_ok-size.ensures.reading in
+    let rate = c.in_ok-rate.ensures.reading in
+    let cut = c.in_err-take.ensures.reading in
+    let last = c.take.new.self in
+    rw (p.1, p.2) (record {
+      reading = record {
+        spends = tt;
+        counts = failed_then c.args.bits.now c.read_codes.new.bits last first.counts (failed_then c.read_codes.new.bits c.number_here.new.bits last number.counts
+            (failed_then c.number_here.new.bits c.read_size.new.bits last size.counts (failed_then c.read_size.new.bits c.read_rate.new.bits last rate.counts cut.counts)));
+        memory = cut.memory;
+        reads = told_header c.args.bits.now last (told_then c.args.bits.now c.read_codes.new.bits last behind first.counts first.reads
+            (told_then c.read_codes.new.bits c.number_here.new.bits last _ number.counts (rw c.number_bits.ensures at number.reads)
+            (told_then c.number_here.new.bits c.read_size.new.bits last _ size.counts size.reads
+            (told_then c.read_size.new.bits c.read_rate.new.bits last _ rate.counts rate.reads
+            (told_fault c.read_rate.new.bits last _ cut.reads)))));
+      };
+    })
 
 pub returns-then-branch-from : goal.returns-then-branch-from
-unfolding header
+unfolding behind_codes
 returns-then-branch-from g c =
-    let most = c.number_bits.ensures ∙ ap number_bits c.from_bit-strategy.ensures in
-    record { reading = record { spends = tt; counts = refused_then c.args.bits.now c.take-8.new.self (answered_then c.args.bits.now c.take.new.self c.take-8.new.self c.in_ok-take.ensures.reading.counts (answered_then c.take.new.self c.take-2.new.self c.take-8.new.self c.in_ok-bit.ensures.reading.counts (answered_then c.take-2.new.self c.take-3.new.self c.take-8.new.self c.in_ok-size_code.ensures.reading.counts (answered_then c.take-3.new.self c.take-4.new.self c.take-8.new.self c.in_ok-rate_code.ensures.reading.counts (answered_then c.take-4.new.self c.take-5.new.self c.take-8.new.self c.in_ok-channel_code.ensures.reading.counts (answered_then c.take-5.new.self c.take-6.new.self c.take-8.new.self c.in_ok-depth_code.ensures.reading.counts (answered_then c.take-6.new.self c.take-7.new.self c.take-8.new.self c.in_ok-take-2.ensures.reading.counts (answered_then c.take-7.new.self c.number_here.new.bits c.take-8.new.self c.in_ok-number.ensures.reading.counts (answered_then c.number_here.new.bits c.read_size.new.bits c.take-8.new.self c.in_ok-size.ensures.reading.counts (answered_then c.read_size.new.bits c.read_rate.new.bits c.take-8.new.self c.in_ok-rate.ensures.reading.counts c.in_ok-take-3.ensures.reading.counts)))))))))) refl; memory = check_no_memory; reads = told_then c.args.bits.now c.take.new.self c.take-8.new.self _ c.in_ok-take.ensures.reading.counts c.in_ok-take.ensures.reading.reads (told_past {read = judged (not (nat_eq c.in_ok-take.field-0 0x7FFC)) BadSync c.take.new.self.cursor} c.take.new.self c.take-8.new.self c.take.new.self.cursor _ (rw c.if-branch-ne32764.false refl) (told_then c.take.new.self c.take-2.new.self c.take-8.new.self _ c.in_ok-bit.ensures.reading.counts c.in_ok-bit.ensures.reading.reads (told_then c.take-2.new.self c.take-3.new.self c.take-8.new.self _ c.in_ok-size_code.ensures.reading.counts c.in_ok-size_code.ensures.reading.reads (told_past {read = judged (nat_eq c.in_ok-size_code.field-0 0) ReservedCode c.take-3.new.self.cursor} c.take-3.new.self c.take-8.new.self c.take-3.new.self.cursor _ (rw (ne_eqb c.in_ok-size_code.field-0 0 c.if-size_code-eq0.false) refl) (told_then c.take-3.new.self c.take-4.new.self c.take-8.new.self _ c.in_ok-rate_code.ensures.reading.counts c.in_ok-rate_code.ensures.reading.reads (told_past {read = judged (nat_eq c.in_ok-rate_code.field-0 15) ReservedCode c.take-4.new.self.cursor} c.take-4.new.self c.take-8.new.self c.take-4.new.self.cursor _ (rw (ne_eqb c.in_ok-rate_code.field-0 15 c.if-rate_code-eq15.false) refl) (told_then c.take-4.new.self c.take-5.new.self c.take-8.new.self _ c.in_ok-channel_code.ensures.reading.counts c.in_ok-channel_code.ensures.reading.reads (told_past {read = judged (nat_lt 10 c.in_ok-channel_code.field-0) ReservedCode c.take-5.new.self.cursor} c.take-5.new.self c.take-8.new.self c.take-5.new.self.cursor _ (rw (at_most_10 c.in_ok-channel_code.field-0 c.if-channel_code-gt10.false) refl) (told_then c.take-5.new.self c.take-6.new.self c.take-8.new.self _ c.in_ok-depth_code.ensures.reading.counts c.in_ok-depth_code.ensures.reading.reads (told_past {read = judged (nat_eq c.in_ok-depth_code.field-0 3) ReservedCode c.take-6.new.self.cursor} c.take-6.new.self c.take-8.new.self c.take-6.new.self.cursor _ (rw (ne_eqb c.in_ok-depth_code.field-0 3 c.if-depth_code-eq3.false) refl) (told_then c.take-6.new.self c.take-7.new.self c.take-8.new.self _ c.in_ok-take-2.ensures.reading.counts c.in_ok-take-2.ensures.reading.reads (told_past {read = judged (not (nat_eq c.in_ok-take-2.field-0 0)) ReservedCode c.take-7.new.self.cursor} c.take-7.new.self c.take-8.new.self c.take-7.new.self.cursor _ (rw c.if-branch-ne0.false refl) (told_then c.take-7.new.self c.number_here.new.bits c.take-8.new.self _ c.in_ok-number.ensures.reading.counts (rw most at c.in_ok-number.ensures.reading.reads) (told_then c.number_here.new.bits c.read_size.new.bits c.take-8.new.self _ c.in_ok-size.ensures.reading.counts c.in_ok-size.ensures.reading.reads (told_then c.read_size.new.bits c.read_rate.new.bits c.take-8.new.self _ c.in_ok-rate.ensures.reading.counts c.in_ok-rate.ensures.reading.reads (told_then c.read_rate.new.bits c.take-8.new.self c.take-8.new.self _ c.in_ok-take-3.ensures.reading.counts c.in_ok-take-3.ensures.reading.reads (told_broken {read = judged (not (nat_eq c.in_ok-take-3.field-0 c.read_rate.new.bits.cursor.mark.check8)) HeaderCheck c.take-8.new.self.cursor} c.take-8.new.self c.take-8.new.self _ (search rules)))))))))))))))))) } }
+    let first = c.in_ok-strategy.ensures.reading in
+    let number = c.in_ok-number.ensures.reading in
+    let size = c.in_ok-size.ensures.reading in
+    let rate = c.in_ok-rate.ensures.reading in
+    let stored = c.in_ok-take.ensures.reading in
+    let check_is = c.from.ensures ∙ c.check8-check.ensures in
+    let last = c.take.new.self in
+    record {
+      reading = record {
+        spends = tt;
+        counts = refused_then c.args.bits.now last (answered_then c.args.bits.now c.read_codes.new.bits last first.counts (answered_then c.read_codes.new.bits c.number_here.new.bits last number.counts
+            (answered_then c.number_here.new.bits c.read_size.new.bits last size.counts (answered_then c.read_size.new.bits c.read_rate.new.bits last rate.counts stored.counts)))) refl;
+        memory = check_no_memory;
+        reads = told_header c.args.bits.now last (told_then c.args.bits.now c.read_codes.new.bits last behind first.counts first.reads
+            (told_then c.read_codes.new.bits c.number_here.new.bits last _ number.counts (rw c.number_bits.ensures at number.reads)
+            (told_then c.number_here.new.bits c.read_size.new.bits last _ size.counts size.reads
+            (told_then c.read_size.new.bits c.read_rate.new.bits last _ rate.counts rate.reads
+            (told_then c.read_rate.new.bits last last _ stored.counts stored.reads
+            (told_broken {read = judged (not (nat_eq c.in_ok-take.field-0 c.read_rate.new.bits.cursor.mark.check8)) HeaderCheck last.cursor} last last _ (rw (ne_eqb c.in_ok-take.field-0 c.read_rate.new.bits.cursor.mark.check8 (λ q. c.if-branch-from.true (q ∙ sym check_is))) refl)))))));
+      };
+    }
 
 pub returns : goal.returns
-unfolding header
-returns g c = record {
-  reading = record {
-    spends = search rules;
-    counts = answered_then c.args.bits.now c.take.new.self c.take-8.new.self c.in_ok-take.ensures.reading.counts (answered_then c.take.new.self c.take-2.new.self c.take-8.new.self c.in_ok-bit.ensures.reading.counts (answered_then c.take-2.new.self c.take-3.new.self c.take-8.new.self c.in_ok-size_code.ensures.reading.counts (answered_then c.take-3.new.self c.take-4.new.self c.take-8.new.self c.in_ok-rate_code.ensures.reading.counts (answered_then c.take-4.new.self c.take-5.new.self c.take-8.new.self c.in_ok-channel_code.ensures.reading.counts (answered_then c.take-5.new.self c.take-6.new.self c.take-8.new.self c.in_ok-depth_code.ensures.reading.counts (answered_then c.take-6.new.self c.take-7.new.self c.take-8.new.self c.in_ok-take-2.ensures.reading.counts (answered_then c.take-7.new.self c.number_here.new.bits c.take-8.new.self c.in_ok-number.ensures.reading.counts (answered_then c.number_here.new.bits c.read_size.new.bits c.take-8.new.self c.in_ok-size.ensures.reading.counts (answered_then c.read_size.new.bits c.read_rate.new.bits c.take-8.new.self c.in_ok-rate.ensures.reading.counts c.in_ok-take-3.ensures.reading.counts)))))))));
-    memory = search rules;
-    reads = (let most = c.number_bits.ensures ∙ ap number_bits c.from_bit-strategy.ensures in
-        told_then c.args.bits.now c.take.new.self c.take-8.new.self _ c.in_ok-take.ensures.reading.counts c.in_ok-take.ensures.reading.reads (told_past {read = judged (not (nat_eq c.in_ok-take.field-0 0x7FFC)) BadSync c.take.new.self.cursor} c.take.new.self c.take-8.new.self c.take.new.self.cursor _ (rw c.if-branch-ne32764.false refl) (told_then c.take.new.self c.take-2.new.self c.take-8.new.self _ c.in_ok-bit.ensures.reading.counts c.in_ok-bit.ensures.reading.reads (told_then c.take-2.new.self c.take-3.new.self c.take-8.new.self _ c.in_ok-size_code.ensures.reading.counts c.in_ok-size_code.ensures.reading.reads (told_past {read = judged (nat_eq c.in_ok-size_code.field-0 0) ReservedCode c.take-3.new.self.cursor} c.take-3.new.self c.take-8.new.self c.take-3.new.self.cursor _ (rw (ne_eqb c.in_ok-size_code.field-0 0 c.if-size_code-eq0.false) refl) (told_then c.take-3.new.self c.take-4.new.self c.take-8.new.self _ c.in_ok-rate_code.ensures.reading.counts c.in_ok-rate_code.ensures.reading.reads (told_past {read = judged (nat_eq c.in_ok-rate_code.field-0 15) ReservedCode c.take-4.new.self.cursor} c.take-4.new.self c.take-8.new.self c.take-4.new.self.cursor _ (rw (ne_eqb c.in_ok-rate_code.field-0 15 c.if-rate_code-eq15.false) refl) (told_then c.take-4.new.self c.take-5.new.self c.take-8.new.self _ c.in_ok-channel_code.ensures.reading.counts c.in_ok-channel_code.ensures.reading.reads (told_past {read = judged (nat_lt 10 c.in_ok-channel_code.field-0) ReservedCode c.take-5.new.self.cursor} c.take-5.new.self c.take-8.new.self c.take-5.new.self.cursor _ (rw (at_most_10 c.in_ok-channel_code.field-0 c.if-channel_code-gt10.false) refl) (told_then c.take-5.new.self c.take-6.new.self c.take-8.new.self _ c.in_ok-depth_code.ensures.reading.counts c.in_ok-depth_code.ensures.reading.reads (told_past {read = judged (nat_eq c.in_ok-depth_code.field-0 3) ReservedCode c.take-6.new.self.cursor} c.take-6.new.self c.take-8.new.self c.take-6.new.self.cursor _ (rw (ne_eqb c.in_ok-depth_code.field-0 3 c.if-depth_code-eq3.false) refl) (told_then c.take-6.new.self c.take-7.new.self c.take-8.new.self _ c.in_ok-take-2.ensures.reading.counts c.in_ok-take-2.ensures.reading.reads (told_past {read = judged (not (nat_eq c.in_ok-take-2.field-0 0)) ReservedCode c.take-7.new.self.cursor} c.take-7.new.self c.take-8.new.self c.take-7.new.self.cursor _ (rw c.if-branch-ne0.false refl) (told_then c.take-7.new.self c.number_here.new.bits c.take-8.new.self _ c.in_ok-number.ensures.reading.counts (rw most at c.in_ok-number.ensures.reading.reads) (told_then c.number_here.new.bits c.read_size.new.bits c.take-8.new.self _ c.in_ok-size.ensures.reading.counts c.in_ok-size.ensures.reading.reads (told_then c.read_size.new.bits c.read_rate.new.bits c.take-8.new.self _ c.in_ok-rate.ensures.reading.counts c.in_ok-rate.ensures.reading.reads (told_then c.read_rate.new.bits c.take-8.new.self c.take-8.new.self _ c.in_ok-take-3.ensures.reading.counts c.in_ok-take-3.ensures.reading.reads (told_past {read = judged (not (nat_eq c.in_ok-take-3.field-0 c.read_rate.new.bits.cursor.mark.check8)) HeaderCheck c.take-8.new.self.cursor} c.take-8.new.self c.take-8.new.self c.take-8.new.self.cursor _ (search rules) (λ known same. rw c.from_bit-strategy.ensures refl)))))))))))))))))));
-  };
-}
+unfolding behind_codes
+returns g c =
+    let first = c.in_ok-strategy.ensures.reading in
+    let number = c.in_ok-number.ensures.reading in
+    let size = c.in_ok-size.ensures.reading in
+    let rate = c.in_ok-rate.ensures.reading in
+    let stored = c.in_ok-take.ensures.reading in
+    let check_is = c.from.ensures ∙ c.check8-check.ensures in
+    let last = c.take.new.self in
+    record {
+      reading = record {
+        spends = spent _ _ _ _ _ _ first.spends number.spends size.spends rate.spends stored.spends;
+        counts = answered_then c.args.bits.now c.read_codes.new.bits last first.counts (answered_then c.read_codes.new.bits c.number_here.new.bits last number.counts
+            (answered_then c.number_here.new.bits c.read_size.new.bits last size.counts (answered_then c.read_size.new.bits c.read_rate.new.bits last rate.counts stored.counts)));
+        memory = tt;
+        reads = told_header c.args.bits.now last (told_then c.args.bits.now c.read_codes.new.bits last behind first.counts first.reads
+            (told_then c.read_codes.new.bits c.number_here.new.bits last _ number.counts (rw c.number_bits.ensures at number.reads)
+            (told_then c.number_here.new.bits c.read_size.new.bits last _ size.counts size.reads
+            (told_then c.read_size.new.bits c.read_rate.new.bits last _ rate.counts rate.reads
+            (told_then c.read_rate.new.bits last last _ stored.counts stored.reads
+            (told_past {read = judged (not (nat_eq c.in_ok-take.field-0 c.read_rate.new.bits.cursor.mark.check8)) HeaderCheck last.cursor} last last last.cursor _ (rw (no_other c.in_ok-take.field-0 c.read_rate.new.bits.cursor.mark.check8 (c.if-branch-from.false ∙ check_is)) refl) (λ known same. refl)))))));
+      };
+    }
+
+pub invariant_of-result : goal.invariant_of-result
+invariant_of-result g c =
+    let codes = c.in_ok-strategy.ensures.fits in
+    record {
+      some_size = some _ codes.0;
+      size_code = codes.1;
+      size = c.in_ok-size.ensures.fits;
+      rate_code = codes.2;
+      rate = c.in_ok-rate.ensures.fits;
+      channel_code = codes.3;
+      depth_code = codes.4;
+      no_depth = codes.5;
+      number = rw c.number_bits.ensures at c.in_ok-number.ensures.fits;
+    }
