@@ -95,7 +95,7 @@ module _ {S : Type 0} (g : source.Ghosts S) where
 
   -- ---- what the reader counts, by its state
 
-  abbrev state : S → Store → State
+  abbrev pub state : S → Store → State
   state s held = state_of (g.known s) (g.errors s) (g.raised s) (g.most s) (g.behind s) (g.names s) (g.coming s) held
 
   -- bytes came, and then some were taken off those held

@@ -1,19 +1,32 @@
-use Rattle.std.proofs.Common.{rules, ◌≡◌, ℕ, List, length, take, get_or, Fits, w8, Err, subst, sym, ap, ◌∙◌, arith}
+use Rattle.std.proofs.Common.{refl, ◌≡◌, ◌+◌, ◌*◌, ◌≤◌, ℕ, false, List, length, take, get_or, Fits, w8, Err, subst, sym, ap, ◌∙◌, arith}
 use Rattle.std.proofs.lemmas.List.{take_all, length-take}
 use Rattle.std.proofs.Math.Facts.{Fits-lt-pow}
 use Rattle.flac_bits.specs.Bits.{bits_of}
 use Rattle.flac_bits.specs.State.{Consumes}
 use Rattle.flac_bits.specs.Layout.{because}
 use Rattle.flac_bits.specs.declared.why.Why.{Why}
+use Rattle.flac_bits.specs.Reasons.{of_output}
+use Rattle.flac_bits.specs.declared.why.Why.TheVariants.{Read, Memory}
+use Rattle.flac_bits.proofs.Counting.{is_device, refused_then}
 use Rattle.flac_bits.proofs.Copied.{exact, missing, bits_cut}
 use Rattle.flac_bits.proofs.bytes.read_bytes.Goals as goal
+
+no_device : (e : Why) → (e ≡ Read → ⊥) → of_output e ≡ false → is_device e ≡ false
+no_device Read other none = absurd (other refl)
+no_device e other none = none
+
+read_no_memory : (e : Why) → e ≡ Read → e ≡ Memory → ⊥
+read_no_memory e is q = cc
+
+all_spent : (n long long' new old : ℕ) → long' ≤ n → long' ≡ long → new + 8 * n ≤ old → new + 8 * long ≤ old
+all_spent n long long' new old le is spent = omega (arith, le, is, spent)
 
 pub returns-then-n-out : goal.returns-then-n-out
 returns-then-n-out g c = record {
   reading = record {
-    spends = search rules;
-    counts = search rules;
-    memory = search rules;
+    spends = tt;
+    counts = refused_then c.args.bits.now c.take_bytes.new.self c.in-Ok.ensures.counts (no_device c.short.result c.short.ensures.device.0 c.short.ensures.device.1);
+    memory = c.short.ensures.memory;
     reads = (λ known same.
         let got = c.in-Ok.ensures in
         let n = c.in-Ok.n in
@@ -27,9 +40,9 @@ returns-then-n-out g c = record {
 pub returns-else-n-out : goal.returns-else-n-out
 returns-else-n-out g c = record {
   reading = record {
-    spends = search rules;
-    counts = search rules;
-    memory = search rules;
+    spends = all_spent c.in-Ok.n _ _ _ _ c.if-n-out.false c.take_bytes.auto.out c.in-Ok.ensures.spends;
+    counts = c.in-Ok.ensures.counts;
+    memory = tt;
     reads = (λ known same.
         let got = c.in-Ok.ensures in
         let xs = c.take_bytes.new.out in
@@ -41,9 +54,9 @@ returns-else-n-out g c = record {
 pub returns-in-Err : goal.returns-in-Err
 returns-in-Err g c = record {
   reading = record {
-    spends = search rules;
-    counts = search rules;
-    memory = search rules;
+    spends = tt;
+    counts = c.in-Err.ensures.counts;
+    memory = read_no_memory _ c.in-Err.ensures.cut.0;
     reads = (λ known same.
         let cut = c.in-Err.ensures.cut in
         let few = cut.1 known same in

@@ -1,18 +1,32 @@
-use Rattle.std.proofs.Common.{rules, ◌≡◌, ℕ, List, length, take, get_or, Fits, w8, subst, sym, ◌∙◌, arith}
+use Rattle.std.proofs.Common.{refl, ◌≡◌, ◌+◌, ◌*◌, ◌≤◌, ℕ, false, List, length, take, get_or, Fits, w8, subst, sym, ◌∙◌, arith}
 use Rattle.std.proofs.lemmas.List.{take_all, length-take}
 use Rattle.std.proofs.lemmas.Result.{err_from_is_err_and}
 use Rattle.std.proofs.Math.Facts.{Fits-lt-pow}
 use Rattle.flac_bits.specs.Bits.{bits_of}
 use Rattle.flac_bits.specs.Unchecked.{Passes}
+use Rattle.flac_bits.specs.declared.why.Why.{Why}
+use Rattle.flac_bits.specs.Reasons.{of_output}
+use Rattle.flac_bits.specs.declared.why.Why.TheVariants.{Read, Memory}
+use Rattle.flac_bits.proofs.Counting.{is_device, refused_then}
 use Rattle.flac_bits.proofs.Unchecked.{exact_anew, missing_anew, cut_anew}
 use Rattle.flac_bits.proofs.bytes.read_unchecked.Goals as goal
+
+no_device : (e : Why) → (e ≡ Read → ⊥) → of_output e ≡ false → is_device e ≡ false
+no_device Read other none = absurd (other refl)
+no_device e other none = none
+
+read_no_memory : (e : Why) → e ≡ Read → e ≡ Memory → ⊥
+read_no_memory e is q = cc
+
+all_spent : (n long long' new old : ℕ) → long' ≤ n → long' ≡ long → new + 8 * n ≤ old → new + 8 * long ≤ old
+all_spent n long long' new old le is spent = omega (arith, le, is, spent)
 
 pub returns-then-count-out : goal.returns-then-count-out
 returns-then-count-out g c = record {
   reading = record {
-    spends = search rules;
-    counts = search rules;
-    memory = search rules;
+    spends = tt;
+    counts = refused_then c.args.bits.now c.take_pieces.new.self c.in_ok-count.ensures.counts (no_device c.short.result c.short.ensures.device.0 c.short.ensures.device.1);
+    memory = c.short.ensures.memory;
     reads = (λ known same.
         let got = c.in_ok-count.ensures in
         let n = c.in_ok-count.count in
@@ -26,9 +40,9 @@ returns-then-count-out g c = record {
 pub returns-else-count-out : goal.returns-else-count-out
 returns-else-count-out g c = record {
   reading = record {
-    spends = search rules;
-    counts = search rules;
-    memory = search rules;
+    spends = all_spent c.in_ok-count.count _ _ _ _ c.if-count-out.false c.take_pieces.auto.out c.in_ok-count.ensures.spends;
+    counts = c.in_ok-count.ensures.counts;
+    memory = tt;
     reads = (λ known same.
         let got = c.in_ok-count.ensures in
         let xs = c.take_pieces.new.out in
@@ -44,8 +58,8 @@ returns-in_err-count g c =
     rw (p.1, p.2) (record {
       reading = record {
         spends = tt;
-        counts = search rules;
-        memory = search rules;
+        counts = c.in_err-count.ensures.counts;
+        memory = read_no_memory _ cut.0;
         reads = (λ known same.
             let few = cut.1 known same in
             cut_anew (length c.args.out.now) _ c.args.bits.now.cursor (omega (arith, few.0, c.take_pieces.auto.out)) (cut.0 ∙ sym few.1));

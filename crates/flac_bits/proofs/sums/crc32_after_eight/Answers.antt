@@ -1,37 +1,41 @@
-use Rattle.std.proofs.Common.{◌/◌, ◌%◌, ◌<◌, ◌^◌, get_or, Fits, w8, rules, arith}
+use Rattle.std.proofs.Common.{◌≡◌, ℕ, ◌/◌, ◌%◌, ◌<◌, ◌^◌, true, nat_lt, get_or, refl, Fits, w8, arith}
+use Rattle.std.proofs.lemmas.Bool.Decides.{nat_tests}
 use Rattle.std.proofs.Math.Facts.{Fits-lt-pow}
 use Rattle.flac_bits.proofs.Indices.{byte_of_eight, byte_index, byte_widened, byte_offset, mixed_fits, top_fits, low_fits}
 use Rattle.flac_bits.proofs.Eights.{eight32}
 use Rattle.flac_bits.proofs.sums.crc32_after_eight.Goals as goal
 
+below : (k : ℕ) → nat_lt k 8 ≡ true → k < 8
+below k h = grind (arith, nat_tests, h)
+
 pub returns : goal.returns
 returns c =
-    let fits : c.args.check < 2 ^ 32 = search rules in
+    let fits : c.args.check < 2 ^ 32 = Fits-lt-pow c.ranges.check in
     eight32 c.args.check c.args.bytes.now c.requires fits (λ k. let f : Fits w8 (get_or c.args.bytes.now k 0) = c.type_inv.bytes k in Fits-lt-pow f)
 
 pub bounds-bytes-0 : goal.bounds-bytes-0
-bounds-bytes-0 c = byte_of_eight 0 c.args.bytes.now c.requires (omega arith)
+bounds-bytes-0 c = byte_of_eight 0 c.args.bytes.now c.requires (below 0 refl)
 
 pub bounds-bytes-1 : goal.bounds-bytes-1
-bounds-bytes-1 c = byte_of_eight 1 c.args.bytes.now c.requires (omega arith)
+bounds-bytes-1 c = byte_of_eight 1 c.args.bytes.now c.requires (below 1 refl)
 
 pub bounds-bytes-2 : goal.bounds-bytes-2
-bounds-bytes-2 c = byte_of_eight 2 c.args.bytes.now c.requires (omega arith)
+bounds-bytes-2 c = byte_of_eight 2 c.args.bytes.now c.requires (below 2 refl)
 
 pub bounds-bytes-3 : goal.bounds-bytes-3
-bounds-bytes-3 c = byte_of_eight 3 c.args.bytes.now c.requires (omega arith)
+bounds-bytes-3 c = byte_of_eight 3 c.args.bytes.now c.requires (below 3 refl)
 
 pub bounds-bytes-4 : goal.bounds-bytes-4
-bounds-bytes-4 c = byte_of_eight 4 c.args.bytes.now c.requires (omega arith)
+bounds-bytes-4 c = byte_of_eight 4 c.args.bytes.now c.requires (below 4 refl)
 
 pub bounds-bytes-5 : goal.bounds-bytes-5
-bounds-bytes-5 c = byte_of_eight 5 c.args.bytes.now c.requires (omega arith)
+bounds-bytes-5 c = byte_of_eight 5 c.args.bytes.now c.requires (below 5 refl)
 
 pub bounds-bytes-6-2 : goal.bounds-bytes-6-2
-bounds-bytes-6-2 c = byte_of_eight 6 c.args.bytes.now c.requires (omega arith)
+bounds-bytes-6-2 c = byte_of_eight 6 c.args.bytes.now c.requires (below 6 refl)
 
 pub bounds-bytes-7-2 : goal.bounds-bytes-7-2
-bounds-bytes-7-2 c = byte_of_eight 7 c.args.bytes.now c.requires (omega arith)
+bounds-bytes-7-2 c = byte_of_eight 7 c.args.bytes.now c.requires (below 7 refl)
 
 pub bounds-bytes : goal.bounds-bytes
 bounds-bytes c = byte_index (get_or c.args.bytes.now 4 0) (c.type_inv.bytes 4)

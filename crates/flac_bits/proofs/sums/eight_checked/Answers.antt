@@ -1,8 +1,12 @@
-use Rattle.std.proofs.Common.{◌<◌, ◌/◌, ◌%◌, ◌^◌, get_or, ◌∙◌, Fits, w8, rules, arith}
+use Rattle.std.proofs.Common.{◌≡◌, ℕ, ◌<◌, ◌/◌, ◌%◌, ◌^◌, true, nat_lt, get_or, refl, ◌∙◌, Fits, w8, rules, arith}
+use Rattle.std.proofs.lemmas.Bool.Decides.{nat_tests}
 use Rattle.std.proofs.Math.Facts.{Fits-lt-pow}
 use Rattle.flac_bits.proofs.Indices.{byte_of_eight, byte_index, byte_widened, byte_offset, mixed_fits, high_fits, low_fits}
 use Rattle.flac_bits.proofs.Eights.{eight8, eight16}
 use Rattle.flac_bits.proofs.sums.eight_checked.Goals as goal
+
+below : (k : ℕ) → nat_lt k 8 ≡ true → k < 8
+below k h = grind (arith, nat_tests, h)
 
 pub returns-clause-eight : goal.returns-clause-eight
 returns-clause-eight c =
@@ -15,34 +19,34 @@ returns-clause-sixteen c =
     c.crc16_of.ensures ∙ eight16 c.args.checks.1 c.args.bytes.now c.requires fits (λ k. let f : Fits w8 (get_or c.args.bytes.now k 0) = c.type_inv.bytes k in Fits-lt-pow f)
 
 pub bounds-bytes-2 : goal.bounds-bytes-2
-bounds-bytes-2 c = byte_of_eight 2 c.args.bytes.now c.requires (omega arith)
+bounds-bytes-2 c = byte_of_eight 2 c.args.bytes.now c.requires (below 2 refl)
 
 pub bounds-bytes-3 : goal.bounds-bytes-3
-bounds-bytes-3 c = byte_of_eight 3 c.args.bytes.now c.requires (omega arith)
+bounds-bytes-3 c = byte_of_eight 3 c.args.bytes.now c.requires (below 3 refl)
 
 pub bounds-bytes-4-2 : goal.bounds-bytes-4-2
-bounds-bytes-4-2 c = byte_of_eight 4 c.args.bytes.now c.requires (omega arith)
+bounds-bytes-4-2 c = byte_of_eight 4 c.args.bytes.now c.requires (below 4 refl)
 
 pub bounds-bytes-5-2 : goal.bounds-bytes-5-2
-bounds-bytes-5-2 c = byte_of_eight 5 c.args.bytes.now c.requires (omega arith)
+bounds-bytes-5-2 c = byte_of_eight 5 c.args.bytes.now c.requires (below 5 refl)
 
 pub bounds-bytes-6-2 : goal.bounds-bytes-6-2
-bounds-bytes-6-2 c = byte_of_eight 6 c.args.bytes.now c.requires (omega arith)
+bounds-bytes-6-2 c = byte_of_eight 6 c.args.bytes.now c.requires (below 6 refl)
 
 pub bounds-bytes-7-2 : goal.bounds-bytes-7-2
-bounds-bytes-7-2 c = byte_of_eight 7 c.args.bytes.now c.requires (omega arith)
+bounds-bytes-7-2 c = byte_of_eight 7 c.args.bytes.now c.requires (below 7 refl)
 
 pub bounds-bytes-0 : goal.bounds-bytes-0
-bounds-bytes-0 c = byte_of_eight 0 c.args.bytes.now c.requires (omega arith)
+bounds-bytes-0 c = byte_of_eight 0 c.args.bytes.now c.requires (below 0 refl)
 
 pub bounds-bytes-1 : goal.bounds-bytes-1
-bounds-bytes-1 c = byte_of_eight 1 c.args.bytes.now c.requires (omega arith)
+bounds-bytes-1 c = byte_of_eight 1 c.args.bytes.now c.requires (below 1 refl)
 
 pub bounds-bytes-0-2 : goal.bounds-bytes-0-2
-bounds-bytes-0-2 c = byte_of_eight 0 c.args.bytes.now c.requires (omega arith)
+bounds-bytes-0-2 c = byte_of_eight 0 c.args.bytes.now c.requires (below 0 refl)
 
 pub bounds-bytes-1-2 : goal.bounds-bytes-1-2
-bounds-bytes-1-2 c = byte_of_eight 1 c.args.bytes.now c.requires (omega arith)
+bounds-bytes-1-2 c = byte_of_eight 1 c.args.bytes.now c.requires (below 1 refl)
 
 pub bounds-bytes : goal.bounds-bytes
 bounds-bytes c = byte_index (get_or c.args.bytes.now 2 0) (c.type_inv.bytes 2)

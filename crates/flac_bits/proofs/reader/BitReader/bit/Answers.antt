@@ -1,18 +1,30 @@
-use Rattle.std.proofs.Common.{rules, ◌++◌, Ok, Err, sym, ap, ◌∙◌}
+use Rattle.std.proofs.Common.{rules, ◌≡◌, refl, false, ◌++◌, Ok, Err, sym, ap, ◌∙◌}
 use Rattle.flac_bits.specs.Bits.{bits_of}
 use Rattle.flac_bits.specs.Store.{allowed}
 use Rattle.flac_bits.specs.State.{State}
 use Rattle.flac_bits.specs.Layout.{because}
+use Rattle.flac_bits.specs.declared.why.Why.{Why}
+use Rattle.flac_bits.specs.Reasons.{of_output}
+use Rattle.flac_bits.specs.declared.why.Why.TheVariants.{Read, Memory}
+use Rattle.flac_bits.proofs.Counting.{is_device, refused_then}
+use Rattle.flac_bits.proofs.Pulled.{state, pulled_counts, cut_counts}
 use Rattle.flac_bits.proofs.Fields.{bit_read, bit_none}
 use Rattle.flac_bits.proofs.Standing.{short_is, no_bytes, same_reason}
 use Rattle.flac_bits.proofs.reader.BitReader.bit.Goals as goal
 
+no_device : (e : Why) → (e ≡ Read → ⊥) → of_output e ≡ false → is_device e ≡ false
+no_device Read other none = absurd (other refl)
+no_device e other none = none
+
+read_no_memory : (e : Why) → e ≡ Read → e ≡ Memory → ⊥
+read_no_memory e is q = cc
+
 pub returns-in-Err : goal.returns-in-Err
 returns-in-Err g c = record {
   reading = record {
-    spends = search rules;
-    counts = search rules;
-    memory = search rules;
+    spends = tt;
+    counts = cut_counts g.R.Source c.self.inside.held c.fill.new.held c.self.inside.source c.fill.new.source c.in-Err.why c.args.self.now c.self.view_is c.in-Err.ensures.pulls;
+    memory = read_no_memory _ c.in-Err.ensures.pulls.read;
     reads = (λ known same.
         let known_is = ap (λ (s : State). s.known) c.self.view_is in
         let errors_is = ap (λ (s : State). s.errors) c.self.view_is in
@@ -26,9 +38,9 @@ returns-in-Err g c = record {
 pub returns-in-Ok-false : goal.returns-in-Ok-false
 returns-in-Ok-false g c = record {
   reading = record {
-    spends = search rules;
-    counts = search rules;
-    memory = search rules;
+    spends = tt;
+    counts = refused_then c.args.self.now (state g.R.Source c.fill.new.source c.fill.new.held) (pulled_counts g.R.Source c.self.inside.held c.fill.new.held c.fill.new.held c.self.inside.source c.fill.new.source c.in-Ok-false.field-0 c.args.self.now c.self.view_is c.in-Ok-false.ensures.pulls refl) (no_device c.short.result c.short.ensures.device.0 c.short.ensures.device.1);
+    memory = c.short.ensures.memory;
     reads = (λ known same.
         let told = ap (λ (s : State). s.known) c.self.view_is ∙ known in
         let ys = g.R.Source.coming c.fill.new.source in
@@ -48,8 +60,8 @@ pub returns-in-Ok-true : goal.returns-in-Ok-true
 returns-in-Ok-true g c = record {
   reading = record {
     spends = search rules;
-    counts = search rules;
-    memory = search rules;
+    counts = pulled_counts g.R.Source c.self.inside.held c.fill.new.held c.take.new.self c.self.inside.source c.fill.new.source c.in-Ok-true.field-0 c.args.self.now c.self.view_is c.in-Ok-true.ensures.pulls c.take.ensures.0.3;
+    memory = tt;
     reads = (λ known same.
         let told = ap (λ (s : State). s.known) c.self.view_is ∙ known in
         let xs = g.R.Source.coming c.self.inside.source in
