@@ -11,7 +11,7 @@ returns-in_err-high g c =
       reading = record {
         spends = tt;
         counts = failed_then c.args.bits.now c.read_little_32.new.bits c.read_little_32-2.new.bits c.in_ok-low.ensures.reading.counts c.in_err-high.ensures.reading.counts;
-        memory = search rules;
+        memory = c.in_err-high.ensures.reading.memory;
         reads = search rules;
       };
     })
@@ -22,7 +22,7 @@ returns g c = record {
   reading = record {
     spends = search rules;
     counts = answered_then c.args.bits.now c.read_little_32.new.bits c.read_little_32-2.new.bits c.in_ok-low.ensures.reading.counts c.in_ok-high.ensures.reading.counts;
-    memory = search rules;
+    memory = tt;
     reads = search rules;
   };
 }

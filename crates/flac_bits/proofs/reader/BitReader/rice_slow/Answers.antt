@@ -1,16 +1,23 @@
-use Rattle.std.proofs.Common.{rules, refl}
+use Rattle.std.proofs.Common.{◌≡◌, ◌+◌, ◌≤◌, ℕ, rules, refl, arith}
 use Rattle.std.proofs.lemmas.Result.{err_from_is_err_and}
+use Rattle.flac_bits.specs.declared.why.Why.TheVariants.{ResidualRange, Memory}
 use Rattle.flac_bits.proofs.Counting.{answered_then, failed_then, refused_then}
 use Rattle.flac_bits.proofs.Values.{rice_cut}
 use Rattle.flac_bits.proofs.reader.BitReader.rice_slow.Goals as goal
+
+range_no_memory : ResidualRange ≡ Memory → ⊥
+range_no_memory q = cc
+
+spent : (k new mid old : ℕ) → new + k ≤ mid → mid + 0 ≤ old → new + 0 ≤ old
+spent k new mid old a b = omega (arith, a, b)
 
 pub returns-in_default : goal.returns-in_default
 unfolding Rattle.flac_bits.specs.Rice.rice
 returns-in_default g c = record {
   reading = record {
-    spends = search rules;
+    spends = tt;
     counts = refused_then c.args.self.now c.unary.new.self c.in_ok-zeros.ensures.reading.counts refl;
-    memory = search rules;
+    memory = range_no_memory;
     reads = search rules;
   };
 }
@@ -23,7 +30,7 @@ returns-in_err-low g c =
       reading = record {
         spends = tt;
         counts = failed_then c.args.self.now c.unary.new.self c.take.new.self c.in_ok-zeros.ensures.reading.counts c.in_err-low.ensures.reading.counts;
-        memory = search rules;
+        memory = c.in_err-low.ensures.reading.memory;
         reads = search rules;
       };
     })
@@ -32,9 +39,9 @@ pub returns : goal.returns
 unfolding Rattle.flac_bits.specs.Rice.rice
 returns g c = record {
   reading = record {
-    spends = search rules;
+    spends = spent c.args.k _ _ _ c.in_ok-low.ensures.reading.spends c.in_ok-zeros.ensures.reading.spends;
     counts = answered_then c.args.self.now c.unary.new.self c.take.new.self c.in_ok-zeros.ensures.reading.counts c.in_ok-low.ensures.reading.counts;
-    memory = search rules;
+    memory = tt;
     reads = search rules;
   };
 }

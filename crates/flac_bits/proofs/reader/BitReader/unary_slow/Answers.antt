@@ -23,7 +23,7 @@ unfolding Rattle.flac_bits.specs.Layout.zeros_at Rattle.flac_bits.specs.Layout.z
 returns-then-branch-clause-reading g c = record {
   spends = search rules;
   counts = answered_then c.args.self.now c.loop-zeros.self c.bit.new.self (gone c.loop-zeros.invariant.goes) c.in_ok-bit.ensures.reading.counts;
-  memory = search rules;
+  memory = tt;
   reads = search rules;
 }
 
@@ -32,7 +32,7 @@ unfolding Rattle.flac_bits.specs.Layout.zeros_at Rattle.flac_bits.specs.Layout.z
 returns-then-branch-2-clause-reading g c = record {
   spends = search rules;
   counts = answered_then c.args.self.now c.loop-zeros.self c.bit-2.new.self (gone c.loop-zeros.invariant.goes) c.in_ok-bit-2.ensures.reading.counts;
-  memory = search rules;
+  memory = tt;
   reads = search rules;
 }
 
@@ -41,7 +41,7 @@ unfolding Rattle.flac_bits.specs.Layout.zeros_at Rattle.flac_bits.specs.Layout.z
 returns-clause-reading g c = record {
   spends = search rules;
   counts = answered_then c.args.self.now c.loop-zeros.self c.bit-2.new.self (gone c.loop-zeros.invariant.goes) c.in_ok-bit-2.ensures.reading.counts;
-  memory = search rules;
+  memory = tt;
   reads = search rules;
 }
 
