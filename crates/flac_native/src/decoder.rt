@@ -204,9 +204,10 @@ impl<C: Container> Decoder<C> {
     {
         let Decoder {
             container,
-            track: _,
+            track,
             course: _,
         } = self;
+        drop(track);
         container
     }
 }

@@ -50,7 +50,10 @@ fn write_table<W: Target>(points: Vec<SeekPoint>, writer: &mut BitWriter<W>) -> 
     if points.is_empty() {
         return Ok(());
     }
-    write_block(&Block::SeekTable(SeekTable::from_vec(points)), true, writer)
+    let table = Block::SeekTable(SeekTable::from_vec(points));
+    let outcome = write_block(&table, true, writer);
+    drop(table);
+    outcome
 }
 
 /// How many blocks there are with the seek table of these points.
@@ -76,7 +79,10 @@ pub(crate) fn write_blocks<W: Target>(
 {
     let blocks = list.blocks();
     let count = count_with_table(blocks, points.as_slice());
-    write_block(&Block::StreamInfo(info), count == 0, writer)?;
+    let first = Block::StreamInfo(info);
+    let outcome = write_block(&first, count == 0, writer);
+    drop(first);
+    outcome?;
     write_each(blocks, count, writer)?;
     write_table(points, writer)
 }
@@ -256,9 +262,12 @@ pub fn encode<W: Target>(
         return Err(EncodeFault::Memory);
     };
     let Ok(frames) = ChosenFrames::new(alloc, plan, audio, &mut buffers) else {
+        drop(buffers);
         return Err(EncodeFault::Memory);
     };
-    match send_stream(plan, list, audio, frames, &mut buffers, target) {
+    let outcome = send_stream(plan, list, audio, frames, &mut buffers, target);
+    drop(buffers);
+    match outcome {
         Ok(()) => Ok(()),
         Err(_) => Err(EncodeFault::Write),
     }

@@ -118,7 +118,10 @@ impl<W: Target + Drop> StreamEncoder<W> {
         let mut target = target;
         match send_head(info, list, points, &mut target) {
             Ok(()) => Ok(StreamEncoder { blocks, target }),
-            Err(_) => Err(EncodeFault::Write),
+            Err(_) => {
+                drop(blocks);
+                Err(EncodeFault::Write)
+            }
         }
     }
 
@@ -195,10 +198,12 @@ impl<W: Target + Drop> StreamEncoder<W> {
         ensures spent { (result ≡ Err EncodeFault.Spent) ↔ (self.spent ≡ true) }
         ensures only { IfErr result (λ e. e ≡ EncodeFault.Spent) }
     {
-        if self.blocks.is_spent() {
+        let StreamEncoder { blocks, target } = self;
+        let spent = blocks.is_spent();
+        drop(blocks);
+        if spent {
             return Err(EncodeFault::Spent);
         }
-        let StreamEncoder { target, .. } = self;
         Ok(target)
     }
 }

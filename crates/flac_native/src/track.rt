@@ -155,8 +155,13 @@ impl Track {
         ensures kept { self.new.block ≡ self.old.block }
     {
         let (last, block) = self.position.read_block(self.alloc, bits)?;
-        self.prepare(&block)?;
-        Ok((last, block))
+        match self.prepare(&block) {
+            Ok(()) => Ok((last, block)),
+            Err(why) => {
+                drop(block);
+                Err(why)
+            }
+        }
     }
 
     /// Reads the next metadata block as [`Track::block`] does, and keeps it in the track, as [`crate::Container::next`]
@@ -180,7 +185,7 @@ impl Track {
     {
         let (last, block) = self.block_here(bits)?;
         self.last = last;
-        self.block = Some(block);
+        drop(mem::replace(&mut self.block, Some(block)));
         Ok(())
     }
 

@@ -1,5 +1,5 @@
 use Rattle.std.proofs.Common.{rules}
 use Rattle.flac_native.proofs.track.Track.block_here.Goals as goal
 
-pub returns-clause-next : goal.returns-clause-next
-returns-clause-next g c = search rules
+pub returns-in-Ok-clause-next : goal.returns-in-Ok-clause-next
+returns-in-Ok-clause-next g c = search rules
