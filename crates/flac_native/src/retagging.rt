@@ -67,7 +67,10 @@ fn keep(kept: &mut Vec<Block>, part: Option<(bool, Block)>) -> Result<(), Why>
 {
     match part {
         None => Ok(()),
-        Some((_, Block::VorbisComment(_))) => Ok(()),
+        Some((_, Block::VorbisComment(comments))) => {
+            drop(comments);
+            Ok(())
+        }
         Some((_, block)) => {
             kept.push(block)?;
             Ok(())
@@ -298,7 +301,9 @@ fn retag_from<R: Source, W: Target>(
             });
         }
     };
-    let head = match renewed(alloc, kept.as_slice(), comments) {
+    let made = renewed(alloc, kept.as_slice(), comments);
+    drop(kept);
+    let head = match made {
         Ok(head) => head,
         Err(why) => {
             return Err(RetagFault {
@@ -307,7 +312,9 @@ fn retag_from<R: Source, W: Target>(
             });
         }
     };
-    match send_all(target, head.as_slice()) {
+    let sent = send_all(target, head.as_slice());
+    drop(head);
+    match sent {
         Ok(()) => copy_rest(reader, target),
         Err(_) => Err(RetagFault {
             at: None,

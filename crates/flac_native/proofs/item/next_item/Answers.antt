@@ -1,7 +1,8 @@
 use Rattle.std.proofs.Common.{◌≡◌, true, [], ◌∷◌, Ok, Some, inl, inr, refl, sym, ap, subst, ◌∙◌}
-use Rattle.std.proofs.lemmas.Result.{IfOk-weaker}
-use Rattle.flac_native.specs.declared.track.Phase.TheVariants.{Opening}
+use Rattle.std.proofs.lemmas.Result.{IfOk-weaker, IfErr-weaker}
+use Rattle.flac_native.specs.declared.track.Phase.TheVariants.{Opening, Frames}
 use Rattle.flac_native.specs.Stream.{Stand, marked, next}
+use Rattle.flac_bits.specs.State.{without_fence}
 use Rattle.flac_bits.specs.Handing.{IsOutside, reason_of}
 use Rattle.flac_native.specs.Item.{told}
 use Rattle.flac_native.specs.Giving.{IsFirst, BreaksOff, seen_by, found}
@@ -9,7 +10,46 @@ use Rattle.flac_native.specs.declared.container.Part.TheVariants as part
 use Rattle.flac_native.proofs.Giving.{item_first, behind_marker, inside, made_as, made_behind}
 use Rattle.flac_native.proofs.Handed.{no_fault}
 use Rattle.flac_native.proofs.Passing.{passes_none, passes_one, passes_found, ok_inside, err_both}
+use Rattle.flac_native.proofs.SameStart.{less_at, most_at, rises_at}
 use Rattle.flac_native.proofs.item.next_item.Goals as goal
+
+opening_frames : Opening ≡ Frames → ⊥
+opening_frames e = absurd cc
+
+pub returns-clause-stands : goal.returns-clause-stands
+returns-clause-stands g c = c.next-outcome.ensures.stands
+
+pub returns-clause-counts : goal.returns-clause-counts
+returns-clause-counts g c =
+    let ens = c.next-outcome.ensures in
+    record { met = ens.counts; kept = ens.kept; read = ens.read; risen = ens.risen; output = ens.output; behind = ens.behind; names = ens.names }
+
+pub returns-clause-memory : goal.returns-clause-memory
+returns-clause-memory g c = c.next-outcome.ensures.memory
+
+pub returns-then-is_marker-clause-stands : goal.returns-then-is_marker-clause-stands
+returns-then-is_marker-clause-stands g c = c.next.ensures.stands
+
+pub returns-then-is_marker-clause-counts : goal.returns-then-is_marker-clause-counts
+returns-then-is_marker-clause-counts g c =
+    let first = rw (c.is_marker.ensures.is c.if-is_marker.true) at c.next-outcome.ensures in
+    let at = first.counts in
+    let r = c.next.result in
+    let ens = c.next.ensures in
+    record {
+      met = IfOk-weaker r _ _ (λ o counts. (λ known. counts.0 (at.0 known), counts.1 ∙ at.1, counts.2 ∙ at.2, counts.3 ∙ at.3)) ens.counts;
+      kept = most_at _ _ _ at.1 ens.kept;
+      read = IfErr-weaker r _ _ (λ f read known is clear. less_at _ _ _ at.2 (read (at.0 known) is (first.clear known clear))) ens.read;
+      risen = IfErr-weaker r _ _ (λ f risen is. rises_at _ _ _ at.3 (risen is)) ens.risen;
+      output = ens.output;
+      behind = λ known same. ens.behind (at.0 known) (same ∙ sym at.1) ∙ ap without_fence (first.behind known at.1);
+      names = ens.names ∙ first.names;
+    }
+
+pub returns-then-is_marker-clause-memory : goal.returns-then-is_marker-clause-memory
+returns-then-is_marker-clause-memory g c =
+    let first = rw (c.is_marker.ensures.is c.if-is_marker.true) at c.next-outcome.ensures in
+    λ is. absurd (opening_frames (sym first.made.0 ∙ is))
 
 pub returns-clause-gives : goal.returns-clause-gives
 returns-clause-gives g c = λ p at known same quiet room items end still.

@@ -49,12 +49,12 @@ returns-in-Err g c =
       names = (e.counts.3, refl);
     }
 
-pub returns-in-Err-renewed : goal.returns-in-Err-renewed
-returns-in-Err-renewed g c =
+pub returns-in-Err-made : goal.returns-in-Err-made
+returns-in-Err-made g c =
     let counts = c.in-Ok.ensures.counts in
-    let w = c.in-Err-renewed.why in
-    let unread = c.in-Err-renewed.ensures.unread in
-    let memory = λ (known : c.args.reader.now.known ≡ true). c.in-Err-renewed.ensures.memory (may_be c.args.comments.now (lifted c.args.reader.now).cursor c.in-Ok.kept.items _ c.read_kept.new.reader.cursor.left c.requires.short c.as_slice.ensures.value (c.in-Ok.ensures.kept known)) in
+    let w = c.in-Err-made.why in
+    let unread = c.in-Err-made.ensures.unread in
+    let memory = λ (known : c.args.reader.now.known ≡ true). c.in-Err-made.ensures.memory (may_be c.args.comments.now (lifted c.args.reader.now).cursor c.in-Ok.kept.items _ c.read_kept.new.reader.cursor.left c.requires.short c.as_slice.ensures.value (c.in-Ok.ensures.kept known)) in
     record {
       written = tt;
       refused = λ known calm room. absurd (room (memory known));
@@ -64,7 +64,7 @@ returns-in-Err-renewed g c =
       nothing = λ one other. refl;
       begun = λ either known told. absurd (unread_device (place.Frame 0) w unread either);
       placeless = λ none. absurd (placed_some (place.Frame 0) none);
-      output = c.in-Err-renewed.ensures.output;
+      output = c.in-Err-made.ensures.output;
       read = λ read known. absurd (unread read);
       write = λ is told. absurd (placed (place.Frame 0) w is);
       read_risen = λ read. absurd (unread read);
@@ -73,11 +73,11 @@ returns-in-Err-renewed g c =
       names = (counts.4, refl);
     }
 
-pub returns : goal.returns
-returns g c =
+pub returns-in-Err-sent : goal.returns-in-Err-sent
+returns-in-Err-sent g c =
     let counts = c.in-Ok.ensures.counts in
     let kept = c.in-Ok.ensures.kept in
-    let sends = c.in-Err-send_all.ensures.sends in
+    let sends = c.in-Err-sent.ensures.sends in
     record {
       written = tt;
       refused = tt;
@@ -86,9 +86,9 @@ returns g c =
       found = λ either known. has_head (lifted c.args.reader.now).cursor (kept known);
       nothing = λ one other. absurd (other refl);
       begun = λ either known told.
-          let is = c.in-Ok-renewed.ensures.head ∙ ap (new_head c.args.comments.now) c.as_slice.ensures.value in
+          let is = c.in-Ok-made.ensures.head ∙ ap (new_head c.args.comments.now) c.as_slice.ensures.value in
           let begun = sends.begun told in
-          head_begun (lifted c.args.reader.now).cursor c.in-Ok.kept.items c.read_kept.new.reader.cursor.left c.args.comments.now c.in-Ok-renewed.head.items (kept known) is _ _ begun.0 begun.1 (sym c.as_slice-2.ensures.value ∙ begun.2) begun.3;
+          head_begun (lifted c.args.reader.now).cursor c.in-Ok.kept.items c.read_kept.new.reader.cursor.left c.args.comments.now c.in-Ok-made.head.items (kept known) is _ _ begun.0 begun.1 (sym c.as_slice-2.ensures.value ∙ begun.2) begun.3;
       placeless = λ none. refl;
       output = tt;
       read = λ read known. absurd (write_no_read read);
@@ -99,19 +99,19 @@ returns g c =
       names = (counts.4, sends.names);
     }
 
-pub returns-in-Ok-send_all : goal.returns-in-Ok-send_all
-returns-in-Ok-send_all g c =
+pub returns-in-Ok-sent : goal.returns-in-Ok-sent
+returns-in-Ok-sent g c =
     let r = c.copy_rest.result in
     let counts = c.in-Ok.ensures.counts in
     let kept = c.in-Ok.ensures.kept in
-    let sends = c.in-Ok-send_all.ensures.sends in
+    let sends = c.in-Ok-sent.ensures.sends in
     let copy = c.copy_rest.ensures in
     let cursor = (lifted c.args.reader.now).cursor in
-    let is = c.in-Ok-renewed.ensures.head ∙ ap (new_head c.args.comments.now) c.as_slice.ensures.value in
+    let is = c.in-Ok-made.ensures.head ∙ ap (new_head c.args.comments.now) c.as_slice.ensures.value in
     record {
       written = when_ok r (λ copied known told.
           let sent = sends.sent told ∙ ap (λ k. g.W.Target.sent c.args.target.now ++ k) c.as_slice-2.ensures.value in
-          all_retagged cursor c.in-Ok.kept.items c.read_kept.new.reader.cursor.left c.args.comments.now c.in-Ok-renewed.head.items (kept known) is _ (g.W.Target.sent c.send_all.new.target) _ sent (copied (counts.0 known) (sends.known told))) copy.copied;
+          all_retagged cursor c.in-Ok.kept.items c.read_kept.new.reader.cursor.left c.args.comments.now c.in-Ok-made.head.items (kept known) is _ (g.W.Target.sent c.send_all-sent.new.target) _ sent (copied (counts.0 known) (sends.known told))) copy.copied;
       refused = both_err r (λ f fault read. copy_calm f _ _ _ fault (λ is known calm. no_rise _ _ _ counts.2 calm.1 (read is (counts.0 known)))) copy.fault copy.read;
       behind = IfErr-weaker r _ _ (λ f. copy_behind f _) copy.fault;
       head = when_ok r (λ copied known. has_head cursor (kept known)) copy.copied;
@@ -120,7 +120,7 @@ returns-in-Ok-send_all g c =
       begun = when_err r (λ f begun either known told.
           let sent = sends.sent told ∙ ap (λ k. g.W.Target.sent c.args.target.now ++ k) c.as_slice-2.ensures.value in
           let some = begun (counts.0 known) (sends.known told) in
-          some_retagged cursor c.in-Ok.kept.items c.read_kept.new.reader.cursor.left c.args.comments.now c.in-Ok-renewed.head.items (kept known) is _ (g.W.Target.sent c.send_all.new.target) _ some.0 some.1 sent some.2 some.3) copy.begun;
+          some_retagged cursor c.in-Ok.kept.items c.read_kept.new.reader.cursor.left c.args.comments.now c.in-Ok-made.head.items (kept known) is _ (g.W.Target.sent c.send_all-sent.new.target) _ some.0 some.1 sent some.2 some.3) copy.begun;
       placeless = IfErr-weaker r _ _ (λ f. copy_placeless f) copy.fault;
       output = IfErr-weaker r _ _ (λ f. copy_output f) copy.fault;
       read = IfErr-weaker r _ _ (λ f read is known. rw (← counts.2) (read is (counts.0 known))) copy.read;
