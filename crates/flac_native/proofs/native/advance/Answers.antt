@@ -1,9 +1,14 @@
-use Rattle.std.proofs.Common.{inl, inr, ap, ◌∙◌}
+use Rattle.std.proofs.Common.{ℕ, ◌+◌, ◌≤◌, inl, inr, sym, ap, ◌∙◌, rules, arith}
+use Rattle.flac_bits.specs.State.{without_fence}
 use Rattle.flac_bits.specs.Fencing.{lifted}
 use Rattle.flac_native.specs.Stream.{Stand, place_in}
 use Rattle.flac_native.proofs.Advancing.{over_here, refused_here}
 use Rattle.flac_native.proofs.RetagFaults.{no_fewer}
+use Rattle.flac_native.proofs.SameStart.{less_at, most_at, rises_at}
 use Rattle.flac_native.proofs.native.advance.Goals as goal
+
+both_spend : (new mid old : ℕ) → new + 32 ≤ mid → mid ≤ old → new + 32 ≤ old
+both_spend new mid old h k = omega arith
 
 pub returns-in-Ok : goal.returns-in-Ok
 returns-in-Ok g c =
@@ -37,8 +42,39 @@ returns-in-Err-end g c =
       next = tt;
     }
 
-pub returns-in-Err-read_part-clause-broken : goal.returns-in-Err-read_part-clause-broken
-returns-in-Err-read_part-clause-broken g c = λ p at out. c.place-at.ensures ∙ ap (λ (s : Stand). place_in s.phase s.index) at.stand
+pub returns-in-Ok-read_part : goal.returns-in-Ok-read_part
+returns-in-Ok-read_part g c =
+    let ends = rw c.lift.ensures at c.in-Ok-false.ensures in
+    let went = ends.counts in
+    let part = c.in-Ok-read_part.ensures in
+    let read = part.counts in
+    record {
+      spends = both_spend _ _ _ part.spends ends.spends;
+      counts = (λ known. read.0 (went.0 known), read.1 ∙ went.1, read.2 ∙ went.2, λ known. read.3 (went.0 known) ∙ ap without_fence (went.3 known), read.4 ∙ went.4);
+      memory = λ phase. tt;
+      broken = λ p at. tt;
+      steps = search rules;
+      made = part.made;
+      later = part.later;
+      next = part.next;
+    }
+
+pub returns-in-Err-read_part : goal.returns-in-Err-read_part
+returns-in-Err-read_part g c =
+    let ends = rw c.lift.ensures at c.in-Ok-false.ensures in
+    let went = ends.counts in
+    let part = c.in-Err-read_part.ensures in
+    let read = part.counts in
+    record {
+      spends = tt;
+      counts = (most_at _ _ _ went.1 read.0, λ known same. read.1 (went.0 known) (same ∙ sym went.1) ∙ ap without_fence (went.3 known), λ known is. less_at _ _ _ went.2 (read.2 (went.0 known) is), read.3 ∙ went.4, λ is. rises_at _ _ _ went.2 (read.4 is), read.5);
+      memory = part.memory;
+      broken = λ p at out. c.place-at.ensures ∙ ap (λ (s : Stand). place_in s.phase s.index) at.stand;
+      steps = search rules;
+      made = tt;
+      later = tt;
+      next = tt;
+    }
 
 pub returns-in-Err-clause-broken : goal.returns-in-Err-clause-broken
 returns-in-Err-clause-broken g c = λ p at out. c.place-at.ensures ∙ ap (λ (s : Stand). place_in s.phase s.index) at.stand

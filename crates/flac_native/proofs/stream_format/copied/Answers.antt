@@ -1,5 +1,5 @@
-use Rattle.std.proofs.Common.{◌≡◌, ℕ, ◌+◌, ◌<◌, ◌++◌, List, [], ◌∷◌, length, take, get_or, map, sym, ap, ◌∙◌}
-use Rattle.std.proofs.lemmas.List.{map_push, map_more}
+use Rattle.std.proofs.Common.{◌≡◌, ℕ, ◌+◌, ◌<◌, ◌++◌, List, [], ◌∷◌, length, take, get_or, map, refl, sym, ap, ◌∙◌}
+use Rattle.std.proofs.lemmas.List.{map_push, map_more, take_all}
 use Rattle.std.proofs.lemmas.Result.{err_from_is_err_and}
 use Rattle.flac_native.proofs.stream_format.copied.Goals as goal
 
@@ -30,3 +30,12 @@ pub returns-in_err-channels-clause-memory : goal.returns-in_err-channels-clause-
 returns-in_err-channels-clause-memory c =
     let p = err_from_is_err_and c.from_residual.result c.from_residual.ensures.1 in
     rw p.1 p.2
+
+pub slice_bounds-from_slice-end : goal.slice_bounds-from_slice-end
+slice_bounds-from_slice-end c = refl
+
+pub bounds-block-channel-index : goal.bounds-block-channel-index
+bounds-block-channel-index c = c.loop-channel-test.true
+
+pub returns-clause-items : goal.returns-clause-items
+returns-clause-items c = c.loop-channel.invariant ∙ ap (map (λ b. b.now)) (take_all c.loop-channel.channel-index c.args.block.now c.loop-channel-test.false)
