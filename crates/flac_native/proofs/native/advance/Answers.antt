@@ -1,14 +1,28 @@
-use Rattle.std.proofs.Common.{ℕ, ◌+◌, ◌≤◌, inl, inr, sym, ap, ◌∙◌, rules, arith}
+use Rattle.std.proofs.Common.{◌≡◌, ℕ, ◌+◌, ◌≤◌, Result, Ok, Err, inl, inr, sym, ap, ◌∙◌, arith}
 use Rattle.flac_bits.specs.State.{without_fence}
 use Rattle.flac_bits.specs.Fencing.{lifted}
+use Rattle.flac_bits.specs.declared.why.Why.{Why}
+use Rattle.flac_bits.proofs.Bounds.{lifted_same}
 use Rattle.flac_native.specs.Stream.{Stand, place_in}
-use Rattle.flac_native.proofs.Advancing.{over_here, refused_here}
+use Rattle.flac_native.proofs.Advancing.{over_here, refused_here, part_here, part_refused_here}
 use Rattle.flac_native.proofs.RetagFaults.{no_fewer}
 use Rattle.flac_native.proofs.SameStart.{less_at, most_at, rises_at}
 use Rattle.flac_native.proofs.native.advance.Goals as goal
 
 both_spend : (new mid old : ℕ) → new + 32 ≤ mid → mid ≤ old → new + 32 ≤ old
 both_spend new mid old h k = omega arith
+
+abbrev answer : {X : Type 0} → X → Result X Why
+answer x = Ok x
+
+abbrev wrong : {X : Type 0} → Why → Result X Why
+wrong e = Err e
+
+answers : {X : Type 0} (x : X) (e : Why) → answer x ≡ wrong e → ⊥
+answers x e is = absurd cc
+
+same_reason : {X : Type 0} (v w : Why) → wrong {X = X} v ≡ wrong w → v ≡ w
+same_reason v w e = cc
 
 pub returns-in-Ok : goal.returns-in-Ok
 returns-in-Ok g c =
@@ -53,7 +67,10 @@ returns-in-Ok-read_part g c =
       counts = (λ known. read.0 (went.0 known), read.1 ∙ went.1, read.2 ∙ went.2, λ known. read.3 (went.0 known) ∙ ap without_fence (went.3 known), read.4 ∙ went.4);
       memory = λ phase. tt;
       broken = λ p at. tt;
-      steps = search rules;
+      steps = λ p at known same quiet.
+          let over = ends.over known in
+          part_here c.args.track.now p (lifted c.args.reader.now).cursor (lifted c.ends_here.new.reader).cursor c.in-Ok-false.field-0 _ _ at c.in-Ok-false.field-0-test over.1 (lifted_same c.args.reader.now c.ends_here.new.reader over.0 (went.3 known))
+          (part.reads (λ is. absurd (answers _ _ is)) (went.0 known) (same ∙ sym went.1));
       made = part.made;
       later = part.later;
       next = part.next;
@@ -70,7 +87,10 @@ returns-in-Err-read_part g c =
       counts = (most_at _ _ _ went.1 read.0, λ known same. read.1 (went.0 known) (same ∙ sym went.1) ∙ ap without_fence (went.3 known), λ known is. less_at _ _ _ went.2 (read.2 (went.0 known) is), read.3 ∙ went.4, λ is. rises_at _ _ _ went.2 (read.4 is), read.5);
       memory = part.memory;
       broken = λ p at out. c.place-at.ensures ∙ ap (λ (s : Stand). place_in s.phase s.index) at.stand;
-      steps = search rules;
+      steps = λ p at known same quiet room.
+          let over = ends.over known in
+          part_refused_here c.args.track.now p (lifted c.args.reader.now).cursor (lifted c.ends_here.new.reader).cursor c.in-Ok-false.field-0 _ _ at c.in-Ok-false.field-0-test over.1 (lifted_same c.args.reader.now c.ends_here.new.reader over.0 (went.3 known))
+          c.place-at.ensures (part.reads (λ is. room (same_reason _ _ is)) (went.0 known) (same ∙ sym went.1));
       made = tt;
       later = tt;
       next = tt;
