@@ -1,5 +1,5 @@
 use Rattle.std.specs.Prelude.{⊤}
-use Rattle.std.proofs.Common.{◌≤◌, map, sym, subst, refl, arith}
+use Rattle.std.proofs.Common.{◌≤◌, map, sym, subst, refl, ◌∙◌, arith}
 use Rattle.flac_subframe.specs.Room.{Room}
 use Rattle.flac_bits.specs.Bits.{bits_of}
 use Rattle.flac_frame.specs.Audio.{samples_each}
@@ -43,3 +43,24 @@ returns-clause-next c =
     let least : SpellsLeast old.predictors (sound_of old.shape block) (frame_with old.number block) text =
     subst (λ ps. SpellsLeast ps (sound_of old.shape block) (frame_with old.number block) text) c.as_slice-predictors.ensures.value c.in-Ok.ensures.least in
     rw (← c.self.view_is) (is_next old (behind_block old (samples_each block) tt) block text c.self.invariant.shape a c.in-Ok.ensures.frame least refl)
+
+pub encode_block-requires-clause-format : goal.encode_block-requires-clause-format
+encode_block-requires-clause-format c = c.self.invariant.shape
+
+pub invariant_of-self : goal.invariant_of-self
+invariant_of-self c = record {
+  shape = c.self.invariant.shape;
+  predictors = c.self.invariant.predictors;
+  buffers = c.encode_block.ensures.kept ∙ c.self.invariant.buffers;
+  number = c.self.invariant.number;
+  samples = c.self.invariant.samples;
+}
+
+pub invariant_of-self-2 : goal.invariant_of-self-2
+invariant_of-self-2 c = record {
+  shape = c.self.invariant.shape;
+  predictors = c.self.invariant.predictors;
+  buffers = c.encode_block.ensures.kept ∙ c.self.invariant.buffers;
+  number = c.self.invariant.number;
+  samples = c.self.invariant.samples;
+}
