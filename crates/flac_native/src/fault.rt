@@ -48,11 +48,10 @@ impl fmt::Display for Place {
     fn fmt<W: fmt::Write>(&self, f: &mut fmt::Formatter<W>) -> fmt::Result {
         let kind = self.kind_name();
         match *self {
-            Place::Block(index) => write!(f, "{kind} {index}"),
-            Place::Frame(index) => write!(f, "{kind} {index}"),
-            Place::Page(index) => write!(f, "{kind} {index}"),
-            Place::Marker => f.write_str(kind),
-            Place::End => f.write_str(kind),
+            Place::Block(index) | Place::Frame(index) | Place::Page(index) => {
+                write!(f, "{kind} {index}")
+            }
+            Place::Marker | Place::End => f.write_str(kind),
         }
     }
 }
