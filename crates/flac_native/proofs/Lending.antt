@@ -1,5 +1,5 @@
 -- What a target was sent while it was borrowed.
-use Rattle.std.proofs.Common.{inl, inr, ◌≡◌, ◌∙◌, refl, sym, ap, subst, ℕ, arith, nat_eq, Bool, true, false, cond, ◌&&◌, List, [], ◌∷◌, ◌++◌, length, take, Result, Ok, Err, OnOk, IfOk}
+use Rattle.std.proofs.Common.{inl, inr, ◌≡◌, ◌∙◌, refl, sym, ap, subst, ℕ, arith, nat_eq, Bool, true, false, cond, ◌&&◌, List, [], ◌∷◌, ◌++◌, drop, length, take, Result, Ok, Err, OnOk, IfOk}
 use Rattle.std.proofs.lemmas.Bool.{cases_Bool, and_parts, and_from, eqb-true, eq-eqb}
 use Rattle.flac_bits.specs.Bits.{bits_of}
 use Rattle.flac_bits.specs.Written.{Written, begins}
@@ -77,7 +77,7 @@ since_begins (b ∷ before) (c ∷ now) text e =
 
 -- just these bits
 pub since_is : (before now : List ℕ) (text : List Bool) → bits_of (sent_since before now) ≡ bits_of (1 ∷ []) ++ text → (rest : List ℕ) × (now ≡ before ++ rest) × (bits_of rest ≡ text)
-since_is [] now text e = (now, refl, cc)
+since_is [] now text e = (now, refl, ap (drop 8) e)
 since_is (b ∷ before) [] text e = absurd cc
 since_is (b ∷ before) (c ∷ now) text e =
     elim (cases_Bool (nat_eq b c)) [

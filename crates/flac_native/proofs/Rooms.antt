@@ -1,5 +1,5 @@
 -- The frame that a place in memory was sent.
-use Rattle.std.proofs.Common.{◌≡◌, ◌∙◌, refl, sym, ap, subst, ℕ, zero, suc, ◌*◌, ◌<◌, ◌≤◌, arith, Bool, true, List, [], ◌∷◌, ◌++◌, length, length-append, Result, Ok, Err, OnOk}
+use Rattle.std.proofs.Common.{◌≡◌, ◌∙◌, refl, sym, ap, subst, ℕ, zero, suc, ◌*◌, ◌<◌, ◌≤◌, arith, Bool, true, List, [], ◌∷◌, ◌++◌, drop, length, length-append, Result, Ok, Err, OnOk}
 use Rattle.std.proofs.lemmas.List.{append-nil}
 use Rattle.flac_bits.specs.Bits.{unsigned, bits_of}
 use Rattle.flac_bits.specs.State.{Mark, fresh}
@@ -68,11 +68,11 @@ placed_more (suc n) xs ys = ap (λ l. 1 ∷ l) (placed_more n xs ys)
 
 -- all of it
 pub placed_same : (m n : ℕ) (s : List ℕ) (text : List Bool) → bits_of (placed m s) ≡ bits_of (placed n []) ++ text → (m ≡ n) × (bits_of s ≡ text)
-placed_same zero zero s text e = (refl, cc)
+placed_same zero zero s text e = (refl, ap (drop 8) e)
 placed_same zero (suc n) s text e = absurd cc
 placed_same (suc m) zero s text e = absurd cc
 placed_same (suc m) (suc n) s text e =
-    let inner : bits_of (placed m s) ≡ bits_of (placed n []) ++ text = cc in
+    let inner : bits_of (placed m s) ≡ bits_of (placed n []) ++ text = ap (drop 8) e in
     let h = placed_same m n s text inner in (ap suc h.0, h.1)
 
 -- a beginning of it

@@ -1,4 +1,4 @@
-use Rattle.std.proofs.Common.{◌≡◌, ◌<◌, ◌*◌, ◌+◌, ◌∙◌, arith}
+use Rattle.std.proofs.Common.{◌≡◌, ◌<◌, ◌≤◌, ◌*◌, ◌+◌, ◌^◌, ◌∙◌, ℕ, Fits, w64, subst, arith}
 use Rattle.std.proofs.Math.Nat.{mul-suc}
 use Rattle.std.proofs.lemmas.Result.{err_from_is_err_and}
 use Rattle.flac_frame.specs.Audio.{samples_each}
@@ -9,12 +9,42 @@ use Rattle.flac_native.proofs.Gathered.{still_some, all_gathered}
 use Rattle.flac_native.proofs.WrittenFrames.{frame_added, frame_failed, frames_none, frames_more, frames_fail, frames_all}
 use Rattle.flac_native.proofs.chosen_frames.write_frames.Goals as goal
 
+-- samples are left
+more_left : (m total start len : ℕ) → start ≡ m → start < len → len ≡ total → m < total
+more_left m total start len at lt is = omega arith
+
+at_start : (b : ℕ) → 0 ≡ b * 0
+at_start b = omega arith
+
+zero_least : (n : ℕ) → 0 ≤ n
+zero_least n = omega arith
+
+-- where the next block starts
+start_next : (start size b n : ℕ) → start ≡ b * n → size ≡ b → start + size ≡ b * (n + 1)
+start_next start size b n at is = omega (arith, mul-suc b n)
+
+one_on : (n m : ℕ) → n < m → n + 1 ≤ m
+one_on n m h = omega arith
+
+few_fit : (n m : ℕ) → n < m → m ≤ 2 ^ 31 → Fits w64 (n + 1)
+few_fit n m h k = omega arith
+
+pub overflow_add-number : goal.overflow_add-number
+overflow_add-number g c =
+    let p = c.args.plan.now in
+    let total = samples_each c.args.audio.now.channels in
+    let q = planned p c.block_size-size.ensures.good in
+    let f = fit p c.args.audio.now c.requires.fits in
+    let more : p.block_size * c.loop-start.number < total = more_left _ _ _ _ c.loop-start.invariant.start c.loop-start-test.true c.len-total.ensures in
+    let blocks : blocks_in p.block_size total ≤ 2 ^ 31 = subst (λ t. blocks_in p.block_size t ≤ 2 ^ 31) f.total q.blocks in
+    few_fit c.loop-start.number _ (still_some p.block_size total c.loop-start.number q.least more) blocks
+
 pub loop-start-init : goal.loop-start-init
 loop-start-init g c = record {
   written = frames_none c.args.plan.now c.args.audio.now c.args.writer.now c.requires.whole;
   buffers = c.requires.buffers;
-  start = omega arith;
-  few = omega arith;
+  start = at_start _;
+  few = zero_least _;
 }
 
 pub write_chosen-requires-clause-ready : goal.write_chosen-requires-clause-ready
@@ -22,7 +52,7 @@ write_chosen-requires-clause-ready g c =
     let p = c.args.plan.now in
     let total = samples_each c.args.audio.now.channels in
     let q = planned p c.block_size-size.ensures.good in
-    let more : p.block_size * c.loop-start.number < total = omega (arith, c.loop-start.invariant.start, c.loop-start-test.true, c.len-total.ensures) in
+    let more : p.block_size * c.loop-start.number < total = more_left _ _ _ _ c.loop-start.invariant.start c.loop-start-test.true c.len-total.ensures in
     record { fits = c.requires.fits; few = still_some p.block_size total c.loop-start.number q.least more; chosen = c.requires.choices; buffers = c.loop-start.invariant.buffers }
 
 pub write_chosen-requires-clause-whole : goal.write_chosen-requires-clause-whole
@@ -36,7 +66,7 @@ returns-in_err-write_chosen g c =
     let n = c.loop-start.number in
     let total = samples_each a.channels in
     let q = planned p c.block_size-size.ensures.good in
-    let more : p.block_size * n < total = omega (arith, c.loop-start.invariant.start, c.loop-start-test.true, c.len-total.ensures) in
+    let more : p.block_size * n < total = more_left _ _ _ _ c.loop-start.invariant.start c.loop-start-test.true c.len-total.ensures in
     let few : n < blocks_in p.block_size total = still_some p.block_size total n q.least more in
     let have = c.requires.frames in
     let w = c.in_err-write_chosen.ensures.wrote in
@@ -59,15 +89,14 @@ loop-start-preserved g c =
     let total = samples_each a.channels in
     let inv = c.loop-start.invariant in
     let q = planned p c.block_size-size.ensures.good in
-    let more : b * n < total = omega (arith, inv.start, c.loop-start-test.true, c.len-total.ensures) in
+    let more : b * n < total = more_left _ _ _ _ inv.start c.loop-start-test.true c.len-total.ensures in
     let few : n < blocks_in b total = still_some b total n q.least more in
-    let up : b * (n + 1) ≡ b * n + b = omega (arith, mul-suc b n) in
     let w = c.in_ok-write_chosen.ensures.wrote in
     record {
       written = frames_more p a n c.args.writer.now c.loop-start.writer c.write_chosen.new.writer (frame_spelling a.bits w.0) inv.written w.1 (frame_added a.bits w.0 c.loop-start.writer c.write_chosen.new.writer inv.written.wrote.whole w.2);
       buffers = c.write_chosen.ensures.kept ∙ inv.buffers;
-      start = omega (arith, inv.start, up, c.block_size-size.ensures.value);
-      few = omega (arith, few);
+      start = start_next _ _ b n inv.start c.block_size-size.ensures.value;
+      few = one_on _ _ few;
     }
 
 pub loop-start-smaller : goal.loop-start-smaller
