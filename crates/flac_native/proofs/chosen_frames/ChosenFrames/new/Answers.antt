@@ -1,4 +1,4 @@
-use Rattle.std.proofs.Common.{ℤ, Vec, Global, Fits, w32, map, ◌≡◌, ◌≤◌, ◌<◌, ◌-◌, ◌*◌, ◌+◌, ◌^◌, min, max, refl, sym, ap, subst, ◌∙◌, arith, ℕ, List, length, None}
+use Rattle.std.proofs.Common.{ℤ, Vec, Global, Fits, w32, w64, map, ◌≡◌, ◌≤◌, ◌<◌, ◌-◌, ◌*◌, ◌+◌, ◌^◌, min, max, refl, sym, ap, subst, ◌∙◌, arith, ℕ, List, length, None}
 use Rattle.std.proofs.Math.Nat.{mul-suc}
 use Rattle.std.proofs.lemmas.Bool.Decides.{nat_tests}
 use Rattle.std.proofs.lemmas.List.{length-map}
@@ -180,6 +180,19 @@ frame_bytes-bytes-requires-clause-few c = omega (arith, c.range-range.ensures.ra
 
 pub frame_bytes-bytes-requires-clause-chosen : goal.frame_bytes-bytes-requires-clause-chosen
 frame_bytes-bytes-requires-clause-chosen c = (_, _, c.choose_frame.ensures.chosen)
+
+few_fit : (n m : ℕ) → n < m → m ≤ 2 ^ 31 → Fits w64 (n + 1)
+few_fit n m h k = omega arith
+
+pub overflow_add-number : goal.overflow_add-number
+overflow_add-number c =
+    let p = c.args.plan.now in
+    let total = samples_each c.args.audio.now.channels in
+    let q = planned p c.block_size-size.ensures.good in
+    let f = fit p c.args.audio.now c.requires.fits in
+    let more : p.block_size * c.loop-start.number < total = more_left _ _ _ _ _ c.loop-start.invariant.start c.loop-start-test.true c.len-total.ensures in
+    let blocks : blocks_in p.block_size total ≤ 2 ^ 31 = subst (λ t. blocks_in p.block_size t ≤ 2 ^ 31) f.total q.blocks in
+    few_fit c.loop-start.number _ (still_some p.block_size total c.loop-start.number q.least more) blocks
 
 pub overflow_add-offset : goal.overflow_add-offset
 overflow_add-offset c =
