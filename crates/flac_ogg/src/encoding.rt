@@ -7,7 +7,7 @@ ghost use Rattle.flac_bits.specs.Written.{Writes};
 ghost use Rattle.flac_meta.specs.Listed.{block_fault};
 ghost use Rattle.flac_meta.specs.Spelling.{block_spelling};
 ghost use Rattle.flac_meta.specs.declared.block.Block.TheVariants as block_of;
-ghost use Rattle.flac_native.specs.Given.{fits_plan, room_of};
+ghost use Rattle.flac_native.specs.Given.{fits_plan, info_of, room_of};
 ghost use Rattle.flac_native.specs.Numbers.{is_of_whole};
 ghost use Rattle.flac_native.specs.Writing.{AreCounted, AreChoices, HasRoom};
 ghost use Rattle.flac_native.specs.inner.Writing.{WritesAll};
@@ -165,28 +165,87 @@ pub fn encode_ogg<W: Target>(
     let Ok(mut buffers) = EncodeBuffers::new_in(alloc, profile, size) else {
         return Err(EncodeFault::Memory);
     };
-    let Ok(frames) = ChosenFrames::new(alloc, plan, audio, &mut buffers) else {
+    let Ok(prepared) = prepare(alloc, serial, plan, list, audio, &mut buffers) else {
         return Err(EncodeFault::Memory);
     };
-    let info = frames.info(plan, audio);
-    let Ok(headers) = header_packets(alloc, serial, info, list) else {
-        return Err(EncodeFault::Memory);
-    };
-    let Ok(room) = frames.room(alloc) else {
-        return Err(EncodeFault::Memory);
-    };
-    let Ok(pages) = page_room(alloc, frames.greatest()) else {
-        return Err(EncodeFault::Memory);
-    };
+    let outcome = send_prepared(prepared, plan, audio, &mut buffers, target);
+    drop(buffers);
+    match outcome {
+        Ok(()) => Ok(()),
+        Err(_) => Err(EncodeFault::Write),
+    }
+}
+
+/// What is made before anything is sent: the frames that were chosen, the header packets, and places for a frame and
+/// for its pages.
+#[derive(Drop)]
+struct Prepared {
+    frames: ChosenFrames,
+    headers: Headers,
+    room: Room,
+    pages: Room,
+}
+
+/// Chooses the frames, and makes what is needed to send them. Its only error is `Memory`: an allocation failed.
+fn prepare(
+    alloc: Global,
+    serial: u32,
+    plan: &Plan,
+    list: &BlockList,
+    audio: &Audio,
+    buffers: &mut EncodeBuffers,
+) -> Result<Prepared, Why>
+    requires fits { fits_plan plan.now audio.now ≡ true }
+    requires room { buffers.old ≡ room_of plan.now }
+    ensures counted { IfOk result (λ p. AreCounted plan.now audio.now p.frames.least p.frames.greatest p.frames.points.items) }
+    ensures choices { IfOk result (λ p. AreChoices plan.now audio.now p.frames.choices.items) }
+    ensures headers { IfOk result (λ p. AreHeaders (packet_spellings (header_count (length list.now)) (info_of plan.now audio.now p.frames.least p.frames.greatest) list.now []) p.headers) }
+    ensures serial { IfOk result (λ p. p.headers.serial ≡ serial) }
+    ensures room { IfOk result (λ p. HasRoom plan.now audio.now p.room.places) }
+    ensures pages { IfOk result (λ p. 65307 * (p.frames.greatest / 65025 + 1) ≤ p.pages.places) }
+    ensures buffers { buffers.new ≡ buffers.old }
+    ensures memory { IfErr result (λ e. e ≡ Why.Memory) }
+{
+    let frames = ChosenFrames::new(alloc, plan, audio, buffers)?;
+    let headers = header_packets(alloc, serial, frames.info(plan, audio), list)?;
+    let room = frames.room(alloc)?;
+    let pages = page_room(alloc, frames.greatest())?;
+    Ok(Prepared {
+        frames,
+        headers,
+        room,
+        pages,
+    })
+}
+
+/// Sends what is prepared. After an error a prefix of it was sent.
+fn send_prepared<W: Target>(
+    prepared: Prepared,
+    plan: &Plan,
+    audio: &Audio,
+    buffers: &mut EncodeBuffers,
+    target: &mut W,
+) -> Result<(), Why>
+    requires fits { fits_plan plan.now audio.now ≡ true }
+    requires counted { AreCounted plan.now audio.now prepared.frames.least prepared.frames.greatest prepared.frames.points.items }
+    requires choices { AreChoices plan.now audio.now prepared.frames.choices.items }
+    requires buffers { buffers.old ≡ room_of plan.now }
+    requires room { HasRoom plan.now audio.now prepared.room.places }
+    requires pages { 65307 * (prepared.frames.greatest / 65025 + 1) ≤ prepared.pages.places }
+    ensures { (first : List Bool) (texts : List (List Bool)) (h : AreHeaders (first ∷ texts) prepared.headers) → SendsOgg W.Target prepared.headers.serial plan.now audio.now h.packets target.old target.new result }
+{
+    let Prepared {
+        frames,
+        headers,
+        room,
+        pages,
+    } = prepared;
     let planned = Planned {
         plan,
         audio,
         frames: &frames,
     };
-    match send_stream(&headers, &planned, &mut buffers, room, pages, target) {
-        Ok(()) => Ok(()),
-        Err(_) => Err(EncodeFault::Write),
-    }
+    send_stream(&headers, &planned, buffers, room, pages, target)
 }
 
 /// A place for the pages of a packet of `packet` bytes, of which each but the last is as long as a page can be (RFC

@@ -1,6 +1,6 @@
 //! Encodes an Ogg stream a block at a time.
 
-ghost use Rattle.std.specs.Prelude.{◌≡◌, ◌≢◌, List, Bool, ◌⊎◌, ◌≤◌, ◌<◌, ◌+◌, ◌^◌, ◌↔◌, map, option_map, true, false, IfOk, OnOk, IfErr, None, Some, Err};
+ghost use Rattle.std.specs.Prelude.{◌≡◌, ◌≢◌, List, Bool, ◌⊎◌, ◌≤◌, ◌<◌, ◌+◌, ◌^◌, ◌↔◌, ◌++◌, [], length, map, option_map, true, false, IfOk, OnOk, IfErr, None, Some, Err};
 ghost use Rattle.flac_bits.specs.Bits.{bits_of};
 ghost use Rattle.flac_bits.specs.Forms.{AreBytes};
 ghost use Rattle.flac_bits.specs.State.{Rises};
@@ -13,10 +13,13 @@ ghost use Rattle.flac_native.specs.declared.fault.EncodeFault.TheVariants.{Spent
 ghost use Rattle.flac_pages.specs.Placed.{Placed, sequence_behind};
 ghost use Rattle.flac_pages.specs.Written.{packet_spelling};
 ghost use Rattle.flac_pages.specs.declared.writing.PacketKind.TheVariants.{Frame};
+ghost use Rattle.flac_ogg.specs.inner.Headers.{AreHeaders};
+ghost use Rattle.flac_ogg.specs.Native.{packet_spellings};
+ghost use Rattle.flac_ogg.specs.Writing.{header_count};
 ghost use Rattle.flac_ogg.specs.Pushing.{open_fault, listed_fault, trying_ogg, StandsForOgg, Opens, PushesOgg, BeginsPushOgg, EndsOgg};
 
 use crate::encoding::begins_with_comment;
-use crate::headers::headers_of;
+use crate::headers::{Headers, headers_of};
 use crate::held_packet::HeldPacket;
 use crate::verifying::{bytes_fit, in_memory};
 use flac_bits::{Collected, Target, Why, send_all};
@@ -124,6 +127,41 @@ fn open_head(alloc: Global, format: &StreamFormat, list: &BlockList) -> Result<V
     }
 }
 
+/// The header packets of a stream of a format. Its errors are those of [`open_head`].
+fn open_headers(
+    alloc: Global,
+    serial: u32,
+    format: &StreamFormat,
+    list: &BlockList,
+) -> Result<Headers, EncodeFault>
+    ensures made { IfOk result (λ h. AreHeaders (packet_spellings (header_count (length list.now)) (open_info (shape_of format.now)) list.now []) h) }
+    ensures serial { IfOk result (λ h. h.serial ≡ serial) }
+    ensures accepted { OnOk result (shape_fault (shape_of format.now) ≡ None) }
+    ensures listed { OnOk result (open_fault (shape_of format.now) list.now ≡ None) }
+    ensures refused { IfErr result (λ e. IsFirst (open_fault (shape_of format.now) list.now) e) }
+{
+    let head = open_head(alloc, format, list)?;
+    match headers_of(alloc, serial, head.as_slice(), list) {
+        Ok(headers) => Ok(headers),
+        Err(_) => Err(EncodeFault::Memory),
+    }
+}
+
+/// Sends bytes to a target, and returns it. Its only error is `Write`: the target returned an error.
+fn send_owned<W: Target + Drop>(target: W, bytes: &[u8]) -> Result<W, EncodeFault>
+    ensures sent { IfOk result (λ t. W.known target ≡ true → W.sent t ≡ W.sent target ++ bytes.now) }
+    ensures known { IfOk result (λ t. W.known target ≡ true → W.known t ≡ true) }
+    ensures counted { IfOk result (λ t. W.errors t ≡ W.errors target) }
+    ensures names { IfOk result (λ t. W.names t ≡ W.names target) }
+    ensures write { IfErr result (λ e. e ≡ EncodeFault.Write) }
+{
+    let mut target = target;
+    match send_all(&mut target, bytes) {
+        Ok(()) => Ok(target),
+        Err(_) => Err(EncodeFault::Write),
+    }
+}
+
 /// Holds back a frame, up to whose end the stream has `end` samples of each channel.
 fn hold_frame(
     alloc: Global,
@@ -147,6 +185,19 @@ fn hold_frame(
         last: false,
     };
     HeldPacket::new(alloc, marks, packet)
+}
+
+impl<W: Target> OggEncoder<W> {
+    /// The packet that is held, and the target.
+    fn into_parts(self) -> (HeldPacket, W)
+        ensures middle { result.0.middle.items ≡ self.middle }
+        ensures last { result.0.last.items ≡ self.last }
+        ensures next { result.0.next ≡ self.sequence }
+        ensures target { result.1 ≡ self.pushed.target }
+    {
+        let OggEncoder { held, target, .. } = self;
+        (held, target)
+    }
 }
 
 impl<W: Target + Drop> OggEncoder<W> {
@@ -216,23 +267,17 @@ impl<W: Target + Drop> OggEncoder<W> {
         ensures accepted { OnOk result (open_fault (shape_of format.now) list.now ≡ None) }
         ensures refused { IfErr result (λ e. IsFirst (open_fault (shape_of format.now) list.now) e) }
     {
-        let head = open_head(alloc, format, list)?;
+        let headers = open_headers(alloc, serial, format, list)?;
         let _blocks = list.blocks(); // for the proof alone: what holds of every list
         let blocks = BlockEncoder::new(alloc, format)?;
-        let Ok(headers) = headers_of(alloc, serial, head.as_slice(), list) else {
-            return Err(EncodeFault::Memory);
-        };
-        let mut target = target;
-        match send_all(&mut target, headers.sent.as_slice()) {
-            Ok(()) => Ok(OggEncoder {
-                alloc,
-                serial,
-                blocks,
-                held: headers.held,
-                target,
-            }),
-            Err(_) => Err(EncodeFault::Write),
-        }
+        let target = send_owned(target, headers.sent.as_slice())?;
+        Ok(OggEncoder {
+            alloc,
+            serial,
+            blocks,
+            held: headers.held,
+            target,
+        })
     }
 
     /// Sets the linear predictors that are tried for the frames pushed from now on, as
@@ -321,14 +366,11 @@ impl<W: Target + Drop> OggEncoder<W> {
         ensures spent { (result ≡ Err EncodeFault.Spent) ↔ (self.pushed.spent ≡ true) }
         ensures only { IfErr result (λ e. (e ≡ EncodeFault.Spent) ⊎ (e ≡ EncodeFault.Write)) }
     {
-        if self.blocks.is_spent() {
+        let spent = self.blocks.is_spent();
+        let (held, target) = self.into_parts();
+        if spent {
             return Err(EncodeFault::Spent);
         }
-        let OggEncoder { held, target, .. } = self;
-        let mut target = target;
-        match send_all(&mut target, held.last.as_slice()) {
-            Ok(()) => Ok(target),
-            Err(_) => Err(EncodeFault::Write),
-        }
+        send_owned(target, held.last.as_slice())
     }
 }

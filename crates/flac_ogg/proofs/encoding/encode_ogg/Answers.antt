@@ -1,18 +1,13 @@
-use Rattle.std.proofs.Common.{◌≡◌, ◌≤◌, ◌+◌, ◌*◌, ◌/◌, [], ◌++◌, List, Bool, true, false, Result, Ok, Err, length, refl, sym, subst, ◌∙◌, arith}
+use Rattle.std.proofs.Common.{◌≡◌, [], ◌++◌, List, Bool, true, false, Result, Ok, Err, length, refl, sym, subst, ◌∙◌, arith}
 use Rattle.flac_bits.specs.Bits.{bits_of, is_nil}
-use Rattle.flac_meta.specs.Info.{Info}
 use Rattle.flac_meta.specs.Spelling.{block_spelling}
-use Rattle.flac_meta.specs.declared.block.Block.{Block}
 use Rattle.flac_meta.specs.declared.block.Block.TheVariants as block_of
 use Rattle.flac_native.specs.Given.{info_of}
 use Rattle.flac_native.specs.Writing.{AreCounted}
 use Rattle.flac_native.specs.declared.fault.EncodeFault.{EncodeFault}
 use Rattle.flac_native.specs.declared.fault.EncodeFault.TheVariants as fault
 use Rattle.flac_native.proofs.Planned.{planned, block_small, room_is}
-use Rattle.flac_native.proofs.Rooms.{room_of}
-use Rattle.flac_ogg.specs.declared.headers.Headers.{Headers}
-use Rattle.flac_ogg.specs.inner.Headers.{AreHeaders}
-use Rattle.flac_ogg.specs.Native.{mapping_spelling, block_spellings, packet_spellings}
+use Rattle.flac_ogg.specs.Native.{mapping_spelling, block_spellings}
 use Rattle.flac_ogg.specs.Writing.{header_count, EncodesOgg, BeginsOgg}
 use Rattle.flac_ogg.proofs.SentOgg.{ogg_encodes}
 use Rattle.flac_ogg.proofs.Whole.{all_sent, some_sent}
@@ -56,21 +51,11 @@ write_mapping e = absurd cc
 may_be : (found may : Bool) → found ≡ may → found ≡ true → may ≡ false → ⊥
 may_be found may e t f = absurd cc
 
--- header packets of the STREAMINFO of the frames
-made_of : (info i : Info) (list : List Block) (h : Headers) → info ≡ i → AreHeaders (packet_spellings (header_count (length list)) info list []) h → AreHeaders (packet_spellings (header_count (length list)) i list []) h
-made_of info i list h is made = subst (λ (x : Info). AreHeaders (packet_spellings (header_count (length list)) x list []) h) is made
-
 pub new_in-requires : goal.new_in-requires
 new_in-requires g c = omega (arith, block_small c.args.plan.now (planned c.args.plan.now c.block_size-size.ensures.good), c.block_size-size.ensures.value)
 
-pub new-requires-clause-room : goal.new-requires-clause-room
-new-requires-clause-room g c = room_is c.args.plan.now c.in-Ok.buffers c.block_size-size.result c.profile-profile.result c.block_size-size.ensures.value c.profile-profile.ensures c.in-Ok.ensures.ok
-
-pub send_stream-requires-clause-room : goal.send_stream-requires-clause-room
-send_stream-requires-clause-room g c = room_of c.args.plan.now c.args.audio.now _ _ _ _ c.in-Ok-new.ensures.counted c.in-Ok-room.ensures.places
-
-pub send_stream-requires-clause-pages : goal.send_stream-requires-clause-pages
-send_stream-requires-clause-pages g c = subst (λ n. 65307 * (n / 65025 + 1) ≤ c.in-Ok-page_room.pages.places) c.greatest.ensures c.in-Ok-page_room.ensures.places
+pub prepare-requires-clause-room : goal.prepare-requires-clause-room
+prepare-requires-clause-room g c = room_is c.args.plan.now c.in-Ok.buffers c.block_size-size.result c.profile-profile.result c.block_size-size.ensures.value c.profile-profile.ensures c.in-Ok.ensures.ok
 
 pub returns-then-not-may_be_ogg : goal.returns-then-not-may_be_ogg
 returns-then-not-may_be_ogg g c = record {
@@ -101,8 +86,8 @@ returns-in_default g c = record {
   names = refl;
 }
 
-pub returns-in_default-new : goal.returns-in_default-new
-returns-in_default-new g c = record {
+pub returns-in_default-prepare : goal.returns-in_default-prepare
+returns-in_default-prepare g c = record {
   written = tt;
   begun = λ is. absurd (memory_write is);
   failed = λ is. absurd (memory_write is);
@@ -117,72 +102,25 @@ returns-in_default-new g c = record {
   names = refl;
 }
 
-pub returns-in_default-header_packets : goal.returns-in_default-header_packets
-returns-in_default-header_packets g c = record {
-  written = tt;
-  begun = λ is. absurd (memory_write is);
-  failed = λ is. absurd (memory_write is);
-  risen = λ is. absurd (memory_write is);
-  mapping = (
-    λ is. absurd (memory_mapping (same_fault _ _ is)),
-    λ is. absurd (may_be _ _ c.may_be_ogg.ensures c.if-not-may_be_ogg.false is),
-  );
-  repeated = λ is. memory_repeated (same_fault _ _ is);
-  whole = refl;
-  kept = λ other. refl;
-  names = refl;
-}
-
-pub returns-in_default-room : goal.returns-in_default-room
-returns-in_default-room g c = record {
-  written = tt;
-  begun = λ is. absurd (memory_write is);
-  failed = λ is. absurd (memory_write is);
-  risen = λ is. absurd (memory_write is);
-  mapping = (
-    λ is. absurd (memory_mapping (same_fault _ _ is)),
-    λ is. absurd (may_be _ _ c.may_be_ogg.ensures c.if-not-may_be_ogg.false is),
-  );
-  repeated = λ is. memory_repeated (same_fault _ _ is);
-  whole = refl;
-  kept = λ other. refl;
-  names = refl;
-}
-
-pub returns-in_default-page_room : goal.returns-in_default-page_room
-returns-in_default-page_room g c = record {
-  written = tt;
-  begun = λ is. absurd (memory_write is);
-  failed = λ is. absurd (memory_write is);
-  risen = λ is. absurd (memory_write is);
-  mapping = (
-    λ is. absurd (memory_mapping (same_fault _ _ is)),
-    λ is. absurd (may_be _ _ c.may_be_ogg.ensures c.if-not-may_be_ogg.false is),
-  );
-  repeated = λ is. memory_repeated (same_fault _ _ is);
-  whole = refl;
-  kept = λ other. refl;
-  names = refl;
-}
-
-pub returns-in-Ok-send_stream : goal.returns-in-Ok-send_stream
-returns-in-Ok-send_stream g c =
+pub returns-in-Ok-outcome : goal.returns-in-Ok-outcome
+returns-in-Ok-outcome g c =
     let p = c.args.plan.now in
     let a = c.args.audio.now in
     let list = c.args.list.now in
-    let s = c.in-Ok-new.frames in
-    let h = c.in-Ok-header_packets.headers in
-    let made = made_of c.info-info.result _ list h c.info-info.ensures c.in-Ok-header_packets.ensures.made in
+    let ready = c.in-Ok-prepare.prepared in
+    let s = ready.frames in
+    let h = ready.headers in
+    let made = c.in-Ok-prepare.ensures.headers in
     let first : List Bool = mapping_spelling (header_count (length list)) ++ block_spelling (is_nil list) (block_of.StreamInfo (info_of p a s.least s.greatest)) in
-    let w = c.in-Ok-send_stream.ensures first (block_spellings list ++ []) made in
+    let w = c.in-Ok-outcome.ensures first (block_spellings list ++ []) made in
     record {
       written = λ known.
           let old = bits_of (g.W.Target.sent c.args.target.now) in
-          let serial_is = c.in-Ok-header_packets.ensures.serial in
-          let counted : AreCounted p a s.least s.greatest s.points.items = c.in-Ok-new.ensures.counted in
-          let whole = ogg_encodes g.W.Target p list a s.least s.greatest s.points.items h made c.args.target.now c.send_stream.new.target _ old (omega (arith, serial_is, c.ranges.serial.fits)) c.block_size-size.ensures.good c.requires c.blocks-blocks.ensures.good
+          let serial_is = c.in-Ok-prepare.ensures.serial in
+          let counted : AreCounted p a s.least s.greatest s.points.items = c.in-Ok-prepare.ensures.counted in
+          let whole = ogg_encodes g.W.Target p list a s.least s.greatest s.points.items h made c.args.target.now c.send_prepared-outcome.new.target _ old (omega (arith, serial_is, c.ranges.serial.fits)) c.block_size-size.ensures.good c.requires c.blocks-blocks.ensures.good
           c.blocks-blocks.ensures.fits counted w in
-          subst (λ n. EncodesOgg n p list a old (bits_of (g.W.Target.sent c.send_stream.new.target))) serial_is (all_sent h.serial p list a _ old _ whole (w.sends.sent known));
+          subst (λ n. EncodesOgg n p list a old (bits_of (g.W.Target.sent c.send_prepared-outcome.new.target))) serial_is (all_sent h.serial p list a _ old _ whole (w.sends.sent known));
       begun = tt;
       failed = tt;
       risen = tt;
@@ -196,26 +134,27 @@ returns-in-Ok-send_stream g c =
       names = w.sends.names;
     }
 
-pub returns : goal.returns
-returns g c =
+pub returns-in-Err : goal.returns-in-Err
+returns-in-Err g c =
     let p = c.args.plan.now in
     let a = c.args.audio.now in
     let list = c.args.list.now in
-    let s = c.in-Ok-new.frames in
-    let h = c.in-Ok-header_packets.headers in
-    let made = made_of c.info-info.result _ list h c.info-info.ensures c.in-Ok-header_packets.ensures.made in
+    let ready = c.in-Ok-prepare.prepared in
+    let s = ready.frames in
+    let h = ready.headers in
+    let made = c.in-Ok-prepare.ensures.headers in
     let first : List Bool = mapping_spelling (header_count (length list)) ++ block_spelling (is_nil list) (block_of.StreamInfo (info_of p a s.least s.greatest)) in
     let w = c.in-Err.ensures first (block_spellings list ++ []) made in
     record {
       written = tt;
       begun = λ is known.
           let old = bits_of (g.W.Target.sent c.args.target.now) in
-          let serial_is = c.in-Ok-header_packets.ensures.serial in
-          let counted : AreCounted p a s.least s.greatest s.points.items = c.in-Ok-new.ensures.counted in
-          let whole = ogg_encodes g.W.Target p list a s.least s.greatest s.points.items h made c.args.target.now c.send_stream.new.target _ old (omega (arith, serial_is, c.ranges.serial.fits)) c.block_size-size.ensures.good c.requires c.blocks-blocks.ensures.good
+          let serial_is = c.in-Ok-prepare.ensures.serial in
+          let counted : AreCounted p a s.least s.greatest s.points.items = c.in-Ok-prepare.ensures.counted in
+          let whole = ogg_encodes g.W.Target p list a s.least s.greatest s.points.items h made c.args.target.now c.send_prepared-outcome.new.target _ old (omega (arith, serial_is, c.ranges.serial.fits)) c.block_size-size.ensures.good c.requires c.blocks-blocks.ensures.good
           c.blocks-blocks.ensures.fits counted w in
           let begun = w.sends.begun known in
-          subst (λ n. BeginsOgg n p list a old (bits_of (g.W.Target.sent c.send_stream.new.target))) serial_is (some_sent h.serial p list a _ begun.0 begun.1 old _ whole begun.2 begun.3);
+          subst (λ n. BeginsOgg n p list a old (bits_of (g.W.Target.sent c.send_prepared-outcome.new.target))) serial_is (some_sent h.serial p list a _ begun.0 begun.1 old _ whole begun.2 begun.3);
       failed = λ is. w.sends.rises;
       risen = λ is. w.sends.risen;
       mapping = (
