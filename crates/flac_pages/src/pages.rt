@@ -227,7 +227,6 @@ impl<R: Source> Pages<R> {
     }
 
     /// Goes to the packet's next byte; false at the end of the packet or of the last page.
-    #[tactic(auto, using(crate::proofs::Paged::follows_then, crate::proofs::Paged::follows_none))]
     pub(crate) fn find(&mut self) -> Result<bool, Why>
         ensures memory { IfErr result (λ e. e ≢ Why.Memory) }
         ensures finds { Finds self.old self.new result }
@@ -299,7 +298,6 @@ impl<R: Source> Pages<R> {
     /// # Errors
     /// If a refused page breaks the packet off, the number of pages before that page, and its error.
     /// [`Why::PacketLength`] if the packet is still open at the end of the last page.
-    #[tactic(auto, using(crate::proofs::PacketEnds::passed_more, crate::proofs::PacketEnds::ends_between, crate::proofs::PacketEnds::ends_inside, crate::proofs::PacketEnds::ends_broken, crate::proofs::PacketEnds::length_of_none, crate::proofs::PacketEnds::told_of_next))]
     pub(crate) fn end_packet(&mut self) -> Result<(), PacketFault>
         ensures memory { IfErr result (λ e. e.1 ≢ Why.Memory) }
         ensures page { IfErr result (λ e. HasItsPage self.new.count e) }
@@ -310,8 +308,12 @@ impl<R: Source> Pages<R> {
                 Ok(true) => {
                     let _passed = self.copy(&mut [0; 255]);
                 }
-                Ok(false) if self.is_between_packets() => return Ok(()),
-                Ok(false) => return Err((None, Why::PacketLength)),
+                Ok(false) => {
+                    if self.is_between_packets() {
+                        return Ok(());
+                    }
+                    return Err((None, Why::PacketLength));
+                }
                 Err(why) => return Err((Some(self.count()), why)),
             }
         }
@@ -375,7 +377,6 @@ fn unless_over(why: Why) -> Option<Why>
 }
 
 /// The error after the last page: that of any byte there, or of the source in place of the end.
-#[tactic(auto, unfolding(crate::specs::Pages::end_fault))]
 fn end_fault<R: Source>(reader: &mut BitReader<R>) -> Option<Why>
     ensures kept { reader.old.errors ≤ reader.new.errors }
     ensures names { reader.new.names ≡ reader.old.names }
