@@ -147,7 +147,6 @@ impl PageRoom {
     }
 
     /// Reads a page after its first byte. After an error the room holds some page.
-    #[tactic(auto, unfolding(crate::specs::Page::page_behind))]
     fn read_behind<R: Source>(
         &mut self,
         reader: &mut BitReader<R>,
