@@ -1,12 +1,70 @@
-use Rattle.std.proofs.Common.{rules, ◌<◌, ◌∙◌, sym, arith}
+use Rattle.std.proofs.Common.{rules, ◌≡◌, ◌<◌, ◌++◌, ℕ, Bool, List, Option, Result, Ok, ◌∙◌, sym, ap, arith}
 use Rattle.std.proofs.lemmas.Result.{err_from_is_err_and}
 use Rattle.flac_bits.specs.Bits.{bits_of}
-use Rattle.flac_bits.specs.State.{short_of}
+use Rattle.flac_bits.specs.State.{Behind, short_of}
+use Rattle.flac_bits.specs.Handing.{Hands, Decides}
+use Rattle.flac_bits.specs.declared.why.Why.{Why}
+use Rattle.flac_header.specs.declared.subset.Profile.{Profile}
+use Rattle.flac_native.specs.Stream.{Piece}
+use Rattle.flac_native.specs.declared.fault.Fault.{Fault}
+use Rattle.flac_native.specs.declared.fault.Place.{Place}
+use Rattle.flac_ogg.specs.Fronts.{front_bytes}
 use Rattle.flac_native.specs.Decoding.{taken, beginning}
 use Rattle.flac_native.proofs.Received.{same_end}
-use Rattle.flac_ogg.specs.Either.{begins_page}
-use Rattle.flac_ogg.proofs.FirstByte.{nothing_came}
+use Rattle.flac_ogg.specs.Either.{begins_page, read_either}
+use Rattle.flac_ogg.proofs.FirstByte.{nothing_came, first_of}
 use Rattle.flac_ogg.proofs.decoding.decode_any.Goals as goal
+
+-- a stream is handed out from its first byte on
+hands_all : {K : Type 0} (profile : Profile) (takes : K → Piece → K → Type 0) (errors : K → ℕ) (b b' : Bool) (h h' : Behind) (l l' : List ℕ) (e e' r r' en en' rn rn' : ℕ) (sink new : K) (outcome : Option (Place × Why)) → b ≡ b' → h ≡ h' → l ≡ l' → e ≡ e' → r ≡ r'
+    → en ≡ en' → rn ≡ rn' → Hands (read_either profile b' (beginning (short_of h'.fails)) (bits_of l')) takes errors ((en' ≡ e') × (rn' ≡ r')) sink new outcome
+    → Hands (read_either profile b (beginning (short_of h.fails)) (bits_of l)) takes errors ((en ≡ e) × (rn ≡ r)) sink new outcome
+hands_all profile takes errors b b' h h' l l' e e' r r' en en' rn rn' sink new outcome bs hs ls es rs ens rns given = rw (bs, hs, ls, es, rs, ens, rns) given
+
+decides_all : (profile : Profile) (b b' : Bool) (h h' : Behind) (l l' : List ℕ) (e e' r r' en en' rn rn' : ℕ) (outcome : Option (Place × Why)) → b ≡ b' → h ≡ h' → l ≡ l' → e ≡ e' → r ≡ r' → en ≡ en' → rn ≡ rn' → en ≡ e → rn ≡ r
+    → (en' ≡ e' → rn' ≡ r' → Decides (read_either profile b' (beginning (short_of h'.fails)) (bits_of l')) outcome) → Decides (read_either profile b (beginning (short_of h.fails)) (bits_of l)) outcome
+decides_all profile b b' h h' l l' e e' r r' en en' rn rn' outcome bs hs ls es rs ens rns same kept given = rw (bs, hs, ls) (given (sym ens ∙ same ∙ es) (sym rns ∙ kept ∙ rs))
+
+abbrev ok_front : Option ℕ → Result (Option ℕ) Fault
+ok_front o = Ok o
+
+pub returns-clause-hands : goal.returns-clause-hands
+returns-clause-hands g c = λ known receives.
+    let R = g.R.Source in
+    let source = c.args.source.now in
+    let mid = c.pull_front.new.source in
+    let front = c.in_ok-front.front in
+    let ok = c.in_ok-front.ensures in
+    let bytes = ok.bytes known in
+    hands_all c.args.profile (taken g.S.Sink.takes) g.S.Sink.errors (begins_page (R.coming source)) c.begins_page.result (R.behind source) (R.behind mid) (R.coming source) (front_bytes front ++ R.coming mid) (R.errors source) (R.errors mid) (R.raised source) (R.raised mid) _ (R.errors c.decode_as-outcome.new.source.source.now) _ (R.raised c.decode_as-outcome.new.source.source.now) _ _ _
+    (first_of front (R.coming mid) (R.coming source) bytes (λ none. ok.end (ap ok_front none) known) ∙ sym c.begins_page.ensures)
+    (sym (ok.behind known ok.counted.0))
+    bytes
+    (sym ok.counted.0)
+    (sym ok.counted.1)
+    (search rules)
+    (search rules)
+    (c.decode_as-outcome.ensures.hands (ok.known known) receives)
+
+pub returns-clause-decides : goal.returns-clause-decides
+returns-clause-decides g c = λ known receives errors raised same.
+    let R = g.R.Source in
+    let source = c.args.source.now in
+    let mid = c.pull_front.new.source in
+    let front = c.in_ok-front.front in
+    let ok = c.in_ok-front.ensures in
+    let bytes = ok.bytes known in
+    decides_all c.args.profile (begins_page (R.coming source)) c.begins_page.result (R.behind source) (R.behind mid) (R.coming source) (front_bytes front ++ R.coming mid) (R.errors source) (R.errors mid) (R.raised source) (R.raised mid) _ (R.errors c.decode_as-outcome.new.source.source.now) _ (R.raised c.decode_as-outcome.new.source.source.now) _
+    (first_of front (R.coming mid) (R.coming source) bytes (λ none. ok.end (ap ok_front none) known) ∙ sym c.begins_page.ensures)
+    (sym (ok.behind known ok.counted.0))
+    bytes
+    (sym ok.counted.0)
+    (sym ok.counted.1)
+    (search rules)
+    (search rules)
+    errors
+    raised
+    (λ e r. c.decode_as-outcome.ensures.decides (ok.known known) receives e r same)
 
 pub returns-in_err-front-clause-hands : goal.returns-in_err-front-clause-hands
 returns-in_err-front-clause-hands g c =
