@@ -1,9 +1,10 @@
-use Rattle.std.proofs.Common.{rules, ◌≡◌, ◌<◌, ◌++◌, ℕ, Bool, List, Option, Result, Ok, ◌∙◌, sym, ap, arith}
+use Rattle.std.proofs.Common.{rules, ◌≡◌, ◌<◌, ◌++◌, ℕ, Bool, List, Option, Result, Ok, ◌∙◌, inr, refl, sym, ap, arith}
 use Rattle.std.proofs.lemmas.Result.{err_from_is_err_and}
 use Rattle.flac_bits.specs.Bits.{bits_of}
 use Rattle.flac_bits.specs.State.{Behind, short_of}
 use Rattle.flac_bits.specs.Handing.{Hands, Decides}
 use Rattle.flac_bits.specs.declared.why.Why.{Why}
+use Rattle.flac_bits.specs.declared.why.Why.TheVariants.{Read, Sink, Write}
 use Rattle.flac_header.specs.declared.subset.Profile.{Profile}
 use Rattle.flac_native.specs.Stream.{Piece}
 use Rattle.flac_native.specs.declared.fault.Fault.{Fault}
@@ -66,13 +67,31 @@ returns-clause-decides g c = λ known receives errors raised same.
     raised
     (λ e r. c.decode_as-outcome.ensures.decides (ok.known known) receives e r same)
 
-pub returns-in_err-front-clause-hands : goal.returns-in_err-front-clause-hands
-returns-in_err-front-clause-hands g c =
+not_risen : (old new : ℕ) → old < new → new ≡ old → ⊥
+not_risen old new rose same = omega (arith, rose, same)
+
+read_sink : (why : Why) → why ≡ Read → why ≡ Sink → ⊥
+read_sink why is e = let t : Read ≡ Sink = sym is ∙ e in absurd cc
+
+read_write : (why : Why) → why ≡ Read → why ≡ Write → ⊥
+read_write why is e = let t : Read ≡ Write = sym is ∙ e in absurd cc
+
+pub returns-in_err-front : goal.returns-in_err-front
+returns-in_err-front g c =
     let p = err_from_is_err_and c.from_residual.result c.from_residual.ensures.1 in
-    let place = c.in_err-front.ensures.place in
-    rw (p.1, p.2) (λ known receives.
+    let e = c.in_err-front.ensures in
     let R = g.R.Source in
     let source = c.args.source.now in
-    let rose : R.raised source < R.raised c.pull_front.new.source = search (rules, known) in
-    nothing_came c.args.profile (begins_page (R.coming source)) (beginning (short_of ((R.behind source).fails))) (bits_of (R.coming source)) (taken g.S.Sink.takes) g.S.Sink.errors _ c.args.sink.now _ (λ q. omega (arith, rose, q.1))
-    (λ at why e. sym (same_end _ at _ why e).0 ∙ place))
+    rw (p.1, p.2) (record {
+      hands = λ known receives.
+          nothing_came c.args.profile (begins_page (R.coming source)) (beginning (short_of ((R.behind source).fails))) (bits_of (R.coming source)) (taken g.S.Sink.takes) g.S.Sink.errors _ c.args.sink.now _ (λ q. not_risen _ _ (e.rises known) q.1)
+          (λ at why is. sym (same_end _ at _ why is).0 ∙ e.place);
+      decides = λ known receives errors raised same. absurd (not_risen _ _ (e.rises known) raised);
+      kept = e.kept;
+      read = λ known calm is. inr (e.rises known);
+      risen = λ is. e.risen;
+      sink = λ is. absurd (read_sink _ e.why is);
+      write = λ is. read_write _ e.why is;
+      names = refl;
+      source_names = e.names;
+    })

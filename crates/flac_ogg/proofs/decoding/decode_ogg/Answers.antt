@@ -31,7 +31,7 @@ returns-clause-hands g c = λ known receives.
     calmer _ _ (λ q. let e = last ∙ search (rules, q) ∙ sym first in (e, e))
     (hands_ogg c.args.profile c.over-packets.result c.hand_out-outcome.new.container (λ k. k.pages) (taken g.S.Sink.takes) g.S.Sink.errors mark text there.items there.end _ c.args.sink.now c.hand_out-outcome.new.sink (outcome_of told c.hand_out-outcome.result)
     (begins_at c.over-packets.result.pages (R.known source) (R.errors source) (R.raised source) (8 * R.most source) _ text (short_of ((R.behind source).fails)) (c.over-packets.ensures ∙ c.over.ensures) known) there.come
-    (c.hand_out-outcome.ensures.hands (start c.args.profile) c.new-track.ensures (search (rules, known)) receives there.items there.end come))
+    (c.hand_out-outcome.ensures.hands (start c.args.profile) c.new-track.ensures (ap (λ (p : Place). p.known) (c.over-packets.ensures ∙ c.over.ensures) ∙ known) receives there.items there.end come))
 
 pub returns-clause-decides : goal.returns-clause-decides
 returns-clause-decides g c = λ known receives errors same.
@@ -44,7 +44,7 @@ returns-clause-decides g c = λ known receives errors same.
     let first = ap (λ (p : Place). p.errors) c.over-packets.ensures in
     let e = last ∙ search (rules, errors) ∙ sym first in
     decides_ogg c.args.profile _ (taken g.S.Sink.takes) g.S.Sink.errors mark text _ c.args.sink.now c.hand_out-outcome.new.sink (outcome_of told c.hand_out-outcome.result)
-    (λ items end come. c.hand_out-outcome.ensures.hands (start c.args.profile) c.new-track.ensures (search (rules, known)) receives items end (subst (λ a. ItemsCome (start c.args.profile) a items end) (sym front) come))
+    (λ items end come. c.hand_out-outcome.ensures.hands (start c.args.profile) c.new-track.ensures (ap (λ (p : Place). p.known) (c.over-packets.ensures ∙ c.over.ensures) ∙ known) receives items end (subst (λ a. ItemsCome (start c.args.profile) a items end) (sym front) come))
     (e, e) same
 
 pub returns-clause-read : goal.returns-clause-read
@@ -58,6 +58,6 @@ returns-clause-read g c =
     let first = ap (λ (p : Place). p.errors) c.over-packets.ensures in
     IfErr-weaker c.hand_out-outcome.result _ _
     (λ f read known none is.
-    let rose = read (search (rules, known)) is (clear_start c.args.profile c.over-packets.result.pages c.new-track.result fails text front c.new-track.ensures none) in
+    let rose = read (ap (λ (p : Place). p.known) (c.over-packets.ensures ∙ c.over.ensures) ∙ known) is (clear_start c.args.profile c.over-packets.result.pages c.new-track.result fails text front c.new-track.ensures none) in
     search (rules, rose, last, first))
     c.hand_out-outcome.ensures.read
