@@ -51,22 +51,42 @@ invariant_of-self-in-Err g c =
       breaks = breaks_now start packet.pages.now c.count.result c.find.new.self.count c.in-Err.why c.count.ensures (packet.follows calm) c.in-Err.ensures.finds.breaks;
     }
 
-pub invariant_of-self-in-Ok-true-clause-follows : goal.invariant_of-self-in-Ok-true-clause-follows
-invariant_of-self-in-Ok-true-clause-follows g c = λ none.
-    let packet = c.args.self.now in
-    follows_then packet.lent.value c.find.new.self c.copy_in_page.new.self (follows_then packet.lent.value packet.pages.now c.find.new.self (packet.follows none) c.in-Ok-true.ensures.finds.follows) c.copy_in_page.ensures.copies.follows
+none_some : (o : Option (ℕ × Why)) (f : ℕ × Why) → o ≡ None → o ≡ Some f → ⊥
+none_some o f none some = absurd cc
 
-pub invariant_of-self-in-Ok-true-clause-same : goal.invariant_of-self-in-Ok-true-clause-same
-invariant_of-self-in-Ok-true-clause-same g c = λ none known.
+pub invariant_of-self-in-Ok-true : goal.invariant_of-self-in-Ok-true
+invariant_of-self-in-Ok-true g c =
     let packet = c.args.self.now in
-    c.copy_in_page.ensures.copies.behind ∙ c.in-Ok-true.ensures.finds.behind ((packet.follows none).known known) ∙ packet.same none known
+    let start = packet.lent.value in
+    let calm : packet.fault ≡ None = search rules in
+    let finds = c.in-Ok-true.ensures.finds in
+    let copies = c.copy_in_page.ensures.copies in
+    record {
+      quiet = packet.quiet;
+      counted = packet.counted;
+      calm = λ none. copies.raised ∙ finds.raised ∙ packet.calm none;
+      met = λ f some. absurd (none_some _ f calm some);
+      memory = packet.memory;
+      page = λ f some. absurd (none_some _ f calm some);
+      follows = λ none. follows_then start c.find.new.self c.copy_in_page.new.self (follows_then start packet.pages.now c.find.new.self (packet.follows none) finds.follows) copies.follows;
+      same = λ none known. copies.behind ∙ finds.behind ((packet.follows none).known known) ∙ packet.same none known;
+      breaks = packet.breaks;
+    }
 
-pub invariant_of-self-in-Ok-false-clause-follows : goal.invariant_of-self-in-Ok-false-clause-follows
-invariant_of-self-in-Ok-false-clause-follows g c = λ none.
+pub invariant_of-self-in-Ok-false : goal.invariant_of-self-in-Ok-false
+invariant_of-self-in-Ok-false g c =
     let packet = c.args.self.now in
-    follows_then packet.lent.value packet.pages.now c.find.new.self (packet.follows none) c.in-Ok-false.ensures.finds.follows
-
-pub invariant_of-self-in-Ok-false-clause-same : goal.invariant_of-self-in-Ok-false-clause-same
-invariant_of-self-in-Ok-false-clause-same g c = λ none known.
-    let packet = c.args.self.now in
-    c.in-Ok-false.ensures.finds.behind ((packet.follows none).known known) ∙ packet.same none known
+    let start = packet.lent.value in
+    let calm : packet.fault ≡ None = search rules in
+    let finds = c.in-Ok-false.ensures.finds in
+    record {
+      quiet = packet.quiet;
+      counted = packet.counted;
+      calm = λ none. finds.raised ∙ packet.calm none;
+      met = λ f some. absurd (none_some _ f calm some);
+      memory = packet.memory;
+      page = λ f some. absurd (none_some _ f calm some);
+      follows = λ none. follows_then start packet.pages.now c.find.new.self (packet.follows none) finds.follows;
+      same = λ none known. finds.behind ((packet.follows none).known known) ∙ packet.same none known;
+      breaks = packet.breaks;
+    }
