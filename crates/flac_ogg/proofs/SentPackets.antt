@@ -4,7 +4,8 @@ use Rattle.std.specs.Int.{to_le_bytes, w32, w64}
 use Rattle.std.specs.List.{All, flat_map, range_with_len}
 use Rattle.std.proofs.Math.Nat.{mul-suc}
 use Rattle.std.proofs.lemmas.Bool.{cases_lt}
-use Rattle.std.proofs.lemmas.Bool.Decides.{nat_tests}
+use Rattle.std.proofs.lemmas.Bool.{eq-eqb}
+use Rattle.std.proofs.lemmas.Bool.Decides.{eqb_tells}
 use Rattle.std.proofs.lemmas.Grind.{flat_map-append}
 use Rattle.std.proofs.lemmas.List.{append-nil, length-drop, length-take}
 use Rattle.std.proofs.lemmas.List.Concat.{flat_map-cons}
@@ -104,9 +105,18 @@ good_packed b total n (t ∷ ts) few whole =
     All-cons IsPlaced (record { packet = bytes_in (length t / 8) t; kind = Frame (min total (b * suc n)) }) (packed b total (suc n) ts) (record { bytes = bytes_small (length t / 8) t (omega (arith, first)); position = position })
     (good_packed b total (suc n) ts few (λ i lt. whole (suc i) (omega (arith, lt))))
 
+pub differ : (x y : ℕ) → x < y → nat_eq x y ≡ false
+differ x y h = elim (eqb_tells x y) [
+  | inl p ↦ absurd (omega (arith, p.1, h))
+  | inr p ↦ p.0
+]
+
+pub agree : (x y : ℕ) → x ≡ y → nat_eq x y ≡ true
+agree x y h = eq-eqb x y h
+
 ends_with : (rest : List (List Bool)) (m n : ℕ) → m + length rest ≡ n → is_nil rest ≡ nat_eq m n
-ends_with [] m n e = let k : true ≡ nat_eq m n = grind (arith, nat_tests) in k
-ends_with (t ∷ ts) m n e = let k : false ≡ nat_eq m n = grind (arith, nat_tests) in k
+ends_with [] m n e = let is : m ≡ n = omega (arith, e) in sym (eq-eqb m n is)
+ends_with (t ∷ ts) m n e = let below : m < n = omega (arith, e) in sym (differ m n below)
 
 pub spelled_whole : (p : Cut) (a : Sound) (ts : List (List Bool)) (n : ℕ) → ((j : ℕ) → j < length ts → SpellsFrame a (frame_of p.block_size a (n + j)) (nth ts j)) → AreWhole ts
 spelled_whole p a ts n each i lt = let k = each i lt in ap (λ (t : List Bool). length t % 8) k.spelling ∙ frames_bytes a.bits k.form
@@ -248,12 +258,6 @@ module _ {S : Type 0} (g : target.Ghosts S) (serial from : ℕ) (p : Cut) (a : S
 
 -- ---- where the loop stands
 
-pub differ : (x y : ℕ) → x < y → nat_eq x y ≡ false
-differ x y h = grind (arith, nat_tests)
-
-pub agree : (x y : ℕ) → x ≡ y → nat_eq x y ≡ true
-agree x y h = grind (arith, nat_tests)
-
 pub last_is : (b total n end : ℕ) → 16 ≤ b → n < blocks_in b total → end ≡ min total (b * suc n) → nat_eq (n + 1) (blocks_in b total) ≡ nat_eq end total
 last_is b total n end some lt at = elim (cases_lt (suc n) (blocks_in b total)) [
   | inl k ↦
@@ -270,7 +274,7 @@ last_is b total n end some lt at = elim (cases_lt (suc n) (blocks_in b total)) [
 -- ---- how long pages are
 
 page_bits : (a b c d e f g h lacing body : ℕ) → a ≡ 48 → b ≡ 64 → c ≡ 32 → d ≡ 32 → e ≡ 32 → f ≡ 8 → g ≡ 8 * lacing → h ≡ 8 * body → lacing ≤ 255 → body ≤ 65025 → a + (b + (c + (d + (e + (f + (g + (h + 0))))))) ≤ 8 * 65307
-page_bits a b c d e f g h lacing body k l m n o q r s few small = omega arith
+page_bits a b c d e f g h lacing body k l m n o q r s few small = rw (k, l, m, n, o, q, r, s) (omega (arith, few, small))
 
 page_long : (p : Page) → length p.lacing ≤ 255 → length p.body ≤ 65025 → length (page_spelling p) ≤ 8 * 65307
 unfolding page_spelling
