@@ -11,7 +11,7 @@ returns-in_err-version g c =
       reading = record {
         spends = tt;
         counts = failed_then c.args.reader.now c.take.new.self c.take-2.new.self c.in_ok-pattern.ensures.reading.counts c.in_err-version.ensures.reading.counts;
-        memory = search rules;
+        memory = c.in_err-version.ensures.reading.memory;
         reads = search rules;
       };
     })
@@ -24,7 +24,7 @@ returns-in_err-flags g c =
       reading = record {
         spends = tt;
         counts = failed_then c.args.reader.now c.take.new.self c.take-3.new.self c.in_ok-pattern.ensures.reading.counts (failed_then c.take.new.self c.take-2.new.self c.take-3.new.self c.in_ok-version.ensures.reading.counts c.in_err-flags.ensures.reading.counts);
-        memory = search rules;
+        memory = c.in_err-flags.ensures.reading.memory;
         reads = search rules;
       };
     })
@@ -37,7 +37,7 @@ returns-in_err-granule g c =
       reading = record {
         spends = tt;
         counts = failed_then c.args.reader.now c.take.new.self c.read_little_64.new.bits c.in_ok-pattern.ensures.reading.counts (failed_then c.take.new.self c.take-2.new.self c.read_little_64.new.bits c.in_ok-version.ensures.reading.counts (failed_then c.take-2.new.self c.take-3.new.self c.read_little_64.new.bits c.in_ok-flags.ensures.reading.counts c.in_err-granule.ensures.reading.counts));
-        memory = search rules;
+        memory = c.in_err-granule.ensures.reading.memory;
         reads = search rules;
       };
     })
@@ -50,7 +50,7 @@ returns-in_err-serial g c =
       reading = record {
         spends = tt;
         counts = failed_then c.args.reader.now c.take.new.self c.read_little_32.new.bits c.in_ok-pattern.ensures.reading.counts (failed_then c.take.new.self c.take-2.new.self c.read_little_32.new.bits c.in_ok-version.ensures.reading.counts (failed_then c.take-2.new.self c.take-3.new.self c.read_little_32.new.bits c.in_ok-flags.ensures.reading.counts (failed_then c.take-3.new.self c.read_little_64.new.bits c.read_little_32.new.bits c.in_ok-granule.ensures.reading.counts c.in_err-serial.ensures.reading.counts)));
-        memory = search rules;
+        memory = c.in_err-serial.ensures.reading.memory;
         reads = search rules;
       };
     })
@@ -63,7 +63,7 @@ returns-in_err-sequence g c =
       reading = record {
         spends = tt;
         counts = failed_then c.args.reader.now c.take.new.self c.read_little_32-2.new.bits c.in_ok-pattern.ensures.reading.counts (failed_then c.take.new.self c.take-2.new.self c.read_little_32-2.new.bits c.in_ok-version.ensures.reading.counts (failed_then c.take-2.new.self c.take-3.new.self c.read_little_32-2.new.bits c.in_ok-flags.ensures.reading.counts (failed_then c.take-3.new.self c.read_little_64.new.bits c.read_little_32-2.new.bits c.in_ok-granule.ensures.reading.counts (failed_then c.read_little_64.new.bits c.read_little_32.new.bits c.read_little_32-2.new.bits c.in_ok-serial.ensures.reading.counts c.in_err-sequence.ensures.reading.counts))));
-        memory = search rules;
+        memory = c.in_err-sequence.ensures.reading.memory;
         reads = search rules;
       };
     })
@@ -76,7 +76,7 @@ returns-in_err-sum g c =
       reading = record {
         spends = tt;
         counts = failed_then c.args.reader.now c.take.new.self c.read_little_32-3.new.bits c.in_ok-pattern.ensures.reading.counts (failed_then c.take.new.self c.take-2.new.self c.read_little_32-3.new.bits c.in_ok-version.ensures.reading.counts (failed_then c.take-2.new.self c.take-3.new.self c.read_little_32-3.new.bits c.in_ok-flags.ensures.reading.counts (failed_then c.take-3.new.self c.read_little_64.new.bits c.read_little_32-3.new.bits c.in_ok-granule.ensures.reading.counts (failed_then c.read_little_64.new.bits c.read_little_32.new.bits c.read_little_32-3.new.bits c.in_ok-serial.ensures.reading.counts (failed_then c.read_little_32.new.bits c.read_little_32-2.new.bits c.read_little_32-3.new.bits c.in_ok-sequence.ensures.reading.counts c.in_err-sum.ensures.reading.counts)))));
-        memory = search rules;
+        memory = c.in_err-sum.ensures.reading.memory;
         reads = search rules;
       };
     })
@@ -87,7 +87,7 @@ returns g c = record {
   reading = record {
     spends = search rules;
     counts = answered_then c.args.reader.now c.take.new.self c.read_little_32-3.new.bits c.in_ok-pattern.ensures.reading.counts (answered_then c.take.new.self c.take-2.new.self c.read_little_32-3.new.bits c.in_ok-version.ensures.reading.counts (answered_then c.take-2.new.self c.take-3.new.self c.read_little_32-3.new.bits c.in_ok-flags.ensures.reading.counts (answered_then c.take-3.new.self c.read_little_64.new.bits c.read_little_32-3.new.bits c.in_ok-granule.ensures.reading.counts (answered_then c.read_little_64.new.bits c.read_little_32.new.bits c.read_little_32-3.new.bits c.in_ok-serial.ensures.reading.counts (answered_then c.read_little_32.new.bits c.read_little_32-2.new.bits c.read_little_32-3.new.bits c.in_ok-sequence.ensures.reading.counts c.in_ok-sum.ensures.reading.counts)))));
-    memory = search rules;
+    memory = tt;
     reads = search rules;
   };
 }

@@ -56,7 +56,6 @@ read_fault old why is there =
     let nil : is_nil old.left ≡ true = ap is_nil there.0 in
     rw (nil, there.1) (ap some_why is)
 
-
 pub returns-in-Ok-true : goal.returns-in-Ok-true
 returns-in-Ok-true g c =
     let now = c.in-Ok-true.ensures in
