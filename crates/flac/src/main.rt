@@ -24,10 +24,7 @@ fn main(rt: HostRuntime) -> ExitCode {
 fn perform(rt: &HostRuntime, job: &Job<'_>) -> u8 {
     match JobFiles::open(rt, job) {
         Ok(files) => do_over(rt, job, files),
-        Err(refused) => {
-            refused.tell(rt);
-            1
-        }
+        Err(refused) => refused.tell(rt),
     }
 }
 
@@ -57,9 +54,6 @@ fn do_over(rt: &HostRuntime, job: &Job<'_>, files: JobFiles<'_>) -> u8 {
     );
     match ending.end(rt, target.into_inner(), status) {
         Ok(()) => status,
-        Err(refused) => {
-            refused.tell(rt);
-            1
-        }
+        Err(refused) => refused.tell(rt),
     }
 }

@@ -88,7 +88,7 @@ impl<'a> Known<'a> {
     ///
     /// # Errors
     /// That of the system.
-    pub fn of(path: &'a str, file: &File) -> io::Result<Known<'a>> {
+    pub(crate) fn of(path: &'a str, file: &File) -> io::Result<Known<'a>> {
         Ok(Known {
             path,
             found: file.metadata()?,

@@ -1,5 +1,8 @@
 //! All files of a job.
 
+ghost use Rattle.std.specs.Prelude.{◌≡◌, ◌≤◌, ◌⊎◌, [], Some, None, length, IfOk, IfErr, OnErr};
+ghost use Rattle.flac_jobs.specs.Asks.{input_of, list_of, output_of};
+
 use crate::files::{Known, Output, Replacement, create};
 use crate::list::List;
 use flac_jobs::Job;
@@ -23,7 +26,11 @@ impl<'a> JobFiles<'a> {
     ///
     /// # Errors
     /// A file cannot be opened, read or created, or what the job writes is a file that it reads.
-    pub fn open(rt: &HostRuntime, job: &Job<'a>) -> Result<JobFiles<'a>, FileRefused<'a>> {
+    pub fn open(rt: &HostRuntime, job: &Job<'a>) -> Result<JobFiles<'a>, FileRefused<'a>>
+        ensures few { IfOk result (λ files. length files.list.text.items ≤ 1048576) }
+        ensures none { list_of job.now ≡ None → IfOk result (λ files. files.list.text.items ≡ []) }
+        ensures refused { IfErr result (λ refused. (refused.path.now ≡ input_of job.now) ⊎ ((list_of job.now ≡ Some refused.path.now) ⊎ (output_of job.now ≡ Some refused.path.now))) }
+    {
         let standard = StandIns::new(rt);
         let path = job.input();
         let Ok(input) = File::open(rt, path) else {
@@ -57,7 +64,9 @@ fn created<'a>(
     job: &Job<'a>,
     input: &File,
     list: &List<'a>,
-) -> Result<(Output, Option<Replacement>), FileRefused<'a>> {
+) -> Result<(Output, Option<Replacement>), FileRefused<'a>>
+    ensures { IfErr result (λ refused. output_of job.now ≡ Some refused.path.now) }
+{
     let Some(path) = job.output() else {
         return Ok((Output::None, None));
     };
@@ -68,7 +77,10 @@ fn created<'a>(
     let Ok(input) = Known::of(job.input(), input) else {
         return Err(refused);
     };
-    create(rt, path, &input, list.file.as_ref()).map_err(|_| refused)
+    match create(rt, path, &input, list.file.as_ref()) {
+        Ok(made) => Ok(made),
+        Err(_) => Err(refused),
+    }
 }
 
 /// What is left to do with the files of a job when it has ended.
@@ -86,7 +98,9 @@ impl<'a> Ending<'a> {
     ///
     /// # Errors
     /// The job is done, but the new file cannot be stored, or cannot take the place of the old one.
-    pub fn end(self, rt: &HostRuntime, output: Output, status: u8) -> Result<(), FileRefused<'a>> {
+    pub fn end(self, rt: &HostRuntime, output: Output, status: u8) -> Result<(), FileRefused<'a>>
+        ensures { OnErr result (status ≡ 0) }
+    {
         let Ending {
             path,
             replacement,
@@ -135,8 +149,11 @@ pub struct FileRefused<'a> {
 }
 
 impl FileRefused<'_> {
-    /// Prints the refusal on standard error.
-    pub fn tell(&self, rt: &HostRuntime) {
+    /// Prints the refusal on standard error, and returns the status of the program, 1.
+    pub fn tell(&self, rt: &HostRuntime) -> u8
+        ensures { result ≡ 1 }
+    {
         let _ = eprintln!(rt; "flac: {}: cannot be {}", self.path, self.what);
+        1
     }
 }
