@@ -20,7 +20,7 @@ use Rattle.flac_bits.proofs.Fences.{again_in, takes_in, refuses_in}
 use Rattle.flac_bits.proofs.Within.{reads_within}
 use Rattle.flac_bits.proofs.Fencing.{drop_bits}
 use Rattle.flac_bits.proofs.Holding.{length-bits_of}
-use Rattle.flac_meta.specs.Info.{Info, KeepsRules}
+use Rattle.flac_info.specs.Info.{Info, KeepsRules}
 use Rattle.flac_header.specs.declared.subset.Profile.TheVariants.{Subset}
 use Rattle.flac_frame.specs.Frame.{Frame, frame}
 use Rattle.flac_frame.proofs.FrameTie.{frames_spelled, frames_bytes}

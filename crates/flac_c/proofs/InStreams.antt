@@ -13,7 +13,7 @@ use Rattle.flac_bits.proofs.Fencing.{take_bits}
 use Rattle.flac_bits.proofs.Handing.{Joined-append, after-append}
 use Rattle.flac_bits.proofs.Holding.{length-bits_of, bits_of-append}
 use Rattle.flac_bits.proofs.ItemSpellings.{fresh_unread, fresh_check8, fresh_check16, behind_whole}
-use Rattle.flac_meta.specs.Info.{Info, KeepsRules, without_totals}
+use Rattle.flac_info.specs.Info.{Info, KeepsRules, without_totals}
 use Rattle.flac_header.specs.declared.subset.Profile.TheVariants.{Subset}
 use Rattle.flac_frame.specs.Frame.{Frame, frame, header_rules}
 use Rattle.flac_frame.specs.Spelling.{FrameForm}

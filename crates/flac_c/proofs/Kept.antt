@@ -5,7 +5,7 @@ use Rattle.flac_bits.specs.declared.why.Why.{Why}
 use Rattle.flac_bits.specs.declared.why.Why.TheVariants.{Memory, Sink}
 use Rattle.flac_native.specs.declared.fault.Place.{Place}
 use Rattle.flac_native.specs.declared.fault.Fault.{Fault}
-use Rattle.flac_meta.specs.Info.{Info}
+use Rattle.flac_info.specs.Info.{Info}
 use Rattle.flac_meta.specs.declared.comments.Comments.{Comments}
 use Rattle.flac_bits.specs.Handing.{TakesAll, Hands, outcome_of}
 use Rattle.flac_header.specs.declared.subset.Profile.TheVariants.{Subset}

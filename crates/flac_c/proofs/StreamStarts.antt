@@ -7,7 +7,7 @@ use Rattle.flac_bits.specs.Items.{Joined, Stream, after}
 use Rattle.flac_bits.specs.declared.why.Why.{Why}
 use Rattle.flac_bits.specs.declared.why.Why.TheVariants.{Truncated, Memory}
 use Rattle.flac_bits.proofs.Holding.{bits_of-append}
-use Rattle.flac_meta.specs.Info.{Info}
+use Rattle.flac_info.specs.Info.{Info}
 use Rattle.flac_header.specs.declared.subset.Profile.TheVariants.{Subset}
 use Rattle.flac_native.specs.Decoding.{beginning}
 use Rattle.flac_native.specs.Item.{told}

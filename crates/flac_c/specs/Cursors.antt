@@ -6,7 +6,7 @@ use Rattle.flac_bits.specs.Meaning.{Spells}
 use Rattle.flac_bits.specs.Fence.{InRoom, StopsIn}
 use Rattle.flac_bits.specs.declared.why.Why.{Why}
 use Rattle.flac_bits.specs.declared.why.Why.TheVariants.{Memory, Truncated, BadStreamInfo}
-use Rattle.flac_meta.specs.Info.{Info, KeepsRules, without_totals}
+use Rattle.flac_info.specs.Info.{Info, KeepsRules, without_totals}
 use Rattle.flac_header.specs.declared.subset.Profile.TheVariants.{Subset}
 use Rattle.flac_frame.specs.Frame.{Frame, frame, first_sample}
 use Rattle.flac_frame.specs.Interleaved.{interleaved}

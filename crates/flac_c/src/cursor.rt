@@ -1,7 +1,7 @@
 //! A place in a native stream that is read frame by frame.
 
 ghost use Rattle.std.specs.Prelude.{◌≡◌, ◌≤◌, IfOk, IfErr};
-ghost use Rattle.flac_meta.specs.Info.{KeepsRules};
+ghost use Rattle.flac_info.specs.Info.{KeepsRules};
 ghost use Rattle.flac_frame.specs.Lent.{frame_of};
 ghost use Rattle.flac_c.specs.Cursors.{info_from_c, passed};
 

@@ -1,7 +1,7 @@
 //! Stream information, the comments, and the name of the program that wrote a stream.
 
 ghost use Rattle.std.specs.Prelude.{◌≡◌, ◌≢◌, Some, Option, None};
-ghost use Rattle.flac_meta.specs.Info.{Info};
+ghost use Rattle.flac_info.specs.Info.{Info};
 ghost use Rattle.flac_meta.specs.declared.comments.Comments.{Comments as Listed};
 ghost use Rattle.flac_c.specs.Answers.{IsAnswered, IsCopied, in_c};
 ghost use Rattle.flac_c.specs.Heads.{Begins, Lacks, count_of, comment_of, vendor_of, info_in_c};

@@ -1,7 +1,7 @@
 //! Makes cursors in a native stream.
 
 ghost use Rattle.std.specs.Prelude.{◌≡◌, ◌≢◌, ◌⊎◌, [], ℕ, List, IfOk, IfErr, OnOk, Some, None, Option};
-ghost use Rattle.flac_meta.specs.Info.{Info};
+ghost use Rattle.flac_info.specs.Info.{Info};
 ghost use Rattle.flac_native.specs.Item.{told};
 ghost use Rattle.flac_header.specs.declared.subset.Profile.TheVariants.{Subset};
 ghost use Rattle.flac_native.specs.Stream.{Piece, grammar, opening};

@@ -1,7 +1,7 @@
 //! Decodes one frame of a native stream after another.
 
 ghost use Rattle.std.specs.Prelude.{◌≡◌, ◌≢◌, ◌≤◌, ◌<◌, ◌+◌, ◌⊎◌, ◌∷◌, List, ℕ, IfOk, IfErr, IsOkAnd, None, Some, drop};
-ghost use Rattle.flac_meta.specs.Info.{KeepsRules};
+ghost use Rattle.flac_info.specs.Info.{KeepsRules};
 ghost use Rattle.flac_frame.specs.Frame.{Frame};
 ghost use Rattle.flac_frame.specs.Lent.{frame_of};
 ghost use Rattle.flac_native.specs.Stream.{Piece, framed};

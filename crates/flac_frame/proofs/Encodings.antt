@@ -2,7 +2,7 @@
 use Rattle.std.proofs.Common.{◌≡◌, ◌∙◌, refl, sym, ap, subst, ℕ, ◌≤◌, ◌%◌, arith, Bool, true, false, cond, ◌&&◌, nat_eq, nat_le, Option, Some, None}
 use Rattle.std.proofs.lemmas.Bool.Decides.{nat_tests}
 use Rattle.std.specs.Option.{option_or}
-use Rattle.flac_meta.specs.Info.{Info}
+use Rattle.flac_info.specs.Info.{Info}
 use Rattle.flac_header.specs.Header.{Header, depth_of, greatest_block, greatest_in, allowed}
 use Rattle.flac_header.specs.Choice.{rate_choice, depth_choice, rate_choice_in, depth_choice_in, stated_rate, with_codes, chosen_header}
 use Rattle.flac_header.specs.declared.subset.Profile.{Profile}

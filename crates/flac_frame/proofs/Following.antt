@@ -7,7 +7,7 @@ use Rattle.flac_bits.specs.State.{Mark, past, fresh}
 use Rattle.flac_bits.specs.Meaning.{Spells, AllKept}
 use Rattle.flac_bits.specs.Fence.{InRoom}
 use Rattle.flac_bits.specs.Items.{Joined}
-use Rattle.flac_meta.specs.Info.{Info}
+use Rattle.flac_info.specs.Info.{Info}
 use Rattle.flac_header.specs.Header.{Header, header, allowed, channels_of}
 use Rattle.flac_header.specs.declared.subset.Profile.{Profile}
 use Rattle.flac_frame.specs.Frame.{Frame, frame, frame_body, stream_header, header_rules, left_by, after, rate_in, depth_in, differs}

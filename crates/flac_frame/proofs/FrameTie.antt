@@ -18,7 +18,7 @@ use Rattle.flac_bits.proofs.Marks.{past-unread}
 use Rattle.flac_bits.proofs.Meaning.{again}
 use Rattle.flac_bits.proofs.Ties.{tie}
 use Rattle.flac_bits.proofs.Words.{length-unsigned}
-use Rattle.flac_meta.specs.Info.{Info, KeepsRules}
+use Rattle.flac_info.specs.Info.{Info, KeepsRules}
 use Rattle.flac_header.specs.Header.{Header, IsHeader, least_size}
 use Rattle.flac_header.specs.Spelling.{header_spelling}
 use Rattle.flac_header.proofs.HeaderTie.{header_tie}

@@ -7,7 +7,7 @@ use Rattle.flac_bits.specs.declared.why.Why.TheVariants.{NotSubset, HeaderMismat
 use Rattle.flac_header.specs.Header.{Header, channels_of, allowed, greatest_block, greatest_in}
 use Rattle.flac_header.specs.declared.subset.Profile.{Profile}
 use Rattle.flac_header.specs.declared.subset.Profile.TheVariants.{Subset, Lax}
-use Rattle.flac_meta.specs.Info.{Info}
+use Rattle.flac_info.specs.Info.{Info}
 use Rattle.flac_frame.specs.Frame.{differs, breaks_size}
 use Rattle.flac_frame.specs.declared.before.Before.{Before}
 

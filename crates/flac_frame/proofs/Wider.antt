@@ -2,7 +2,7 @@
 use Rattle.std.proofs.Common.{◌≡◌, ℕ, ◌+◌, ◌-◌, ◌≤◌, Bool, true, false, not, cond, ◌&&◌, nat_eq, nat_le, List, [], ◌∷◌, length, Option, refl, arith}
 use Rattle.flac_bits.specs.State.{Mark}
 use Rattle.flac_bits.specs.Meaning.{Spells, AllKept}
-use Rattle.flac_meta.specs.Info.{Info, KeepsRules}
+use Rattle.flac_info.specs.Info.{Info, KeepsRules}
 use Rattle.flac_header.specs.Header.{Header, allowed, greatest_block}
 use Rattle.flac_header.specs.declared.subset.Profile.TheVariants.{Subset, Lax}
 use Rattle.flac_subframe.specs.Residual.{Residual}

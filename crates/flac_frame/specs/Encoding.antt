@@ -4,7 +4,7 @@ use Rattle.flac_bits.specs.Signed.{FitsBits}
 use Rattle.flac_bits.specs.Written.{Written, Writes}
 use Rattle.flac_bits.specs.declared.why.Why.{Why}
 use Rattle.flac_bits.specs.Meaning.{AllKept}
-use Rattle.flac_meta.specs.Info.{Info}
+use Rattle.flac_info.specs.Info.{Info}
 use Rattle.flac_header.specs.Header.{IsHeader, channels_of, greatest_in, allowed}
 use Rattle.flac_header.specs.Choice.{chosen_header}
 use Rattle.flac_header.specs.Spelling.{restarted}

@@ -6,7 +6,7 @@ use Rattle.flac_bits.specs.declared.why.Why.TheVariants.{NotSubset, HeaderMismat
 use Rattle.flac_header.specs.Header.{Header, header, allowed, channels_of, depth_of}
 use Rattle.flac_header.specs.declared.subset.Profile.{Profile}
 use Rattle.flac_header.specs.declared.subset.Profile.TheVariants.{Subset, Lax}
-use Rattle.flac_meta.specs.Info.{Info}
+use Rattle.flac_info.specs.Info.{Info}
 use Rattle.flac_subframe.specs.declared.limits.Limits.{Limits}
 use Rattle.flac_subframe.specs.Numbers.{all_fit}
 use Rattle.flac_subframe.specs.Subframe.{subframe_samples}

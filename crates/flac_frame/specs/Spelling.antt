@@ -5,7 +5,7 @@ use Rattle.flac_bits.specs.State.{Mark, past}
 use Rattle.flac_bits.specs.Layout.{run}
 use Rattle.flac_bits.specs.Meaning.{Spells, AllKept}
 use Rattle.flac_bits.specs.Check.{remainder}
-use Rattle.flac_meta.specs.Info.{Info, KeepsRules}
+use Rattle.flac_info.specs.Info.{Info, KeepsRules}
 use Rattle.flac_header.specs.Header.{Header, IsHeader}
 use Rattle.flac_header.specs.Spelling.{header_spelling}
 use Rattle.flac_header.specs.declared.subset.Profile.{Profile}

@@ -18,7 +18,7 @@ use crate::fill::read_into;
 use crate::view::FrameView;
 use flac_bits::{BitReader, Source, Why};
 use flac_header::{BlockingStrategy, Profile};
-use flac_meta::StreamInfo;
+use flac_info::StreamInfo;
 use std::alloc::Global;
 use std::marker::Model;
 

@@ -16,7 +16,7 @@ use crate::start::read_start;
 use crate::stereo::join_channels;
 use flac_bits::{BitReader, Source, Why};
 use flac_header::{FrameHeader, Profile};
-use flac_meta::StreamInfo;
+use flac_info::StreamInfo;
 
 /// Reads what follows a header: the channels' samples, one channel after another, and the frame's end.
 #[tactic(auto, unfolding(crate::specs::Frame::frame_body), using(crate::proofs::Bodies::some_fit, crate::proofs::Bodies::none_fits))]

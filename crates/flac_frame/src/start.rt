@@ -9,7 +9,7 @@ ghost use Rattle.flac_frame.specs.Frame.{differs, rate_in, depth_in, breaks_sequ
 use crate::before::Before;
 use flac_bits::{BitReader, Source, Why};
 use flac_header::{FrameHeader, Profile, read_header, subset_allows};
-use flac_meta::StreamInfo;
+use flac_info::StreamInfo;
 
 /// Whether the profile allows the header.
 #[tactic(auto, unfolding(flac_header::specs::Header::allowed))]

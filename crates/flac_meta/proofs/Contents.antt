@@ -17,15 +17,10 @@ use Rattle.flac_meta.specs.Spelling as s
 use Rattle.flac_meta.specs.Valid.{AllAre, IsInfo, IsPoint, IsComments}
 use Rattle.flac_meta.specs.declared.seek_table.SeekPoint.{SeekPoint}
 use Rattle.flac_meta.specs.declared.comments.Comments.{Comments}
+use Rattle.flac_meta.proofs.Infos.{ranges, in_ranges}
 use Rattle.flac_meta.proofs.Tied.{less_not, joined_append, part_each, part_some, little_tie, IsText, sized_tie, nothing_tie, InTurn, turn_tie, retie}
 
 -- ---- STREAMINFO
-
-good : (a b r d : ℕ) → (nat_lt a 16 || nat_lt b a || nat_eq r 0 || nat_lt d 4) ≡ false → (16 ≤ a) × (a ≤ b) × (1 ≤ r) × (4 ≤ d)
-good a b r d h = grind (arith, nat_tests)
-
-bad : (a b r d : ℕ) → 16 ≤ a → a ≤ b → 1 ≤ r → 4 ≤ d → (nat_lt a 16 || nat_lt b a || nat_eq r 0 || nat_lt d 4) ≡ false
-bad a b r d h k l m = grind (arith, nat_tests)
 
 -- the spellings of sizes, format and digest joined
 groups : (a b c d e f g h i : List Bool) → joined (a ∷ b ∷ c ∷ d ∷ []) ++ (joined (e ∷ f ∷ g ∷ h ∷ []) ++ joined (i ∷ [])) ≡ joined (a ∷ b ∷ c ∷ d ∷ e ∷ f ∷ g ∷ h ∷ i ∷ [])
@@ -36,7 +31,7 @@ unfolding stream_info info_sizes info_format s.info_spelling
 info_tie m = tie stream_info m IsInfo s.info_spelling
     (λ least_block a greatest_block b least_frame c greatest_frame d rate e channels f depth g total h.
     each_tied (list_of 16 (bits 8)) _ (IsBytes 16) bits_of _ (bytes_tie 16 _) (λ digest j kept.
-    let k = good least_block greatest_block rate (depth + 1) kept.0 in
+    let k = ranges least_block greatest_block rate (depth + 1) kept.0 in
     let channels_is : channels + 1 - 1 ≡ channels = omega arith in
     let depth_is : depth + 1 - 1 ≡ depth = omega arith in (
       record {
@@ -86,7 +81,7 @@ info_tie m = tie stream_info m IsInfo s.info_spelling
                     x.total,
                     v.total,
                     some_tied (list_of 16 (bits 8)) _ (IsBytes 16) bits_of _ x.digest (bytes_tie 16 _) w.digest
-                        ((rw depth_is (bad x.least_block x.greatest_block x.rate x.depth v.least_block v.blocks v.least_rate v.least_depth), tt), (groups (unsigned 16 x.least_block) (unsigned 16 x.greatest_block) (unsigned 24 x.least_frame) (unsigned 24 x.greatest_frame) (unsigned 20 x.rate) (unsigned 3 (x.channels - 1)) (unsigned 5 (x.depth - 1)) (unsigned 36 x.total) (bits_of x.digest), rw (channels_is, depth_is) refl)),
+                        ((rw depth_is (in_ranges x.least_block x.greatest_block x.rate x.depth v.least_block v.blocks v.least_rate v.least_depth), tt), (groups (unsigned 16 x.least_block) (unsigned 16 x.greatest_block) (unsigned 24 x.least_frame) (unsigned 24 x.greatest_frame) (unsigned 20 x.rate) (unsigned 3 (x.channels - 1)) (unsigned 5 (x.depth - 1)) (unsigned 36 x.total) (bits_of x.digest), rw (channels_is, depth_is) refl)),
                   ),
                 ),
               ),

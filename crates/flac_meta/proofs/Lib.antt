@@ -3,6 +3,7 @@ pub mod Skips
 pub mod Exits
 pub mod Turns
 pub mod Zeros
+pub mod Infos
 pub mod Reasons
 pub mod Steps
 pub mod Lengths

@@ -5,7 +5,7 @@ use Rattle.flac_bits.specs.State.{Mark, past}
 use Rattle.flac_bits.specs.Layout.{run}
 use Rattle.flac_bits.specs.Meaning.{Spells}
 use Rattle.flac_bits.specs.Forms.{joined, AreBytes, IsBytes}
-use Rattle.flac_meta.specs.Info.{Info, KeepsRules}
+use Rattle.flac_info.specs.Info.{Info, KeepsRules}
 use Rattle.flac_meta.specs.Block.{block}
 use Rattle.flac_meta.specs.Spelling.{content_spelling, header_spelling, block_spelling, kind_of, length_of}
 use Rattle.flac_meta.specs.Listed.{came, block_fault}

@@ -21,8 +21,9 @@ use crate::lists::Bytes;
 use crate::picture::{Picture, put_picture, read_picture};
 use crate::put::{put_fields, put_zeros};
 use crate::seek_table::{SeekTable, are_in_order, put_points, read_seek_table};
-use crate::stream_info::{StreamInfo, put_info, read_stream_info};
+use crate::stream_info::{put_info, read_stream_info};
 use flac_bits::{BitReader, BitWriter, Source, Target, Why, read_bytes};
+use flac_info::StreamInfo;
 use std::alloc::Global;
 
 /// A metadata block (RFC 9639, section 8.1). Sections are those of RFC 9639.

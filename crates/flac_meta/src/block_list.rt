@@ -13,8 +13,8 @@ use crate::cue_sheet::{CueIndex, CueSheet, CueTrack};
 use crate::lists::Bytes;
 use crate::picture::Picture;
 use crate::seek_table::SeekPoint;
-use crate::stream_info::StreamInfo;
 use flac_bits::Why;
+use flac_info::StreamInfo;
 use std::alloc::{AllocError, Global};
 use std::marker::Model;
 

@@ -8,7 +8,7 @@ use Rattle.flac_bits.specs.Handing.{TakesAll}
 use Rattle.flac_bits.proofs.Handing.{Far}
 use Rattle.flac_bits.proofs.Words.{length-unsigned}
 use Rattle.flac_bits.proofs.ItemSpellings.{fresh_unread, behind_whole}
-use Rattle.flac_meta.specs.Info.{Info}
+use Rattle.flac_info.specs.Info.{Info}
 use Rattle.flac_meta.specs.Listed.{block_fault}
 use Rattle.flac_meta.specs.Spelling as s
 use Rattle.flac_meta.specs.Valid.{IsBlock, ContentSpelled, BlockSpelled}

@@ -4,7 +4,7 @@ use Rattle.std.specs.Prelude.{IfErr, IfSome, OnOk, IsErrAnd}
 use Rattle.flac_bits.specs.State.{Mark}
 use Rattle.flac_bits.specs.declared.why.Why.{Why}
 use Rattle.flac_bits.specs.declared.why.Why.TheVariants as why
-use Rattle.flac_meta.specs.Info.{Info}
+use Rattle.flac_info.specs.Info.{Info}
 use Rattle.flac_meta.specs.declared.block.Block.{Block}
 use Rattle.flac_meta.specs.declared.comments.Comments.{Comments}
 use Rattle.flac_native.specs.Retag.{BeginsWith, HasHead, IsRefused, Retags, retagged, too_long, not_read, not_written}

@@ -7,7 +7,7 @@ use Rattle.flac_bits.proofs.Handing.{HasBits, one_reading, some_reading}
 use Rattle.flac_bits.proofs.Items.{spelled_some}
 use Rattle.flac_frame.specs.Frame.{frame, stream_header}
 use Rattle.flac_header.specs.Header.{header}
-use Rattle.flac_meta.specs.Info.{Info}
+use Rattle.flac_info.specs.Info.{Info}
 use Rattle.flac_meta.specs.Header.{block_header}
 use Rattle.flac_meta.specs.Block.{block as block_layout}
 use Rattle.flac_native.specs.Stream.{grammar, marker, layout, layout_in, frame_behind, may_end_in}

@@ -6,7 +6,7 @@ use Rattle.std.proofs.Math.Nat.{mul-suc}
 use Rattle.flac_bits.specs.State.{Mark, fresh}
 use Rattle.flac_bits.specs.Meaning.{Spells, AllKept}
 use Rattle.flac_bits.proofs.ItemSpellings.{fresh_unread, fresh_check8, fresh_check16}
-use Rattle.flac_meta.specs.Info.{Info, KeepsRules}
+use Rattle.flac_info.specs.Info.{Info, KeepsRules}
 use Rattle.flac_meta.specs.declared.block.Seen.{Seen}
 use Rattle.flac_header.specs.Header.{Header, channels_of, greatest_in}
 use Rattle.flac_frame.specs.Audio.{Sound, samples_each}

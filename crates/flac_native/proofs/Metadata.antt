@@ -5,7 +5,7 @@ use Rattle.flac_bits.specs.Layout.{because, run}
 use Rattle.flac_bits.specs.Items.{item, refused}
 use Rattle.flac_bits.specs.inner.Items.{step_at, stepped}
 use Rattle.flac_bits.specs.declared.why.Why.{Why}
-use Rattle.flac_meta.specs.Info.{Info}
+use Rattle.flac_info.specs.Info.{Info}
 use Rattle.flac_meta.specs.declared.block.Block.{Block}
 use Rattle.flac_native.specs.Stream.{Progress, Stand, grammar, layout, may_end_in, place_in, room_in}
 use Rattle.flac_native.specs.Track.{is_behind_blocks, position_of}

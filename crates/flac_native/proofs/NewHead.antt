@@ -7,7 +7,7 @@ use Rattle.flac_bits.specs.State.{Mark, Cursor, past, fresh}
 use Rattle.flac_bits.specs.Fence.{InRoom}
 use Rattle.flac_bits.specs.Items.{Joined}
 use Rattle.flac_bits.proofs.ItemSpellings.{fresh_unread, behind_whole}
-use Rattle.flac_meta.specs.Info.{Info}
+use Rattle.flac_info.specs.Info.{Info}
 use Rattle.flac_meta.specs.Header.{nothing_seen}
 use Rattle.flac_meta.specs.Block.{seen_after}
 use Rattle.flac_meta.specs.Listed.{came, block_fault, info_seen}

@@ -10,7 +10,7 @@ use Rattle.flac_bits.specs.Items.{Joined, Stream, after}
 use Rattle.flac_bits.proofs.ItemSpellings.{fresh_unread, fresh_check8, fresh_check16, behind_whole}
 use Rattle.flac_header.specs.Header.{Header}
 use Rattle.flac_header.specs.declared.subset.Profile.{Profile}
-use Rattle.flac_meta.specs.Info.{Info, KeepsRules, without_totals}
+use Rattle.flac_info.specs.Info.{Info, KeepsRules, without_totals}
 use Rattle.flac_meta.specs.Valid.{FitsFields}
 use Rattle.flac_meta.specs.declared.block.Block.{Block}
 use Rattle.flac_meta.specs.declared.block.Block.TheVariants as block_of

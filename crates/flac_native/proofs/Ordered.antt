@@ -11,7 +11,7 @@ use Rattle.flac_bits.specs.Items.{Joined, after, mark_behind}
 use Rattle.flac_bits.proofs.ItemSpellings.{fresh_unread, fresh_check8, fresh_check16, behind_whole}
 use Rattle.flac_header.specs.Header.{Header}
 use Rattle.flac_header.specs.declared.subset.Profile.{Profile}
-use Rattle.flac_meta.specs.Info.{Info, KeepsRules}
+use Rattle.flac_info.specs.Info.{Info, KeepsRules}
 use Rattle.flac_meta.specs.declared.block.Block.{Block}
 use Rattle.flac_meta.specs.declared.block.Block.TheVariants as block_of
 use Rattle.flac_frame.specs.Frame.{Frame}

@@ -16,7 +16,8 @@ use Rattle.flac_bits.specs.declared.why.Why.TheVariants.{NotSubset, ReservedCode
 use Rattle.flac_bits.proofs.Meaning.{past-short}
 use Rattle.flac_header.specs.Header.{header, size_field, rate_field, allowed}
 use Rattle.flac_header.specs.declared.subset.Profile.TheVariants.{Lax}
-use Rattle.flac_meta.specs.Info.{Info, stream_info, info_sizes, info_format}
+use Rattle.flac_info.specs.Info.{Info}
+use Rattle.flac_meta.specs.Info.{stream_info, info_sizes, info_format}
 use Rattle.flac_meta.specs.Header.{block_header}
 use Rattle.flac_meta.specs.Fields.{sized, number_32, in_turn, zeros, reserved, ends_short}
 use Rattle.flac_meta.specs.Padding.{skipped}

@@ -15,7 +15,7 @@ use Rattle.flac_bits.specs.Items.{Joined, after, mark_behind}
 use Rattle.flac_bits.specs.declared.why.Why.TheVariants.{Truncated}
 use Rattle.flac_bits.proofs.Handing.{after-append, Joined-append}
 use Rattle.flac_bits.proofs.ItemSpellings.{fresh_unread, fresh_check8, fresh_check16, behind_whole}
-use Rattle.flac_meta.specs.Info.{Info, KeepsRules}
+use Rattle.flac_info.specs.Info.{Info, KeepsRules}
 use Rattle.flac_meta.specs.Listed.{list_fault, info_seen}
 use Rattle.flac_meta.specs.Valid.{AllAre, FitsFields, IsInfo}
 use Rattle.flac_meta.specs.declared.block.Seen.{Seen}

@@ -9,7 +9,7 @@ use Rattle.flac_bits.specs.Items.{Joined, Stream, after}
 use Rattle.flac_bits.specs.declared.why.Why.TheVariants.{Truncated}
 use Rattle.flac_bits.proofs.ItemSpellings.{fresh_unread, behind_whole}
 use Rattle.flac_meta.specs.Header.{nothing_seen}
-use Rattle.flac_meta.specs.Info.{Info, without_totals}
+use Rattle.flac_info.specs.Info.{Info, without_totals}
 use Rattle.flac_meta.specs.declared.block.Seen.{Seen}
 use Rattle.flac_frame.specs.Audio.{Sound, samples_each}
 use Rattle.flac_frame.specs.Frame.{left_by}

@@ -4,7 +4,7 @@ use Rattle.std.specs.List.{count_by}
 use Rattle.flac_bits.specs.State.{Mark}
 use Rattle.flac_bits.specs.Items.{Joined, Stream, after}
 use Rattle.flac_header.specs.declared.subset.Profile.{Profile}
-use Rattle.flac_meta.specs.Info.{Info}
+use Rattle.flac_info.specs.Info.{Info}
 use Rattle.flac_meta.specs.Listed.{block_fault}
 use Rattle.flac_meta.specs.Valid.{FitsFields, BlockSpelled}
 use Rattle.flac_meta.specs.declared.block.Block.{Block}

@@ -4,7 +4,7 @@ use Rattle.std.specs.Global.{Global}
 use Rattle.std.specs.List.{list_all}
 use Rattle.std.specs.Option.{option_or}
 use Rattle.flac_bits.specs.Bits.{is_nil, bit_value}
-use Rattle.flac_meta.specs.Info.{Info}
+use Rattle.flac_info.specs.Info.{Info}
 use Rattle.flac_meta.specs.declared.block.Block.{Block}
 use Rattle.flac_meta.specs.declared.block.Block.TheVariants as blocks
 use Rattle.flac_header.specs.Header.{greatest_in}

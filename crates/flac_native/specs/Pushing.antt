@@ -6,7 +6,7 @@ use Rattle.flac_bits.specs.Items.{Stream, after}
 use Rattle.flac_bits.specs.declared.target.Target as target
 use Rattle.flac_bits.specs.declared.why.Why.TheVariants.{Truncated}
 use Rattle.flac_header.specs.declared.subset.Profile.{Profile}
-use Rattle.flac_meta.specs.Info.{Info}
+use Rattle.flac_info.specs.Info.{Info}
 use Rattle.flac_header.specs.Header.{greatest_in}
 use Rattle.flac_subframe.specs.declared.linear.LinearPredictor.{LinearPredictor}
 use Rattle.flac_frame.specs.Audio.{Sound, samples_each, as_long, each_small}

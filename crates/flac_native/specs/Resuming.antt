@@ -6,7 +6,7 @@ use Rattle.flac_bits.specs.Items.{Joined, Stream, after}
 use Rattle.flac_bits.specs.declared.why.Why.TheVariants.{Truncated}
 use Rattle.flac_header.specs.declared.subset.Profile.{Profile}
 use Rattle.flac_meta.specs.Header.{nothing_seen}
-use Rattle.flac_meta.specs.Info.{Info, without_totals}
+use Rattle.flac_info.specs.Info.{Info, without_totals}
 use Rattle.flac_frame.specs.Audio.{Sound}
 use Rattle.flac_frame.specs.Frame.{Frame}
 use Rattle.flac_native.specs.Decoding.{beginning}

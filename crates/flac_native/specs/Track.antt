@@ -1,7 +1,7 @@
 -- What a track keeps of the parts so far.
 use Rattle.std.specs.Prelude.{◌≡◌, min, Bool, true, false, [], Option, Some, None, is_some}
 use Rattle.flac_header.specs.declared.subset.Profile.{Profile}
-use Rattle.flac_meta.specs.Info.{Info}
+use Rattle.flac_info.specs.Info.{Info}
 use Rattle.flac_meta.specs.declared.block.Block.{Block}
 use Rattle.flac_frame.specs.Frame.{Frame}
 use Rattle.flac_frame.specs.declared.before.Before.{Before}

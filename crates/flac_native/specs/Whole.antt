@@ -4,7 +4,7 @@ use Rattle.std.specs.List.{sum_by, flat_map}
 use Rattle.flac_bits.specs.State.{Mark}
 use Rattle.flac_bits.specs.Meaning.{AllKept}
 use Rattle.flac_bits.specs.Items.{Stream, mark_behind}
-use Rattle.flac_meta.specs.Info.{Info}
+use Rattle.flac_info.specs.Info.{Info}
 use Rattle.flac_meta.specs.declared.block.Block.{Block}
 use Rattle.flac_meta.specs.declared.block.Block.TheVariants as blocks
 use Rattle.flac_header.specs.Header.{Header}

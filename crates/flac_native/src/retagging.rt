@@ -18,7 +18,7 @@ ghost use Rattle.flac_bits.specs.Bits.{bits_of};
 ghost use Rattle.flac_bits.specs.Written.{Adds, Fails};
 ghost use Rattle.flac_bits.specs.State.{Rises, short_of, started};
 ghost use Rattle.flac_meta.specs.Spelling.{comments_length};
-ghost use Rattle.flac_meta.specs.Info.{Info};
+ghost use Rattle.flac_info.specs.Info.{Info};
 ghost use Rattle.flac_meta.specs.declared.block.Block.{Block};
 ghost use Rattle.flac_bits.specs.declared.why.Why.{Why};
 ghost use Rattle.flac_native.specs.declared.fault.Place.{Place};

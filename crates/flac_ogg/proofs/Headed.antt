@@ -8,7 +8,7 @@ use Rattle.flac_bits.specs.Forms.{AreBytes, IsBytes, joined}
 use Rattle.flac_bits.proofs.Back.{same_parts}
 use Rattle.flac_bits.proofs.Holding.{length-bits_of, bits_of-append}
 use Rattle.flac_bits.proofs.Words.{length-unsigned}
-use Rattle.flac_meta.specs.Info.{Info}
+use Rattle.flac_info.specs.Info.{Info}
 use Rattle.flac_meta.specs.Spelling.{block_spelling}
 use Rattle.flac_meta.specs.declared.block.Block.{Block}
 use Rattle.flac_meta.specs.declared.block.Block.TheVariants as block_of

@@ -11,7 +11,7 @@ use Rattle.flac_bits.specs.Meaning.{BreaksFirst, Shows}
 use Rattle.flac_bits.specs.declared.why.Why.{Why}
 use Rattle.flac_bits.specs.declared.why.Why.TheVariants.{Read, Truncated, FrameTooLong, PacketLength, NoEndPage, PageOrder, BadPage}
 use Rattle.flac_bits.proofs.Meaning.{past-short}
-use Rattle.flac_meta.specs.Info.{Info}
+use Rattle.flac_info.specs.Info.{Info}
 use Rattle.flac_header.specs.declared.subset.Profile.{Profile}
 use Rattle.flac_native.specs.Stream.{Piece, Progress, grammar, end_rules as stream_rules}
 use Rattle.flac_native.specs.declared.fault.Place.{Place}

@@ -10,7 +10,7 @@ use Rattle.flac_bits.specs.Meaning.{Spells, AllKept}
 use Rattle.flac_bits.specs.Items.{Joined}
 use Rattle.flac_bits.specs.declared.why.Why.TheVariants.{Truncated}
 use Rattle.flac_bits.proofs.ItemSpellings.{behind_whole}
-use Rattle.flac_meta.specs.Info.{Info, KeepsRules}
+use Rattle.flac_info.specs.Info.{Info, KeepsRules}
 use Rattle.flac_meta.specs.Valid.{IsInfo}
 use Rattle.flac_meta.specs.declared.block.Seen.{Seen}
 use Rattle.flac_header.specs.Header.{Header, channels_of, greatest_in}

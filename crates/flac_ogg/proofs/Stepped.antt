@@ -8,7 +8,7 @@ use Rattle.flac_bits.specs.Layout.{Rule}
 use Rattle.flac_bits.specs.Meaning.{AllKept, BreaksFirst}
 use Rattle.flac_bits.specs.declared.why.Why.{Why}
 use Rattle.flac_bits.specs.declared.why.Why.TheVariants.{PacketLength, Memory}
-use Rattle.flac_meta.specs.Info.{Info}
+use Rattle.flac_info.specs.Info.{Info}
 use Rattle.flac_native.specs.Stream.{Piece, Stand, Progress, grammar, room_in, place_in, end_rules, may_end_in}
 use Rattle.flac_native.specs.Track.{IsAt, stand_of, is_behind_blocks}
 use Rattle.flac_native.specs.declared.fault.Fault.{Fault}

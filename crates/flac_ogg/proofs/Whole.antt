@@ -8,7 +8,7 @@ use Rattle.flac_bits.specs.Forms.{IsBytes}
 use Rattle.flac_bits.specs.declared.why.Why.TheVariants.{Truncated}
 use Rattle.flac_bits.proofs.Meaning.{past-short}
 use Rattle.flac_bits.proofs.Holding.{length-bits_of}
-use Rattle.flac_meta.specs.Info.{Info}
+use Rattle.flac_info.specs.Info.{Info}
 use Rattle.flac_meta.specs.Listed.{list_fault, info_seen}
 use Rattle.flac_meta.specs.Spelling as s
 use Rattle.flac_meta.specs.Valid.{AllAre, FitsFields}

@@ -4,7 +4,7 @@ ghost use Rattle.std.specs.Prelude.{◌≡◌, ◌≤◌, ◌<◌, ◌^◌, ◌�
 ghost use Rattle.flac_bits.specs.Bits.{unsigned, bits_of};
 ghost use Rattle.flac_bits.specs.Forms.{IsBytes, joined};
 ghost use Rattle.flac_bits.specs.Written.{Writes};
-ghost use Rattle.flac_meta.specs.Info.{Info};
+ghost use Rattle.flac_info.specs.Info.{Info};
 ghost use Rattle.flac_native.specs.Writing.{head_spelling};
 ghost use Rattle.flac_ogg.specs.inner.Headers.{AreHeaders};
 ghost use Rattle.flac_ogg.specs.Native.{block_spellings, packet_spellings};

@@ -9,7 +9,7 @@ use Rattle.flac_bits.specs.State.{Rises, Cursor}
 use Rattle.flac_bits.specs.Handing.{Reading}
 use Rattle.flac_bits.specs.declared.why.Why.{Why}
 use Rattle.flac_bits.specs.declared.why.Why.TheVariants.{Memory, Read, Truncated}
-use Rattle.flac_meta.specs.Info.{Info}
+use Rattle.flac_info.specs.Info.{Info}
 use Rattle.flac_frame.specs.Frame.{Frame}
 use Rattle.flac_native.specs.Stream.{Piece, Progress}
 use Rattle.flac_native.specs.Track.{IsAt}

@@ -9,7 +9,7 @@ use Rattle.flac_bits.specs.Handing.{Reading, by_grammar}
 use Rattle.flac_bits.specs.declared.why.Why.{Why}
 use Rattle.flac_bits.specs.declared.why.Why.TheVariants.{Memory, Read, Truncated}
 use Rattle.flac_meta.specs.declared.block.Block.{Block}
-use Rattle.flac_meta.specs.Info.{Info}
+use Rattle.flac_info.specs.Info.{Info}
 use Rattle.flac_meta.specs.SeekTable.{last_before}
 use Rattle.flac_meta.specs.declared.seek_table.SeekPoint.{SeekPoint}
 use Rattle.flac_header.specs.declared.subset.Profile.{Profile}

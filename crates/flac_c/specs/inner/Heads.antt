@@ -1,6 +1,6 @@
 -- For proofs of the sink that keeps what a stream begins with: what an item leaves in it.
 use Rattle.std.specs.Prelude.{Bool, true, Option}
-use Rattle.flac_meta.specs.Info.{Info}
+use Rattle.flac_info.specs.Info.{Info}
 use Rattle.flac_meta.specs.declared.comments.Comments.{Comments}
 use Rattle.flac_native.specs.Item.{Item, metadata, frame}
 use Rattle.flac_native.specs.Stream.{info_after}

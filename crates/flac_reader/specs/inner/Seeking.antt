@@ -1,7 +1,7 @@
 -- For proofs of seeking: what a search has passed.
 use Rattle.std.specs.Prelude.{◌≡◌, ℕ, Bool, List, [], ◌∷◌, true, false, map, Option, Some, None, Result, Ok, Err}
 use Rattle.flac_bits.specs.declared.why.Why.{Why}
-use Rattle.flac_meta.specs.Info.{Info}
+use Rattle.flac_info.specs.Info.{Info}
 use Rattle.flac_frame.specs.Frame.{Frame, first_sample}
 use Rattle.flac_native.specs.Item.{frame, told}
 use Rattle.flac_native.specs.Giving.{Stage}

@@ -1,5 +1,5 @@
 use Rattle.std.proofs.Common.{◌≡◌, Option, is_some, true}
-use Rattle.flac_meta.specs.Info.{Info}
+use Rattle.flac_info.specs.Info.{Info}
 use Rattle.flac_c.specs.Heads.{Begins}
 use Rattle.flac_c.proofs.Kept.{then_ok, found_one}
 use Rattle.flac_c.proofs.info.flac_proved_comment.Goals as goal

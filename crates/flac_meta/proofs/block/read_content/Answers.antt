@@ -10,7 +10,8 @@ use Rattle.flac_bits.specs.declared.why.Why.{Why}
 use Rattle.flac_meta.specs.Block.{content, padding, other}
 use Rattle.flac_meta.specs.declared.block.Block.{Block}
 use Rattle.flac_meta.specs.declared.block.Block.TheVariants as block_of
-use Rattle.flac_meta.specs.Info.{Info, stream_info}
+use Rattle.flac_info.specs.Info.{Info}
+use Rattle.flac_meta.specs.Info.{stream_info}
 use Rattle.flac_meta.specs.Padding.{skipped}
 use Rattle.flac_meta.specs.SeekTable.{seek_points}
 use Rattle.flac_meta.specs.Comments.{comments}

@@ -1,6 +1,6 @@
 use Rattle.std.proofs.Common.{◌≡◌, ◌≤◌, ◌+◌, ◌*◌, ◌/◌, [], List, length, subst}
 use Rattle.std.proofs.lemmas.Result.{err_from_is_err_and}
-use Rattle.flac_meta.specs.Info.{Info}
+use Rattle.flac_info.specs.Info.{Info}
 use Rattle.flac_meta.specs.declared.block.Block.{Block}
 use Rattle.flac_native.proofs.Rooms.{room_of}
 use Rattle.flac_ogg.specs.declared.headers.Headers.{Headers}

@@ -1,5 +1,5 @@
 use Rattle.std.proofs.Common.{rules}
-use Rattle.flac_meta.proofs.stream_info.StreamInfo.greatest_block.Goals as goal
+use Rattle.flac_info.proofs.stream_info.StreamInfo.greatest_block.Goals as goal
 
 pub returns-clause-value : goal.returns-clause-value
 returns-clause-value c = search rules
