@@ -5,7 +5,7 @@ use Rattle.std.proofs.lemmas.Bool.Decides.{nat_tests}
 use Rattle.std.proofs.lemmas.List.Elements.{All-nil, All-cons, All-head, All-tail}
 use Rattle.flac_header.specs.declared.subset.Profile.{Profile}
 use Rattle.flac_header.specs.declared.subset.Profile.TheVariants.{Subset, Lax}
-use Rattle.flac_subframe.specs.Handed.{AreWithin}
+use Rattle.flac_subframe.specs.Handed.{coefficients_in, AreWithin}
 use Rattle.flac_subframe.specs.declared.linear.LinearPredictor.{LinearPredictor}
 use Rattle.flac_frame.specs.Encoding.{most_in}
 use Rattle.flac_frame.specs.Frame.{limits_at}
@@ -15,7 +15,7 @@ use Rattle.flac_native.specs.Given.{orders_fit, predictors_fault}
 -- ---- the orders
 
 abbrev IsWithin : ℕ → LinearPredictor → Type 0
-IsWithin n p = length p.coefficients.items ≤ n
+IsWithin n p = length (coefficients_in p) ≤ n
 
 both : (a b : Bool) → (a && b) ≡ true → (a ≡ true) × (b ≡ true)
 both true b e = (refl, e)
@@ -32,12 +32,12 @@ is_most a n e = grind (arith, nat_tests)
 
 orders_are : (n : ℕ) (ps : List LinearPredictor) → orders_fit n ps ≡ true → AreWithin n ps
 orders_are n [] e = All-nil (IsWithin n)
-orders_are n (p ∷ ps) e = let b = both (nat_le (length p.coefficients.items) n) (orders_fit n ps) e in All-cons (IsWithin n) p ps (at_most (length p.coefficients.items) n b.0) (orders_are n ps b.1)
+orders_are n (p ∷ ps) e = let b = both (nat_le (length (coefficients_in p)) n) (orders_fit n ps) e in All-cons (IsWithin n) p ps (at_most (length (coefficients_in p)) n b.0) (orders_are n ps b.1)
 
 orders_back : (n : ℕ) (ps : List LinearPredictor) → AreWithin n ps → orders_fit n ps ≡ true
 orders_back n [] h = refl
 orders_back n (p ∷ ps) h =
-    joined (nat_le (length p.coefficients.items) n) (orders_fit n ps) (is_most (length p.coefficients.items) n (All-head (IsWithin n) p ps h)) (orders_back n ps (All-tail (IsWithin n) p ps h))
+    joined (nat_le (length (coefficients_in p)) n) (orders_fit n ps) (is_most (length (coefficients_in p)) n (All-head (IsWithin n) p ps h)) (orders_back n ps (All-tail (IsWithin n) p ps h))
 
 none_here : {A : Type 0} (b : Bool) (x : A) (rest : Option A) → cond b (Some x) rest ≡ None → (b ≡ false) × (rest ≡ None)
 none_here true x rest e = absurd cc

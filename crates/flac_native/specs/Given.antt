@@ -1,4 +1,5 @@
 -- What is encoded: STREAMINFO, blocks, and samples that are cut into frames.
+use Rattle.flac_subframe.specs.Handed.{coefficients_in}
 use Rattle.std.specs.Prelude.{◌≡◌, ◌<◌, ◌≤◌, ℕ, zero, suc, ◌+◌, ◌-◌, ◌*◌, ◌/◌, ◌^◌, min, Bool, true, false, not, cond, ◌&&◌, ◌||◌, nat_eq, nat_lt, nat_le, List, [], ◌∷◌, ◌++◌, length, map, Option, Some, None, Vec}
 use Rattle.std.specs.Global.{Global}
 use Rattle.std.specs.List.{list_all}
@@ -107,7 +108,7 @@ points_before block_size total every (suc n) = points_before block_size total ev
 
 -- the order of each of these predictors is at most `greatest`
 abbrev pub orders_fit : (greatest : ℕ) → List LinearPredictor → Bool
-orders_fit greatest ps = list_all (λ x. nat_le (length x.coefficients.items) greatest) ps
+orders_fit greatest ps = list_all (λ x. nat_le (length (coefficients_in x)) greatest) ps
 
 -- Why linear predictors cannot be tried, if so: there are more than 64, or one has an order that the profile does not
 -- allow at the rate (RFC 9639, sections 7 and 9.2.6).

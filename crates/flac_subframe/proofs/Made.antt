@@ -9,7 +9,7 @@ use Rattle.flac_subframe.specs.declared.linear.LinearPredictor.{LinearPredictor}
 use Rattle.flac_subframe.specs.Bodies.{Chooses, fixed, linear, order_of, Among, Body, constant, verbatim, predicted, StandsFor, content_of}
 use Rattle.flac_subframe.specs.Cost.{Codings, MayWrite, codings_of}
 use Rattle.flac_subframe.specs.Chosen.{body_under, body_as, HasPredictor, offered}
-use Rattle.flac_subframe.specs.Handed.{predictor_of, handed_at, AreWithin}
+use Rattle.flac_subframe.specs.Handed.{coefficients_in, predictor_of, handed_at, AreWithin}
 use Rattle.flac_subframe.specs.Family.{IsMadeAs}
 use Rattle.flac_subframe.specs.inner.Family.{type_number}
 use Rattle.flac_subframe.specs.Wasted.{shortened}
@@ -45,7 +45,7 @@ among_handed precision shift cs ps (inr (inr (inr (inr (inl e))))) = cc
 among_handed precision shift cs ps (inr (inr (inr (inr (inr h))))) = h
 
 -- which of them it is
-pub handed_one : (limit : ℕ) (p : Chooses) (ps : List LinearPredictor) → AreWithin limit ps → Among p (map predictor_of ps) → (q : LinearPredictor) × (p ≡ predictor_of q) × (length q.coefficients.items ≤ limit)
+pub handed_one : (limit : ℕ) (p : Chooses) (ps : List LinearPredictor) → AreWithin limit ps → Among p (map predictor_of ps) → (q : LinearPredictor) × (p ≡ predictor_of q) × (length (coefficients_in q) ≤ limit)
 handed_one limit p [] within h = absurd h
 handed_one limit p (q ∷ ps) within (inl e) = (q, e, within 0 q (omega arith))
 handed_one limit p (q ∷ ps) within (inr h) = handed_one limit p ps (λ i d lt. within (suc i) d (omega arith)) h
@@ -54,7 +54,7 @@ handed_one limit p (q ∷ ps) within (inr h) = handed_one limit p ps (λ i d lt.
 linear_type : (x : Chooses) (q : LinearPredictor) (f : Codings) (t : List ℤ) → x ≡ predictor_of q → order_of x ≤ length t → 31 + order_of x ≡ type_of (content_of (body_under x f t))
 linear_type x q f t e room =
     let P : Chooses → Type 0 = λ y. order_of y ≤ length t → 31 + order_of y ≡ type_of (content_of (body_under y f t)) in
-    subst P (sym e) (λ few. omega (arith, length-take-le (length q.coefficients.items) t few)) room
+    subst P (sym e) (λ few. omega (arith, length-take-le (length (coefficients_in q)) t few)) room
 
 one_type : (hs : List LinearPredictor) (i : ℕ) (f : Codings) (t : List ℤ) → i < length hs → order_of (handed_at hs i) ≤ length t → 31 + order_of (handed_at hs i) ≡ type_of (content_of (body_under (handed_at hs i) f t))
 one_type [] i f t within room = absurd (omega (arith, within))

@@ -1,6 +1,8 @@
 -- Arrays that have places for some partition orders have them for fewer.
-use Rattle.std.proofs.Common.{ℕ, ◌≡◌, ◌^◌, ◌≤◌, arith, length}
-use Rattle.std.proofs.Math.Nat.{pow-le-pow_right}
+use Rattle.std.proofs.Common.{ℕ, ◌≡◌, ◌⊎◌, inl, inr, ◌∙◌, sym, ap, ◌^◌, ◌≤◌, ◌<◌, arith, List, length, take, min}
+use Rattle.std.proofs.Math.Nat.{pow-le-pow_right, min-eq_left, min-eq_right}
+use Rattle.std.proofs.lemmas.Bool.{cases_lt}
+use Rattle.std.proofs.lemmas.List.{take_all}
 use Rattle.flac_subframe.specs.declared.tables.Tables.{Tables}
 use Rattle.flac_subframe.specs.inner.Halves.{HasPlaces}
 
@@ -24,3 +26,14 @@ places_kept p t u leaves sums four five widths codings so = record {
   widths = rw widths so.widths;
   codings = rw codings so.codings;
 }
+
+-- the codings of a partition order, of as many as an array has places
+used_in : (order : ℕ) (codings : List ℕ) → length codings ≡ 256 → (8 < order) ⊎ (order ≤ 8) → take (2 ^ min order 8) codings ≡ take (2 ^ order) codings
+used_in order codings long (inr few) = ap (λ n. take (2 ^ n) codings) (min-eq_left few)
+used_in order codings long (inl many) =
+    let eight : min order 8 ≡ 8 = min-eq_right (omega (arith, many)) in
+    let more = power_le 8 order (omega (arith, many)) in
+    ap (λ n. take (2 ^ n) codings) eight ∙ take_all (2 ^ 8) codings (omega (arith, long)) ∙ sym (take_all (2 ^ order) codings (omega (arith, long, more)))
+
+pub used_is : (order : ℕ) (codings : List ℕ) → length codings ≡ 256 → take (2 ^ min order 8) codings ≡ take (2 ^ order) codings
+used_is order codings long = used_in order codings long (cases_lt 8 order)

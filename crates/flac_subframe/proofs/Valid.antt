@@ -11,7 +11,7 @@ use Rattle.flac_subframe.specs.declared.limits.Limits.{Limits}
 use Rattle.flac_subframe.specs.declared.linear.LinearPredictor.{LinearPredictor}
 use Rattle.flac_subframe.specs.Bodies.{Chooses, fixed, linear, Body, constant, verbatim, predicted, Predicts, StandsFor, content_of}
 use Rattle.flac_subframe.specs.Chosen.{offered}
-use Rattle.flac_subframe.specs.Handed.{predictor_of, AreWithin}
+use Rattle.flac_subframe.specs.Handed.{coefficients_in, predictor_of, AreWithin}
 use Rattle.flac_subframe.specs.Cost.{Codings}
 use Rattle.flac_subframe.specs.Prediction.{fixed_coefficients, restored}
 use Rattle.flac_subframe.specs.Spelling.{FitsWidth, MayHold, IsSubframe}
@@ -61,10 +61,10 @@ module _ (most d k : ℕ) (s t : List ℤ) (left : k < d) (times : s ≡ map (ti
       unscaled d k (get_or t i x) left (rw e at f)
 
   -- by a linear predictor
-  may_linear : (limits : Limits) (q : LinearPredictor) (ws : List ℤ) (f : Codings) (rs : List ℤ) → most ≤ limits.partition → most ≤ 15 → length q.coefficients.items ≤ limits.linear → Predicts most (predictor_of q) ws f rs t
+  may_linear : (limits : Limits) (q : LinearPredictor) (ws : List ℤ) (f : Codings) (rs : List ℤ) → most ≤ limits.partition → most ≤ 15 → length (coefficients_in q) ≤ limits.linear → Predicts most (predictor_of q) ws f rs t
       → MayHold (d - k) (length s) limits (content_of (predicted (predictor_of q) ws f rs))
   may_linear limits q ws f rs le few within h =
-      let cs : List ℤ = q.coefficients.items in
+      let cs : List ℤ = coefficients_in q in
       let ws_is : ws ≡ take (length cs) t = warm_up_is cs q.shift t ws rs h.long h.restored in
       let all : length t ≡ length ws + length rs = h.restored.long ∙ length-append ws rs in
       let warm : All (FitsBits (d - k)) ws = rw ws_is (All-take (FitsBits (d - k)) (length cs) t fit) in

@@ -30,13 +30,17 @@ pub record IsMadeAs (most : ℕ) (ps : List LinearPredictor) (c : SubframeForm) 
 
 -- ---- a choice with partition orders up to 8
 
+-- the bytes of a choice's codings, the first ones of its array
+abbrev pub bytes_used : Choice → List ℕ
+bytes_used c = take (2 ^ c.form.residual.partition_order) c.codings
+
 -- the form of a choice; a linear predictor is from the list
 abbrev pub form_with : List LinearPredictor → Choice → List ℤ → Form
-form_with ps c s = form_as ps c.form c.codings.items s
+form_with ps c s = form_as ps c.form (bytes_used c) s
 
 -- the choice was made for these samples, with a fixed predictor or a linear one of the list if it has one
 abbrev pub IsMadeWith : List LinearPredictor → Choice → List ℤ → Type 0
-IsMadeWith ps c s = IsMadeAs 8 ps c.form c.codings.items s
+IsMadeWith ps c s = IsMadeAs 8 ps c.form (bytes_used c) s
 
 -- the same without linear predictors
 abbrev pub form_of : Choice → List ℤ → Form

@@ -1,4 +1,5 @@
 //! The content of the fewest bits for the samples of a subframe.
+ghost use Rattle.flac_subframe.specs.Handed.{coefficients_in};
 ghost use Rattle.std.specs.Prelude.{◌≡◌, ◌<◌, ◌≤◌, ◌^◌, ◌+◌, ◌-◌, ◌++◌, ◌∷◌, [], ◌*◌, List, ℕ, length, take, All, IfSome, IfNone, IsTrue, ◌↔◌, replicate, map};
 ghost use Rattle.flac_bits.specs.Signed.{FitsBits};
 ghost use Rattle.flac_subframe.specs.Numbers.{sample_at};
@@ -145,9 +146,9 @@ fn take_fixed_residual(
 
 /// What a linear predictor leaves of the samples, worked out in 64 bits, and whether a residual may have it all.
 fn take_wide(subject: &SampleView<'_>, predictor: &LinearPredictor, wide: &mut [i64]) -> bool
-    requires places { length wide.old + length predictor.now.coefficients.items ≡ length subject.now.samples.now }
-    ensures all { wide.new ≡ differences predictor.now.coefficients.items predictor.now.shift subject.now.samples.now }
-    ensures range { IsTrue result ↔ All IsResidual (differences predictor.now.coefficients.items predictor.now.shift subject.now.samples.now) }
+    requires places { length wide.old + length (coefficients_in predictor.now) ≡ length subject.now.samples.now }
+    ensures all { wide.new ≡ differences (coefficients_in predictor.now) predictor.now.shift subject.now.samples.now }
+    ensures range { IsTrue result ↔ All IsResidual (differences (coefficients_in predictor.now) predictor.now.shift subject.now.samples.now) }
 {
     let coefficients = predictor.coefficients();
     let shift = predictor.shift();
@@ -166,14 +167,14 @@ fn take_linear_residual(
     values: &mut [i32],
     folds: &mut [u32],
 ) -> bool
-    requires places { length values.old + length predictor.now.coefficients.items ≡ length subject.now.samples.now }
+    requires places { length values.old + length (coefficients_in predictor.now) ≡ length subject.now.samples.now }
     requires wide { length subject.now.samples.now ≤ length wide.old }
     requires folds { length folds.old ≡ length values.old }
-    ensures values { IsTrue result → values.new ≡ differences predictor.now.coefficients.items predictor.now.shift subject.now.samples.now }
+    ensures values { IsTrue result → values.new ≡ differences (coefficients_in predictor.now) predictor.now.shift subject.now.samples.now }
     ensures range { IsTrue result → All IsResidual values.new }
     ensures unsigned { IsTrue result → folds.new ≡ map folded values.new }
     ensures small { IsTrue result → All (λ n. n < 2 ^ 32) folds.new }
-    ensures all { All IsResidual (differences predictor.now.coefficients.items predictor.now.shift subject.now.samples.now) → IsTrue result }
+    ensures all { All IsResidual (differences (coefficients_in predictor.now) predictor.now.shift subject.now.samples.now) → IsTrue result }
 {
     let coefficients = predictor.coefficients();
     let shift = predictor.shift();

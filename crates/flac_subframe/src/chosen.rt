@@ -8,7 +8,7 @@ ghost use Rattle.std.specs.Ordering.{on, eq_of_both};
 ghost use Rattle.flac_bits.specs.Signed.{FitsBits};
 ghost use Rattle.flac_subframe.specs.Least.{IsLeast};
 ghost use Rattle.flac_subframe.specs.Chosen.{fixed_below, offered};
-ghost use Rattle.flac_subframe.specs.Family.{Stands, IsMadeOf, IsMadeWith, form_of, form_with};
+ghost use Rattle.flac_subframe.specs.Family.{Stands, IsMadeOf, IsMadeWith, form_of, form_with, bytes_used};
 ghost use Rattle.flac_subframe.specs.Handed.{AreWithin};
 ghost use Rattle.flac_subframe.specs.Spelling.{subframe_spelling, IsSubframe};
 ghost use Rattle.flac_subframe.specs.Subframe.{samples_of};
@@ -22,7 +22,9 @@ use crate::linear::LinearPredictor;
 use crate::numbers::power;
 use crate::tables::{APART, filled};
 use crate::view::{ChoiceView, Task};
-use arrayvec::ArrayVec;
+
+/// The most codings of a residual, one for each partition.
+const MOST_CODINGS: usize = 1 << MOST_PARTITION_ORDER;
 
 /// How a subframe is written, with the codings that are in use, each as a byte, and how many bits it takes.
 ///
@@ -32,7 +34,8 @@ use arrayvec::ArrayVec;
 #[derive(Drop, Clone, Debug)]
 pub struct Choice {
     pub(crate) form: SubframeForm,
-    pub(crate) codings: ArrayVec<u8, 256>,
+    /// The codings, and zeros after them.
+    pub(crate) codings: [u8; MOST_CODINGS],
     bits: u64,
     priced: u64,
 }
@@ -43,15 +46,16 @@ impl Choice {
         requires few { found.now.form.residual.partition_order ≤ 8 }
         requires places { 2 ^ found.now.form.residual.partition_order ≤ length codings.now }
         ensures form { result.form ≡ found.now.form }
-        ensures codings { result.codings.items ≡ take (2 ^ found.now.form.residual.partition_order) codings.now }
+        ensures codings { take (2 ^ found.now.form.residual.partition_order) result.codings ≡ take (2 ^ found.now.form.residual.partition_order) codings.now }
         ensures bits { result.bits ≡ found.now.bits }
         ensures priced { result.priced ≡ found.now.priced }
     {
-        let mut copy = ArrayVec::new();
-        let _ = copy.try_extend_from_slice(&codings[..power(found.form.residual.partition_order)]);
+        let used = power(found.form.residual.partition_order);
+        let mut kept = [0; MOST_CODINGS];
+        kept[..used].copy_from_slice(&codings[..used]);
         Choice {
             form: found.form,
-            codings: copy,
+            codings: kept,
             bits: found.bits,
             priced: found.priced,
         }
@@ -75,11 +79,12 @@ impl Choice {
     /// The same with its codings lent.
     pub(crate) fn lent(&self) -> ChoiceView<'_>
         ensures form { result.form ≡ self.now.form }
-        ensures codings { result.codings.now ≡ self.now.codings.items }
+        ensures codings { result.codings.now ≡ bytes_used self.now }
     {
+        let order = self.form.residual.partition_order.min(MOST_PARTITION_ORDER as u8);
         ChoiceView {
             form: self.form,
-            codings: self.codings.as_slice(),
+            codings: &self.codings[..power(order)],
         }
     }
 }
@@ -88,9 +93,9 @@ impl PartialEq for Choice {
     ghost use Rattle.flac_subframe.specs.contracts.content.SubframeFormPartialEq.TheImpl as form;
     ghost use Rattle.flac_subframe.specs.contracts.content.SubframeFormEq.TheImpl.Laws.{laws-law};
 
-    ghost eq = { eq_of_both (on (λ c. c.form) (form.ghosts).eq) (eq_of_both (on (λ c. c.codings.items) (pointwise nat_eq)) (on (λ c. c.bits) nat_eq)) };
+    ghost eq = { eq_of_both (on (λ c. c.form) (form.ghosts).eq) (eq_of_both (on (λ c. c.codings) (pointwise nat_eq)) (on (λ c. c.bits) nat_eq)) };
 
-    ghost laws = { partial_equiv_from_equiv (and_equiv (on_equiv (λ c. c.form) laws-law) (and_equiv (on_equiv (λ c. c.codings.items) nat_list_eq_equiv) (on_equiv (λ c. c.bits) nat_eq_equiv))) };
+    ghost laws = { partial_equiv_from_equiv (and_equiv (on_equiv (λ c. c.form) laws-law) (and_equiv (on_equiv (λ c. c.codings) nat_list_eq_equiv) (on_equiv (λ c. c.bits) nat_eq_equiv))) };
 
     fn eq(&self, other: &Choice) -> bool {
         self.form == other.form && self.codings == other.codings && self.bits == other.bits
@@ -100,7 +105,7 @@ impl PartialEq for Choice {
 impl Eq for Choice {
     ghost use Rattle.flac_subframe.specs.contracts.content.SubframeFormEq.TheImpl.Laws.{laws-law};
 
-    ghost laws = { and_equiv (on_equiv (λ c. c.form) laws-law) (and_equiv (on_equiv (λ c. c.codings.items) nat_list_eq_equiv) (on_equiv (λ c. c.bits) nat_eq_equiv)) };
+    ghost laws = { and_equiv (on_equiv (λ c. c.form) laws-law) (and_equiv (on_equiv (λ c. c.codings) nat_list_eq_equiv) (on_equiv (λ c. c.bits) nat_eq_equiv)) };
 }
 
 /// The greatest partition order that is tried, as the subset allows.

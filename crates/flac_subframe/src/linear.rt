@@ -1,10 +1,9 @@
 //! Linear predictors that a caller hands in.
 
-ghost use Rattle.std.specs.Prelude.{◌≡◌, ◌<◌, ◌≤◌, ◌↔◌, length, All, IsTrue, IsSome, IfSome};
+ghost use Rattle.std.specs.Prelude.{◌≡◌, ◌<◌, ◌≤◌, ◌↔◌, length, take, All, IsTrue, IsSome, IfSome};
 ghost use Rattle.flac_bits.specs.Signed.{FitsBits};
 
 use crate::numbers::fits_bits;
-use arrayvec::ArrayVec;
 use std::alloc::AllocError;
 
 /// The most coefficients that a linear predictor has.
@@ -16,13 +15,17 @@ const MOST_COEFFICIENTS: usize = 32;
 pub struct LinearPredictor {
     precision: u8,
     shift: u8,
-    coefficients: ArrayVec<i32, 32>,
+    /// How many coefficients it has.
+    order: u8,
+    /// The coefficients, and zeros after them.
+    places: [i32; MOST_COEFFICIENTS],
     ghost some_bits: { 1 ≤ precision },
     ghost few_bits: { precision ≤ 15 },
     ghost small_shift: { shift ≤ 15 },
-    ghost some: { 0 < length coefficients.items },
-    ghost few: { length coefficients.items ≤ 32 },
-    ghost fit: { All (FitsBits precision) coefficients.items },
+    ghost placed: { order ≤ 32 },
+    ghost some: { 0 < length (take order places) },
+    ghost few: { length (take order places) ≤ 32 },
+    ghost fit: { All (FitsBits precision) (take order places) },
 }
 
 /// Whether each coefficient has a two's complement form of as many bits as the precision.
@@ -39,21 +42,19 @@ fn all_fit(coefficients: &[i32], precision: u8) -> bool
     true
 }
 
-/// The coefficients in an array of their own.
-fn copied(coefficients: &[i32]) -> ArrayVec<i32, 32>
+/// The coefficients in an array of their own, before zeros.
+fn placed(coefficients: &[i32]) -> [i32; MOST_COEFFICIENTS]
     requires { length coefficients.now ≤ 32 }
-    ensures { result.items ≡ coefficients.now }
+    ensures { take (length coefficients.now) result ≡ coefficients.now }
 {
-    let mut copy = ArrayVec::new();
-    for coefficient in coefficients {
-        copy.push(*coefficient);
-    }
-    copy
+    let mut places = [0; MOST_COEFFICIENTS];
+    places[..coefficients.len()].copy_from_slice(coefficients);
+    places
 }
 
 impl LinearPredictor {
     ghost use Rattle.flac_subframe.specs.Bodies.{linear, fields_cost};
-    ghost use Rattle.flac_subframe.specs.Handed.{predictor_of, AreWithin};
+    ghost use Rattle.flac_subframe.specs.Handed.{coefficients_in, predictor_of, AreWithin};
 
     /// Makes a predictor of a precision of 1 to 15 bits, a shift of 0 to 15, and 1 to 32 coefficients that fit into as
     /// many bits as the precision, that of the nearest sample first (RFC 9639, section 9.2.6). `None` if one of these
@@ -81,7 +82,8 @@ impl LinearPredictor {
         Some(LinearPredictor {
             precision: precision as u8,
             shift: shift as u8,
-            coefficients: copied(coefficients),
+            order: coefficients.len() as u8,
+            places: placed(coefficients),
         })
     }
 
@@ -99,11 +101,11 @@ impl LinearPredictor {
 
     /// How many coefficients it has, 1 to 32, and how many warm-up samples.
     pub fn order(&self) -> usize
-        ensures value { result ≡ length self.now.coefficients.items }
+        ensures value { result ≡ length (coefficients_in self.now) }
         ensures some { 0 < result }
         ensures few { result ≤ 32 }
     {
-        self.coefficients.len()
+        usize::from(self.order)
     }
 
     /// The bits of each coefficient, 1 to 15.
@@ -125,11 +127,11 @@ impl LinearPredictor {
 
     /// The coefficients, that of the nearest sample first.
     pub fn coefficients(&self) -> &[i32]
-        ensures value { result.now ≡ self.now.coefficients.items }
+        ensures value { result.now ≡ coefficients_in self.now }
         ensures few { length result.now ≤ 32 }
         ensures fit { All (FitsBits 15) result.now }
     {
-        self.coefficients.as_slice()
+        &self.places[..usize::from(self.order)]
     }
 
     /// How many bits its precision, its shift and its coefficients take in a subframe.
@@ -137,7 +139,7 @@ impl LinearPredictor {
         ensures value { result ≡ fields_cost (predictor_of self.now) }
         ensures small { result ≤ 1024 }
     {
-        9 + u64::from(self.precision) * self.coefficients.len() as u64
+        9 + u64::from(self.precision) * self.order() as u64
     }
 
     /// The same predictor once more.
@@ -147,7 +149,8 @@ impl LinearPredictor {
         LinearPredictor {
             precision: self.precision,
             shift: self.shift,
-            coefficients: copied(self.coefficients.as_slice()),
+            order: self.order,
+            places: self.places,
         }
     }
 }

@@ -9,7 +9,7 @@ ghost use Rattle.flac_subframe.specs.Chosen.{body_under, body_as, HasPredictor, 
 ghost use Rattle.flac_subframe.specs.Family.{form_as, form_of, form_with, IsMadeAs, IsMadeOf, IsMadeWith};
 ghost use Rattle.flac_subframe.specs.inner.Codes.{IsType, type_code};
 ghost use Rattle.flac_subframe.specs.inner.Family.{type_number};
-ghost use Rattle.flac_subframe.specs.Handed.{predictor_of, handed};
+ghost use Rattle.flac_subframe.specs.Handed.{coefficients_in, predictor_of, handed};
 ghost use Rattle.flac_subframe.specs.Cost.{MayCode, MayCodeEach, MayWrite, coding_of, parameter_bits_of};
 ghost use Rattle.flac_subframe.specs.inner.Cost.{codings_lent};
 ghost use Rattle.flac_subframe.specs.Spelling.{coding_spelling, partition_spelling, residual_spelling, predictor_spelling, content_spelling, header_spelling, subframe_spelling};
@@ -180,10 +180,10 @@ fn write_rest<W: Target>(
     choice: &ChoiceView<'_>,
     values: &[i64],
 ) -> Result<(), Why>
-    requires few { length values.now + length predictor.now.coefficients.items ≤ 65535 }
-    requires may { MayWrite 15 (length predictor.now.coefficients.items) values.now (codings_lent choice.now) }
+    requires few { length values.now + length (coefficients_in predictor.now) ≤ 65535 }
+    requires may { MayWrite 15 (length (coefficients_in predictor.now)) values.now (codings_lent choice.now) }
     requires range { All IsResidual values.now }
-    ensures { Writes (predictor_spelling (handed predictor.now) ++ residual_spelling (residual_of (length predictor.now.coefficients.items) values.now (codings_lent choice.now))) writer.old writer.new result }
+    ensures { Writes (predictor_spelling (handed predictor.now) ++ residual_spelling (residual_of (length (coefficients_in predictor.now)) values.now (codings_lent choice.now))) writer.old writer.new result }
 {
     write_predictor(writer, predictor)?;
     write_residual(writer, choice, predictor.order(), values)

@@ -5,7 +5,7 @@ use Rattle.flac_bits.specs.Signed.{signed}
 use Rattle.flac_bits.proofs.Writing.{writes_then, fails_first}
 use Rattle.flac_subframe.specs.Bodies.{residual_of, differences}
 use Rattle.flac_subframe.specs.inner.Cost.{codings_lent}
-use Rattle.flac_subframe.specs.Handed.{handed}
+use Rattle.flac_subframe.specs.Handed.{coefficients_in, handed}
 use Rattle.flac_subframe.specs.Spelling.{predictor_spelling, residual_spelling}
 use Rattle.flac_subframe.proofs.WriteSteps.{linear_text}
 use Rattle.flac_subframe.proofs.writing.write_linear.Goals as goal
@@ -27,7 +27,7 @@ write_rest-requires-clause-range g c =
 pub returns-in_err-write_signed : goal.returns-in_err-write_signed
 returns-in_err-write_signed g c =
     let q = c.args.predictor.now in
-    let cs = q.coefficients.items in
+    let cs = coefficients_in q in
     let s = c.args.samples.now in
     let r = residual_of (length cs) (differences cs q.shift s) (codings_lent c.args.choice.now) in
     let p = err_from_is_err_and c.from_residual.result c.from_residual.ensures.1 in
@@ -37,7 +37,7 @@ returns-in_err-write_signed g c =
 pub returns : goal.returns
 returns g c =
     let q = c.args.predictor.now in
-    let cs = q.coefficients.items in
+    let cs = coefficients_in q in
     let s = c.args.samples.now in
     let r = residual_of (length cs) (differences cs q.shift s) (codings_lent c.args.choice.now) in
     let all = rw (c.coefficients.ensures.value, c.shift.ensures.value) at c.take_linear.ensures.all in

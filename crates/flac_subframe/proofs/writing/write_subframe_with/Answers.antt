@@ -1,4 +1,5 @@
 use Rattle.std.proofs.Common.{arith}
+use Rattle.flac_subframe.specs.Family.{bytes_used}
 use Rattle.flac_subframe.proofs.Made.{made_of_fewer}
 use Rattle.flac_subframe.proofs.writing.write_subframe_with.Goals as goal
 
@@ -9,7 +10,7 @@ pub write_chosen-requires-clause-made : goal.write_chosen-requires-clause-made
 write_chosen-requires-clause-made g c =
     let lent = c.lent.ensures in
     let choice = c.args.choice.now in
-    rw (lent.form, lent.codings) (made_of_fewer 8 15 c.args.predictors.now choice.form choice.codings.items c.args.samples.now (omega arith) c.requires.made)
+    rw (lent.form, lent.codings) (made_of_fewer 8 15 c.args.predictors.now choice.form (bytes_used choice) c.args.samples.now (omega arith) c.requires.made)
 
 pub returns : goal.returns
 returns g c =

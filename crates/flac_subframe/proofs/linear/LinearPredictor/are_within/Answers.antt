@@ -1,3 +1,4 @@
+use Rattle.flac_subframe.specs.Handed.{coefficients_in}
 use Rattle.std.proofs.Common.{arith, ◌≤◌, length, get_or, refl}
 use Rattle.std.proofs.lemmas.List.{take_all}
 use Rattle.flac_subframe.specs.declared.linear.LinearPredictor.{LinearPredictor}
@@ -12,7 +13,7 @@ loop-predictor-preserved c =
     let i = c.loop-predictor.predictor-index in
     let ps = c.args.predictors.now in
     let p = c.predictor-item.result in
-    let P : LinearPredictor → Type 0 = λ q. length q.coefficients.items ≤ c.args.limit in
+    let P : LinearPredictor → Type 0 = λ q. length (coefficients_in q) ≤ c.args.limit in
     let here : P p = omega (arith, c.order.ensures.value, c.if-order-limit.false) in
     let there : P (get_or ps i p) = rw (← c.predictor-item.is) here in
     (All_step P ps i p c.loop-predictor-test.true).1 (c.loop-predictor.invariant, there)
@@ -24,7 +25,7 @@ returns-then-order-limit c = (
       let i = c.loop-predictor.predictor-index in
       let ps = c.args.predictors.now in
       let p = c.predictor-item.result in
-      let P : LinearPredictor → Type 0 = λ q. length q.coefficients.items ≤ c.args.limit in
+      let P : LinearPredictor → Type 0 = λ q. length (coefficients_in q) ≤ c.args.limit in
       let there : P (get_or ps i p) = all i p c.loop-predictor-test.true in
       let here : P p = rw (← c.predictor-item.is) at there in
       absurd (omega (arith, here, c.order.ensures.value, c.if-order-limit.true)),

@@ -29,9 +29,10 @@ invariant_of-result c = record {
   some_bits = c.if-precision-lt1.false;
   few_bits = c.if-precision-gt15.false;
   small_shift = c.if-shift-gt15.false;
-  some = some_items _ _ _ c.copied.ensures c.is_empty.ensures c.if-is_empty.false;
-  few = few_items _ _ c.copied.ensures c.if-coefficients-gt-MOST_COEFFICIENTS.false;
-  fit = items_fit _ _ _ c.copied.ensures (c.all_fit.ensures.0 c.if-not-all_fit.false);
+  placed = c.if-coefficients-gt-MOST_COEFFICIENTS.false;
+  some = some_items _ _ _ c.placed.ensures c.is_empty.ensures c.if-is_empty.false;
+  few = few_items _ _ c.placed.ensures c.if-coefficients-gt-MOST_COEFFICIENTS.false;
+  fit = items_fit _ _ _ c.placed.ensures (c.all_fit.ensures.0 c.if-not-all_fit.false);
 }
 
 pub returns-then-precision-lt1 : goal.returns-then-precision-lt1
