@@ -27,7 +27,10 @@ from program import Bench, Wrong, expect, read
 HERE = os.path.dirname(os.path.abspath(__file__))
 FOLDER = os.environ.get("CORPUS", "/tmp/flac-corpus")
 JOBS = int(os.environ.get("JOBS", os.cpu_count() or 1))
-LIBRARIES = ["flac_bits", "flac_meta", "flac_header", "flac_subframe", "flac_frame", "flac_native", "flac_pages", "flac_ogg"]
+LIBRARIES = [
+    *("flac_bits", "flac_info", "flac_meta", "flac_header", "flac_subframe", "flac_frame", "flac_native", "flac_pages", "flac_ogg"),
+    "flac_encoder",
+]
 BLOCKS = [16, 256, 4096]
 
 
@@ -36,7 +39,7 @@ def built(folder):
     lines = [line for line in read(os.path.join(program.ROOT, "crates.txt")).decode().splitlines() if line.split(":")[0] in LIBRARIES]
     subprocess.run(["git", "init", "-q", folder], check=True)
     with open(os.path.join(folder, "crates.txt"), "w", encoding="utf-8") as file:
-        print(*lines, "recorder: flac_bits flac_meta flac_native flac_ogg byteorder", sep="\n", file=file)
+        print(*lines, "recorder: flac_bits flac_meta flac_native flac_encoder byteorder", sep="\n", file=file)
     shutil.copy(os.path.join(program.ROOT, "HANDLES"), folder)
     for name in LIBRARIES:
         for part in ("src", "specs", "proofs", "out"):

@@ -5,10 +5,10 @@
 use crate::predicted::{Encoder, made, outside, predictors, wave};
 use crate::writes::{Written, write};
 use flac_bits::{Counted, Target};
+use flac_encoder::{OggEncoder, StreamEncoder};
 use flac_frame::Audio;
 use flac_meta::{Block, BlockList, Comments};
-use flac_native::{EncodeFault, LinearPredictor, Plan, StreamEncoder};
-use flac_ogg::OggEncoder;
+use flac_native::{EncodeFault, LinearPredictor, Plan};
 use flac_vectors::{
     OUTSIDE, OUTSIDE_PAGES, WAVE_PREDICTED, WAVE_PREDICTED_PAGES, WAVES_PUSHED, WAVES_PUSHED_PAGES,
 };

@@ -2,10 +2,10 @@
 
 use crate::writes::{Trickle, Written, each_write_fails, is_front};
 use flac_bits::{Counted, FailAt, Target};
+use flac_encoder::{OggEncoder, StreamEncoder};
 use flac_frame::Audio;
 use flac_meta::BlockList;
-use flac_native::{LinearPredictor, Plan, Profile, StreamEncoder};
-use flac_ogg::OggEncoder;
+use flac_native::{LinearPredictor, Plan, Profile};
 use flac_testing::{no_comments, number_of, setup_number};
 use flac_vectors::{
     OUTSIDE, OUTSIDE_PAGES, WAVE_PREDICTED, WAVE_PREDICTED_PAGES, WAVE_SAMPLES, WAVES_PUSHED,

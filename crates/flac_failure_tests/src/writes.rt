@@ -3,10 +3,11 @@
 
 use crate::reads::{NEVER, ONE_FRAME};
 use flac_bits::{Collected, Counted, FailAt, Memory, Pieces, Target};
+use flac_encoder::{OggEncoder, StreamEncoder};
 use flac_frame::Audio;
 use flac_meta::{Block, BlockList, Comments};
-use flac_native::{EncodeFault, Place, Plan, RetagFault, StreamEncoder, Why, encode, retag};
-use flac_ogg::{OggEncoder, encode_ogg};
+use flac_native::{EncodeFault, Place, Plan, RetagFault, Why, encode, retag};
+use flac_ogg::encode_ogg;
 use flac_testing::{no_comments, number_of, sample};
 use flac_vectors::{EXAMPLE, EXAMPLE_TAGGED, ONE_SAMPLE, PAGES, PAGES_OF_PUSHES, TEN_THOUSAND};
 use std::alloc::Global;

@@ -80,6 +80,6 @@ spent_made a b old mid new (Err e) h k = tt
 pub fields_of : (i : Info) (rest : List Bool) {a b c d r channels depth t : ℕ}
     → a ≡ i.least_block → b ≡ i.greatest_block → c ≡ i.least_frame → d ≡ i.greatest_frame → r ≡ i.rate → channels ≡ i.channels → depth ≡ i.depth → t ≡ i.total
     → unsigned 16 i.least_block ++ (unsigned 16 i.greatest_block ++ (unsigned 24 i.least_frame ++ (unsigned 24 i.greatest_frame
-      ++ (unsigned 20 i.rate ++ (unsigned 3 (i.channels - 1) ++ (unsigned 5 (i.depth - 1) ++ (unsigned 36 i.total ++ rest)))))))
+    ++ (unsigned 20 i.rate ++ (unsigned 3 (i.channels - 1) ++ (unsigned 5 (i.depth - 1) ++ (unsigned 36 i.total ++ rest)))))))
     ≡ unsigned 16 a ++ (unsigned 16 b ++ (unsigned 24 c ++ (unsigned 24 d ++ (unsigned 20 r ++ (unsigned 3 (channels - 1) ++ (unsigned 5 (depth - 1) ++ (unsigned 36 t ++ rest)))))))
 fields_of i rest h k l m n o p q = rw (h, k, l, m, n, o, p, q) refl

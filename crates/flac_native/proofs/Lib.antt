@@ -41,7 +41,6 @@ pub mod Whole
 pub mod Unread
 pub mod BlockOrder
 pub mod Ordered
-pub mod Pushing
 pub mod Spelled
 pub mod Rooms
 pub mod WrittenFrames

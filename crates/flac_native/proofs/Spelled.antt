@@ -16,8 +16,9 @@ use Rattle.flac_frame.specs.Spelling.{FrameForm, frame_spelling}
 use Rattle.flac_native.specs.Given.{Cut, IsRange, size_of, frame_of}
 use Rattle.flac_native.specs.Seeking.{points_from, points_of, point_at}
 use Rattle.flac_native.specs.Writing.{SpellsLeast, AreFrames, AreLeastFrames, AreSizes, IsSpelled}
-use Rattle.flac_native.specs.inner.Writing.{SendsBits, WritesChosen}
+use Rattle.flac_native.specs.inner.Writing.{WritesChosen}
 use Rattle.flac_native.proofs.Gathered.{nth}
+use Rattle.flac_native.specs.Sent.{SendsBits}
 
 -- ---- least frames of a block are as long
 

@@ -10,8 +10,8 @@ pub mod Giving
 pub mod Calls
 pub mod Given
 pub mod Seeking
+pub mod Sent
 pub mod Writing
-pub mod Pushing
 pub mod Points
 pub mod Numbers
 pub mod Retag

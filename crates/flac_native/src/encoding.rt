@@ -5,7 +5,7 @@ ghost use Rattle.flac_bits.specs.Written.{Fails, Writes};
 ghost use Rattle.flac_meta.specs.declared.block.Block.{Block};
 ghost use Rattle.flac_native.specs.inner.InOrder.{MayBeWritten, Advances};
 ghost use Rattle.flac_native.specs.Writing.{blocks_spelling, head_spelling, AreChoices, AreCounted, IsDigest, Encodes, BeginsEncoding};
-ghost use Rattle.flac_native.specs.inner.Writing.{WritesAll, WritesStream, SendsBits, SendsStream};
+ghost use Rattle.flac_native.specs.inner.Writing.{WritesAll, WritesStream, SendsStream};
 ghost use Rattle.flac_bits.specs.Bits.{bits_of};
 ghost use Rattle.flac_bits.specs.State.{Rises};
 ghost use Rattle.flac_meta.specs.Listed.{block_fault};
@@ -13,6 +13,7 @@ ghost use Rattle.flac_meta.specs.declared.block.Block.TheVariants as block_of;
 ghost use Rattle.flac_native.specs.Given.{fits_plan, info_of, room_of};
 ghost use Rattle.flac_native.specs.Numbers.{is_of_whole};
 ghost use Rattle.flac_native.specs.Seeking.{table_of, is_table, has_table, repeats_table};
+ghost use Rattle.flac_native.specs.Sent.{SendsBits};
 
 use crate::chosen_frames::{ChosenFrames, write_frames};
 use crate::fault::EncodeFault;
@@ -117,8 +118,13 @@ fn finish_head<W: Target>(
     writer.finish()
 }
 
-/// Sends what comes before the frames. After an error a prefix of it was sent.
-pub(crate) fn send_head<W: Target>(
+/// Sends what comes before the frames of a stream: the marker fLaC, STREAMINFO, the blocks of the list, and the seek
+/// table of these points, if there are points (RFC 9639, section 6). For encoders of other crates, such as
+/// `StreamEncoder` of `flac_encoder`.
+///
+/// # Errors
+/// [`Why::Write`] if the target returns an error. A prefix was sent then.
+pub fn send_head<W: Target>(
     info: StreamInfo,
     list: &BlockList,
     points: Vec<SeekPoint>,

@@ -1,8 +1,8 @@
 //! Where and why a stream is refused, and why encoding failed.
 
-ghost use Rattle.std.specs.Prelude.{Some, ◌≡◌};
+ghost use Rattle.std.specs.Prelude.{Some, ◌≡◌, ◌≢◌, true};
 ghost use Rattle.flac_native.specs.Places.{kind_name, place_text, fault_text};
-ghost use Rattle.flac_native.specs.Numbers.{fault_number, text_of};
+ghost use Rattle.flac_native.specs.Numbers.{fault_number, text_of, is_of_whole};
 
 use flac_bits::Why;
 use flac_frame::SetupFault;
@@ -116,6 +116,19 @@ impl EncodeFault {
             EncodeFault::Spent => 38,
             EncodeFault::Write => 39,
             EncodeFault::Setup(fault) => fault.number(),
+        }
+    }
+
+    /// The same reason for a target in memory, such as [`crate::Collected`]: its only error is a failed allocation, so
+    /// `Write` becomes `Memory`.
+    pub fn in_memory(self) -> EncodeFault
+        ensures write { self ≡ EncodeFault.Write → result ≡ EncodeFault.Memory }
+        ensures others { self ≢ EncodeFault.Write → result ≡ self }
+        ensures whole { is_of_whole self ≡ true → is_of_whole result ≡ true }
+    {
+        match self {
+            EncodeFault::Write => EncodeFault::Memory,
+            other => other,
         }
     }
 

@@ -8,16 +8,12 @@
 //! | encode samples that are all there | [`Audio`], [`Plan`] and [`encode`] |
 //! | encode outside the streamable subset | [`Audio::new_in`] |
 //! | try linear predictors of one's own | [`LinearPredictor`] and [`Plan::with_predictors`] |
-//! | encode a block at a time | [`StreamEncoder`] |
-//! | encode one block as a frame | [`StreamFormat::encode_block`] |
-//! | encode the blocks of a stream for a container of one's own | [`BlockEncoder`] |
 //! | replace the comments | [`retag`] |
 //!
 //! It re-exports what its users need from the crates below: sources and targets, metadata blocks, frames, and errors. A
 //! program names this crate alone.
 #![tactic(auto)]
 
-mod block_encoder;
 mod chosen_frames;
 mod container;
 mod decoder;
@@ -34,18 +30,15 @@ mod plan;
 mod position;
 mod retagging;
 mod sinks;
-mod stream_encoder;
-mod stream_format;
 mod targets;
 mod track;
 
-pub use block_encoder::BlockEncoder;
 pub use chosen_frames::ChosenFrames;
 pub use container::{Container, Part};
 pub use decoder::Decoder;
 pub use decoding::{Sink, SinkFault, decode, hand_out};
 pub use digest::{put_rows, sample_width};
-pub use encoding::encode;
+pub use encoding::{encode, send_head};
 pub use fault::{EncodeFault, Fault, Place};
 pub use flac_bits::{
     BitReader, BitWriter, Collected, Counted, Memory, Pieces, Source, Target, Why,
@@ -69,7 +62,5 @@ pub use offsets::bytes_from;
 pub use plan::{Plan, predictors_fault};
 pub use retagging::{RetagFault, retag};
 pub use sinks::{Failures, SampleWriter};
-pub use stream_encoder::StreamEncoder;
-pub use stream_format::{StreamFormat, block_len};
 pub use targets::Room;
 pub use track::Track;

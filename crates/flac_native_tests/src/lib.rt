@@ -12,8 +12,6 @@ mod encoding;
 #[cfg(test)]
 mod parts;
 #[cfg(test)]
-mod pushing;
-#[cfg(test)]
 mod retagging;
 mod samples;
 #[cfg(test)]

@@ -17,10 +17,10 @@ use Rattle.flac_native.specs.Writing.{head_spelling, blocks_spelling}
 use Rattle.flac_pages.specs.declared.writing.PacketKind.TheVariants.{Header}
 use Rattle.flac_pages.specs.Placed.{Placed, IsPlaced, marks_of, sequence_behind}
 use Rattle.flac_pages.specs.Written.{packet_spelling}
-use Rattle.flac_ogg.specs.inner.Headers.{AreHeaders}
+use Rattle.flac_ogg.specs.Headers.{AreHeaders}
 use Rattle.flac_ogg.specs.Listed.{texts_of, kinds_in}
 use Rattle.flac_ogg.specs.Native.{mapping_spelling, block_spellings, packet_spellings}
-use Rattle.flac_ogg.specs.Pushing.{ArePages}
+use Rattle.flac_ogg.specs.Held.{ArePages}
 use Rattle.flac_ogg.specs.Writing.{header_count}
 use Rattle.flac_ogg.specs.declared.headers.Headers.{Headers}
 use Rattle.flac_ogg.proofs.Listing.{texts_append, kinds_append}

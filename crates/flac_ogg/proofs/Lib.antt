@@ -23,5 +23,4 @@ pub mod BitsAsBytes
 pub mod SentPackets
 pub mod SentOgg
 pub mod Headed
-pub mod PushedOgg
 pub mod Wider

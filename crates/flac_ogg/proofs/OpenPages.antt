@@ -9,7 +9,7 @@ use Rattle.flac_pages.specs.declared.writing.PacketMarks.{PacketMarks}
 use Rattle.flac_pages.specs.Page.{page_spelling}
 use Rattle.flac_pages.specs.Written.{page_at, pages_of_packet, packet_spelling}
 use Rattle.flac_pages.specs.Placed.{Placed, marks_of, sequence_behind, pages_from, stream_spelling}
-use Rattle.flac_ogg.specs.Pushing.{open_from, number_behind, ArePages}
+use Rattle.flac_ogg.specs.Held.{open_from, number_behind, ArePages}
 
 pub packet_joined : (m : PacketMarks) (packet : List ℕ) → flat_map page_spelling (pages_of_packet m packet) ≡ packet_spelling m packet
 unfolding packet_spelling

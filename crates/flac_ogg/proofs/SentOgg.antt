@@ -16,7 +16,6 @@ use Rattle.flac_meta.specs.declared.seek_table.SeekPoint.{SeekPoint}
 use Rattle.flac_frame.specs.Audio.{Sound, samples_each}
 use Rattle.flac_native.specs.Given.{Cut, fits_plan, plan_fault, blocks_in, frame_of, info_of}
 use Rattle.flac_native.specs.Writing.{SpellsFrame, AreFrames, AreLeastFrames, AreCounted}
-use Rattle.flac_native.specs.inner.Writing.{SendsBits}
 use Rattle.flac_native.proofs.Encoded.{least_part}
 use Rattle.flac_native.proofs.Gathered.{nth, still_some}
 use Rattle.flac_native.proofs.Spelled.{came_out, sends_bits, bits_then, bits_fault, alike}
@@ -24,10 +23,10 @@ use Rattle.flac_pages.specs.declared.writing.PacketKind.{PacketKind}
 use Rattle.flac_pages.specs.declared.writing.PacketKind.TheVariants.{Header}
 use Rattle.flac_pages.specs.Page.{page_spelling}
 use Rattle.flac_pages.specs.Placed.{Placed, IsPlaced, pages_from, stream_spelling}
-use Rattle.flac_ogg.specs.inner.Headers.{AreHeaders}
+use Rattle.flac_ogg.specs.Headers.{AreHeaders}
 use Rattle.flac_ogg.specs.Listed.{texts_of, kinds_in}
 use Rattle.flac_ogg.specs.Native.{mapping_spelling, block_spellings, packet_spellings}
-use Rattle.flac_ogg.specs.Pushing.{open_from, number_behind}
+use Rattle.flac_ogg.specs.Held.{open_from, number_behind}
 use Rattle.flac_ogg.specs.Writing.{header_count, frames_to, ArePackets, EncodesOgg}
 use Rattle.flac_ogg.specs.inner.Writing.{SendsPackets, SendsOgg}
 use Rattle.flac_ogg.specs.declared.headers.Headers.{Headers}
@@ -36,6 +35,7 @@ use Rattle.flac_ogg.proofs.OpenPages.{is_first}
 use Rattle.flac_ogg.proofs.Packing.{count_blocks}
 use Rattle.flac_ogg.proofs.SentPackets.{behind_open, packed, texts_packed, kinds_packed, good_packed, spelled_whole}
 use Rattle.flac_ogg.proofs.Whole.{encodes_ogg}
+use Rattle.flac_native.specs.Sent.{SendsBits}
 
 none_or_some : (n : ℕ) → (n ≡ 0) ⊎ (0 < n)
 none_or_some zero = inl refl

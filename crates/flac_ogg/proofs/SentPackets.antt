@@ -21,7 +21,6 @@ use Rattle.flac_frame.specs.Audio.{Sound, samples_each}
 use Rattle.flac_frame.proofs.FrameTie.{frames_bytes}
 use Rattle.flac_native.specs.Given.{Cut, blocks_in, frame_of}
 use Rattle.flac_native.specs.Writing.{SpellsFrame, SpellsLeast, AreFrames, AreLeastFrames, AreCounted, IsSpelled}
-use Rattle.flac_native.specs.inner.Writing.{SendsBits}
 use Rattle.flac_native.proofs.Encoded.{least_part, all_parts}
 use Rattle.flac_native.proofs.WholeBytes.{length-joined}
 use Rattle.flac_native.proofs.Gathered.{nth, snoc, length-snoc, each_more}
@@ -34,12 +33,13 @@ use Rattle.flac_pages.specs.Page.{Page, page_spelling}
 use Rattle.flac_pages.specs.Placed.{Placed, IsPlaced, marks_of, sequence_behind, pages_from}
 use Rattle.flac_pages.specs.Written.{page_at, pages_of_packet, packet_spelling}
 use Rattle.flac_ogg.specs.Listed.{texts_of, kinds_in}
-use Rattle.flac_ogg.specs.Pushing.{open_from, number_behind}
+use Rattle.flac_ogg.specs.Held.{open_from, number_behind}
 use Rattle.flac_ogg.specs.Writing.{frames_to}
 use Rattle.flac_ogg.specs.inner.Writing.{SendsPackets}
 use Rattle.flac_ogg.proofs.BitsAsBytes.{bytes_in, bytes_back, bytes_small}
 use Rattle.flac_ogg.proofs.Listing.{texts_append, kinds_append}
 use Rattle.flac_ogg.proofs.OpenPages.{packet_joined, is_first, later, open_packet, next_number}
+use Rattle.flac_native.specs.Sent.{SendsBits}
 
 -- ---- pages of packets behind others
 

@@ -12,6 +12,7 @@ pub mod Laws
 pub mod Listed
 pub mod Writing
 pub mod RoundTrip
-pub mod Pushing
+pub mod Held
+pub mod Headers
 pub mod Wider
 pub mod inner

@@ -1,4 +1,3 @@
 -- What private contracts and proofs need, and no contract of an exported function.
 pub mod Telling
 pub mod Writing
-pub mod Headers

@@ -11,7 +11,7 @@ ghost use Rattle.flac_native.specs.Given.{fits_plan, info_of, room_of};
 ghost use Rattle.flac_native.specs.Numbers.{is_of_whole};
 ghost use Rattle.flac_native.specs.Writing.{AreCounted, AreChoices, HasRoom};
 ghost use Rattle.flac_native.specs.inner.Writing.{WritesAll};
-ghost use Rattle.flac_ogg.specs.inner.Headers.{AreHeaders};
+ghost use Rattle.flac_ogg.specs.Headers.{AreHeaders};
 ghost use Rattle.flac_ogg.specs.Native.{mapping_spelling, packet_spellings};
 ghost use Rattle.flac_ogg.specs.Writing.{begins_with_comment, may_be_ogg, header_count, EncodesOgg, BeginsOgg};
 ghost use Rattle.flac_ogg.specs.inner.Writing.{SendsPackets, SendsOgg};
@@ -29,7 +29,7 @@ use flac_pages::{MOST_BODY, MOST_PAGE, PacketKind, PacketMarks, write_packet};
 use std::alloc::Global;
 
 /// Whether the first block is a Vorbis comment.
-pub(crate) fn begins_with_comment(blocks: &[Block]) -> bool
+pub fn begins_with_comment(blocks: &[Block]) -> bool
     ensures { result ≡ begins_with_comment blocks.now }
 {
     match blocks.first() {

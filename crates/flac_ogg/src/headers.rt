@@ -6,7 +6,7 @@ ghost use Rattle.flac_bits.specs.Forms.{IsBytes, joined};
 ghost use Rattle.flac_bits.specs.Written.{Writes};
 ghost use Rattle.flac_info.specs.Info.{Info};
 ghost use Rattle.flac_native.specs.Writing.{head_spelling};
-ghost use Rattle.flac_ogg.specs.inner.Headers.{AreHeaders};
+ghost use Rattle.flac_ogg.specs.Headers.{AreHeaders};
 ghost use Rattle.flac_ogg.specs.Native.{block_spellings, packet_spellings};
 ghost use Rattle.flac_ogg.specs.Writing.{header_count};
 
@@ -22,10 +22,13 @@ use std::alloc::Global;
 /// The header packets of a stream with this serial number: the pages of all but the last, and the last, which is held
 /// back.
 #[derive(Drop)]
-pub(crate) struct Headers {
-    pub(crate) serial: u32,
-    pub(crate) sent: Vec<u8>,
-    pub(crate) held: HeldPacket,
+pub struct Headers {
+    /// The serial number of the stream.
+    pub serial: u32,
+    /// The pages of all packets but the last.
+    pub sent: Vec<u8>,
+    /// The last packet.
+    pub held: HeldPacket,
 }
 
 impl Headers {
@@ -114,13 +117,12 @@ fn mapped(alloc: Global, blocks: usize, head: &[u8]) -> Result<Vec<u8>, Why>
 }
 
 /// The header packets of the blocks with which a native stream begins: STREAMINFO, after the mapping, and those of the
-/// list. Its only error is `Memory`: an allocation failed.
-pub(crate) fn headers_of(
-    alloc: Global,
-    serial: u32,
-    head: &[u8],
-    list: &BlockList,
-) -> Result<Headers, Why>
+/// list (RFC 9639, section 10.1). For encoders of other crates, such as `OggEncoder` of `flac_encoder`. `head` is what a
+/// native stream of them begins with: the marker and STREAMINFO are its first 42 bytes.
+///
+/// # Errors
+/// [`Why::Memory`] if an allocation fails.
+pub fn headers_of(alloc: Global, serial: u32, head: &[u8], list: &BlockList) -> Result<Headers, Why>
     requires { 42 ≤ length head.now }
     ensures made { IfOk result (λ h. (info : Info) → IsBytes 16 info.digest → bits_of head.now ≡ head_spelling info list.now → AreHeaders (packet_spellings (header_count (length list.now)) info list.now []) h) }
     ensures serial { IfOk result (λ h. h.serial ≡ serial) }

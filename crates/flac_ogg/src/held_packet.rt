@@ -35,16 +35,19 @@ fn packet_pages(alloc: Global, marks: PacketMarks, packet: &[u8]) -> Result<Pack
 /// The pages of a packet of which it is not known yet whether more follow: as they are if more follow, as they are if
 /// it ends the stream, and the number of the page after them.
 #[derive(Drop)]
-pub(crate) struct HeldPacket {
-    pub(crate) middle: Vec<u8>,
-    pub(crate) last: Vec<u8>,
-    pub(crate) next: u32,
+pub struct HeldPacket {
+    /// The pages if more packets follow.
+    pub middle: Vec<u8>,
+    /// The pages if the packet ends the stream.
+    pub last: Vec<u8>,
+    /// The number of the page after them.
+    pub next: u32,
 }
 
 impl HeldPacket {
     /// Holds a packet of these marks, apart from whether it is the last. Its only error is `Memory`: an allocation
     /// failed.
-    pub(crate) fn new(alloc: Global, marks: PacketMarks, packet: &[u8]) -> Result<HeldPacket, Why>
+    pub fn new(alloc: Global, marks: PacketMarks, packet: &[u8]) -> Result<HeldPacket, Why>
         ensures middle { IfOk result (λ h. bits_of h.middle.items ≡ packet_spelling (record marks { last = false }) packet.now) }
         ensures last { IfOk result (λ h. bits_of h.last.items ≡ packet_spelling (record marks { last = true }) packet.now) }
         ensures next { IfOk result (λ h. h.next ≡ sequence_behind marks.sequence packet.now) }

@@ -11,7 +11,6 @@
 //! | encode outside the streamable subset | [`Audio::new_in`] |
 //! | try linear predictors of one's own | [`LinearPredictor`] and [`Plan::with_predictors`] |
 //! | encode into memory, and decode again | [`encode_and_decode`] |
-//! | encode a block at a time | [`OggEncoder`] |
 //!
 //! It re-exports what its users need from the crates below.
 #![tactic(auto)]
@@ -21,12 +20,11 @@ mod encoding;
 mod headers;
 mod held_packet;
 mod laws;
-mod ogg_encoder;
 mod packets;
 mod verifying;
 
 pub use decoding::{Fronted, begins_page, decode_any, decode_ogg, ogg_decoder, pull_front};
-pub use encoding::encode_ogg;
+pub use encoding::{begins_with_comment, encode_ogg};
 pub use flac_bits::{Collected, Counted, Memory, Pieces, Source, Target, Why};
 pub use flac_frame::{Audio, FrameView, SetupFault};
 pub use flac_meta::{
@@ -35,13 +33,14 @@ pub use flac_meta::{
 };
 pub use flac_native::{
     Decoder, EncodeFault, Fault, Item, LinearPredictor, Place, Plan, Profile, Sink, SinkFault,
-    StreamFormat, decode,
+    decode,
 };
 pub use flac_pages::{PacketBytes, Pages};
+pub use headers::{Headers, headers_of};
+pub use held_packet::HeldPacket;
 pub use laws::{
     calls_break_at_pages, encoded_are_read, encoded_items, only_one_way, same_items, some_way,
     subset_is_lax,
 };
-pub use ogg_encoder::OggEncoder;
 pub use packets::OggPackets;
 pub use verifying::{encode_and_decode, verify};

@@ -70,18 +70,6 @@ pub fn verify(alloc: Global, bytes: &[u8], profile: Profile) -> Result<(), Fault
     decode_any(alloc, &mut source, profile, &mut sink)
 }
 
-/// The error of encoding into memory: there an error of the target is a failed allocation.
-pub(crate) fn in_memory(fault: EncodeFault) -> EncodeFault
-    ensures write { fault ≡ EncodeFault.Write → result ≡ EncodeFault.Memory }
-    ensures others { fault ≢ EncodeFault.Write → result ≡ fault }
-    ensures whole { is_of_whole fault ≡ true → is_of_whole result ≡ true }
-{
-    match fault {
-        EncodeFault::Write => EncodeFault::Memory,
-        other => other,
-    }
-}
-
 /// Encodes into memory as a native stream.
 fn native_bytes(
     alloc: Global,
@@ -103,7 +91,7 @@ fn native_bytes(
             bytes_fit(bytes.as_slice());
             Ok(bytes)
         }
-        Err(fault) => Err(in_memory(fault)),
+        Err(fault) => Err(fault.in_memory()),
     }
 }
 
@@ -129,7 +117,7 @@ fn ogg_bytes(
             bytes_fit(bytes.as_slice());
             Ok(bytes)
         }
-        Err(fault) => Err(in_memory(fault)),
+        Err(fault) => Err(fault.in_memory()),
     }
 }
 

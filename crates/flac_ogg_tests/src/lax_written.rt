@@ -6,10 +6,11 @@ ghost use Rattle.flac_native.specs.Given.{fits_plan};
 
 use crate::lax::refusal;
 use flac_bits::Collected;
+use flac_encoder::{OggEncoder, StreamEncoder, StreamFormat};
 use flac_frame::Audio;
 use flac_meta::BlockList;
-use flac_native::{Plan, Profile, StreamEncoder, StreamFormat};
-use flac_ogg::{OggEncoder, encode_and_decode, encode_ogg};
+use flac_native::{Plan, Profile};
+use flac_ogg::{encode_and_decode, encode_ogg};
 use flac_testing::{encoded, encoded_by, no_comments, number_of};
 use flac_vectors::{OUTSIDE, OUTSIDE_PAGES, OUTSIDE_PUSHED, bursts, fields_of, pair_of};
 use std::alloc::Global;

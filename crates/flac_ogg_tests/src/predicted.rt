@@ -3,9 +3,10 @@
 
 use crate::lax_written::come_out;
 use flac_bits::{Collected, Memory};
+use flac_encoder::{OggEncoder, StreamEncoder, StreamFormat};
 use flac_meta::BlockList;
-use flac_native::{Decoder, LinearPredictor, Plan, Profile, StreamEncoder, StreamFormat};
-use flac_ogg::{OggEncoder, ogg_decoder};
+use flac_native::{Decoder, LinearPredictor, Plan, Profile};
+use flac_ogg::ogg_decoder;
 use flac_testing::{list_of, no_comments, number_of, peaks_to_end, setup_number, wave};
 use flac_vectors::{
     WAVE, WAVE_PAGES, WAVE_PREDICTED, WAVE_PREDICTED_PAGES, WAVE_SAMPLES, WAVES_PUSHED,

@@ -2,10 +2,11 @@
 //! from this project.
 
 use flac_bits::{Collected, Counted, Memory, Target};
+use flac_encoder::OggEncoder;
 use flac_frame::Audio;
 use flac_meta::{Block, BlockList, Bytes, Comments, Texts};
 use flac_native::{EncodeFault, Plan, Profile};
-use flac_ogg::{OggEncoder, encode_ogg, ogg_decoder};
+use flac_ogg::{encode_ogg, ogg_decoder};
 use flac_testing::{Narrow, Recorder, count_rising, number_of};
 use flac_vectors::PAGES_OF_PUSHES;
 use std::alloc::Global;

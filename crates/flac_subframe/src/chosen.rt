@@ -81,7 +81,11 @@ impl Choice {
         ensures form { result.form ≡ self.now.form }
         ensures codings { result.codings.now ≡ bytes_used self.now }
     {
-        let order = self.form.residual.partition_order.min(MOST_PARTITION_ORDER as u8);
+        let order = self
+            .form
+            .residual
+            .partition_order
+            .min(MOST_PARTITION_ORDER as u8);
         ChoiceView {
             form: self.form,
             codings: &self.codings[..power(order)],

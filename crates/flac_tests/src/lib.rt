@@ -1,8 +1,10 @@
-//! Tests of readers of whole streams, and the programs of the README.
+//! Tests of readers of whole streams, of encoders of native streams that are pushed to, and the programs of the README.
 #![tactic(auto)]
 
 #[cfg(test)]
 mod programs;
+#[cfg(test)]
+mod pushing;
 #[cfg(test)]
 mod reading_files;
 #[cfg(test)]

@@ -1,8 +1,9 @@
 //! The programs of the README, which read files: the example of RFC 9639, appendix D.1, with the comment TITLE=x, its
 //! digest unknown; and the samples 0, 1, .., 9999 of one channel in frames of 4096, 4096 and 1808 samples.
 
+use flac_encoder::{StreamEncoder, StreamFormat};
 use flac_meta::BlockList;
-use flac_native::{StreamEncoder, StreamFormat, Target};
+use flac_native::Target;
 use flac_reader::{
     Container, Counted, Fault, FrameView, Keep, Profile, Reader, Samples, open_native,
 };

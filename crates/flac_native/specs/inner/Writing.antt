@@ -15,6 +15,7 @@ use Rattle.flac_frame.specs.Chosen.{IsChoiceWith}
 use Rattle.flac_frame.specs.declared.frame_choice.FrameChoice.{FrameChoice}
 use Rattle.flac_native.specs.Given.{Cut, fits_plan, blocks_in, room_of}
 use Rattle.flac_native.specs.Writing.{AreFrames, AreLeastFrames, AreChoices, IsSpelled}
+use Rattle.flac_native.specs.Sent.{SendsBits}
 
 -- These bits were written and sent, at a whole byte, or else the target failed.
 pub record WritesAll {X : Type 0} (text : List Bool) (old new : Written) (result : Result X Why) : Type 0 where
@@ -54,18 +55,6 @@ WritesNext p a number old new result = (text : List Bool) × IsSpelled p a numbe
 pub record IsKept (c kept : FrameChoice) : Type 0 where
   pub same : (ps : List LinearPredictor) (a : Sound) (size number : ℕ) (block : List (List ℤ)) → IsChoiceWith ps a size number block c → IsChoiceWith ps a size number block kept
   pub many : length kept.subframes.items ≡ length c.subframes.items
-
--- A call that was to send whole bytes of these bits sent all of them if it returned Ok, and else a prefix of them; then
--- the target returned an error.
-pub record SendsBits {S X E : Type 0} (g : target.Ghosts S) (text : List Bool) (old new : S) (result : Result X E) : Type 0 where
-  pub known : OnOk result (g.known old ≡ true → g.known new ≡ true)
-  pub sent : OnOk result (g.known old ≡ true → bits_of (g.sent new) ≡ bits_of (g.sent old) ++ text)
-  pub begun : OnErr result (g.known old ≡ true → (front : List Bool) × (rest : List Bool) × (text ≡ front ++ rest) × (bits_of (g.sent new) ≡ bits_of (g.sent old) ++ front))
-  pub names : g.names new ≡ g.names old
-  pub counted : OnOk result (g.errors new ≡ g.errors old)
-  pub kept : g.errors old ≤ g.errors new
-  pub rises : OnErr result (g.known old ≡ true → g.errors old < g.errors new)
-  pub risen : OnErr result (Rises (g.errors old) (g.errors new))
 
 -- each block of the samples has a shortest frame
 pub record HaveFrames (p : Cut) (a : Sound) : Type 0 where

@@ -5,11 +5,11 @@ use Rattle.flac_bits.specs.declared.target.Target as target
 use Rattle.flac_frame.specs.Audio.{Sound, samples_each}
 use Rattle.flac_native.specs.Given.{Cut, blocks_in}
 use Rattle.flac_native.specs.Writing.{AreFrames, AreLeastFrames}
-use Rattle.flac_native.specs.inner.Writing.{SendsBits}
 use Rattle.flac_pages.specs.Page.{page_spelling}
 use Rattle.flac_pages.specs.Placed.{Placed, IsPlaced, pages_from, stream_spelling}
 use Rattle.flac_ogg.specs.Listed.{texts_of, kinds_in}
 use Rattle.flac_ogg.specs.Writing.{frames_to}
+use Rattle.flac_native.specs.Sent.{SendsBits}
 
 -- Pages from the one of a number on were sent, or else a prefix of them: all frames of the samples, each the shortest
 -- of its block with the plan's predictors, in a packet each.

@@ -40,10 +40,10 @@ returns g c =
         spends = spent_made 0 0 c.args.bits.now.most c.read_sizes.new.bits.most c.read_bytes.new.bits.most c.new.result sizes.reading.spends (search rules);
         counts = counted_made _ c.args.bits.now c.read_bytes.new.bits c.new.result (answered_then c.args.bits.now c.read_sizes.new.bits c.read_bytes.new.bits sizes.reading.counts (answered_then c.read_sizes.new.bits c.read_format.new.bits c.read_bytes.new.bits format.reading.counts c.in_ok-read_bytes.ensures.reading.counts)) c.new.ensures.refused;
         reads = told_made _ c.args.bits.now c.read_bytes.new.bits c.new.result
-          (told_then c.args.bits.now c.read_sizes.new.bits c.read_bytes.new.bits _ sizes.reading.counts sizes.reading.reads (told_then c.read_sizes.new.bits c.read_format.new.bits c.read_bytes.new.bits _ format.reading.counts format.reading.reads
+            (told_then c.args.bits.now c.read_sizes.new.bits c.read_bytes.new.bits _ sizes.reading.counts sizes.reading.reads (told_then c.read_sizes.new.bits c.read_format.new.bits c.read_bytes.new.bits _ format.reading.counts format.reading.reads
             (told_then c.read_format.new.bits c.read_bytes.new.bits c.read_bytes.new.bits _ c.in_ok-read_bytes.ensures.reading.counts c.in_ok-read_bytes.ensures.reading.reads (λ known same. refl))))
-          (record { greatest_block = search rules; least_frame = sizes.fit.0; greatest_frame = sizes.fit.1; rate = format.fit.0; least_channels = format.fit.1; channels = format.fit.2; depth = format.fit.3; total = format.fit.4 })
-          c.new.ensures.value c.new.ensures.rules c.new.ensures.refused;
+            (record { greatest_block = search rules; least_frame = sizes.fit.0; greatest_frame = sizes.fit.1; rate = format.fit.0; least_channels = format.fit.1; channels = format.fit.2; depth = format.fit.3; total = format.fit.4 })
+            c.new.ensures.value c.new.ensures.rules c.new.ensures.refused;
       };
     }
 

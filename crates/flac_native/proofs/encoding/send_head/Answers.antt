@@ -1,9 +1,9 @@
 use Rattle.std.proofs.Common.{rules, subst, ◌++◌, List, Bool}
 use Rattle.flac_native.specs.Seeking.{table_of}
 use Rattle.flac_native.specs.Writing.{head_spelling}
-use Rattle.flac_native.specs.inner.Writing.{SendsBits}
 use Rattle.flac_native.proofs.Lending.{lends_at, Returns, same_lent, lent_sends}
 use Rattle.flac_native.proofs.encoding.send_head.Goals as goal
+use Rattle.flac_native.specs.Sent.{SendsBits}
 
 pub returns : goal.returns
 returns g c =

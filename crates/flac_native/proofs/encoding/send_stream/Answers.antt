@@ -3,9 +3,9 @@ use Rattle.flac_bits.specs.Forms.{joined}
 use Rattle.flac_native.specs.Given.{info_of}
 use Rattle.flac_native.specs.Seeking.{table_of}
 use Rattle.flac_native.specs.Writing.{head_spelling}
-use Rattle.flac_native.specs.inner.Writing.{SendsBits}
 use Rattle.flac_native.proofs.Lending.{lends_at, Returns, same_lent, lent_sends}
 use Rattle.flac_native.proofs.encoding.send_stream.Goals as goal
+use Rattle.flac_native.specs.Sent.{SendsBits}
 
 pub returns : goal.returns
 returns g c =

@@ -3,7 +3,7 @@ use Rattle.std.proofs.lemmas.List.{append-nil}
 use Rattle.flac_bits.specs.Bits.{bits_of, is_nil}
 use Rattle.flac_meta.specs.Spelling.{block_spelling}
 use Rattle.flac_meta.specs.declared.block.Block.TheVariants as block_of
-use Rattle.flac_ogg.specs.inner.Headers.{AreHeaders}
+use Rattle.flac_ogg.specs.Headers.{AreHeaders}
 use Rattle.flac_ogg.specs.Native.{mapping_spelling, block_spellings}
 use Rattle.flac_ogg.specs.Writing.{header_count}
 use Rattle.flac_ogg.proofs.Whole.{first_text}

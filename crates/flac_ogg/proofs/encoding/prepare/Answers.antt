@@ -4,7 +4,7 @@ use Rattle.flac_info.specs.Info.{Info}
 use Rattle.flac_meta.specs.declared.block.Block.{Block}
 use Rattle.flac_native.proofs.Rooms.{room_of}
 use Rattle.flac_ogg.specs.declared.headers.Headers.{Headers}
-use Rattle.flac_ogg.specs.inner.Headers.{AreHeaders}
+use Rattle.flac_ogg.specs.Headers.{AreHeaders}
 use Rattle.flac_ogg.specs.Native.{packet_spellings}
 use Rattle.flac_ogg.specs.Writing.{header_count}
 use Rattle.flac_ogg.proofs.encoding.prepare.Goals as goal

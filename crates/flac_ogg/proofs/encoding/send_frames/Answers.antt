@@ -5,7 +5,6 @@ use Rattle.flac_bits.specs.Bits.{bits_of}
 use Rattle.flac_frame.specs.Audio.{samples_each}
 use Rattle.flac_native.specs.Given.{blocks_in}
 use Rattle.flac_native.specs.Writing.{HasRoom, IsSpelled}
-use Rattle.flac_native.specs.inner.Writing.{SendsBits}
 use Rattle.flac_native.proofs.Gathered.{still_some, all_gathered}
 use Rattle.flac_native.proofs.Planned.{planned, fit}
 use Rattle.flac_native.proofs.Spelled.{came_out}
@@ -15,6 +14,7 @@ use Rattle.flac_pages.specs.Written.{packet_spelling}
 use Rattle.flac_ogg.proofs.SentOgg.{some_blocks}
 use Rattle.flac_ogg.proofs.SentPackets.{SentPackets, packets_none, packets_more, packets_sent, packets_fail, last_is, sends_as, spelled_long, differ, agree}
 use Rattle.flac_ogg.proofs.encoding.send_frames.Goals as goal
+use Rattle.flac_native.specs.Sent.{SendsBits}
 
 -- samples are left, and few
 more_left : (start all total done : ℕ) → start ≡ min total done → start < all → all ≡ total → done < total

@@ -1,6 +1,6 @@
 use Rattle.std.proofs.Common.{◌∷◌, [], subst, take}
 use Rattle.flac_bits.specs.Bits.{bits_of}
-use Rattle.flac_ogg.specs.inner.Headers.{AreHeaders}
+use Rattle.flac_ogg.specs.Headers.{AreHeaders}
 use Rattle.flac_ogg.proofs.Headed.{all_headers, same_count}
 use Rattle.flac_ogg.proofs.headers.headers_of.Goals as goal
 

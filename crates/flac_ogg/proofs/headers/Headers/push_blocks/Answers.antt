@@ -4,7 +4,7 @@ use Rattle.flac_meta.specs.Listed.{list_fault, info_seen}
 use Rattle.flac_meta.specs.Spelling.{block_spelling}
 use Rattle.flac_meta.specs.declared.block.Block.{Block}
 use Rattle.flac_native.proofs.BlocksWritten.{each_written}
-use Rattle.flac_ogg.specs.inner.Headers.{AreHeaders}
+use Rattle.flac_ogg.specs.Headers.{AreHeaders}
 use Rattle.flac_ogg.specs.Native.{block_spellings}
 use Rattle.flac_ogg.proofs.Packing.{block_more, all_blocks}
 use Rattle.flac_ogg.proofs.headers.Headers.push_blocks.Goals as goal

@@ -1,5 +1,5 @@
 use Rattle.std.proofs.Common.{◌≡◌, ◌≤◌, ◌∷◌, [], Bool, List, length, take}
-use Rattle.flac_ogg.specs.inner.Headers.{AreHeaders}
+use Rattle.flac_ogg.specs.Headers.{AreHeaders}
 use Rattle.flac_ogg.specs.Native.{block_spellings}
 use Rattle.flac_ogg.proofs.headers.Headers.push_blocks.Given as goal
 

@@ -1,0 +1,173 @@
+-- An encoder that samples are pushed to, a block at a time, and the stream that it has written.
+use Rattle.std.specs.Prelude.{◌≡◌, ◌⊎◌, ℕ, suc, ◌+◌, ◌^◌, ℤ, Bool, true, false, not, cond, ◌||◌, nat_eq, nat_lt, nat_le, List, [], ◌∷◌, ◌++◌, length, replicate, Option, Some, None, option_map}
+use Rattle.std.specs.Option.{option_or}
+use Rattle.flac_bits.specs.Bits.{bits_of}
+use Rattle.flac_bits.specs.Items.{Stream, after}
+use Rattle.flac_bits.specs.declared.target.Target as target
+use Rattle.flac_bits.specs.declared.why.Why.TheVariants.{Truncated}
+use Rattle.flac_header.specs.declared.subset.Profile.{Profile}
+use Rattle.flac_info.specs.Info.{Info}
+use Rattle.flac_header.specs.Header.{greatest_in}
+use Rattle.flac_subframe.specs.declared.linear.LinearPredictor.{LinearPredictor}
+use Rattle.flac_frame.specs.Audio.{Sound, samples_each, as_long, each_small}
+use Rattle.flac_frame.specs.Frame.{Frame}
+use Rattle.flac_frame.specs.declared.before.Before.{Before}
+use Rattle.flac_frame.specs.Setup.{format_fault}
+use Rattle.flac_frame.specs.declared.setup.SetupFault.{SetupFault}
+use Rattle.flac_frame.specs.declared.setup.SetupFault.TheVariants.{BadChannels, LengthsDiffer, SampleTooLarge, TooLong, BadBlockSize}
+use Rattle.flac_native.specs.Decoding.{beginning}
+use Rattle.flac_native.specs.Stream.{Piece, framed, grammar, opening}
+use Rattle.flac_native.specs.Stream as stream
+use Rattle.flac_native.specs.Writing.{SpellsFrame, SpellsLeast}
+use Rattle.flac_native.specs.declared.fault.EncodeFault.{EncodeFault}
+use Rattle.flac_encoder.specs.declared.stream_format.StreamFormat.{StreamFormat}
+use Rattle.flac_native.specs.declared.fault.EncodeFault.TheVariants.{Memory, BlockSize, Spent, Write, Setup}
+
+-- ---- the format
+
+-- the profile, the sample rate in Hz, the bits per sample, the channels, and the samples of each channel in a block
+pub record Shape : Type 0 where
+  pub profile : Profile
+  pub rate : ℕ
+  pub bits : ℕ
+  pub channels : ℕ
+  pub block_size : ℕ
+
+-- Why nothing of a format can be encoded, if so: no samples of the rate, the depth and the channels can; or a block has
+-- fewer than 16 samples (RFC 9639, section 8.2), or more than the profile allows at the rate (section 7).
+unfoldable pub shape_fault : Shape → Option SetupFault
+shape_fault s =
+    option_or (format_fault s.profile s.rate s.bits s.channels)
+    (cond (nat_lt s.block_size 16 || nat_lt (greatest_in s.profile s.rate) s.block_size) (Some BadBlockSize) None)
+
+abbrev pub shape_of : StreamFormat → Shape
+shape_of f = record { profile = f.profile; rate = f.rate; bits = f.bits; channels = f.channels; block_size = f.block_size }
+
+-- STREAMINFO of a format; the sizes of the frames, the number of samples and the digest are unknown (section 8.2)
+abbrev pub open_info : Shape → Info
+open_info s = record {
+  least_block = s.block_size;
+  greatest_block = s.block_size;
+  least_frame = 0;
+  greatest_frame = 0;
+  rate = s.rate;
+  channels = s.channels;
+  depth = s.bits;
+  total = 0;
+  digest = replicate 16 0;
+}
+
+-- ---- the encoder
+
+-- The format; the linear predictors that are tried for the next frame beside the fixed ones; how many frames were
+-- pushed, which is the number of the next, and how many samples of each channel they have; whether the last of them is
+-- shorter than the block size; whether the target has failed; and the target.
+pub record Pushed (S : Type 0) : Type 0 where
+  pub shape : Shape
+  pub predictors : List LinearPredictor
+  pub number : ℕ
+  pub samples : ℕ
+  pub ended : Bool
+  pub spent : Bool
+  pub target : S
+
+-- nothing was pushed
+abbrev pub unpushed : {S : Type 0} → Shape → S → Pushed S
+unpushed shape t = record { shape = shape; predictors = []; number = 0; samples = 0; ended = false; spent = false; target = t }
+
+-- one more block, of n samples, was pushed
+abbrev pub behind_block : {S : Type 0} → Pushed S → ℕ → S → Pushed S
+behind_block e n t =
+    record { shape = e.shape; predictors = e.predictors; number = e.number + 1; samples = e.samples + n; ended = nat_lt n e.shape.block_size; spent = e.spent; target = t }
+
+-- the target has failed
+abbrev pub spent_with : {S : Type 0} → Pushed S → S → Pushed S
+spent_with e t = record { shape = e.shape; predictors = e.predictors; number = e.number; samples = e.samples; ended = e.ended; spent = true; target = t }
+
+-- these predictors are tried from now on
+abbrev pub trying : {S : Type 0} → Pushed S → List LinearPredictor → Pushed S
+trying e ps = record { shape = e.shape; predictors = ps; number = e.number; samples = e.samples; ended = e.ended; spent = e.spent; target = e.target }
+
+-- the same encoder with this target
+abbrev pub with_target : {R S : Type 0} → Pushed R → S → Pushed S
+with_target e t = record { shape = e.shape; predictors = e.predictors; number = e.number; samples = e.samples; ended = e.ended; spent = e.spent; target = t }
+
+-- Why a block does not have the format, if so: one list of samples for each channel, all of one length, and each sample
+-- a number of `bits` bits.
+unfoldable pub block_fault : (channels bits : ℕ) → List (List ℤ) → Option SetupFault
+block_fault channels bits block =
+    cond (not (nat_eq (length block) channels)) (Some BadChannels)
+    (cond (not (as_long block)) (Some LengthsDiffer)
+    (cond (not (each_small bits block)) (Some SampleTooLarge) None))
+
+-- Why a block of n samples cannot be the next frame, if so: the number of samples has 36 bits (section 8.2) and a frame
+-- number 31 (section 9.1.5); the block has a sample, and no more than the block size; and all blocks but the last have
+-- the block size (section 9.1).
+unfoldable pub size_fault : {S : Type 0} → Pushed S → ℕ → Option EncodeFault
+size_fault e n =
+    cond (nat_le (2 ^ 36) (e.samples + n) || nat_le (2 ^ 31) e.number) (Some (Setup TooLong))
+    (cond (nat_eq n 0 || nat_lt e.shape.block_size n) (Some (Setup BadBlockSize))
+    (cond e.ended (Some BlockSize) None))
+
+-- The first reason why a block is refused, if there is one.
+unfoldable pub push_fault : {S : Type 0} → Pushed S → List (List ℤ) → Option EncodeFault
+push_fault e block =
+    cond e.spent (Some Spent)
+    (option_or (option_map Setup (block_fault e.shape.channels e.shape.bits block)) (size_fault e (samples_each block)))
+
+-- The fault that is reported: the first reason, or if there is none, that memory ran out or that the target failed.
+abbrev pub IsFirst : Option EncodeFault → EncodeFault → Type 0
+IsFirst reason e = (reason ≡ Some e) ⊎ ((reason ≡ None) × ((e ≡ Memory) ⊎ (e ≡ Write)))
+
+-- ---- the stream
+
+-- how many frames there are among items
+abbrev pub frames_in : List Piece → ℕ
+frames_in [] = 0
+frames_in (stream.marked ∷ xs) = frames_in xs
+frames_in (stream.block last b ∷ xs) = frames_in xs
+frames_in (framed f ∷ xs) = suc (frames_in xs)
+
+-- what the next frame has to follow: nothing, or frames of fixed blocking that are counted from 0, each of the block
+-- size
+abbrev pub due : (block_size number : ℕ) → Option Before
+due block_size number = cond (nat_eq number 0) None (Some (record { first_size = block_size; variable = false; next = number; size = block_size }))
+
+-- The stream of the encoder, which may end here: its STREAMINFO is that of the format, it has the frames and the
+-- samples that were pushed, and as long as no block was short the next frame is still due.
+pub record StandsFor {S : Type 0} (e : Pushed S) (items : List Piece) (text : List Bool) : Type 0 where
+  pub stream : Stream grammar (opening e.shape.profile) (beginning Truncated) items text
+  pub info : (after grammar (opening e.shape.profile) items).stand.info ≡ Some (open_info e.shape)
+  pub frames : frames_in items ≡ e.number
+  pub samples : (after grammar (opening e.shape.profile) items).samples ≡ e.samples
+  pub before : e.ended ≡ false → (after grammar (opening e.shape.profile) items).stand.before ≡ due e.shape.block_size e.number
+
+-- ---- a block
+
+-- samples of the format
+abbrev pub sound_of : Shape → List (List ℤ) → Sound
+sound_of s block = record { profile = s.profile; rate = s.rate; bits = s.bits; channels = block }
+
+-- the frame of a number that has exactly these samples
+abbrev pub frame_with : (number : ℕ) → List (List ℤ) → Frame
+frame_with number block = record { variable = false; number = number; size = samples_each block; channels = block }
+
+-- The bits are the next frame: it has exactly the samples of the block, no frame of its family, with the predictors of
+-- the encoder, is shorter, and the stream of the encoder is then the one before with the frame as one more item.
+pub record IsNext {S : Type 0} (old new : Pushed S) (block : List (List ℤ)) (text : List Bool) : Type 0 where
+  pub spells : SpellsFrame (sound_of old.shape block) (frame_with old.number block) text
+  pub least : SpellsLeast old.predictors (sound_of old.shape block) (frame_with old.number block) text
+  pub stands : (items : List Piece) (before : List Bool) → StandsFor old items before → StandsFor new (items ++ framed (frame_with old.number block) ∷ []) (before ++ text)
+
+-- the target was sent the next frame, after what it had
+pub record Pushes {S : Type 0} (g : target.Ghosts S) (block : List (List ℤ)) (old new : Pushed S) : Type 0 where
+  pub text : List Bool
+  pub next : IsNext old new block text
+  pub sent : bits_of (g.sent new.target) ≡ bits_of (g.sent old.target) ++ text
+
+-- the target was sent a prefix of the next frame
+pub record BeginsPush {S : Type 0} (g : target.Ghosts S) (block : List (List ℤ)) (old new : Pushed S) : Type 0 where
+  pub front : List Bool
+  pub rest : List Bool
+  pub next : IsNext old (behind_block old (samples_each block) new.target) block (front ++ rest)
+  pub sent : bits_of (g.sent new.target) ≡ bits_of (g.sent old.target) ++ front

@@ -1,0 +1,208 @@
+//! Encodes a native stream a block at a time.
+
+ghost use Rattle.std.specs.Prelude.{◌≡◌, None, ◌<◌, IfOk, IfErr, Some, ◌≢◌, ◌++◌, ◌↔◌, option_map, true, OnOk, Err, Bool, List, map};
+ghost use Rattle.flac_encoder.specs.Pushing.{shape_of, shape_fault, open_info, unpushed, behind_block, spent_with, trying, push_fault, IsFirst, StandsFor, Pushes, BeginsPush};
+ghost use Rattle.flac_bits.specs.Bits.{bits_of};
+ghost use Rattle.flac_frame.specs.Audio.{samples_each};
+ghost use Rattle.flac_native.specs.Given.{predictors_fault};
+ghost use Rattle.flac_native.specs.Writing.{head_spelling};
+ghost use Rattle.flac_bits.specs.State.{Rises};
+ghost use Rattle.flac_native.specs.Stream.{Piece};
+ghost use Rattle.flac_native.specs.declared.fault.EncodeFault.TheVariants.{Setup};
+ghost use Rattle.flac_native.specs.Whole.{head_parts};
+
+use crate::block_encoder::BlockEncoder;
+use crate::stream_format::StreamFormat;
+use flac_bits::{Target, send_all};
+use flac_frame::SetupFault;
+use flac_header::Profile;
+use flac_meta::BlockList;
+use flac_native::{EncodeFault, send_head};
+use flac_subframe::LinearPredictor;
+use std::alloc::Global;
+use std::marker::Model;
+
+/// Encodes a native stream a block at a time, as a recorder does whose samples are not all there yet (RFC 9639, section
+/// 6). [`StreamEncoder::new`] writes the marker, STREAMINFO and the metadata blocks, each [`StreamEncoder::push`] one
+/// frame, and [`StreamEncoder::finish`] returns the target. [`StreamEncoder::new_in`] does so for a profile.
+///
+/// After each call that returns `Ok`, what was written is a whole stream. Its STREAMINFO states neither the number of
+/// samples nor the sizes of the frames nor the digest, since they are not known when it is written (section 8.2).
+///
+/// ```
+/// let mut encoder = StreamEncoder::new(alloc, 44100, 16, 2, 4096, &blocks, file)?;
+/// encoder.push(&[left.as_slice(), right.as_slice()])?;
+/// let file = encoder.finish()?;
+/// ```
+#[derive(Drop)]
+pub struct StreamEncoder<W: Target> {
+    blocks: BlockEncoder,
+    target: W,
+}
+
+impl<W: Target> Model for StreamEncoder<W> {
+    ghost use Rattle.flac_encoder.specs.Pushing.{Pushed, with_target};
+
+    ghost Value = { Pushed W };
+
+    ghost view = { λ e. with_target e.blocks e.target };
+}
+
+impl<W: Target + Drop> StreamEncoder<W> {
+    /// Makes an encoder for the streamable subset, and writes the marker, STREAMINFO and the blocks of the list, as
+    /// [`StreamEncoder::new_in`] does for [`Profile::Subset`]: with a sample rate in Hz, bits per sample, a number of
+    /// channels, and a block size in samples of each channel ([`StreamFormat`] has their ranges).
+    ///
+    /// # Errors
+    /// Those of [`StreamEncoder::new_in`].
+    pub fn new(
+        alloc: Global,
+        rate: u32,
+        bits: u32,
+        channels: u32,
+        block_size: u32,
+        list: &BlockList,
+        target: W,
+    ) -> Result<StreamEncoder<W>, EncodeFault>
+        ensures made { IfOk result (λ e. e ≡ unpushed (record { profile = Profile.Subset; rate = rate; bits = bits; channels = channels; block_size = block_size }) e.target) }
+        ensures stands { IfOk result (λ e. StandsFor e (head_parts (open_info e.shape) list.now) (head_spelling (open_info e.shape) list.now)) }
+        ensures written { IfOk result (λ e. W.known target ≡ true → bits_of (W.sent e.target) ≡ bits_of (W.sent target) ++ head_spelling (open_info e.shape) list.now) }
+        ensures known { IfOk result (λ e. W.known target ≡ true → W.known e.target ≡ true) }
+        ensures counted { IfOk result (λ e. W.errors e.target ≡ W.errors target) }
+        ensures names { IfOk result (λ e. W.names e.target ≡ W.names target) }
+        ensures accepted { OnOk result (shape_fault (record { profile = Profile.Subset; rate = rate; bits = bits; channels = channels; block_size = block_size }) ≡ None) }
+        ensures refused { IfErr result (λ e. IsFirst (option_map Setup (shape_fault (record { profile = Profile.Subset; rate = rate; bits = bits; channels = channels; block_size = block_size }))) e) }
+    {
+        let format = StreamFormat {
+            profile: Profile::Subset,
+            rate,
+            bits,
+            channels,
+            block_size,
+        };
+        StreamEncoder::new_in(alloc, &format, list, target)
+    }
+
+    /// Makes an encoder for this format, and writes the marker, STREAMINFO and the blocks of the list (RFC 9639,
+    /// sections 6 to 8). No linear predictors are tried yet: see [`StreamEncoder::set_predictors`].
+    ///
+    /// ```
+    /// let format = StreamFormat { profile: Profile::Lax, rate: 1000000, bits: 14, channels: 1, block_size: 32768 };
+    /// let mut encoder = StreamEncoder::new_in(alloc, &format, &blocks, file)?;
+    /// ```
+    ///
+    /// # Errors
+    /// [`EncodeFault::Setup`] with `BadRate`, `BadDepth`, `BadChannels` or `BadBlockSize`, the first that applies
+    /// ([`StreamFormat::fault`]). Else [`EncodeFault::Memory`] if an allocation fails, or [`EncodeFault::Write`] if the
+    /// target returns an error. The target is not returned then.
+    pub fn new_in(
+        alloc: Global,
+        format: &StreamFormat,
+        list: &BlockList,
+        target: W,
+    ) -> Result<StreamEncoder<W>, EncodeFault>
+        ensures made { IfOk result (λ e. e ≡ unpushed (shape_of format.now) e.target) }
+        ensures stands { IfOk result (λ e. StandsFor e (head_parts (open_info e.shape) list.now) (head_spelling (open_info e.shape) list.now)) }
+        ensures written { IfOk result (λ e. W.known target ≡ true → bits_of (W.sent e.target) ≡ bits_of (W.sent target) ++ head_spelling (open_info e.shape) list.now) }
+        ensures known { IfOk result (λ e. W.known target ≡ true → W.known e.target ≡ true) }
+        ensures counted { IfOk result (λ e. W.errors e.target ≡ W.errors target) }
+        ensures names { IfOk result (λ e. W.names e.target ≡ W.names target) }
+        ensures accepted { OnOk result (shape_fault (shape_of format.now) ≡ None) }
+        ensures refused { IfErr result (λ e. IsFirst (option_map Setup (shape_fault (shape_of format.now))) e) }
+    {
+        let blocks = BlockEncoder::new(alloc, format)?;
+        let _blocks = list.blocks(); // for its clauses alone
+        let info = format.open_info();
+        let points = Vec::new(alloc);
+        let mut target = target;
+        match send_head(info, list, points, &mut target) {
+            Ok(()) => Ok(StreamEncoder { blocks, target }),
+            Err(_) => {
+                drop(blocks);
+                Err(EncodeFault::Write)
+            }
+        }
+    }
+
+    /// Sets the linear predictors that are tried for each subframe of the frames pushed from now on, beside the
+    /// constant, verbatim and fixed ones: at most 64, of orders that the profile allows at the rate, 32 in
+    /// [`Profile::Lax`] and above 48000 Hz, else 12 (RFC 9639, sections 7 and 9.2.6). They take the place of those
+    /// before; an empty list is as none.
+    ///
+    /// # Errors
+    /// [`SetupFault::TooManyPredictors`] if there are more than 64, else [`SetupFault::PredictorOrder`] if an order is
+    /// too large. The encoder is as it was then.
+    pub fn set_predictors(&mut self, predictors: Vec<LinearPredictor>) -> Result<(), SetupFault>
+        ensures set { OnOk result (self.new ≡ trying self.old predictors.items) }
+        ensures stands { OnOk result ((items : List Piece) (text : List Bool) → StandsFor self.old items text → StandsFor self.new items text) }
+        ensures accepted { OnOk result (predictors_fault self.old.shape.profile self.old.shape.rate predictors.items ≡ None) }
+        ensures refused { IfErr result (λ e. predictors_fault self.old.shape.profile self.old.shape.rate predictors.items ≡ Some e) }
+        ensures kept { IfErr result (λ e. self.new ≡ self.old) }
+    {
+        self.blocks.set_predictors(predictors)
+    }
+
+    /// Writes a block as the next frame, and sends all of it. `block` has one slice for each channel, of 1 to as many
+    /// samples as the block size. Only the last block may be shorter than the block size (RFC 9639, section 9.1). The
+    /// frame is as short as one of [`flac_native::encode`] with the same predictors.
+    ///
+    /// # Errors
+    /// The first of these that applies:
+    ///
+    /// - [`EncodeFault::Spent`] after a call that returned [`EncodeFault::Write`];
+    /// - [`EncodeFault::Setup`] with `BadChannels` if there is not one slice for each channel, `LengthsDiffer` if they
+    ///   differ in length, `SampleTooLarge` if a sample does not fit its bits;
+    /// - [`EncodeFault::Setup`] with `TooLong` if the stream would have 2^36 samples of each channel or more, or more
+    ///   than 2^31 frames;
+    /// - [`EncodeFault::Setup`] with `BadBlockSize` if the block has no sample, or more than the block size;
+    /// - [`EncodeFault::BlockSize`] if the block before was shorter than the block size;
+    /// - [`EncodeFault::Memory`] if an allocation fails, or [`EncodeFault::Write`] if the target returns an error.
+    ///
+    /// After [`EncodeFault::Write`] the target was sent a prefix of the frame. After each other error the encoder is as
+    /// it was, and nothing was sent.
+    pub fn push(&mut self, block: &[&[i32]]) -> Result<(), EncodeFault>
+        ensures next { OnOk result (self.new ≡ behind_block self.old (samples_each (map (λ c. c.now) block.now)) self.new.target) }
+        ensures written { OnOk result (W.known self.old.target ≡ true → Pushes W.Target (map (λ c. c.now) block.now) self.old self.new) }
+        ensures known { OnOk result (W.known self.old.target ≡ true → W.known self.new.target ≡ true) }
+        ensures counted { OnOk result (W.errors self.new.target ≡ W.errors self.old.target) }
+        ensures accepted { OnOk result (push_fault self.old (map (λ c. c.now) block.now) ≡ None) }
+        ensures refused { IfErr result (λ e. IsFirst (push_fault self.old (map (λ c. c.now) block.now)) e) }
+        ensures kept { IfErr result (λ e. e ≢ EncodeFault.Write → self.new ≡ self.old) }
+        ensures begun { IfErr result (λ e. e ≡ EncodeFault.Write → W.known self.old.target ≡ true → BeginsPush W.Target (map (λ c. c.now) block.now) self.old self.new) }
+        ensures spent { IfErr result (λ e. e ≡ EncodeFault.Write → self.new ≡ spent_with self.old self.new.target) }
+        ensures failed { IfErr result (λ e. e ≡ EncodeFault.Write → W.known self.old.target ≡ true → W.errors self.old.target < W.errors self.new.target) }
+        // An error of the target is counted, if the count can rise, whatever is known of it.
+        ensures risen { IfErr result (λ e. e ≡ EncodeFault.Write → Rises (W.errors self.old.target) (W.errors self.new.target)) }
+        ensures names { W.names self.new.target ≡ W.names self.old.target }
+    {
+        let frame = self.blocks.encode(block)?;
+        match send_all(&mut self.target, frame.as_slice()) {
+            Ok(()) => {
+                self.blocks.sent(block);
+                Ok(())
+            }
+            Err(_) => {
+                self.blocks.failed();
+                Err(EncodeFault::Write)
+            }
+        }
+    }
+
+    /// Returns the target. Nothing more is sent: the stream is complete.
+    ///
+    /// # Errors
+    /// [`EncodeFault::Spent`] after a call that returned [`EncodeFault::Write`].
+    pub fn finish(self) -> Result<W, EncodeFault>
+        ensures given { IfOk result (λ target. target ≡ self.target) }
+        ensures spent { (result ≡ Err EncodeFault.Spent) ↔ (self.spent ≡ true) }
+        ensures only { IfErr result (λ e. e ≡ EncodeFault.Spent) }
+    {
+        let StreamEncoder { blocks, target } = self;
+        let spent = blocks.is_spent();
+        drop(blocks);
+        if spent {
+            return Err(EncodeFault::Spent);
+        }
+        Ok(target)
+    }
+}
