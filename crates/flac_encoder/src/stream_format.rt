@@ -109,9 +109,9 @@ impl StreamFormat {
     /// 9.1.5).
     ///
     /// The caller sees to it that nothing is refused: the format and the block have no fault ([`StreamFormat::fault`],
-    /// [`StreamFormat::block_fault`]), nor have the predictors ([`crate::predictors_fault`]); the block has at least
-    /// one sample, and at most as many as the format's blocks; and the buffers were made for the profile and the block
-    /// size of the format.
+    /// [`StreamFormat::block_fault`]), nor have the predictors ([`flac_native::predictors_fault`]); the block has at
+    /// least one sample, and at most as many as the format's blocks; and the buffers were made for the profile and the
+    /// block size of the format.
     ///
     /// ```
     /// let mut buffers = EncodeBuffers::new_in(alloc, format.profile, format.block_size)?;

@@ -94,8 +94,8 @@ pub enum EncodeFault {
     /// Not possible in an Ogg stream: the first block after STREAMINFO is no Vorbis comment, or a seek table is asked
     /// for (section 10.1).
     BadMapping,
-    /// The target returned an error in an earlier call, or [`crate::BlockEncoder::failed`] was called; nothing more is
-    /// encoded.
+    /// The target returned an error in an earlier call, or `BlockEncoder::failed` of `flac_encoder` was called; nothing
+    /// more is encoded.
     Spent,
     /// The target returned an error in this call.
     Write,
