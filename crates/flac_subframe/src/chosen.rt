@@ -97,19 +97,21 @@ impl PartialEq for Choice {
     ghost use Rattle.flac_subframe.specs.contracts.content.SubframeFormPartialEq.TheImpl as form;
     ghost use Rattle.flac_subframe.specs.contracts.content.SubframeFormEq.TheImpl.Laws.{laws-law};
 
-    ghost eq = { eq_of_both (on (λ c. c.form) (form.ghosts).eq) (eq_of_both (on (λ c. c.codings) (pointwise nat_eq)) (on (λ c. c.bits) nat_eq)) };
+    ghost eq = { eq_of_both (on (λ c. c.form) (form.ghosts).eq) (eq_of_both (on bytes_used (pointwise nat_eq)) (on (λ c. c.bits) nat_eq)) };
 
-    ghost laws = { partial_equiv_from_equiv (and_equiv (on_equiv (λ c. c.form) laws-law) (and_equiv (on_equiv (λ c. c.codings) nat_list_eq_equiv) (on_equiv (λ c. c.bits) nat_eq_equiv))) };
+    ghost laws = { partial_equiv_from_equiv (and_equiv (on_equiv (λ c. c.form) laws-law) (and_equiv (on_equiv bytes_used nat_list_eq_equiv) (on_equiv (λ c. c.bits) nat_eq_equiv))) };
 
     fn eq(&self, other: &Choice) -> bool {
-        self.form == other.form && self.codings == other.codings && self.bits == other.bits
+        self.form == other.form
+            && self.lent().codings == other.lent().codings
+            && self.bits == other.bits
     }
 }
 
 impl Eq for Choice {
     ghost use Rattle.flac_subframe.specs.contracts.content.SubframeFormEq.TheImpl.Laws.{laws-law};
 
-    ghost laws = { and_equiv (on_equiv (λ c. c.form) laws-law) (and_equiv (on_equiv (λ c. c.codings) nat_list_eq_equiv) (on_equiv (λ c. c.bits) nat_eq_equiv)) };
+    ghost laws = { and_equiv (on_equiv (λ c. c.form) laws-law) (and_equiv (on_equiv bytes_used nat_list_eq_equiv) (on_equiv (λ c. c.bits) nat_eq_equiv)) };
 }
 
 /// The greatest partition order that is tried, as the subset allows.

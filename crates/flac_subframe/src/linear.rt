@@ -1,6 +1,10 @@
 //! Linear predictors that a caller hands in.
 
-ghost use Rattle.std.specs.Prelude.{◌≡◌, ◌<◌, ◌≤◌, ◌↔◌, length, take, All, IsTrue, IsSome, IfSome};
+ghost use Rattle.std.specs.Prelude.{◌≡◌, ◌<◌, ◌≤◌, ◌↔◌, length, take, nat_eq, All, IsTrue, IsSome, IfSome};
+ghost use Rattle.std.specs.Cmp.{partial_equiv_from_equiv};
+ghost use Rattle.std.specs.Cmp.Lexicographic.{pointwise};
+ghost use Rattle.std.specs.Ordering.{on, eq_of_both, int_eq};
+ghost use Rattle.std.proofs.lemmas.Cmp.{and_equiv, nat_eq_equiv, int_eq_equiv, lists_equiv, on_equiv};
 ghost use Rattle.flac_bits.specs.Signed.{FitsBits};
 
 use crate::numbers::fits_bits;
@@ -11,7 +15,7 @@ const MOST_COEFFICIENTS: usize = 32;
 
 /// A linear predictor: the precision of its coefficients in bits, the shift, and the coefficients, the one for the
 /// nearest sample first (RFC 9639, section 9.2.6).
-#[derive(Drop, Debug, PartialEq, Eq)]
+#[derive(Drop, Debug)]
 pub struct LinearPredictor {
     precision: u8,
     shift: u8,
@@ -153,6 +157,26 @@ impl LinearPredictor {
             places: self.places,
         }
     }
+}
+
+impl PartialEq for LinearPredictor {
+    ghost use Rattle.flac_subframe.specs.Handed.{coefficients_in};
+
+    ghost eq = { eq_of_both (on (λ p. p.precision) nat_eq) (eq_of_both (on (λ p. p.shift) nat_eq) (on coefficients_in (pointwise int_eq))) };
+
+    ghost laws = { partial_equiv_from_equiv (and_equiv (on_equiv (λ p. p.precision) nat_eq_equiv) (and_equiv (on_equiv (λ p. p.shift) nat_eq_equiv) (on_equiv coefficients_in (lists_equiv int_eq_equiv)))) };
+
+    fn eq(&self, other: &LinearPredictor) -> bool {
+        self.precision == other.precision
+            && self.shift == other.shift
+            && self.coefficients() == other.coefficients()
+    }
+}
+
+impl Eq for LinearPredictor {
+    ghost use Rattle.flac_subframe.specs.Handed.{coefficients_in};
+
+    ghost laws = { and_equiv (on_equiv (λ p. p.precision) nat_eq_equiv) (and_equiv (on_equiv (λ p. p.shift) nat_eq_equiv) (on_equiv coefficients_in (lists_equiv int_eq_equiv))) };
 }
 
 impl Clone for LinearPredictor {
