@@ -14,12 +14,23 @@ use std::marker::Model;
 /// ```
 /// let audio = Audio::new(44100, 16, channels)?;
 /// ```
-#[derive(Debug, Drop)]
+#[derive(Debug)]
 pub struct Audio {
     profile: Profile,
     rate: u32,
     bits: u32,
     channels: Vec<Vec<i32>>,
+}
+
+impl Drop for Audio {
+    fn drop(self) {
+        let Audio {
+            profile: _,
+            rate: _,
+            bits: _,
+            channels: _,
+        } = self;
+    }
 }
 
 impl Model for Audio {
@@ -196,7 +207,12 @@ impl Audio {
     pub fn into_channels(self) -> Vec<Vec<i32>>
         ensures { map (λ c. c.items) result.items ≡ self.channels }
     {
-        let Audio { channels, .. } = self;
-        channels
+        let Audio {
+            profile: _,
+            rate: _,
+            bits: _,
+            channels: lists,
+        } = self;
+        lists
     }
 }

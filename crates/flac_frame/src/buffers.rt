@@ -32,7 +32,6 @@ pub const LONGEST_FRAME: u64 = 16777215;
 /// let mut buffers = FrameBuffers::new(alloc, 2, 4096)?;
 /// let frame = buffers.read_frame(&mut bits, &info, Profile::Subset)?;
 /// ```
-#[derive(Drop)]
 pub struct FrameBuffers {
     wide: Vec<i64>,
     narrow: Vec<i32>,
@@ -43,6 +42,22 @@ pub struct FrameBuffers {
     number: u64,
     block: usize,
     used: usize,
+}
+
+impl Drop for FrameBuffers {
+    fn drop(self) {
+        let FrameBuffers {
+            wide: _,
+            narrow: _,
+            channels: _,
+            max_block: _,
+            before: _,
+            strategy: _,
+            number: _,
+            block: _,
+            used: _,
+        } = self;
+    }
 }
 
 impl Model for FrameBuffers {

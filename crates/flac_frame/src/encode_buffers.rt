@@ -17,12 +17,22 @@ use std::marker::Model;
 /// ```
 /// let mut buffers = EncodeBuffers::new(alloc, plan.block_size())?;
 /// ```
-#[derive(Drop)]
 pub struct EncodeBuffers {
     pub(crate) places: Vec<i64>,
     pub(crate) choices: PairChoices,
     pub(crate) choice: FrameChoice,
     pub(crate) workspace: Workspace,
+}
+
+impl Drop for EncodeBuffers {
+    fn drop(self) {
+        let EncodeBuffers {
+            places: _,
+            choices: _,
+            choice: _,
+            workspace: _,
+        } = self;
+    }
 }
 
 impl Model for EncodeBuffers {

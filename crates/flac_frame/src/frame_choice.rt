@@ -22,11 +22,20 @@ use std::alloc::Global;
 /// subframe of each channel (RFC 9639, section 9). It has no samples. For each channel it takes some 340 bytes in
 /// [`Profile::Subset`], and some 33 kB in [`Profile::Lax`]; a copy that [`FrameChoice::kept`] makes takes one byte for
 /// each partition of its residuals.
-#[derive(Drop)]
 pub struct FrameChoice {
     pub(crate) code: u8,
     pub(crate) bits: u64,
     pub(crate) subframes: Vec<WideChoice>,
+}
+
+impl Drop for FrameChoice {
+    fn drop(self) {
+        let FrameChoice {
+            code: _,
+            bits: _,
+            subframes: _,
+        } = self;
+    }
 }
 
 impl FrameChoice {

@@ -13,12 +13,22 @@ use std::alloc::Global;
 use std::mem::swap;
 
 /// Places for the subframes that are chosen of two channels, left and right, of their side, and of their middle.
-#[derive(Drop)]
 pub(crate) struct PairChoices {
     pub(crate) left: WideChoice,
     pub(crate) right: WideChoice,
     pub(crate) side: WideChoice,
     pub(crate) middle: WideChoice,
+}
+
+impl Drop for PairChoices {
+    fn drop(self) {
+        let PairChoices {
+            left: _,
+            right: _,
+            side: _,
+            middle: _,
+        } = self;
+    }
 }
 
 impl PairChoices {

@@ -154,9 +154,15 @@ pub(crate) fn blocks_fit(blocks: &[Block])
 
 /// The blocks after STREAMINFO, in their order. Each can be written, none is a STREAMINFO, and at most one is a seek
 /// table and at most one a Vorbis comment.
-#[derive(Debug, Drop)]
+#[derive(Debug)]
 pub struct BlockList {
     blocks: Vec<Block>,
+}
+
+impl Drop for BlockList {
+    fn drop(self) {
+        let BlockList { blocks: _ } = self;
+    }
 }
 
 impl Model for BlockList {
@@ -284,7 +290,8 @@ impl BlockList {
         ensures good { list_fault info_seen self ≡ None }
         ensures fits { AllAre FitsFields self }
     {
-        self.blocks
+        let BlockList { blocks } = self;
+        blocks
     }
 
     /// The blocks.

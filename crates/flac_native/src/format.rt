@@ -32,13 +32,22 @@ fn fill_here<R: Source>(
 }
 
 /// STREAMINFO, and the buffers for its frames.
-#[derive(Drop)]
 pub(crate) struct Format {
     pub(crate) profile: Profile,
     pub(crate) info: StreamInfo,
     pub(crate) buffers: FrameBuffers,
     ghost channels: { buffers.channels ≡ info.channels },
     ghost block: { buffers.max_block ≡ min info.greatest_block (greatest_in profile info.rate) },
+}
+
+impl Drop for Format {
+    fn drop(self) {
+        let Format {
+            profile: _,
+            info: _,
+            buffers: _,
+        } = self;
+    }
 }
 
 impl Format {

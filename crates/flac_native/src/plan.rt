@@ -23,11 +23,20 @@ const MOST_PREDICTORS: usize = 64;
 /// How samples of one format and length are divided into frames, which frames have a seek point, and which linear
 /// predictors are tried for each frame. All frames have the same block size, but the last may be shorter (RFC 9639,
 /// section 9.1).
-#[derive(Debug, Drop)]
+#[derive(Debug)]
 pub struct Plan {
     asked: Asked,
     /// `None` stands for an empty list.
     predictors: Option<Vec<LinearPredictor>>,
+}
+
+impl Drop for Plan {
+    fn drop(self) {
+        let Plan {
+            asked: _,
+            predictors: _,
+        } = self;
+    }
 }
 
 /// What a plan is made of, but for its predictors.

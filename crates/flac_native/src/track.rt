@@ -51,7 +51,6 @@ pub(crate) enum Phase {
 /// let mut track = Track::new(rt.alloc(), Profile::Subset);
 /// let (last, info) = track.block(&mut bits)?; // STREAMINFO
 /// ```
-#[derive(Drop)]
 pub struct Track {
     pub(crate) alloc: Global,
     /// The buffers have it too, once there are some.
@@ -62,6 +61,21 @@ pub struct Track {
     pub(crate) samples: u64,
     pub(crate) last: bool,
     pub(crate) block: Option<Block>,
+}
+
+impl Drop for Track {
+    fn drop(self) {
+        let Track {
+            alloc: _,
+            profile: _,
+            position: _,
+            format: _,
+            hasher: _,
+            samples: _,
+            last: _,
+            block: _,
+        } = self;
+    }
 }
 
 impl Track {

@@ -2,12 +2,14 @@
 //! subframe is known.
 
 use flac_frame::Audio;
-use flac_native::{Plan, Profile};
-use flac_testing::encoded;
+use flac_native::{BlockList, Collected, EncodeFault, Plan, Profile, StreamInfo, send_head};
+use flac_testing::{encoded, no_comments};
 use flac_vectors::{
-    EQUAL_8, EQUAL_24, EQUAL_32, NO_SAMPLES, ONE_SAMPLE, RISING, SILENT, channels_of, pair_of,
+    EQUAL_8, EQUAL_24, EQUAL_32, NO_SAMPLES, ONE_SAMPLE, ONE_SAMPLE_COMMENTED, RISING, SILENT,
+    channels_of, pair_of,
 };
 use std::alloc::Global;
+use std::mem::drop;
 use std::process::Abort;
 use std::test::Fail;
 
@@ -166,4 +168,39 @@ fn plans_in_profiles(rt: HostRuntime) -> Result<(), Fail> {
         assert!(rt; found == (number, fits), "{format}");
     }
     Ok(())
+}
+
+/// The digest of the sample of the example: the MD5 of F4 63 B0 28.
+const DIGEST: [u8; 16] = [
+    0x3E, 0x84, 0xB4, 0x18, 0x07, 0xDC, 0x69, 0x03, 0x07, 0x58, 0x6A, 0x3D, 0xAD, 0x1A, 0x2E, 0x0F,
+];
+
+/// Whether the marker, STREAMINFO of that sample and these blocks are sent as these bytes.
+fn head_is(alloc: Global, list: BlockList, wanted: &[u8]) -> Result<bool, Fail> {
+    let info = StreamInfo::new(4096, 4096, 15, 15, 44100, 2, 16, 1, DIGEST)?;
+    let mut sent = Collected::new(alloc);
+    let outcome = send_head(info, &list, Vec::new(alloc), &mut sent);
+    drop(list);
+    Ok(outcome == Ok(()) && sent.bytes() == wanted)
+}
+
+/// What comes before the frame of the sample, without and with a block behind STREAMINFO.
+#[test]
+fn heads(rt: HostRuntime) -> Result<(), Fail> {
+    let alloc = rt.alloc();
+    let alone = hex::decode(alloc, ONE_SAMPLE)?;
+    let commented = hex::decode(alloc, ONE_SAMPLE_COMMENTED)?;
+    let none = BlockList::new(Vec::new(alloc))?;
+    assert!(rt; head_is(alloc, none, alone.get(..42).unwrap_or(&[]))?);
+    let list = no_comments(alloc)?;
+    assert!(rt; head_is(alloc, list, commented.get(..54).unwrap_or(&[]))?);
+    Ok(())
+}
+
+/// A target in memory fails by want of memory alone. What is no fault of the target stays.
+#[test]
+fn faults_in_memory(rt: HostRuntime) {
+    assert!(rt; EncodeFault::Write.in_memory() == EncodeFault::Memory);
+    assert!(rt; EncodeFault::Memory.in_memory() == EncodeFault::Memory);
+    assert!(rt; EncodeFault::Spent.in_memory() == EncodeFault::Spent);
 }

@@ -34,7 +34,6 @@ fn packet_pages(alloc: Global, marks: PacketMarks, packet: &[u8]) -> Result<Pack
 
 /// The pages of a packet of which it is not known yet whether more follow: as they are if more follow, as they are if
 /// it ends the stream, and the number of the page after them.
-#[derive(Drop)]
 pub struct HeldPacket {
     /// The pages if more packets follow.
     pub middle: Vec<u8>,
@@ -42,6 +41,16 @@ pub struct HeldPacket {
     pub last: Vec<u8>,
     /// The number of the page after them.
     pub next: u32,
+}
+
+impl Drop for HeldPacket {
+    fn drop(self) {
+        let HeldPacket {
+            middle: _,
+            last: _,
+            next: _,
+        } = self;
+    }
 }
 
 impl HeldPacket {

@@ -13,7 +13,7 @@ use std::process::Abort;
 use std::test::Fail;
 
 /// A block of no vendor and no comments, behind this many paddings.
-fn comments(alloc: Global, paddings: usize) -> Result<BlockList, Fail> {
+pub(crate) fn comments(alloc: Global, paddings: usize) -> Result<BlockList, Fail> {
     let mut blocks = Vec::new(alloc);
     for _ in 0..paddings {
         blocks.push(Block::Padding(0))?;

@@ -28,12 +28,22 @@ use std::alloc::Global;
 /// choice after another. It keeps one byte for each partition.
 ///
 /// A linear predictor is named by its place in the list that was handed in.
-#[derive(Drop)]
 pub struct WideChoice {
     pub(crate) form: SubframeForm,
     pub(crate) codings: Vec<u8>,
     bits: u64,
     priced: u64,
+}
+
+impl Drop for WideChoice {
+    fn drop(self) {
+        let WideChoice {
+            form: _,
+            codings: _,
+            bits: _,
+            priced: _,
+        } = self;
+    }
 }
 
 impl WideChoice {

@@ -14,7 +14,6 @@ use std::marker::Model;
 /// The working arrays for choosing and writing one subframe after another, made for blocks of at most some number of
 /// samples and for partition orders up to some greatest (RFC 9639, section 9.2.7). With an order of 15 there are 2^15
 /// and 2^16 places for what is known of each partition, 1.7 MB in all; with one of 8 some 13 kB.
-#[derive(Drop)]
 pub struct Workspace {
     pub(crate) longs: Vec<i64>,
     pub(crate) shorts: Vec<i32>,
@@ -24,6 +23,21 @@ pub struct Workspace {
     pub(crate) bytes: Vec<u8>,
     max_block: usize,
     pub(crate) most: u32,
+}
+
+impl Drop for Workspace {
+    fn drop(self) {
+        let Workspace {
+            longs: _,
+            shorts: _,
+            folds: _,
+            costs: _,
+            entries: _,
+            bytes: _,
+            max_block: _,
+            most: _,
+        } = self;
+    }
 }
 
 impl Model for Workspace {
