@@ -17,6 +17,11 @@ pub record Rule : Type 0 where
   pub broken : Bool
   pub why : Why
 
+-- the reason of the first rule that is broken
+abbrev pub first_broken : List Rule → Option Why
+first_broken [] = None
+first_broken (rule ∷ rules) = cond rule.broken (Some rule.why) (first_broken rules)
+
 pub data Layout : Type 0 → Type 1 where
   -- nothing more: the value
   done : {A : Type 0} → A → Layout A

@@ -1,7 +1,7 @@
 -- Why samples cannot be divided into frames with linear predictors.
-use Rattle.std.proofs.Common.{◌≡◌, Bool, true, false, cond, ◌||◌, nat_lt, nat_le, ◌^◌, Option, Some, None, List, []}
+use Rattle.std.proofs.Common.{◌≡◌, Bool, true, false, not, cond, ◌||◌, nat_lt, nat_le, ◌^◌, Option, Some, None, List, []}
 use Rattle.std.specs.Option.{option_or}
-use Rattle.flac_header.specs.Header.{greatest_in}
+use Rattle.flac_header.specs.Header.{allows_block}
 use Rattle.flac_subframe.specs.declared.linear.LinearPredictor.{LinearPredictor}
 use Rattle.flac_frame.specs.Setup.{format_fault}
 use Rattle.flac_frame.specs.declared.setup.SetupFault.{SetupFault}
@@ -35,7 +35,7 @@ module _ (p : Cut) (ps : List LinearPredictor) (e : SetupFault) where
   unfolding plan_fault cutting_fault
   with_none none h =
       still_or (format_fault p.profile p.rate p.bits p.channels) (cutting_fault p) (cutting_fault (with_predictors p ps)) e
-      (still (nat_lt p.block_size 16 || nat_lt (greatest_in p.profile p.rate) p.block_size) BadBlockSize e _ _
+      (still (not (allows_block p.profile p.block_size p.rate)) BadBlockSize e _ _
       (still (nat_le (2 ^ 36) p.total || nat_lt (2 ^ 31) (blocks_in p.block_size p.total)) TooLong e _ _
       (still (nat_lt 932067 (points_before p.block_size p.total p.seek_every (blocks_in p.block_size p.total))) TooManyPoints e (predictors_fault p.profile p.rate p.predictors)
       (predictors_fault p.profile p.rate ps) (λ last. absurd (no_fault none last))))) h
@@ -45,7 +45,7 @@ module _ (p : Cut) (ps : List LinearPredictor) (e : SetupFault) where
   unfolding plan_fault cutting_fault
   with_some good h =
       later_or (format_fault p.profile p.rate p.bits p.channels) (cutting_fault p) (cutting_fault (with_predictors p ps)) e
-      (later (nat_lt p.block_size 16 || nat_lt (greatest_in p.profile p.rate) p.block_size) BadBlockSize e _ _
+      (later (not (allows_block p.profile p.block_size p.rate)) BadBlockSize e _ _
       (later (nat_le (2 ^ 36) p.total || nat_lt (2 ^ 31) (blocks_in p.block_size p.total)) TooLong e _ _
       (later (nat_lt 932067 (points_before p.block_size p.total p.seek_every (blocks_in p.block_size p.total))) TooManyPoints e (predictors_fault p.profile p.rate p.predictors)
       (predictors_fault p.profile p.rate ps) (λ none. h)))) good

@@ -12,7 +12,7 @@ use Rattle.flac_header.specs.Choice.{rate_choice_in, depth_choice_in}
 use Rattle.flac_header.specs.declared.subset.Profile.{Profile}
 use Rattle.flac_meta.specs.Listed.{list_fault, info_seen}
 use Rattle.flac_meta.specs.declared.block.Block.{Block}
-use Rattle.flac_frame.specs.Audio.{Sound, IsSound, samples_each, as_long, each_small, channels_fault, audio_fault}
+use Rattle.flac_frame.specs.Audio.{Sound, IsSound, samples_each, as_long, each_small, samples_fault, channels_fault, audio_fault}
 use Rattle.flac_frame.specs.declared.setup.SetupFault.{SetupFault}
 use Rattle.flac_subframe.specs.declared.linear.LinearPredictor.{LinearPredictor}
 use Rattle.flac_native.specs.Given.{Cut, plan_fault}
@@ -76,7 +76,7 @@ below n h = grind (arith, nat_tests)
 
 -- There is no fault in samples that can be encoded.
 pub sound_good : (a : Sound) → IsSound a → audio_fault a.profile a.rate a.bits a.channels ≡ None
-unfolding audio_fault channels_fault
+unfolding audio_fault channels_fault samples_fault
 sound_good a s =
     let long : as_long a.channels ≡ true = as_long_back (samples_each a.channels) a.channels s.long in
     let small : each_small a.bits a.channels ≡ true = all_small a.bits a.channels s.small in

@@ -53,7 +53,7 @@ use Rattle.flac_native.proofs.Encoded.{Runs, one_more}
 use Rattle.flac_native.proofs.NewHead.{valid_after}
 use Rattle.flac_native.proofs.Onwards.{as_part, nothing_told, after_profile}
 use Rattle.flac_native.proofs.Ordered.{ends_whole}
-use Rattle.flac_native.proofs.Planned.{first_none, both_none, either_false, not_zero, not_less, rate_range, depth_range, greatest_small}
+use Rattle.flac_native.proofs.Planned.{first_none, both_none, either_false, not_zero, not_less, allowed_sizes, rate_range, depth_range, greatest_small}
 use Rattle.flac_native.proofs.Streams.{behind, info_run, marker_here}
 use Rattle.flac_native.proofs.Whole.{head_leaves}
 
@@ -81,16 +81,15 @@ shaped s e =
     let c = first_none _ _ _ b.1 in
     let d = first_none _ _ _ both.1 in
     let channels = either_false _ _ c.0 in
-    let sizes = either_false _ _ d.0 in
-    let greatest = not_less (greatest_in s.profile s.rate) s.block_size sizes.1 in
+    let sizes = allowed_sizes s.profile s.block_size s.rate d.0 in
     let rate = rate_range s.profile s.rate a.0 in
     let bits = depth_range s.profile s.bits b.0 in
     record {
       some = not_zero s.channels channels.0;
       few = not_less 8 s.channels channels.1;
-      least = not_less s.block_size 16 sizes.0;
-      greatest = greatest;
-      small = omega (arith, greatest, greatest_small s.profile s.rate);
+      least = sizes.0;
+      greatest = sizes.1;
+      small = omega (arith, sizes.1, greatest_small s.profile s.rate);
       least_rate = rate.0;
       rate = rate.1;
       least_bits = bits.0;
@@ -288,7 +287,7 @@ few_each n few = grind (arith, nat_tests)
 
 -- a block that fits a format can be encoded
 pub fits_format : (s : Shape) (block : List (List ℤ)) → shape_fault s ≡ None → block_fault s.channels s.bits block ≡ None → samples_each block ≤ s.block_size → audio_fault s.profile s.rate s.bits block ≡ None
-unfolding block_fault audio_fault channels_fault
+unfolding block_fault audio_fault channels_fault samples_fault
 fits_format s block shape h small =
     let q = shaped s shape in
     let c = first_none (not (nat_eq (length block) s.channels)) _ _ h in
@@ -310,7 +309,7 @@ pub record Accepted {S : Type 0} (e : Pushed S) (block : List (List ℤ)) : Type
   pub unspent : e.spent ≡ false
 
 pub accepted : {S : Type 0} (e : Pushed S) (block : List (List ℤ)) → shape_fault e.shape ≡ None → push_fault e block ≡ None → Accepted e block
-unfolding push_fault block_fault size_fault audio_fault channels_fault
+unfolding push_fault block_fault size_fault audio_fault channels_fault samples_fault
 accepted e block shape h =
     let q = shaped e.shape shape in
     let n = samples_each block in
@@ -378,7 +377,7 @@ module _ {X : Type 0} (f : X → List ℤ) (xs : List X) (channels bits : ℕ) w
       rw e refl
 
   pub enough_channels : length xs ≡ channels → samples_fault bits (map f xs) ≡ block_fault channels bits (map f xs)
-  unfolding block_fault samples_fault
+  unfolding block_fault
   enough_channels h =
       let e : not (nat_eq (length (map f xs)) channels) ≡ false = rw (length-map xs f) (grind (arith, nat_tests)) in
       rw e refl

@@ -1,20 +1,20 @@
 -- An encoder that samples are pushed to, a block at a time, and the stream that it has written.
-use Rattle.std.specs.Prelude.{◌≡◌, ◌⊎◌, ℕ, suc, ◌+◌, ◌^◌, ℤ, Bool, true, false, not, cond, ◌||◌, nat_eq, nat_lt, nat_le, List, [], ◌∷◌, ◌++◌, length, replicate, Option, Some, None, option_map}
+use Rattle.std.specs.Prelude.{◌≡◌, ◌⊎◌, ℕ, suc, ◌+◌, ◌^◌, ℤ, Bool, true, false, not, cond, ◌||◌, nat_eq, nat_lt, nat_le, List, [], ◌∷◌, ◌++◌, length, Option, Some, None, option_map}
 use Rattle.std.specs.Option.{option_or}
 use Rattle.flac_bits.specs.Bits.{bits_of}
 use Rattle.flac_bits.specs.Items.{Stream, after}
 use Rattle.flac_bits.specs.declared.target.Target as target
 use Rattle.flac_bits.specs.declared.why.Why.TheVariants.{Truncated}
 use Rattle.flac_header.specs.declared.subset.Profile.{Profile}
-use Rattle.flac_info.specs.Info.{Info}
-use Rattle.flac_header.specs.Header.{greatest_in}
+use Rattle.flac_info.specs.Info.{Info, info_of_format}
+use Rattle.flac_header.specs.Header.{allows_block}
 use Rattle.flac_subframe.specs.declared.linear.LinearPredictor.{LinearPredictor}
-use Rattle.flac_frame.specs.Audio.{Sound, samples_each, as_long, each_small}
+use Rattle.flac_frame.specs.Audio.{Sound, samples_each, samples_fault}
 use Rattle.flac_frame.specs.Frame.{Frame}
 use Rattle.flac_frame.specs.declared.before.Before.{Before}
 use Rattle.flac_frame.specs.Setup.{format_fault}
 use Rattle.flac_frame.specs.declared.setup.SetupFault.{SetupFault}
-use Rattle.flac_frame.specs.declared.setup.SetupFault.TheVariants.{BadChannels, LengthsDiffer, SampleTooLarge, TooLong, BadBlockSize}
+use Rattle.flac_frame.specs.declared.setup.SetupFault.TheVariants.{BadChannels, TooLong, BadBlockSize}
 use Rattle.flac_native.specs.Decoding.{beginning}
 use Rattle.flac_native.specs.Stream.{Piece, framed, grammar, opening}
 use Rattle.flac_native.specs.Stream as stream
@@ -38,24 +38,14 @@ pub record Shape : Type 0 where
 unfoldable pub shape_fault : Shape → Option SetupFault
 shape_fault s =
     option_or (format_fault s.profile s.rate s.bits s.channels)
-    (cond (nat_lt s.block_size 16 || nat_lt (greatest_in s.profile s.rate) s.block_size) (Some BadBlockSize) None)
+    (cond (not (allows_block s.profile s.block_size s.rate)) (Some BadBlockSize) None)
 
 abbrev pub shape_of : StreamFormat → Shape
 shape_of f = record { profile = f.profile; rate = f.rate; bits = f.bits; channels = f.channels; block_size = f.block_size }
 
 -- STREAMINFO of a format; the sizes of the frames, the number of samples and the digest are unknown (section 8.2)
 abbrev pub open_info : Shape → Info
-open_info s = record {
-  least_block = s.block_size;
-  greatest_block = s.block_size;
-  least_frame = 0;
-  greatest_frame = 0;
-  rate = s.rate;
-  channels = s.channels;
-  depth = s.bits;
-  total = 0;
-  digest = replicate 16 0;
-}
+open_info s = info_of_format s.block_size s.rate s.channels s.bits
 
 -- ---- the encoder
 
@@ -92,13 +82,11 @@ trying e ps = record { shape = e.shape; predictors = ps; number = e.number; samp
 abbrev pub with_target : {R S : Type 0} → Pushed R → S → Pushed S
 with_target e t = record { shape = e.shape; predictors = e.predictors; number = e.number; samples = e.samples; ended = e.ended; spent = e.spent; target = t }
 
--- Why a block does not have the format, if so: one list of samples for each channel, all of one length, and each sample
--- a number of `bits` bits.
+-- Why a block does not have the format, if so: there is not one list of samples for each channel, or the samples cannot
+-- be encoded.
 unfoldable pub block_fault : (channels bits : ℕ) → List (List ℤ) → Option SetupFault
 block_fault channels bits block =
-    cond (not (nat_eq (length block) channels)) (Some BadChannels)
-    (cond (not (as_long block)) (Some LengthsDiffer)
-    (cond (not (each_small bits block)) (Some SampleTooLarge) None))
+    cond (not (nat_eq (length block) channels)) (Some BadChannels) (samples_fault bits block)
 
 -- Why a block of n samples cannot be the next frame, if so: the number of samples has 36 bits (section 8.2) and a frame
 -- number 31 (section 9.1.5); the block has a sample, and no more than the block size; and all blocks but the last have

@@ -44,17 +44,12 @@ module _ {X : Type 0} (f : X → List ℤ) (xs : List X) (bits : ℕ) (n : ℕ) 
   unfolding samples_fault
   faultless all d h good = rw (sym (long_of f xs n b e is) ∙ all, sym (small_of f xs bits d h) ∙ good) refl
 
-samples_first : (a b : Bool) (x y : SetupFault) (rest : Option SetupFault) → cond a (Some x) (cond b (Some y) rest) ≡ option_or (cond a (Some x) (cond b (Some y) None)) rest
-samples_first true b x y rest = refl
-samples_first false true x y rest = refl
-samples_first false false x y rest = refl
-
 -- of 1 to 8 channels, what is wrong with their samples comes first
 by_samples : (bits : ℕ) (cs : List (List ℤ)) → 1 ≤ length cs → length cs ≤ 8 → channels_fault bits cs ≡ option_or (samples_fault bits cs) (cond (nat_le (2 ^ 36) (samples_each cs)) (Some TooLong) None)
-unfolding channels_fault samples_fault
+unfolding channels_fault
 by_samples bits cs some few =
     let counted : (nat_eq (length cs) 0 || nat_lt 8 (length cs)) ≡ false = grind (arith, nat_tests) in
-    rw counted (samples_first (not (as_long cs)) (not (each_small bits cs)) LengthsDiffer SampleTooLarge _)
+    rw counted refl
 
 too_long : (n : ℕ) → 2 ^ 36 ≤ n → cond (nat_le (2 ^ 36) n) (Some TooLong) None ≡ Some TooLong
 too_long n h = let e : nat_le (2 ^ 36) n ≡ true = grind (arith, nat_tests) in rw e refl
@@ -143,6 +138,10 @@ none_here : (a : Bool) (e : SetupFault) (o : Option SetupFault) → cond a (Some
 none_here true e o h = absurd cc
 none_here false e o h = (refl, h)
 
+neither : {X : Type 0} (o rest : Option X) → option_or o rest ≡ None → (o ≡ None) × (rest ≡ None)
+neither None rest h = (refl, h)
+neither (Some x) rest h = absurd cc
+
 is_there : {X : Type 0} (o : Option X) → is_none o ≡ false → is_some o ≡ true
 is_there None e = absurd cc
 is_there (Some x) e = refl
@@ -158,14 +157,15 @@ not_over : (n : ℕ) → nat_le (2 ^ 36) n ≡ false → n < 2 ^ 36
 not_over n e = grind (arith, nat_tests)
 
 pub sound_is : (profile : Profile) (rate bits : ℕ) (cs : List (List ℤ)) → audio_fault profile rate bits cs ≡ None → IsSound (record { profile = profile; rate = rate; bits = bits; channels = cs })
-unfolding audio_fault channels_fault
+unfolding audio_fault channels_fault samples_fault
 sound_is profile rate bits cs e =
     let a = none_here (is_none (rate_choice_in profile rate)) BadRate _ e in
     let b = none_here (is_none (depth_choice_in profile bits)) BadDepth _ a.1 in
     let c = none_here (nat_eq (length cs) 0 || nat_lt 8 (length cs)) BadChannels _ b.1 in
-    let d = none_here (not (as_long cs)) LengthsDiffer _ c.1 in
-    let f = none_here (not (each_small bits cs)) SampleTooLarge _ d.1 in
-    let g = none_here (nat_le (2 ^ 36) (samples_each cs)) TooLong None f.1 in
+    let samples = neither (samples_fault bits cs) _ c.1 in
+    let d = none_here (not (as_long cs)) LengthsDiffer _ samples.0 in
+    let f = none_here (not (each_small bits cs)) SampleTooLarge None d.1 in
+    let g = none_here (nat_le (2 ^ 36) (samples_each cs)) TooLong None samples.1 in
     let n = counts_are (length cs) c.0 in
     record {
       rate = is_there (rate_choice_in profile rate) a.0;

@@ -1,6 +1,7 @@
 -- Samples that can be encoded.
 use Rattle.std.specs.Prelude.{◌≡◌, ◌≤◌, ◌<◌, All, true, is_some, ℕ, ◌^◌, Bool, not, cond, ◌||◌, nat_eq, nat_lt, nat_le, ℤ, List, [], length, slice_index_or, Option, Some, None, is_none}
 use Rattle.std.specs.List.{list_all}
+use Rattle.std.specs.Option.{option_or}
 use Rattle.flac_header.specs.Choice.{rate_choice_in, depth_choice_in}
 use Rattle.flac_header.specs.declared.subset.Profile.{Profile}
 use Rattle.flac_bits.specs.Signed.{FitsBits}
@@ -32,14 +33,12 @@ each_small bits channels = list_all (λ c. list_all (fits bits) c) channels
 unfoldable pub samples_fault : (bits : ℕ) → List (List ℤ) → Option SetupFault
 samples_fault bits channels = cond (not (as_long channels)) (Some LengthsDiffer) (cond (not (each_small bits channels)) (Some SampleTooLarge) None)
 
--- Why channels cannot be encoded, if so: there are 1 to 8 (RFC 9639, section 9.1.3), of one length; a sample does not
--- fit its bits; or they have more samples than STREAMINFO can count (section 8.2).
+-- Why channels cannot be encoded, if so: there are not 1 to 8 (RFC 9639, section 9.1.3); their samples cannot be encoded;
+-- or they have more samples than STREAMINFO can count (section 8.2).
 unfoldable pub channels_fault : (bits : ℕ) → List (List ℤ) → Option SetupFault
 channels_fault bits channels =
     cond (nat_eq (length channels) 0 || nat_lt 8 (length channels)) (Some BadChannels)
-    (cond (not (as_long channels)) (Some LengthsDiffer)
-    (cond (not (each_small bits channels)) (Some SampleTooLarge)
-    (cond (nat_le (2 ^ 36) (samples_each channels)) (Some TooLong) None)))
+    (option_or (samples_fault bits channels) (cond (nat_le (2 ^ 36) (samples_each channels)) (Some TooLong) None))
 
 -- Why samples cannot be encoded, if so: under the profile no frame header has a code for the rate or for the depth
 -- (sections 7, 9.1.2 and 9.1.4), or the channels cannot be encoded.

@@ -118,7 +118,7 @@ impl FrameBuffers {
 
     /// Reads the next frame into the buffers, where [`FrameBuffers::view`] lends it (RFC 9639, section 9). The reader
     /// should be at a whole byte: there the checks begin anew. The frame must agree with STREAMINFO, follow the frames
-    /// before, and have at most 16777215 bytes. No fence is left ([`BitReader::fence`]).
+    /// before, and have at most 16777215 bytes. A fence of the caller ([`BitReader::fence`]) is lifted, also by an error.
     ///
     /// The buffers must have room for the channels of STREAMINFO, and for its largest block size or the profile's,
     /// whichever is smaller.
@@ -137,7 +137,7 @@ impl FrameBuffers {
     ///   (section 9.2).
     /// - [`Why::NonzeroPadding`] or [`Why::FrameCheck`] at the end of the frame (section 9.3).
     /// - [`Why::SampleRange`] if the CRC-16 is right, and a sample does not fit its depth.
-    /// - [`Why::FrameTooLong`] if it does not end within 16777215 bytes.
+    /// - [`Why::FrameTooLong`] if it goes on after 16777215 bytes, all of which the source has.
     /// - Those of [`BitReader`]. Never [`Why::Memory`].
     pub fn fill<R: Source>(
         &mut self,

@@ -146,6 +146,11 @@ abbrev pub greatest_in : Profile → ℕ → ℕ
 greatest_in Subset rate = greatest_block rate
 greatest_in Lax rate = 65535
 
+-- A stream of the profile may have blocks of `size` samples at a rate: 16 samples or more (section 8.2), and at most the
+-- longest block.
+abbrev pub allows_block : Profile → (size rate : ℕ) → Bool
+allows_block profile size rate = nat_le 16 size && nat_le size (greatest_in profile rate)
+
 -- The streamable subset (section 7): the header names rate and depth, and blocks are not too long for their rate.
 -- Outside it each header is allowed.
 unfoldable pub allowed : Profile → Header → Bool

@@ -1,7 +1,7 @@
 //! The rules of the streamable subset (RFC 9639, section 7).
 
 ghost use Rattle.std.specs.Prelude.{◌≡◌, ◌≤◌, ◌&&◌, nat_le};
-ghost use Rattle.flac_header.specs.Header.{allowed, greatest_in};
+ghost use Rattle.flac_header.specs.Header.{allowed, allows_block, greatest_in};
 
 use crate::frame_header::FrameHeader;
 
@@ -35,7 +35,7 @@ impl Profile {
     /// most [`Profile::greatest_block`] (RFC 9639, sections 7, 8.2 and 9.1.6). The last block of a stream may be
     /// smaller.
     pub fn allows_block(self, size: u32, rate: u32) -> bool
-        ensures { result ≡ (nat_le 16 size && nat_le size (greatest_in self rate)) }
+        ensures { result ≡ allows_block self size rate }
     {
         size >= 16 && size <= self.greatest_block(rate)
     }

@@ -5,7 +5,7 @@ use Rattle.std.proofs.lemmas.Nat.{pow_pos}
 use Rattle.std.proofs.lemmas.Bool.Decides.{nat_tests}
 use Rattle.flac_bits.specs.Bits.{unsigned, bits_of, bit_value}
 use Rattle.flac_bits.specs.State.{Mark, past}
-use Rattle.flac_bits.specs.Layout.{Layout, done, bind, bits, choose}
+use Rattle.flac_bits.specs.Layout.{Layout, done, bind, bits, choose, first_broken}
 use Rattle.flac_bits.specs.Lists.{list_of}
 use Rattle.flac_bits.specs.Meaning.{Spells}
 use Rattle.flac_bits.specs.Forms.{joined, IsBytes, AreBytes}
@@ -23,7 +23,7 @@ use Rattle.flac_meta.specs.CueSheet.{cue_sheet}
 use Rattle.flac_meta.specs.Picture.{picture}
 use Rattle.flac_meta.specs.Block.{padding, application, other, content, block}
 use Rattle.flac_meta.specs.Spelling as s
-use Rattle.flac_meta.specs.Listed.{first_broken, is_forbidden, is_out_of_order, has_bad_sheet, block_fault, came}
+use Rattle.flac_meta.specs.Listed.{is_forbidden, is_out_of_order, has_bad_sheet, block_fault, came}
 use Rattle.flac_meta.specs.Valid.{FitsFields, IsBlock, ContentSpelled, BlockSpelled, BlocksAreSpelled, BlocksAreReadAgain}
 use Rattle.flac_meta.specs.declared.block.BlockHeader.{BlockHeader}
 use Rattle.flac_meta.specs.declared.block.Seen.{Seen}

@@ -1,6 +1,6 @@
 -- Which blocks may be written, and which may follow STREAMINFO in one list (RFC 9639, section 8.1).
 use Rattle.std.specs.Prelude.{Bool, true, false, not, ◌||◌, cond, List, [], ◌∷◌, length, nat_eq, nat_lt, Option, Some, None}
-use Rattle.flac_bits.specs.Layout.{Rule}
+use Rattle.flac_bits.specs.Layout.{first_broken}
 use Rattle.flac_bits.specs.declared.why.Why.{Why}
 use Rattle.flac_bits.specs.declared.why.Why.TheVariants as why
 use Rattle.flac_meta.specs.SeekTable.{in_order}
@@ -11,11 +11,6 @@ use Rattle.flac_meta.specs.declared.cue_sheet.CueTrack.{CueTrack}
 use Rattle.flac_meta.specs.declared.cue_sheet.CueSheet.{CueSheet}
 use Rattle.flac_meta.specs.declared.block.Block.{Block}
 use Rattle.flac_meta.specs.declared.block.Block.TheVariants as block_of
-
--- the reason of the first rule that is broken
-abbrev pub first_broken : List Rule → Option Why
-first_broken [] = None
-first_broken (rule ∷ rules) = cond rule.broken (Some rule.why) (first_broken rules)
 
 -- a reserved kind has a number from 7 to 126
 abbrev pub is_forbidden : Block → Bool

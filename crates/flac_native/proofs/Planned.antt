@@ -1,9 +1,9 @@
 -- What holds of a plan.
-use Rattle.std.proofs.Common.{◌≡◌, ℕ, ◌^◌, ◌<◌, ◌≤◌, Bool, true, false, cond, ◌&&◌, ◌||◌, nat_eq, nat_lt, nat_le, length, Option, Some, None, is_none, List, refl, ap, subst, ◌∙◌, arith}
+use Rattle.std.proofs.Common.{◌≡◌, ℕ, ◌^◌, ◌<◌, ◌≤◌, Bool, true, false, not, cond, ◌&&◌, ◌||◌, nat_eq, nat_lt, nat_le, length, Option, Some, None, is_none, List, refl, ap, subst, ◌∙◌, arith}
 use Rattle.std.specs.Option.{option_or}
 use Rattle.std.proofs.lemmas.Bool.Decides.{nat_tests}
 use Rattle.flac_info.specs.Info.{KeepsRules}
-use Rattle.flac_header.specs.Header.{greatest_in}
+use Rattle.flac_header.specs.Header.{allows_block, greatest_in}
 use Rattle.flac_header.specs.Choice.{rate_choice, depth_choice, rate_choice_in, depth_choice_in}
 use Rattle.flac_header.specs.declared.subset.Profile.{Profile}
 use Rattle.flac_header.specs.declared.subset.Profile.TheVariants.{Subset, Lax}
@@ -45,6 +45,18 @@ not_less a b e = grind (arith, nat_tests)
 not_at_most : (a b : ℕ) → nat_le a b ≡ false → b < a
 not_at_most a b e = grind (arith, nat_tests)
 
+at_most : (a b : ℕ) → nat_le a b ≡ true → a ≤ b
+at_most a b e = grind (arith, nat_tests)
+
+not_false : (b : Bool) → not b ≡ false → b ≡ true
+not_false true e = refl
+not_false false e = absurd cc
+
+pub allowed_sizes : (profile : Profile) (size rate : ℕ) → not (allows_block profile size rate) ≡ false → (16 ≤ size) × (size ≤ greatest_in profile rate)
+allowed_sizes profile size rate e =
+    let both = both_true _ _ (not_false (allows_block profile size rate) e) in
+    (at_most 16 size both.0, at_most size (greatest_in profile rate) both.1)
+
 same : (a b : ℕ) → nat_eq a b ≡ true → a ≡ b
 same a b e = grind (arith, nat_tests)
 
@@ -73,15 +85,15 @@ planned p e =
     let f = first_none _ _ _ d.1 in
     let g = first_none _ _ _ f.1 in
     let channels = either_false _ _ c.0 in
-    let sizes = either_false _ _ d.0 in
+    let sizes = allowed_sizes p.profile p.block_size p.rate d.0 in
     let counts = either_false _ _ f.0 in
     record {
       rate = a.0;
       bits = b.0;
       some = not_zero p.channels channels.0;
       few = not_less 8 p.channels channels.1;
-      least = not_less p.block_size 16 sizes.0;
-      greatest = not_less (greatest_in p.profile p.rate) p.block_size sizes.1;
+      least = sizes.0;
+      greatest = sizes.1;
       total = not_at_most (2 ^ 36) p.total counts.0;
       blocks = not_less (2 ^ 31) (blocks_in p.block_size p.total) counts.1;
       points = not_less 932067 (points_before p.block_size p.total p.seek_every (blocks_in p.block_size p.total)) g.0;
@@ -100,7 +112,7 @@ still_planned p ps e new =
     let points = points_before p.block_size p.total p.seek_every (blocks_in p.block_size p.total) in
     let both = both_none (format_fault p.profile p.rate p.bits p.channels) (cutting_fault p) e in
     let cut =
-    instead (nat_lt p.block_size 16 || nat_lt (greatest_in p.profile p.rate) p.block_size) BadBlockSize _ _
+    instead (not (allows_block p.profile p.block_size p.rate)) BadBlockSize _ _
     (instead (nat_le (2 ^ 36) p.total || nat_lt (2 ^ 31) (blocks_in p.block_size p.total)) TooLong _ _
     (instead (nat_lt 932067 points) TooManyPoints (predictors_fault p.profile p.rate p.predictors) (predictors_fault p.profile p.rate ps) (λ old. new))) both.1 in
     rw both.0 cut

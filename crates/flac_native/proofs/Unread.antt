@@ -1,10 +1,11 @@
 -- A block that may not be written is refused for a reason of its own, and never for one of a device.
 use Rattle.std.proofs.Common.{◌≡◌, Bool, true, false, nat_lt, [], ◌∷◌, Option, Some, None, IfSome, Result, Err, refl, sym, ap, ◌∙◌}
+use Rattle.flac_bits.specs.Layout.{first_broken}
 use Rattle.flac_bits.specs.Reasons.{of_output}
 use Rattle.flac_bits.specs.declared.why.Why.{Why}
 use Rattle.flac_bits.proofs.Counting.{is_device}
 use Rattle.flac_bits.specs.declared.why.Why.TheVariants as why
-use Rattle.flac_meta.specs.Listed.{block_fault, first_broken, is_forbidden, is_out_of_order, has_bad_sheet}
+use Rattle.flac_meta.specs.Listed.{block_fault, is_forbidden, is_out_of_order, has_bad_sheet}
 use Rattle.flac_meta.specs.Spelling.{length_of}
 use Rattle.flac_meta.specs.declared.block.Block.{Block}
 

@@ -8,7 +8,7 @@ use Rattle.flac_bits.specs.Bits.{is_nil, bit_value}
 use Rattle.flac_info.specs.Info.{Info}
 use Rattle.flac_meta.specs.declared.block.Block.{Block}
 use Rattle.flac_meta.specs.declared.block.Block.TheVariants as blocks
-use Rattle.flac_header.specs.Header.{greatest_in}
+use Rattle.flac_header.specs.Header.{allows_block}
 use Rattle.flac_header.specs.declared.subset.Profile.{Profile}
 use Rattle.flac_header.specs.declared.subset.Profile.TheVariants.{Subset, Lax}
 use Rattle.flac_subframe.specs.Room.{Room}
@@ -122,7 +122,7 @@ predictors_fault profile rate ps =
 -- block (sections 8.1 and 8.5); or the predictors cannot be tried.
 unfoldable pub cutting_fault : Cut → Option SetupFault
 cutting_fault p =
-    cond (nat_lt p.block_size 16 || nat_lt (greatest_in p.profile p.rate) p.block_size) (Some BadBlockSize)
+    cond (not (allows_block p.profile p.block_size p.rate)) (Some BadBlockSize)
     (cond (nat_le (2 ^ 36) p.total || nat_lt (2 ^ 31) (blocks_in p.block_size p.total)) (Some TooLong)
     (cond (nat_lt 932067 (points_before p.block_size p.total p.seek_every (blocks_in p.block_size p.total))) (Some TooManyPoints)
     (predictors_fault p.profile p.rate p.predictors)))

@@ -204,10 +204,9 @@ impl<C: Container> Decoder<C> {
     {
         let Decoder {
             container,
-            track,
+            track: _,
             course: _,
         } = self;
-        drop(track);
         container
     }
 }

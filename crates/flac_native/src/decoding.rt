@@ -221,7 +221,6 @@ pub fn decode<R: Source, S: Sink>(
     let mut reader = BitReader::new(source);
     let mut track = Track::opening(alloc, profile);
     let outcome = hand_out(&mut reader, &mut track, sink);
-    drop(track);
     let _source = reader.into_source(); // for its clauses alone
     outcome
 }

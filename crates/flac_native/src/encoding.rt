@@ -268,12 +268,9 @@ pub fn encode<W: Target>(
         return Err(EncodeFault::Memory);
     };
     let Ok(frames) = ChosenFrames::new(alloc, plan, audio, &mut buffers) else {
-        drop(buffers);
         return Err(EncodeFault::Memory);
     };
-    let outcome = send_stream(plan, list, audio, frames, &mut buffers, target);
-    drop(buffers);
-    match outcome {
+    match send_stream(plan, list, audio, frames, &mut buffers, target) {
         Ok(()) => Ok(()),
         Err(_) => Err(EncodeFault::Write),
     }

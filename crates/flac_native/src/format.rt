@@ -1,11 +1,10 @@
 //! STREAMINFO, and the buffers for its frames.
 
-ghost use Rattle.std.specs.Prelude.{◌≡◌, ◌≤◌, OnOk, OnErr, IfOk, IfErr, Some, None, min};
+ghost use Rattle.std.specs.Prelude.{◌≡◌, OnOk, IfOk, IfErr, Some, None, min};
 ghost use Rattle.flac_bits.specs.Reading.{CallInPlace};
 ghost use Rattle.flac_bits.specs.Fencing.{lifted};
 ghost use Rattle.flac_bits.specs.Within.{ReadsWithin};
 ghost use Rattle.flac_frame.specs.Frame.{frame, after};
-ghost use Rattle.flac_frame.specs.Kept.{nothing};
 ghost use Rattle.flac_header.specs.Header.{greatest_in};
 
 use flac_bits::{BitReader, Source, Why};
@@ -13,23 +12,6 @@ use flac_frame::{FrameBuffers, FrameView};
 use flac_header::Profile;
 use flac_meta::StreamInfo;
 use std::alloc::Global;
-
-/// What [`FrameBuffers::fill`] does, proved by the reading of the layout.
-fn fill_here<R: Source>(
-    buffers: &mut FrameBuffers,
-    bits: &mut BitReader<R>,
-    info: &StreamInfo,
-    profile: Profile,
-) -> Result<(), Why>
-    requires channels { info.now.channels ≤ buffers.old.channels }
-    requires block { min info.now.greatest_block (greatest_in profile info.now.rate) ≤ buffers.old.max_block }
-    ensures room { (buffers.new.channels ≡ buffers.old.channels) × (buffers.new.max_block ≡ buffers.old.max_block) }
-    ensures before { OnOk result (buffers.new.before ≡ Some (after buffers.old.before buffers.new.held)) }
-    ensures refused { OnErr result ((buffers.new.before ≡ buffers.old.before) × (buffers.new.held ≡ nothing)) }
-    ensures reading { CallInPlace 40 (λ _. ReadsWithin (Some 16777215) (λ _. buffers.new.held) (frame profile info.now buffers.old.before) bits.old) (lifted bits.old) bits.new result }
-{
-    buffers.fill(bits, info, profile)
-}
 
 /// STREAMINFO, and the buffers for its frames.
 pub(crate) struct Format {
@@ -74,7 +56,7 @@ impl Format {
         ensures info { self.new.info ≡ self.old.info }
         ensures profile { self.new.profile ≡ self.old.profile }
     {
-        fill_here(&mut self.buffers, bits, &self.info, self.profile)
+        self.buffers.fill(bits, &self.info, self.profile)
     }
 
     /// The frame that was read last.

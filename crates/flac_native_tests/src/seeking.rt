@@ -23,26 +23,40 @@ fn table(alloc: Global, points: Vec<SeekPoint>) -> Result<BlockList, Fail> {
     Ok(BlockList::new(blocks)?)
 }
 
-/// Encodes those samples with a seek table in the list, and a seek point each `every` samples: the outcome, and how
-/// many bytes are written.
-fn encoded_with_table(alloc: Global, every: u32) -> Result<(Result<(), EncodeFault>, usize), Fail> {
+/// Encodes those samples with a seek table in the list, and a seek point each `every` samples: the outcome, and what is
+/// written.
+fn encoded_with_table(
+    alloc: Global,
+    every: u32,
+) -> Result<(Result<(), EncodeFault>, Collected), Fail> {
     let audio = seventeen(alloc)?;
     let list = table(alloc, Vec::new(alloc))?;
     let plan = Plan::new(16, &audio, every)?;
     let mut target = Collected::new(alloc);
     let outcome = encode(alloc, &plan, &list, &audio, &mut target);
-    drop(list);
-    Ok((outcome, target.bytes().len()))
+    Ok((outcome, target))
 }
+
+/// Those samples in blocks of 16 and a table without points, put together by hand: STREAMINFO, the table, a frame of a
+/// fixed predictor of order 2 that leaves zeros, which an escape of 0 bits codes, and one of the sample 16 alone, constant
+/// with 4 wasted bits.
+const WITH_TABLE: [u8; 74] = [
+    0x66, 0x4C, 0x61, 0x43, 0x00, 0x00, 0x00, 0x22, 0x00, 0x10, 0x00, 0x10, 0x00, 0x00, 0x0C, 0x00,
+    0x00, 0x10, 0x0A, 0xC4, 0x40, 0xF0, 0x00, 0x00, 0x00, 0x11, 0xF9, 0x61, 0xF0, 0x10, 0xDA, 0x46,
+    0x7F, 0x32, 0x1C, 0x63, 0xD9, 0x8D, 0x6E, 0xB5, 0xE8, 0x9C, 0x83, 0x00, 0x00, 0x00, 0xFF, 0xF8,
+    0x69, 0x08, 0x00, 0x0F, 0x30, 0x14, 0x00, 0x00, 0x00, 0x01, 0x03, 0xC0, 0xEF, 0xC9, 0xFF, 0xF8,
+    0x69, 0x08, 0x01, 0x00, 0x08, 0x01, 0x10, 0x01, 0xBC, 0x33,
+];
 
 /// A list that has a seek table is refused where the plan asks for one, and else written.
 #[test]
 fn repeated_table(rt: HostRuntime) -> Result<(), Fail> {
-    let refused = encoded_with_table(rt.alloc(), 16)?;
-    assert!(rt; refused == (Err(EncodeFault::RepeatedBlock), 0));
-    let (outcome, count) = encoded_with_table(rt.alloc(), 0)?;
+    let (outcome, target) = encoded_with_table(rt.alloc(), 16)?;
+    assert!(rt; outcome == Err(EncodeFault::RepeatedBlock));
+    assert!(rt; target.bytes().is_empty());
+    let (outcome, target) = encoded_with_table(rt.alloc(), 0)?;
     assert!(rt; outcome == Ok(()));
-    assert!(rt; count > 46);
+    assert!(rt; target.bytes() == WITH_TABLE.as_slice());
     Ok(())
 }
 

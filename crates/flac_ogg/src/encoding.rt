@@ -168,9 +168,7 @@ pub fn encode_ogg<W: Target>(
     let Ok(prepared) = prepare(alloc, serial, plan, list, audio, &mut buffers) else {
         return Err(EncodeFault::Memory);
     };
-    let outcome = send_prepared(prepared, plan, audio, &mut buffers, target);
-    drop(buffers);
-    match outcome {
+    match send_prepared(prepared, plan, audio, &mut buffers, target) {
         Ok(()) => Ok(()),
         Err(_) => Err(EncodeFault::Write),
     }

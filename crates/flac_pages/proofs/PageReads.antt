@@ -3,13 +3,13 @@ use Rattle.std.proofs.Common.{◌≡◌, ℕ, Bool, true, false, cond, List, [],
 use Rattle.std.specs.Prelude.{⊤}
 use Rattle.std.specs.List.{sum}
 use Rattle.flac_bits.specs.State.{Cursor}
-use Rattle.flac_bits.specs.Layout.{bits, run, and_then, unless_broken, Rule, Reason, because}
+use Rattle.flac_bits.specs.Layout.{bits, run, and_then, first_broken, unless_broken, Rule, Reason, because}
 use Rattle.flac_bits.specs.Lists.{list_of}
 use Rattle.flac_bits.specs.declared.why.Why.{Why}
 use Rattle.flac_pages.specs.declared.page.Before.{Before}
 use Rattle.flac_pages.specs.declared.page.Head.{Head}
 use Rattle.flac_bits.specs.Unchecked.{begun_anew}
-use Rattle.flac_pages.specs.Page.{Page, page_behind, head_behind, end_rules, first_broken}
+use Rattle.flac_pages.specs.Page.{Page, page_behind, head_behind, end_rules}
 use Rattle.flac_pages.proofs.Anew.{anew_is, anew_err}
 
 abbrev pub page_is : Head → List ℕ → List ℕ → Page

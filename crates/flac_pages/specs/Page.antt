@@ -8,7 +8,6 @@ use Rattle.flac_bits.specs.Forms.{joined}
 use Rattle.flac_bits.specs.Layout.{Layout, done, judge, ◌>>=◌, bits, Rule}
 use Rattle.flac_bits.specs.Lists.{list_of}
 use Rattle.flac_bits.specs.LittleEndian.{little_32, little_64}
-use Rattle.flac_bits.specs.declared.why.Why.{Why}
 use Rattle.flac_bits.specs.declared.why.Why.TheVariants.{BadPage, PageCheck, PageOrder, OtherStream, BadMapping}
 use Rattle.flac_pages.specs.declared.page.Head.{Head}
 use Rattle.flac_pages.specs.declared.page.Before.{Before}
@@ -85,11 +84,6 @@ end_rules before p =
     record { broken = is_other before p.head.serial; why = OtherStream } ∷
     record { broken = is_disordered before p.head; why = PageOrder } ∷
     record { broken = is_wrong_start before p; why = BadMapping } ∷ []
-
--- the reason of the first rule that is broken
-abbrev pub first_broken : List Rule → Option Why
-first_broken [] = None
-first_broken (rule ∷ rules) = cond rule.broken (Some rule.why) (first_broken rules)
 
 -- ---- the layout
 

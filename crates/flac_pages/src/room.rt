@@ -3,12 +3,12 @@
 ghost use Rattle.std.specs.Prelude.{◌≡◌, ◌≢◌, ◌≤◌, ◌<◌, ◌+◌, ◌*◌, ◌^◌, [], length, take, get_or, vec_len, OnOk, IfOk, IfErr, IfSome, OnErr, false};
 ghost use Rattle.std.specs.List.{sum};
 ghost use Rattle.flac_bits.specs.Reasons.{of_output};
-ghost use Rattle.flac_bits.specs.Layout.{bits as number, run};
+ghost use Rattle.flac_bits.specs.Layout.{bits as number, first_broken, run};
 ghost use Rattle.flac_bits.specs.Lists.{list_of};
 ghost use Rattle.flac_bits.specs.Reading.{Counts, Reads, Gives, CallInPlace};
 ghost use Rattle.flac_bits.specs.Unchecked.{begun_anew};
 ghost use Rattle.flac_pages.specs.Pages.{between, next_page};
-ghost use Rattle.flac_pages.specs.Page.{page_sum, page_behind, end_rules, first_broken};
+ghost use Rattle.flac_pages.specs.Page.{page_sum, page_behind, end_rules};
 ghost use Rattle.flac_pages.specs.Runs.{MeansPage};
 
 use crate::fields::read_head;

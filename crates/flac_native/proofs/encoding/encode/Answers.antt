@@ -89,13 +89,13 @@ returns-in_default-new g c = record {
   names = refl;
 }
 
-pub returns-in-Ok-outcome : goal.returns-in-Ok-outcome
-returns-in-Ok-outcome g c =
+pub returns-in-Ok-send_stream : goal.returns-in-Ok-send_stream
+returns-in-Ok-send_stream g c =
     let p = c.args.plan.now in
     let a = c.args.audio.now in
     let list = c.args.list.now in
     let s = c.in-Ok-new.frames in
-    let w = c.in-Ok-outcome.ensures in
+    let w = c.in-Ok-send_stream.ensures in
     record {
       written = λ known.
           let once = sym c.repeats_table.ensures ∙ c.if-repeats_table.false in
@@ -115,8 +115,8 @@ returns-in-Ok-outcome g c =
       names = w.3.names;
     }
 
-pub returns-in-Err : goal.returns-in-Err
-returns-in-Err g c =
+pub returns : goal.returns
+returns g c =
     let p = c.args.plan.now in
     let a = c.args.audio.now in
     let list = c.args.list.now in

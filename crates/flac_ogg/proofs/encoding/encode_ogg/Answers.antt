@@ -102,8 +102,8 @@ returns-in_default-prepare g c = record {
   names = refl;
 }
 
-pub returns-in-Ok-outcome : goal.returns-in-Ok-outcome
-returns-in-Ok-outcome g c =
+pub returns-in-Ok-send_prepared : goal.returns-in-Ok-send_prepared
+returns-in-Ok-send_prepared g c =
     let p = c.args.plan.now in
     let a = c.args.audio.now in
     let list = c.args.list.now in
@@ -112,15 +112,15 @@ returns-in-Ok-outcome g c =
     let h = ready.headers in
     let made = c.in-Ok-prepare.ensures.headers in
     let first : List Bool = mapping_spelling (header_count (length list)) ++ block_spelling (is_nil list) (block_of.StreamInfo (info_of p a s.least s.greatest)) in
-    let w = c.in-Ok-outcome.ensures first (block_spellings list ++ []) made in
+    let w = c.in-Ok-send_prepared.ensures first (block_spellings list ++ []) made in
     record {
       written = λ known.
           let old = bits_of (g.W.Target.sent c.args.target.now) in
           let serial_is = c.in-Ok-prepare.ensures.serial in
           let counted : AreCounted p a s.least s.greatest s.points.items = c.in-Ok-prepare.ensures.counted in
-          let whole = ogg_encodes g.W.Target p list a s.least s.greatest s.points.items h made c.args.target.now c.send_prepared-outcome.new.target _ old (omega (arith, serial_is, c.ranges.serial.fits)) c.block_size-size.ensures.good c.requires c.blocks-blocks.ensures.good
+          let whole = ogg_encodes g.W.Target p list a s.least s.greatest s.points.items h made c.args.target.now c.send_prepared.new.target _ old (omega (arith, serial_is, c.ranges.serial.fits)) c.block_size-size.ensures.good c.requires c.blocks-blocks.ensures.good
           c.blocks-blocks.ensures.fits counted w in
-          subst (λ n. EncodesOgg n p list a old (bits_of (g.W.Target.sent c.send_prepared-outcome.new.target))) serial_is (all_sent h.serial p list a _ old _ whole (w.sends.sent known));
+          subst (λ n. EncodesOgg n p list a old (bits_of (g.W.Target.sent c.send_prepared.new.target))) serial_is (all_sent h.serial p list a _ old _ whole (w.sends.sent known));
       begun = tt;
       failed = tt;
       risen = tt;
@@ -134,8 +134,8 @@ returns-in-Ok-outcome g c =
       names = w.sends.names;
     }
 
-pub returns-in-Err : goal.returns-in-Err
-returns-in-Err g c =
+pub returns : goal.returns
+returns g c =
     let p = c.args.plan.now in
     let a = c.args.audio.now in
     let list = c.args.list.now in
@@ -151,10 +151,10 @@ returns-in-Err g c =
           let old = bits_of (g.W.Target.sent c.args.target.now) in
           let serial_is = c.in-Ok-prepare.ensures.serial in
           let counted : AreCounted p a s.least s.greatest s.points.items = c.in-Ok-prepare.ensures.counted in
-          let whole = ogg_encodes g.W.Target p list a s.least s.greatest s.points.items h made c.args.target.now c.send_prepared-outcome.new.target _ old (omega (arith, serial_is, c.ranges.serial.fits)) c.block_size-size.ensures.good c.requires c.blocks-blocks.ensures.good
+          let whole = ogg_encodes g.W.Target p list a s.least s.greatest s.points.items h made c.args.target.now c.send_prepared.new.target _ old (omega (arith, serial_is, c.ranges.serial.fits)) c.block_size-size.ensures.good c.requires c.blocks-blocks.ensures.good
           c.blocks-blocks.ensures.fits counted w in
           let begun = w.sends.begun known in
-          subst (λ n. BeginsOgg n p list a old (bits_of (g.W.Target.sent c.send_prepared-outcome.new.target))) serial_is (some_sent h.serial p list a _ begun.0 begun.1 old _ whole begun.2 begun.3);
+          subst (λ n. BeginsOgg n p list a old (bits_of (g.W.Target.sent c.send_prepared.new.target))) serial_is (some_sent h.serial p list a _ begun.0 begun.1 old _ whole begun.2 begun.3);
       failed = λ is. w.sends.rises;
       risen = λ is. w.sends.risen;
       mapping = (
