@@ -24,9 +24,10 @@ import wave
 
 HERE = os.path.dirname(os.path.abspath(__file__))
 sys.path.insert(0, os.path.join(os.path.dirname(HERE), "conformance"))
-sys.path.append(os.path.join(os.path.dirname(HERE), "predictors"))
+sys.path += [os.path.join(os.path.dirname(HERE), name) for name in ("predictors", "tools")]
 
 import lists
+import pace
 import sounds
 
 REFERENCE = "/usr/bin/flac"
@@ -122,18 +123,11 @@ class Quiet:
 
     def __init__(self):
         self.processors = sorted(os.sched_getaffinity(0))
-        self.usual = min(self.loop() for processor in self.processors for _ in range(40) if os.sched_setaffinity(0, {processor}) is None)
+        self.usual = min(pace.loop() for processor in self.processors for _ in range(40) if os.sched_setaffinity(0, {processor}) is None)
         self.counted, self.left_out = 0, 0
 
-    @staticmethod
-    def loop():
-        start, number = time.perf_counter(), 1
-        for _ in range(60000):
-            number = number * 5 & 65535
-        return time.perf_counter() - start
-
     def is_quiet(self):
-        found = sorted(self.loop() for _ in range(3))
+        found = sorted(pace.loop() for _ in range(3))
         # the machine may have been busy at the start
         self.usual = min(self.usual, found[0])
         return found[1] <= self.LONGEST * self.usual
