@@ -1,6 +1,6 @@
 use flac_bits::{
-    BitReader, Counted, FailAt, Memory, Pieces, Source, Why, crc8, crc16, crc32, read_bytes,
-    read_little_32, read_little_64, read_number, read_unchecked,
+    BitReader, Counted, FailAt, Memory, Pieces, Source, Why, crc8, crc16, crc32, page_sum,
+    read_bytes, read_little_32, read_little_64, read_number, read_unchecked,
 };
 use flac_vectors::bytes_of;
 use std::alloc::Global;
@@ -216,6 +216,7 @@ fn checks_of(bytes: &[u8]) -> (u8, u16, u32) {
 fn checks(rt: HostRuntime) {
     assert!(rt; checks_of(b"123456789") == (0xF4, 0xFEE8, 0x89A1_897F));
     assert!(rt; checks_of(&[1]) == (0x07, 0x8005, 0x04C1_1DB7));
+    assert!(rt; page_sum(b"123456789") == 0x89A1_897F);
 }
 
 /// Numbers that repeat themselves after 65536.

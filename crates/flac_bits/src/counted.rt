@@ -109,6 +109,7 @@ impl<T: Read> Source for Counted<T> {
         ensures counted { OnOk result (self.new.errors ≡ self.old.errors) }
         ensures kept { self.old.errors ≤ self.new.errors }
         ensures risen { OnErr result (Rises self.old.errors self.new.errors) }
+        ensures by_one { OnErr result (self.new.errors ≡ min (self.old.errors + 1) (2 ^ 64 - 1)) }
         ensures last { MatchResult result (λ _. self.new.last ≡ self.old.last) (λ e. self.new.last ≡ Some e) }
     {
         let most = self.room.min(buf.len() as u64) as usize;
@@ -144,6 +145,7 @@ impl<T: Write> Target for Counted<T> {
         ensures counted { OnOk result (self.new.errors ≡ self.old.errors) }
         ensures kept { self.old.errors ≤ self.new.errors }
         ensures risen { OnErr result (Rises self.old.errors self.new.errors) }
+        ensures by_one { OnErr result (self.new.errors ≡ min (self.old.errors + 1) (2 ^ 64 - 1)) }
         ensures last { MatchResult result (λ _. self.new.last ≡ self.old.last) (λ e. self.new.last ≡ Some e) }
     {
         match self.device.write(bytes) {

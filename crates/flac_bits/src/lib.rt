@@ -38,7 +38,7 @@ pub use promises::{fields_are_meant, numbers_are_spelled};
 pub use reader::BitReader;
 pub use send::send_all;
 pub use source::{Memory, Pieces, Source};
-pub use sums::{checks_are_remainders, crc8, crc16, crc32, crc32_after};
+pub use sums::{checks_are_remainders, crc8, crc16, crc32, crc32_after, page_sum};
 pub use target::{Collected, Target};
 pub use why::Why;
 pub use writer::BitWriter;

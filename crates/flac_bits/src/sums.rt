@@ -282,6 +282,14 @@ pub fn crc32(bytes: &[u8]) -> u32
     crc32_after(0, bytes)
 }
 
+/// The checksum of an Ogg page of these bytes, in which the four bytes of the checksum are zeros (RFC 3533, section 6):
+/// their [`crc32`].
+pub fn page_sum(bytes: &[u8]) -> u32
+    ensures { result ≡ remainder 32 79764919 (bits_of bytes.now) }
+{
+    crc32(bytes)
+}
+
 /// Law: the checks that a reader or a writer reports are the remainders of the bits since the checks began.
 pub fn checks_are_remainders()
     ensures { ChecksAreRemainders }
