@@ -314,8 +314,19 @@ pub fn write_frame<W: Target>(
 /// Chooses how samples `range` of each channel are written as frame `number`, as [`choose_frame`] does without linear
 /// predictors, and writes it. The writer is at a whole byte. Returns how many bytes the frame has, 1 to 16777215.
 ///
+/// The range is not empty and within the samples, the number is below 2^31, and the buffers have room for the range.
+/// They are made for the profile of the samples, by [`EncodeBuffers::new_in`] with [`Audio::profile`], or for
+/// [`flac_header::Profile::Lax`], whose buffers serve both profiles; for samples of [`Audio::new`] also by
+/// [`EncodeBuffers::new`]. Buffers of the subset have no room for the partitions of other samples (RFC 9639, section
+/// 7).
+///
+/// ```
+/// let mut buffers = EncodeBuffers::new_in(alloc, audio.profile(), 4096)?;
+/// let bytes = encode_frame(&audio, 0..4096, 0, &mut buffers, &mut writer)?;
+/// ```
+///
 /// # Errors
-/// [`Why::Write`] if the target returns an error.
+/// [`Why::Write`] if the target returns an error. Buffers that do not fit are no error: such a call is not proved.
 pub fn encode_frame<W: Target>(
     audio: &Audio,
     range: Range<usize>,
@@ -339,7 +350,8 @@ pub fn encode_frame<W: Target>(
 }
 
 /// Chooses how samples `range` of each channel are written as frame `number`, as [`choose_frame`] does, and writes it.
-/// The writer is at a whole byte. Returns how many bytes the frame has, 1 to 16777215. It allocates nothing.
+/// The writer is at a whole byte. Returns how many bytes the frame has, 1 to 16777215. It allocates nothing. The
+/// buffers are as for [`encode_frame`].
 ///
 /// # Errors
 /// [`Why::Write`] if the target returns an error.

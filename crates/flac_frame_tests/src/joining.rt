@@ -1,5 +1,6 @@
 //! Two channels that are joined. Each length up to 33 has its own rest after whole lanes. What is written is compared
-//! with planes by their plain definitions, and what is read with the channels.
+//! with planes by their plain definitions, and what is read with the channels. A frame has at least one sample; two
+//! channels without any are encoded to no frame (`no_samples` of `flac_native_tests`).
 
 use crate::enumeration::{Compared, random, seeded, subframe};
 use crate::frames::{read_frame, write_all};

@@ -27,7 +27,13 @@ const SUBFRAMES: &str = "# Plain samples.
 100010 | 16 12 1 | true 0:-1
 10008c | 16 12 1 | true 0:5
 1043c3fffffff8 | 16 12 1 | ResidualRange
+# Predictors of as many samples as there are leave no residual, and are refused.
+12 | 16 12 1 | BadPartition
+14 | 16 12 2 | BadPartition
+16 | 16 12 3 | BadPartition
 18 | 16 12 4 | BadPartition
+40 | 16 12 1 | BadPartition
+46 | 16 12 4 | BadPartition
 # Predicted samples.
 140000000103c0 | 16 12 16 | true 2:2 15:15
 4003e90040f000 | 16 12 16 | true 14:1001 15:-1001
