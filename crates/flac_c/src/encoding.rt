@@ -1,7 +1,8 @@
 //! Encodes samples.
 
-ghost use Rattle.std.specs.Prelude.{◌≡◌, ◌≢◌, ◌≤◌, ◌⊎◌, ◌%◌, ℕ, length, IfOk, IfErr, OnOk, Some, None, List, option_map};
+ghost use Rattle.std.specs.Prelude.{◌≡◌, ◌≢◌, ◌≤◌, ◌⊎◌, ◌%◌, ℕ, length, IfOk, IfErr, OnOk, MatchResult, Some, None, List, option_map, true};
 ghost use Rattle.flac_frame.specs.Setup.{number_of};
+ghost use Rattle.flac_native.specs.Given.{plan_fault, fits_plan};
 ghost use Rattle.flac_ogg.specs.RoundTrip.{EncodedBytes};
 ghost use Rattle.flac_c.specs.Answers.{IsCopied};
 ghost use Rattle.flac_c.specs.Bound.{bound_of};
@@ -77,6 +78,22 @@ fn audio_of(alloc: Global, settings: &FlacProvedSettings, samples: &[i32]) -> Re
     }
 }
 
+/// How the samples are divided into frames, in their own profile.
+///
+/// # Errors
+/// The first reason for which they cannot be: the block size, the seek points.
+fn own_plan(settings: &FlacProvedSettings, audio: &Audio) -> Result<Plan, SetupFault>
+    ensures made { MatchResult result (λ p. p ≡ plan_of settings.now audio.now) (λ e. plan_fault (plan_of settings.now audio.now) ≡ Some e) }
+    ensures fits { IfOk result (λ p. fits_plan p audio.now ≡ true) }
+{
+    Plan::new_in(
+        audio.profile(),
+        settings.block_size,
+        audio,
+        settings.seek_every,
+    )
+}
+
 /// Encodes channels.
 ///
 /// # Errors
@@ -93,7 +110,7 @@ fn stream_of(
     ensures refused { IfErr result (λ n. (n ≡ 2) ⊎ (stream_fault settings.now tags.now audio.now ≡ Some n)) }
     ensures some { IfErr result (λ n. n ≢ 0) }
 {
-    let plan = match Plan::new(settings.block_size, audio, settings.seek_every) {
+    let plan = match own_plan(settings, audio) {
         Ok(plan) => plan,
         Err(fault) => return Err(u32::from(fault.number())),
     };

@@ -1,16 +1,19 @@
-//! Encoding while an allocation fails: a call that returns `Memory` has sent nothing, and does its work when it is
-//! called again. So each test here passes whichever one of its allocations fails; by hand,
-//! `rt try --test --fail-alloc N` makes the one of number N fail.
+//! Encoding and decoding while an allocation fails: an encoder that returns `Memory` has sent nothing, and does its work
+//! when it is called again; a decoder returns it at the marker or at a metadata block, and never after the last of these.
+//! So each test here passes whichever one of its allocations fails; by hand, `rt try --test --fail-alloc N` makes the one
+//! of number N fail, and `conformance/allocations.py` has a program of its own that reads, in which each one does.
 
+use crate::pieces::{Told, native_items};
 use crate::predicted::{Encoder, made, outside, predictors, wave};
 use crate::writes::{Written, write};
 use flac_bits::{Counted, Target};
 use flac_encoder::{OggEncoder, StreamEncoder};
 use flac_frame::Audio;
 use flac_meta::{Block, BlockList, Comments};
-use flac_native::{EncodeFault, LinearPredictor, Plan};
+use flac_native::{EncodeFault, LinearPredictor, Place, Plan, Why};
 use flac_vectors::{
-    OUTSIDE, OUTSIDE_PAGES, WAVE_PREDICTED, WAVE_PREDICTED_PAGES, WAVES_PUSHED, WAVES_PUSHED_PAGES,
+    OUTSIDE, OUTSIDE_PAGES, TEN_THOUSAND, WAVE_PREDICTED, WAVE_PREDICTED_PAGES, WAVES_PUSHED,
+    WAVES_PUSHED_PAGES,
 };
 use std::alloc::Global;
 use std::io;
@@ -20,15 +23,15 @@ use std::test::Fail;
 
 /// A writer that allocates nothing. It keeps the first 512 bytes.
 #[derive(Drop)]
-struct Place {
+struct Room {
     bytes: [u8; 512],
     len: usize,
 }
 
-impl Place {
-    /// A place without bytes.
-    fn new() -> Place {
-        Place {
+impl Room {
+    /// A room without bytes.
+    fn new() -> Room {
+        Room {
             bytes: [0; 512],
             len: 0,
         }
@@ -40,7 +43,7 @@ impl Place {
     }
 }
 
-impl Write for Place {
+impl Write for Room {
     fn write(&mut self, bytes: &[u8]) -> io::Result<usize> {
         for byte in bytes {
             if self.len < 512 {
@@ -88,7 +91,7 @@ fn blocks_of(alloc: Global, ogg: bool) -> Option<BlockList> {
 fn setup(alloc: Global, lax: bool, ogg: bool) -> Option<Given> {
     let audio = if lax { outside(alloc)? } else { wave(alloc)? };
     let predictors = predictors(alloc)?;
-    let plan = Plan::new(16, &audio, 0).ok()?;
+    let plan = Plan::new_in(audio.profile(), 16, &audio, 0).ok()?;
     let plan = plan.with_predictors(predictors).ok()?;
     let blocks = blocks_of(alloc, ogg)?;
     Some(Given {
@@ -107,8 +110,8 @@ fn setup_again(alloc: Global, lax: bool, ogg: bool) -> Result<Given, Fail> {
 }
 
 /// What encoding returns, and what it sends.
-fn sent(alloc: Global, written: &Written<'_>) -> (Result<(), EncodeFault>, Place) {
-    let mut target = Counted::new(Place::new());
+fn sent(alloc: Global, written: &Written<'_>) -> (Result<(), EncodeFault>, Room) {
+    let mut target = Counted::new(Room::new());
     let outcome = write(alloc, written, &mut target);
     (outcome, target.into_inner())
 }
@@ -217,9 +220,9 @@ fn pushed<W: Target + Drop>(
 }
 
 /// What pushing returns, and what it sends.
-fn tried(alloc: Global, ogg: bool, blocks: &BlockList) -> Result<(u8, Place), Fail> {
+fn tried(alloc: Global, ogg: bool, blocks: &BlockList) -> Result<(u8, Room), Fail> {
     let one = predictors_again(alloc)?;
-    let mut target = Counted::new(Place::new());
+    let mut target = Counted::new(Room::new());
     let number = pushed(alloc, ogg, blocks, one, &mut target);
     Ok((number, target.into_inner()))
 }
@@ -258,4 +261,31 @@ fn pushing(rt: HostRuntime) -> Result<(), Fail> {
 #[test]
 fn pushing_in_ogg(rt: HostRuntime) -> Result<(), Fail> {
     pushes(&rt, rt.alloc(), true, WAVES_PUSHED_PAGES)
+}
+
+// ---- reading
+
+/// Whether all of a stream of two blocks and three frames was read, or an allocation failed at the marker or at a block.
+fn reads_or_fails_early(told: &Told) -> bool {
+    let (blocks, frames) = told.0.counts();
+    let Err(fault) = told.1 else {
+        return blocks == 2 && frames == 3;
+    };
+    let place = match fault.at {
+        Place::Marker => Some(0),
+        Place::Block(index) => Some(index),
+        _ => None,
+    };
+    fault.why == Why::Memory && place == Some(u64::from(blocks)) && frames == 0
+}
+
+/// 10000 samples in three frames, after STREAMINFO and a seek table: no allocation fails after these.
+#[test]
+fn decoding_item_by_item(rt: HostRuntime) -> Result<(), Fail> {
+    let stream = bytes_of(rt.alloc(), TEN_THOUSAND)?;
+    for most in [1, 4096] {
+        let told = native_items(rt.alloc(), &stream, most);
+        assert!(rt; reads_or_fails_early(&told));
+    }
+    Ok(())
 }

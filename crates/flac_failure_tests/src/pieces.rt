@@ -46,6 +46,11 @@ pub(crate) fn sum_of(before: u32, samples: &[i32]) -> u32 {
 }
 
 impl Tally {
+    /// How many blocks and frames there are.
+    pub(crate) fn counts(&self) -> (u32, u32) {
+        (self.blocks, self.frames)
+    }
+
     /// One block more.
     fn note_block(&mut self) {
         self.blocks = self.blocks.saturating_add(1);

@@ -76,7 +76,7 @@ fn each_fails(
 fn writes_by_predictors_fail(rt: HostRuntime) -> Result<(), Fail> {
     let audio = made(wave(rt.alloc()))?;
     let list = made(predictors(rt.alloc()))?;
-    let plan = Plan::new(16, &audio, 0)?.with_predictors(list)?;
+    let plan = Plan::new_in(audio.profile(), 16, &audio, 0)?.with_predictors(list)?;
     let (stream, paged) = (WAVE_PREDICTED, WAVE_PREDICTED_PAGES);
     each_fails(&rt, rt.alloc(), &audio, &plan, stream, paged)
 }
@@ -84,7 +84,7 @@ fn writes_by_predictors_fail(rt: HostRuntime) -> Result<(), Fail> {
 #[test]
 fn writes_outside_the_subset_fail(rt: HostRuntime) -> Result<(), Fail> {
     let audio = made(outside(rt.alloc()))?;
-    let plan = Plan::new(16, &audio, 0)?;
+    let plan = Plan::new_in(audio.profile(), 16, &audio, 0)?;
     each_fails(&rt, rt.alloc(), &audio, &plan, OUTSIDE, OUTSIDE_PAGES)
 }
 

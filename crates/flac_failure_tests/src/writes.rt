@@ -130,7 +130,7 @@ fn each_native_write_fails(
     wanted: &str,
 ) -> Result<(), Fail> {
     let wanted = hex::decode(alloc, wanted)?;
-    let plan = Plan::new(4096, audio, every)?;
+    let plan = Plan::new_in(audio.profile(), 4096, audio, every)?;
     let list = BlockList::new(Vec::new(alloc))?;
     let written = Written {
         audio,
@@ -150,7 +150,7 @@ fn each_page_write_fails(
     wanted: &str,
 ) -> Result<(), Fail> {
     let wanted = hex::decode(alloc, wanted)?;
-    let plan = Plan::new(4096, audio, 0)?;
+    let plan = Plan::new_in(audio.profile(), 4096, audio, 0)?;
     let list = no_comments(alloc)?;
     let written = Written {
         audio,
@@ -354,7 +354,7 @@ fn each_call_of_pushing_fails(rt: &impl Abort, alloc: Global, list: &BlockList) 
 #[test]
 fn writes_of_a_long_block_fail(rt: HostRuntime) -> Result<(), Fail> {
     let audio = sample(rt.alloc())?;
-    let plan = Plan::new(4096, &audio, 0)?;
+    let plan = Plan::new_in(audio.profile(), 4096, &audio, 0)?;
     let list = BlockList::new(vec![in rt.alloc(); Block::Padding(36000)]?)?;
     let written = Written {
         audio: &audio,

@@ -29,6 +29,7 @@ pub mod Blocks
 pub mod Copies
 pub mod Retagged
 pub mod RetagFaults
+pub mod Broken
 pub mod SameStart
 pub mod OneHead
 pub mod Decided

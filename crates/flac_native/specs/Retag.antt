@@ -2,7 +2,7 @@
 -- rest of the input.
 use Rattle.std.specs.Prelude.{◌≡◌, Bool, true, false, cond, List, [], ◌∷◌, ◌++◌, Some, None, ◌≤◌}
 use Rattle.flac_bits.specs.State.{Mark}
-use Rattle.flac_bits.specs.Items.{Joined, Refused}
+use Rattle.flac_bits.specs.Items.{after, Joined, Refused}
 use Rattle.flac_bits.specs.declared.why.Why.{Why}
 use Rattle.flac_bits.specs.declared.why.Why.TheVariants as why
 use Rattle.flac_header.specs.declared.subset.Profile.{Profile}
@@ -59,6 +59,16 @@ pub record IsRefused (m : Mark) (text : List Bool) (at : Place) (why : Why) : Ty
   pub items : List Piece
   pub refused : Refused grammar (opening Subset) m items text at why
   pub place : is_before_frames at ≡ true
+
+-- The bits begin with these items, and the place is that of the item after them: the marker, a block, or the first
+-- frame.
+pub record BreaksAt (m : Mark) (text : List Bool) (at : Place) : Type 0 where
+  pub items : List Piece
+  pub front : List Bool
+  pub left : List Bool
+  pub stands : text ≡ front ++ left
+  pub spelled : Joined grammar (opening Subset) m items front
+  pub place : at ≡ grammar.place (after grammar (opening Subset) items)
 
 -- The bits begin with a head.
 pub record HasHead (m : Mark) (text : List Bool) : Type 0 where

@@ -10,7 +10,7 @@ ghost use Rattle.flac_native.specs.Given.{fits_plan, blocks_in, info_of, room_of
 ghost use Rattle.flac_native.specs.Writing.{AreCounted, AreChoices, HasRoom, IsDigest, IsSpelled};
 ghost use Rattle.flac_native.specs.inner.Writing.{IsKept, IsReady, HaveFrames, WritesChosen, WritesNext, WritesFrames};
 
-use crate::digest::feed_block;
+use crate::digest::{digest_of, feed_block};
 use crate::plan::Plan;
 use crate::targets::Room;
 use flac_bits::{BitWriter, Target, Why};
@@ -148,26 +148,7 @@ impl ChosenFrames {
         requires digest { IsDigest audio.now self.now.digest }
         ensures { result ≡ info_of plan.now audio.now self.now.least self.now.greatest }
     {
-        let (least, greatest) = (self.least, self.greatest);
-        let size = plan.block_size() as u16;
-        let channels = audio.channels().len() as u8;
-        let bits = audio.bits() as u8;
-        let total = audio.len() as u64;
-        let info = StreamInfo::new(
-            size,
-            size,
-            least,
-            greatest,
-            audio.rate(),
-            channels,
-            bits,
-            total,
-            self.digest,
-        );
-        match info {
-            Ok(info) => info,
-            Err(_) => unreachable!(),
-        }
+        info_with(plan, audio, self.least, self.greatest, self.digest)
     }
 
     /// The number of bytes of the shortest frame, below 2^24; 0 if there is no frame.
@@ -223,6 +204,51 @@ impl ChosenFrames {
             Err(_) => unreachable!(),
         }
     }
+}
+
+/// [`info_of`] for samples whose MD5 digest is `digest`.
+fn info_with(plan: &Plan, audio: &Audio, least: u32, greatest: u32, digest: [u8; 16]) -> StreamInfo
+    requires fits { fits_plan plan.now audio.now ≡ true }
+    requires least { least ≤ greatest }
+    requires greatest { greatest < 2 ^ 24 }
+    requires digest { IsDigest audio.now digest }
+    ensures { result ≡ info_of plan.now audio.now least greatest }
+{
+    let size = plan.block_size() as u16;
+    let channels = audio.channels().len() as u8;
+    let bits = audio.bits() as u8;
+    let total = audio.len() as u64;
+    let info = StreamInfo::new(
+        size,
+        size,
+        least,
+        greatest,
+        audio.rate(),
+        channels,
+        bits,
+        total,
+        digest,
+    );
+    match info {
+        Ok(info) => info,
+        Err(_) => unreachable!(),
+    }
+}
+
+/// STREAMINFO of samples in a plan that fits them ([`Plan::fits`]): `least` and `greatest` are the sizes of the
+/// shortest and the longest frame in bytes, below 2^24, or 0 if there is no frame (RFC 9639, section 8.2). It states
+/// the number of samples and their MD5 digest. [`ChosenFrames::info`] has the sizes of frames that were chosen.
+///
+/// ```
+/// let info = info_of(&plan, &audio, 14, 15);
+/// ```
+pub fn info_of(plan: &Plan, audio: &Audio, least: u32, greatest: u32) -> StreamInfo
+    requires fits { fits_plan plan.now audio.now ≡ true }
+    requires least { least ≤ greatest }
+    requires greatest { greatest < 2 ^ 24 }
+    ensures { result ≡ info_of plan.now audio.now least greatest }
+{
+    info_with(plan, audio, least, greatest, digest_of(audio))
 }
 
 /// Writes frame `number` as it was chosen; if the choice was not kept, it is made again.

@@ -1,11 +1,11 @@
 //! A decoder that lends one item of a stream after another, from the start or from a frame on.
 
 ghost use Rattle.flac_native.specs.Track.{is_made, is_going, stand_of, IsAt, is_behind_blocks};
-ghost use Rattle.std.specs.Prelude.{◌≡◌, true, ⊤, Some, Ok, option_copied, IfOk, IfErr};
+ghost use Rattle.std.specs.Prelude.{◌≡◌, ◌*◌, true, ⊤, Some, Ok, option_copied, IfOk, IfErr};
 ghost use Rattle.std.specs.Borrow.{sem, follows_so};
 ghost use mathlib.Core.Option.{none};
 ghost use Rattle.flac_bits.specs.Bits.{bits_of};
-ghost use Rattle.flac_bits.specs.State.{short_of};
+ghost use Rattle.flac_bits.specs.State.{short_of, without_fence};
 ghost use Rattle.flac_bits.specs.Fencing.{lifted};
 ghost use Rattle.flac_native.specs.Stream.{opening};
 ghost use Rattle.flac_native.specs.Decoding.{beginning};
@@ -226,6 +226,9 @@ impl<R: Source> Decoder<BitReader<R>> {
         ensures known { result.container.known ≡ R.known source }
         ensures errors { (result.container.errors ≡ R.errors source) × (result.container.raised ≡ R.raised source) }
         ensures cursor { (lifted result.container).cursor ≡ record { left = bits_of (R.coming source); mark = beginning (short_of ((R.behind source).fails)) } }
+        ensures behind { result.container.behind ≡ without_fence (R.behind source) }
+        ensures most { result.container.most ≡ 8 * R.most source }
+        ensures names { result.container.names ≡ R.names source }
     {
         Decoder::over(BitReader::new(source), Track::opening(alloc, profile))
     }
@@ -234,6 +237,7 @@ impl<R: Source> Decoder<BitReader<R>> {
     pub fn into_source(self) -> R
         ensures known { self.container.known ≡ true → R.known result ≡ true }
         ensures errors { (R.errors result ≡ self.container.errors) × (R.raised result ≡ self.container.raised) }
+        ensures behind { without_fence (R.behind result) ≡ without_fence self.container.behind }
         ensures names { R.names result ≡ self.container.names }
     {
         self.into_container().into_source()
@@ -264,6 +268,9 @@ impl<R: Source + Drop> Decoder<BitReader<R>> {
         ensures known { IfOk result (λ d. d.container.known ≡ R.known source) }
         ensures errors { IfOk result (λ d. (d.container.errors ≡ R.errors source) × (d.container.raised ≡ R.raised source)) }
         ensures cursor { IfOk result (λ d. (lifted d.container).cursor ≡ record { left = bits_of (R.coming source); mark = beginning (short_of ((R.behind source).fails)) }) }
+        ensures behind { IfOk result (λ d. d.container.behind ≡ without_fence (R.behind source)) }
+        ensures most { IfOk result (λ d. d.container.most ≡ 8 * R.most source) }
+        ensures names { IfOk result (λ d. d.container.names ≡ R.names source) }
         ensures memory { IfErr result (λ f. f ≡ record { at = Place.Marker; why = Why.Memory }) }
     {
         match Track::resumed(alloc, profile, info.without_totals()) {

@@ -205,6 +205,8 @@ pub fn decode<R: Source, S: Sink>(
     ensures hands { R.known source.old ≡ true → S.known sink.old ≡ true →
         Hands (by_grammar grammar (opening profile) (beginning (short_of ((R.behind source.old).fails))) (bits_of (R.coming source.old))) (taken S.takes) S.errors
         ((R.errors source.new ≡ R.errors source.old) × (R.raised source.new ≡ R.raised source.old)) sink.old sink.new (outcome_of told result) }
+    // Ok only if no error of the source was met, whatever is known of its bytes.
+    ensures counted { OnOk result ((R.errors source.new ≡ R.errors source.old) × (R.raised source.new ≡ R.raised source.old)) }
     // A stream is not refused, unless memory runs out, and the place and the reason are those that the bytes show.
     ensures decides { R.known source.old ≡ true → S.known sink.old ≡ true → R.errors source.new ≡ R.errors source.old → R.raised source.new ≡ R.raised source.old → S.errors sink.new ≡ S.errors sink.old →
         Decides (by_grammar grammar (opening profile) (beginning (short_of ((R.behind source.old).fails))) (bits_of (R.coming source.old))) (outcome_of told result) }

@@ -2,9 +2,10 @@
 
 ghost use Rattle.std.specs.Prelude.{◌≡◌, ◌≤◌, ◌<◌, ◌+◌, ◌*◌, ◌++◌, length, take, List, [], ℕ, ℤ, slice_index_or, pos, ◌∷◌, map, drop};
 ghost use Rattle.flac_native.specs.Message.{sample_bytes, row_bytes, rows_bytes, sample_width};
-ghost use Rattle.md5.specs.Md5.{Holds};
+ghost use Rattle.md5.specs.Md5.{Holds, md5};
 ghost use Rattle.flac_frame.specs.Lent.{frame_of};
 ghost use Rattle.flac_frame.specs.Audio.{samples_each};
+ghost use Rattle.flac_native.specs.Given.{sound_message};
 
 use flac_frame::{Audio, FrameView};
 use md5::{Digest, Md5};
@@ -390,4 +391,14 @@ pub(crate) fn feed_block(hasher: &mut Md5, audio: &Audio, start: usize, size: us
         return;
     }
     feed_rows(hasher, audio, channels.len(), start, size, width);
+}
+
+/// The digest of all samples, which STREAMINFO states (RFC 9639, section 8.2).
+#[tactic(auto, unfolding(crate::specs::Given::sound_message))]
+pub(crate) fn digest_of(audio: &Audio) -> [u8; 16]
+    ensures { result ≡ md5 (sound_message audio.now) }
+{
+    let mut hasher = Md5::new();
+    feed_block(&mut hasher, audio, 0, audio.len());
+    hasher.finalize()
 }

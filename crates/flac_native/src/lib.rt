@@ -33,7 +33,7 @@ mod sinks;
 mod targets;
 mod track;
 
-pub use chosen_frames::ChosenFrames;
+pub use chosen_frames::{ChosenFrames, info_of};
 pub use container::{Container, Part};
 pub use decoder::Decoder;
 pub use decoding::{Sink, SinkFault, decode, hand_out};

@@ -1,7 +1,7 @@
 //! How samples are divided into frames.
 
 ghost use Rattle.std.specs.Prelude.{◌≡◌, ◌<◌, ◌≤◌, ◌*◌, ◌^◌, ◌++◌, [], MatchResult, IfOk, OnOk, IfErr, true, Some, None};
-ghost use Rattle.flac_native.specs.Given.{IsRange, blocks_in, has_point, points_before, cut_in, cut_of, with_predictors, fits_plan, predictors_fault, cutting_fault, plan_fault};
+ghost use Rattle.flac_native.specs.Given.{IsRange, blocks_in, has_point, points_before, cut_in, with_predictors, fits_plan, predictors_fault, cutting_fault, plan_fault};
 ghost use Rattle.flac_native.specs.Seeking.{point_at};
 ghost use Rattle.flac_frame.specs.Audio.{samples_each};
 
@@ -147,33 +147,41 @@ fn fault_of(asked: &Asked) -> Option<SetupFault>
 }
 
 impl Plan {
-    /// Makes a plan for these samples, in their profile, with `block_size` samples of each channel in a frame. If
-    /// `seek_every` is not 0, each frame that holds a sample whose index is a multiple of it gets a seek point (RFC
-    /// 9639, section 8.5). It has no linear predictors: see [`Plan::with_predictors`].
+    /// Makes a plan for these samples in the streamable subset (RFC 9639, section 7), with `block_size` samples of each
+    /// channel in a frame. If `seek_every` is not 0, each frame that holds a sample whose index is a multiple of it
+    /// gets a seek point (section 8.5). It has no linear predictors: see [`Plan::with_predictors`].
+    ///
+    /// It fits the samples if they are in the subset too, as those of [`Audio::new`] are ([`Plan::fits`]). For others
+    /// see [`Plan::new_in`].
     ///
     /// ```
     /// let plan = Plan::new(4096, &audio, 44100)?; // a seek point for each second at 44100 Hz
     /// ```
     ///
     /// # Errors
-    /// The first of these that applies:
-    ///
-    /// - [`SetupFault::BadBlockSize`] if the block size is below 16; or if it is above 16384, or above 4608 at a rate
-    ///   of 48000 Hz or less, in [`Profile::Subset`] (RFC 9639, section 7); or above 65535 in [`Profile::Lax`];
-    /// - [`SetupFault::TooLong`] if there are 2^36 samples of each channel or more, or more than 2^31 frames;
-    /// - [`SetupFault::TooManyPoints`] if there would be more than 932067 seek points.
+    /// Those of [`Plan::new_in`] in [`Profile::Subset`].
     pub fn new(block_size: u32, audio: &Audio, seek_every: u32) -> Result<Plan, SetupFault>
-        ensures made { MatchResult result (λ p. p ≡ cut_of block_size audio.now seek_every) (λ e. plan_fault (cut_of block_size audio.now seek_every) ≡ Some e) }
-        ensures fits { IfOk result (λ p. fits_plan p audio.now ≡ true) }
+        ensures made { MatchResult result (λ p. p ≡ cut_in Profile.Subset block_size audio.now seek_every) (λ e. plan_fault (cut_in Profile.Subset block_size audio.now seek_every) ≡ Some e) }
+        ensures fits { IfOk result (λ p. audio.now.profile ≡ Profile.Subset → fits_plan p audio.now ≡ true) }
     {
-        Plan::new_in(audio.profile(), block_size, audio, seek_every)
+        Plan::new_in(Profile::Subset, block_size, audio, seek_every)
     }
 
     /// Makes a plan as [`Plan::new`] does, in a profile that is named. It fits the samples if they have the same one.
     ///
+    /// ```
+    /// let plan = Plan::new_in(audio.profile(), 32768, &audio, 0)?; // a plan that fits
+    /// ```
+    ///
     /// # Errors
-    /// The first of these that applies: [`SetupFault::BadRate`] or [`SetupFault::BadDepth`] if the profile does not
-    /// allow the rate or the bits of the samples, and then those of [`Plan::new`].
+    /// The first of these that applies:
+    ///
+    /// - [`SetupFault::BadRate`] or [`SetupFault::BadDepth`] if the profile does not allow the rate or the bits of the
+    ///   samples, which have another profile then;
+    /// - [`SetupFault::BadBlockSize`] if the block size is below 16; or if it is above 16384, or above 4608 at a rate
+    ///   of 48000 Hz or less, in [`Profile::Subset`] (RFC 9639, section 7); or above 65535 in [`Profile::Lax`];
+    /// - [`SetupFault::TooLong`] if there are 2^36 samples of each channel or more, or more than 2^31 frames;
+    /// - [`SetupFault::TooManyPoints`] if there would be more than 932067 seek points.
     pub fn new_in(
         profile: Profile,
         block_size: u32,
@@ -241,7 +249,7 @@ impl Plan {
             && self.asked.total == audio.len() as u64
     }
 
-    /// The profile of the stream: that of the samples that the plan was made for.
+    /// The profile of the stream: that of the samples that the plan fits.
     pub fn profile(&self) -> Profile
         ensures { result ≡ self.now.profile }
     {

@@ -8,11 +8,11 @@ ghost use Rattle.flac_bits.specs.Items.{item, refused};
 ghost use Rattle.flac_bits.specs.inner.Items.{step_at};
 ghost use Rattle.flac_bits.specs.Handing.{reason_of};
 ghost use Rattle.flac_bits.specs.inner.Handing.{IsCalm};
-ghost use Rattle.flac_native.specs.Stream.{Piece, Progress, Stand, grammar, layout, next, stand_after};
+ghost use Rattle.flac_native.specs.Stream.{Piece, Progress, Stand, grammar, layout, next, place_in, stand_after};
 ghost use Rattle.flac_native.specs.Track.{is_behind_blocks, position_of};
 ghost use Rattle.flac_native.specs.Item.{told};
 ghost use Rattle.flac_native.specs.Places.{retag_text};
-ghost use Rattle.flac_native.specs.Retag.{is_before_frames, IsRefused, not_read, not_written, BeginsWith, HasHead, Retags, BeginsRetagging, retagged, too_long, no_memory};
+ghost use Rattle.flac_native.specs.Retag.{is_before_frames, BreaksAt, IsRefused, not_read, not_written, BeginsWith, HasHead, Retags, BeginsRetagging, retagged, too_long, no_memory};
 ghost use Rattle.flac_native.specs.inner.Retag.{stand_at, piece_in, keeps, AreKept, MayBeHead, new_head};
 ghost use Rattle.flac_bits.specs.Bits.{bits_of};
 ghost use Rattle.flac_bits.specs.Written.{Adds, Fails};
@@ -119,8 +119,9 @@ fn keep_next<R: Source>(
     ensures counts { Counts (lifted reader.old) reader.new (reason_of told result) }
     ensures keeps { OnOk result ((p : Progress) → position_of p.stand ≡ position.old → (x : Piece) × (position_of (next p x).stand ≡ position.new) × keeps kept.old.items x kept.new.items
         × (reader.old.known ≡ true → step_at grammar p (lifted reader.old).cursor ≡ item x reader.new.cursor)) }
-    ensures refused { IfErr result (λ f. (p : Progress) → position_of p.stand ≡ position.old → reader.old.known ≡ true → reader.new.errors ≡ reader.old.errors → reader.new.raised ≡ reader.old.raised → f.why ≢ Why.Memory
+    ensures refused { IfErr result (λ f. (p : Progress) → position_of p.stand ≡ position.old → reader.old.known ≡ true → reader.new.errors ≡ reader.old.errors → f.why ≢ Why.Memory
         → step_at grammar p (lifted reader.old).cursor ≡ refused f.at f.why) }
+    ensures place { IfErr result (λ f. f.at ≡ place_in position.old.phase position.old.index) }
     ensures at { IfErr result (λ f. is_before_frames f.at ≡ true) }
 {
     let at = position.place();
@@ -144,8 +145,9 @@ fn keep_all<R: Source>(
     ensures counts { Counts (lifted reader.old) reader.new (reason_of told result) }
     ensures whole { OnOk result (reader.new.cursor.mark.unread ≡ 0) }
     ensures kept { OnOk result (reader.old.known ≡ true → AreKept (lifted reader.old).cursor kept.new.items reader.new.cursor.left) }
-    ensures refused { IfErr result (λ f. reader.old.known ≡ true → IsCalm reader.old reader.new → f.why ≢ Why.Memory
+    ensures refused { IfErr result (λ f. reader.old.known ≡ true → reader.new.errors ≡ reader.old.errors → f.why ≢ Why.Memory
         → IsRefused (lifted reader.old).cursor.mark (lifted reader.old).cursor.left f.at f.why) }
+    ensures placed { IfErr result (λ f. reader.old.known ≡ true → BreaksAt (lifted reader.old).cursor.mark (lifted reader.old).cursor.left f.at) }
     ensures at { IfErr result (λ f. reader.old.known ≡ true → is_before_frames f.at ≡ true) }
 {
     let mut position = Position::start();
@@ -172,8 +174,9 @@ pub(crate) fn read_kept<R: Source>(
     ensures counts { Counts (lifted reader.old) reader.new (reason_of told result) }
     ensures whole { OnOk result (reader.new.cursor.mark.unread ≡ 0) }
     ensures kept { IfOk result (λ kept. reader.old.known ≡ true → AreKept (lifted reader.old).cursor kept.items reader.new.cursor.left) }
-    ensures refused { IfErr result (λ f. reader.old.known ≡ true → IsCalm reader.old reader.new → f.why ≢ Why.Memory
+    ensures refused { IfErr result (λ f. reader.old.known ≡ true → reader.new.errors ≡ reader.old.errors → f.why ≢ Why.Memory
         → IsRefused (lifted reader.old).cursor.mark (lifted reader.old).cursor.left f.at f.why) }
+    ensures placed { IfErr result (λ f. reader.old.known ≡ true → BreaksAt (lifted reader.old).cursor.mark (lifted reader.old).cursor.left f.at) }
     ensures at { IfErr result (λ f. reader.old.known ≡ true → is_before_frames f.at ≡ true) }
 {
     let mut kept = Vec::new(alloc);
@@ -277,6 +280,9 @@ fn retag_from<R: Source, W: Target>(
         → Retags (lifted reader.old).cursor.mark (lifted reader.old).cursor.left comments.now (bits_of (W.sent target.old)) (bits_of (W.sent target.new))) }
     ensures refused { IfErr result (λ f. IfSome f.at (λ at. reader.old.known ≡ true → IsCalm reader.old reader.new → f.why ≢ Why.Memory
         → IsRefused (lifted reader.old).cursor.mark (lifted reader.old).cursor.left at f.why)) }
+    ensures foretold { IfErr result (λ f. IfSome f.at (λ at. is_before_frames at ≡ true → reader.old.known ≡ true → reader.new.errors ≡ reader.old.errors → f.why ≢ Why.Memory
+        → IsRefused (lifted reader.old).cursor.mark (lifted reader.old).cursor.left at f.why)) }
+    ensures placed { IfErr result (λ f. IfSome f.at (λ at. reader.old.known ≡ true → BreaksAt (lifted reader.old).cursor.mark (lifted reader.old).cursor.left at)) }
     ensures behind { IfErr result (λ f. IfSome f.at (λ at. reader.old.known ≡ true → (is_before_frames at ≡ true) ⊎ ((f ≡ not_read) ⊎ (f ≡ no_memory)))) }
     ensures head { OnOk result (reader.old.known ≡ true → HasHead (lifted reader.old).cursor.mark (lifted reader.old).cursor.left) }
     ensures found { IfErr result (λ f. (f ≡ not_read) ⊎ (f ≡ not_written) → reader.old.known ≡ true → HasHead (lifted reader.old).cursor.mark (lifted reader.old).cursor.left) }
@@ -362,6 +368,12 @@ pub fn retag<R: Source, W: Target>(
     // Refused only as the marker and the blocks are, at that place and for that reason.
     ensures refused { IfErr result (λ f. IfSome f.at (λ at. R.known source.old ≡ true → R.errors source.new ≡ R.errors source.old → R.raised source.new ≡ R.raised source.old → f.why ≢ Why.Memory
         → IsRefused (beginning (short_of ((R.behind source.old).fails))) (bits_of (R.coming source.old)) at f.why)) }
+    // So is an error of the source that is foretold: before the frames it is at the item in which the bytes end.
+    ensures foretold { IfErr result (λ f. IfSome f.at (λ at. is_before_frames at ≡ true → R.known source.old ≡ true → R.errors source.new ≡ R.errors source.old → f.why ≢ Why.Memory
+        → IsRefused (beginning (short_of ((R.behind source.old).fails))) (bits_of (R.coming source.old)) at f.why)) }
+    // Each place, also that of an error of the source or of an allocation, is that of the item after some with which
+    // the input begins.
+    ensures placed { IfErr result (λ f. IfSome f.at (λ at. R.known source.old ≡ true → BreaksAt (beginning (short_of ((R.behind source.old).fails))) (bits_of (R.coming source.old)) at)) }
     // After the blocks only an error of the source or of an allocation is returned: no block that was read is refused
     // in writing.
     ensures behind { IfErr result (λ f. IfSome f.at (λ at. R.known source.old ≡ true → (is_before_frames at ≡ true) ⊎ ((f ≡ not_read) ⊎ (f ≡ no_memory)))) }

@@ -197,9 +197,10 @@ impl Track {
         ensures next { OnOk result ((p : Progress) → IsAt self.old p → IsAt self.new (next p (kept self.new))) }
         ensures made { OnOk result (is_some self.new.block ≡ true) }
     {
+        self.block = None; // so that only one block is held
         let (last, block) = self.block_here(bits)?;
         self.last = last;
-        drop(mem::replace(&mut self.block, Some(block)));
+        self.block = Some(block);
         Ok(())
     }
 

@@ -6,7 +6,7 @@ ghost use Rattle.flac_native.specs.Given.{fits_plan, room_of};
 
 use flac_bits::{Target, send_all};
 use flac_frame::{Audio, EncodeBuffers};
-use flac_native::{ChosenFrames, Plan, Profile, Room, StreamInfo, Why};
+use flac_native::{ChosenFrames, Plan, Profile, Room, StreamInfo, Why, info_of};
 use flac_testing::{list_of, sample, wave};
 use flac_vectors::{ONE_SAMPLE, WAVE, WAVE_PREDICTED};
 use std::alloc::Global;
@@ -77,8 +77,23 @@ fn comes_of(alloc: Global, plan: &Plan, audio: &Audio, stream: &str, len: u32) -
 #[test]
 fn chosen_frames(rt: HostRuntime) -> Result<(), Fail> {
     let audio = sample(rt.alloc())?;
-    let plan = Plan::new(4096, &audio, 0)?;
+    let plan = Plan::new_in(audio.profile(), 4096, &audio, 0)?;
     assert!(rt; comes_of(rt.alloc(), &plan, &audio, ONE_SAMPLE, 15)?);
+    Ok(())
+}
+
+/// The same STREAMINFO, by the size of that frame.
+#[test]
+fn info_of_a_sample(rt: HostRuntime) -> Result<(), Fail> {
+    let audio = sample(rt.alloc())?;
+    let plan = Plan::new(4096, &audio, 0)?;
+    if !plan.fits(&audio) {
+        return Err(Fail::new("the sample is not of the subset"));
+    }
+    let stream = hex::decode(rt.alloc(), ONE_SAMPLE)?;
+    let info = info_of(&plan, &audio, 15, 15);
+    assert!(rt; is_info_of(&info, 15) && info.total() == 1);
+    assert!(rt; Some(info.digest().as_slice()) == stream.get(26..42));
     Ok(())
 }
 
@@ -86,7 +101,7 @@ fn chosen_frames(rt: HostRuntime) -> Result<(), Fail> {
 #[test]
 fn chosen_by_a_predictor(rt: HostRuntime) -> Result<(), Fail> {
     let audio = wave(rt.alloc(), Profile::Subset, 44100)?;
-    let plan = Plan::new(16, &audio, 0)?;
+    let plan = Plan::new_in(audio.profile(), 16, &audio, 0)?;
     assert!(rt; comes_of(rt.alloc(), &plan, &audio, WAVE, 34)?);
     let plan = plan.with_predictors(list_of(rt.alloc(), 1, 0)?)?;
     assert!(rt; comes_of(rt.alloc(), &plan, &audio, WAVE_PREDICTED, 16)?);
@@ -108,10 +123,10 @@ fn first_range(plan: &Plan, audio: &Audio) -> Range<usize>
 #[test]
 fn ranges_of_frames(rt: HostRuntime) -> Result<(), Fail> {
     let one = sample(rt.alloc())?;
-    let plan = Plan::new(4096, &one, 0)?;
+    let plan = Plan::new_in(one.profile(), 4096, &one, 0)?;
     assert!(rt; first_range(&plan, &one) == (0..1));
     let many = wave(rt.alloc(), Profile::Subset, 44100)?;
-    let plan = Plan::new(16, &many, 0)?;
+    let plan = Plan::new_in(many.profile(), 16, &many, 0)?;
     assert!(rt; first_range(&plan, &many) == (0..16));
     Ok(())
 }

@@ -91,10 +91,31 @@ fn plans_fit(rt: HostRuntime) -> Result<(), Fail> {
     Ok(())
 }
 
+/// What comes of the subset's plan for one sample without the subset's limits: the number of the fault, and whether the
+/// plan is one of the subset that does not fit the sample.
+fn in_the_subset(alloc: Global, format: &str) -> Result<(u8, bool), Fail> {
+    let (rate, bits) = pair_of(format)?;
+    let audio = Audio::new_in(Profile::Lax, rate, bits, channels_of(alloc, ";0")?)?;
+    match Plan::new(16, &audio, 0) {
+        Ok(plan) => Ok((0, plan.profile() == Profile::Subset && !plan.fits(&audio))),
+        Err(fault) => Ok((fault.number(), false)),
+    }
+}
+
+/// A plan without a named profile is one of the subset, whose frame headers state neither that rate nor that depth (RFC
+/// 9639, sections 7 and 9.1).
+#[test]
+fn plans_of_the_subset(rt: HostRuntime) -> Result<(), Fail> {
+    assert!(rt; in_the_subset(rt.alloc(), "44100 16")? == (0, true));
+    assert!(rt; in_the_subset(rt.alloc(), "65537 16")? == (40, false));
+    assert!(rt; in_the_subset(rt.alloc(), "44100 5")? == (41, false));
+    Ok(())
+}
+
 /// The number of the fault for which blocks of `block` samples are refused at a rate, 0 if they are not.
 fn block_refused(alloc: Global, profile: Profile, rate: u32, block: u32) -> Result<u8, Fail> {
     let audio = Audio::new_in(profile, rate, 16, channels_of(alloc, ";0")?)?;
-    match Plan::new(block, &audio, 0) {
+    match Plan::new_in(audio.profile(), block, &audio, 0) {
         Ok(plan) => Ok(if plan.block_size() == block { 0 } else { 255 }),
         Err(fault) => Ok(fault.number()),
     }

@@ -31,7 +31,7 @@ fn encoded_with_table(
 ) -> Result<(Result<(), EncodeFault>, Collected), Fail> {
     let audio = seventeen(alloc)?;
     let list = table(alloc, Vec::new(alloc))?;
-    let plan = Plan::new(16, &audio, every)?;
+    let plan = Plan::new_in(audio.profile(), 16, &audio, every)?;
     let mut target = Collected::new(alloc);
     let outcome = encode(alloc, &plan, &list, &audio, &mut target);
     Ok((outcome, target))

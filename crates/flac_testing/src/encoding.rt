@@ -25,7 +25,7 @@ pub fn encoded_by(alloc: Global, plan: &Plan, audio: &Audio) -> Result<Vec<u8>, 
 
 /// The same in blocks of so many samples, with a seek point each so many.
 pub fn encoded(alloc: Global, audio: &Audio, block: u32, every: u32) -> Result<Vec<u8>, Fail> {
-    let plan = Plan::new(block, audio, every)?;
+    let plan = Plan::new_in(audio.profile(), block, audio, every)?;
     encoded_by(alloc, &plan, audio)
 }
 

@@ -47,6 +47,8 @@ not_repeated found repeats e f t = absurd cc
 pub returns-then-repeats_table : goal.returns-then-repeats_table
 returns-then-repeats_table g c = record {
   written = tt;
+  known = tt;
+  counted = tt;
   begun = λ is. absurd (repeated_write is);
   failed = λ is. absurd (repeated_write is);
   risen = λ is. absurd (repeated_write is);
@@ -60,6 +62,8 @@ returns-then-repeats_table g c = record {
 pub returns-in_default : goal.returns-in_default
 returns-in_default g c = record {
   written = tt;
+  known = tt;
+  counted = tt;
   begun = λ is. absurd (memory_write is);
   failed = λ is. absurd (memory_write is);
   risen = λ is. absurd (memory_write is);
@@ -76,6 +80,8 @@ returns-in_default g c = record {
 pub returns-in_default-new : goal.returns-in_default-new
 returns-in_default-new g c = record {
   written = tt;
+  known = tt;
+  counted = tt;
   begun = λ is. absurd (memory_write is);
   failed = λ is. absurd (memory_write is);
   risen = λ is. absurd (memory_write is);
@@ -102,6 +108,8 @@ returns-in-Ok-send_stream g c =
           let old = bits_of (g.W.Target.sent c.args.target.now) in
           let whole = given_encodes p list a s.least s.greatest s.points.items _ w.0 old c.block_size-size.ensures.good c.requires c.blocks-blocks.ensures.good c.blocks-blocks.ensures.fits once refl c.in-Ok-new.ensures.counted w.1 w.2 in
           all_sent p list a _ old _ whole (w.3.sent known);
+      known = w.3.known;
+      counted = w.3.counted;
       begun = tt;
       failed = tt;
       risen = tt;
@@ -124,6 +132,8 @@ returns g c =
     let w = c.in-Err.ensures in
     record {
       written = tt;
+      known = tt;
+      counted = tt;
       begun = λ is known.
           let once = sym c.repeats_table.ensures ∙ c.if-repeats_table.false in
           let old = bits_of (g.W.Target.sent c.args.target.now) in

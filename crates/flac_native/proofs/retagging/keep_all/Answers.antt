@@ -3,7 +3,7 @@ use Rattle.std.proofs.lemmas.Result.{err_from_is_err_and}
 use Rattle.flac_bits.specs.State.{State, without_fence}
 use Rattle.flac_bits.specs.Fencing.{lifted}
 use Rattle.flac_bits.proofs.Handing.{starts, one_more, step_refused}
-use Rattle.flac_native.specs.Stream.{Progress, grammar, next, opening}
+use Rattle.flac_native.specs.Stream.{Progress, grammar, next, opening, place_in}
 use Rattle.flac_native.specs.Track.{is_behind_blocks, position_of}
 use Rattle.flac_native.specs.inner.Retag.{keeps}
 use Rattle.flac_native.specs.declared.position.Position.{Position}
@@ -12,6 +12,7 @@ use Rattle.flac_native.proofs.Metadata.{no_errors}
 use Rattle.flac_bits.specs.declared.why.Why.TheVariants as why
 use Rattle.flac_native.proofs.Blocks.{kept_are, kept_whole}
 use Rattle.flac_native.proofs.RetagFaults.{no_fewer}
+use Rattle.flac_native.proofs.Broken.{breaks_at}
 use Rattle.flac_native.proofs.SameStart.{less_at, most_at, rises_at}
 use Rattle.flac_native.proofs.retagging.keep_all.Goals as goal
 use Rattle.flac_header.specs.declared.subset.Profile.TheVariants.{Subset}
@@ -60,6 +61,7 @@ returns g c =
           let end = over c.loop-alloc.position far.0 far.1 (sym c.is_past_metadata.ensures ∙ c.loop-alloc-test.false) in
           rw c.lift.ensures (kept_are (lifted c.args.reader.now).cursor (lifted c.loop-alloc.reader).cursor far.0 c.args.kept.now.items c.loop-alloc.kept.items c.requires.none (far.2.far known) end);
       refused = tt;
+      placed = tt;
       at = tt;
     }
 
@@ -83,7 +85,8 @@ returns-then-unread-ne0 g c =
       );
       whole = tt;
       kept = tt;
-      refused = λ known calm room. absurd (none known);
+      refused = λ known same room. absurd (none known);
+      placed = λ known. absurd (none known);
       at = λ known. absurd (none known);
     }
 
@@ -103,10 +106,15 @@ returns-in_err-keep_next g c =
       );
       whole = tt;
       kept = tt;
-      refused = λ known calm room.
+      -- also if an error that is foretold came
+      refused = λ known same room.
           let far = c.loop-alloc.invariant.far in
-          let r = step_refused grammar keeps no_errors (opening Subset) far.0 (lifted c.args.reader.now) (lifted c.loop-alloc.reader) c.keep_next.new.reader c.args.kept.now.items c.loop-alloc.kept.items _ _ far.2
-          (λ told same quiet some. e.refused far.0 far.1 told same quiet some) known calm room in
+          let end = record c.keep_next.new.reader { raised = c.args.reader.now.raised } in
+          let r = step_refused grammar keeps no_errors (opening Subset) far.0 (lifted c.args.reader.now) (lifted c.loop-alloc.reader) end c.args.kept.now.items c.loop-alloc.kept.items _ _ far.2
+          (λ told quiet calm some. e.refused far.0 far.1 told quiet some) known (same, refl) room in
           record { items = r.0; refused = r.1; place = e.at };
+      placed = λ known.
+          let far = c.loop-alloc.invariant.far in
+          breaks_at (lifted c.args.reader.now).cursor (lifted c.loop-alloc.reader).cursor far.0 c.args.kept.now.items c.loop-alloc.kept.items _ (far.2.far known) (e.place ∙ ap (λ (k : Position). place_in k.phase k.index) (sym far.1));
       at = λ known. e.at;
     })

@@ -21,7 +21,7 @@ same_reason : {X : Type 0} (v w : Why) → wrong {X = X} v ≡ wrong w → v ≡
 same_reason v w e = cc
 
 pub returns-in-Err-clause-refused : goal.returns-in-Err-clause-refused
-returns-in-Err-clause-refused g c = λ p at known same quiet room.
+returns-in-Err-clause-refused g c = λ p at known same room.
     part_refused p c.args.position.now (lifted c.args.reader.now) c.place-at.result c.in-Err.why at c.requires c.place-at.ensures (c.in-Err.ensures.reads p.stand (λ e. room (same_reason _ _ e)) known same)
 
 pub returns-in-Err-clause-at : goal.returns-in-Err-clause-at

@@ -6,6 +6,7 @@ use Rattle.flac_bits.specs.State.{short_of}
 use Rattle.flac_native.specs.Decoding.{beginning}
 use Rattle.flac_native.specs.Retag.{IsRefused}
 use Rattle.flac_native.proofs.RetagFaults.{no_fewer, length_no_read, long_written, long_device, never_long}
+use Rattle.flac_native.proofs.Broken.{foretold_calmer}
 use Rattle.flac_native.proofs.Retagged.{calmer}
 use Rattle.flac_native.proofs.Decided.{exact_ok, accepted, shown}
 use Rattle.flac_native.proofs.retagging.retag.Goals as goal
@@ -57,6 +58,18 @@ returns-clause-refused g c =
     let whole = rw (append-nil (bits_of (g.R.Source.coming c.args.source.now))) at refused in
     calmer _ _ _ _ (IsRefused (beginning (short_of ((R.behind c.args.source.now).fails))) (bits_of (R.coming c.args.source.now))) c.retag_from-outcome.result (λ e r. (search (rules, e), search (rules, r))) whole
 
+pub returns-clause-foretold : goal.returns-clause-foretold
+returns-clause-foretold g c =
+    let R = g.R.Source in
+    let foretold = rw c.new-reader.ensures at c.retag_from-outcome.ensures.foretold in
+    let whole = rw (append-nil (bits_of (R.coming c.args.source.now))) at foretold in
+    foretold_calmer _ _ _ (IsRefused (beginning (short_of ((R.behind c.args.source.now).fails))) (bits_of (R.coming c.args.source.now))) c.retag_from-outcome.result (λ e. search (rules, e)) whole
+
+pub returns-clause-placed : goal.returns-clause-placed
+returns-clause-placed g c =
+    let placed = rw c.new-reader.ensures at c.retag_from-outcome.ensures.placed in
+    rw (append-nil (bits_of (g.R.Source.coming c.args.source.now))) at placed
+
 pub returns-clause-begun : goal.returns-clause-begun
 returns-clause-begun g c =
     let begun = rw c.new-reader.ensures at c.retag_from-outcome.ensures.begun in
@@ -96,6 +109,8 @@ returns-then-length-gt-MOST_BYTES g c = record {
   written = tt;
   exact = tt;
   refused = tt;
+  foretold = tt;
+  placed = tt;
   behind = tt;
   accepted = λ other. absurd (other refl);
   shown = λ few. absurd (none_within _ _ c.length.ensures c.if-length-gt-MOST_BYTES.true few);

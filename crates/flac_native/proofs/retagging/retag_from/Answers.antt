@@ -9,6 +9,8 @@ use Rattle.flac_meta.specs.declared.comments.Comments.{Comments}
 use Rattle.flac_native.specs.declared.fault.Place.TheVariants as place
 use Rattle.flac_native.specs.declared.retagging.RetagFault.{RetagFault}
 use Rattle.flac_native.specs.inner.Retag.{AreKept, MayBeHead, new_head}
+use Rattle.flac_native.specs.Retag.{BreaksAt, IsRefused}
+use Rattle.flac_native.proofs.Broken.{breaks_after, none_before, copy_placed, copy_foretold}
 use Rattle.flac_native.proofs.NewHead.{kept_may_be_head}
 use Rattle.flac_native.proofs.RetagFaults.{placed, placed_some, before_device, unread_device, write_no_read, has_head, no_fewer, no_rise, both_err, copy_calm, copy_behind, copy_placeless, copy_output}
 use Rattle.flac_native.proofs.Retagged.{all_retagged, some_retagged, head_begun}
@@ -33,7 +35,9 @@ returns-in-Err g c =
     let why = c.in-Err.fault.why in
     record {
       written = tt;
-      refused = e.refused;
+      refused = λ known calm room. e.refused known calm.0 room;
+      foretold = λ before known same room. e.refused known same room;
+      placed = e.placed;
       behind = λ known. inl (e.at known);
       head = tt;
       found = λ either known. absurd (before_device at why (e.at known) either);
@@ -58,6 +62,8 @@ returns-in-Err-made g c =
     record {
       written = tt;
       refused = λ known calm room. absurd (room (memory known));
+      foretold = λ before. absurd (none_before before);
+      placed = λ known. breaks_after (lifted c.args.reader.now).cursor (c.in-Ok.ensures.kept known);
       behind = λ known. inr (inr (ap (λ w. record { at = Some (place.Frame 0); why = w }) (memory known)));
       head = tt;
       found = λ either known. absurd (unread_device (place.Frame 0) w unread either);
@@ -81,6 +87,8 @@ returns-in-Err-sent g c =
     record {
       written = tt;
       refused = tt;
+      foretold = tt;
+      placed = tt;
       behind = tt;
       head = tt;
       found = λ either known. has_head (lifted c.args.reader.now).cursor (kept known);
@@ -113,6 +121,8 @@ returns-in-Ok-sent g c =
           let sent = sends.sent told ∙ ap (λ k. g.W.Target.sent c.args.target.now ++ k) c.as_slice-2.ensures.value in
           all_retagged cursor c.in-Ok.kept.items c.read_kept.new.reader.cursor.left c.args.comments.now c.in-Ok-made.head.items (kept known) is _ (g.W.Target.sent c.send_all-sent.new.target) _ sent (copied (counts.0 known) (sends.known told))) copy.copied;
       refused = both_err r (λ f fault read. copy_calm f _ _ _ fault (λ is known calm. no_rise _ _ _ counts.2 calm.1 (read is (counts.0 known)))) copy.fault copy.read;
+      foretold = IfErr-weaker r _ _ (λ f. copy_foretold f _ _ (λ at why. IsRefused cursor.mark cursor.left at why)) copy.fault;
+      placed = IfErr-weaker r _ _ (λ f. copy_placed f _ (λ at. BreaksAt cursor.mark cursor.left at) (λ known. breaks_after cursor (kept known))) copy.fault;
       behind = IfErr-weaker r _ _ (λ f. copy_behind f _) copy.fault;
       head = when_ok r (λ copied known. has_head cursor (kept known)) copy.copied;
       found = when_err r (λ f begun either known. has_head cursor (kept known)) copy.begun;

@@ -1,5 +1,4 @@
-use Rattle.std.proofs.Common.{◌≡◌, Result, Ok, Err, refl, ap}
-use Rattle.std.specs.Prelude.{is_some}
+use Rattle.std.proofs.Common.{◌≡◌, Result, Ok, Err, refl}
 use Rattle.std.proofs.lemmas.Result.{err_from_is_err_and}
 use Rattle.flac_bits.specs.declared.why.Why.{Why}
 use Rattle.flac_native.proofs.Giving.{same_why}
@@ -29,7 +28,7 @@ returns g c =
     let ok = c.in_ok-last.ensures in
     let e = ok.reading in
     record {
-      reading = record { spends = e.spends; counts = e.counts; reads = λ room known same. rw (e.reads (λ is. absurd (answers _ _ is)) known same) (rw c.replace.ensures.after refl) };
-      next = λ p at. rw c.replace.ensures.after (let k = ok.next p at in record { stand = k.stand; samples = k.samples; digest = k.digest });
-      made = ap is_some c.replace.ensures.after;
+      reading = record { spends = e.spends; counts = e.counts; reads = λ room known same. rw (e.reads (λ is. absurd (answers _ _ is)) known same) refl };
+      next = λ p at. let k = ok.next p (record { stand = at.stand; samples = at.samples; digest = at.digest }) in record { stand = k.stand; samples = k.samples; digest = k.digest };
+      made = refl;
     }

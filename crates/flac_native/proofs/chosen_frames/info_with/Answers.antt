@@ -1,7 +1,7 @@
 use Rattle.std.proofs.Common.{◌≡◌, length, arith, ap, sym, ◌∙◌}
 use Rattle.std.proofs.lemmas.List.{length-map}
 use Rattle.flac_native.proofs.Planned.{planned, fit, block_small, keeps_rules}
-use Rattle.flac_native.proofs.chosen_frames.ChosenFrames.info.Goals as goal
+use Rattle.flac_native.proofs.chosen_frames.info_with.Goals as goal
 
 pub overflow_cast-size : goal.overflow_cast-size
 overflow_cast-size c =
@@ -19,14 +19,14 @@ pub overflow_cast-bits : goal.overflow_cast-bits
 overflow_cast-bits c =
     let q = planned c.args.plan.now c.block_size-size.ensures.good in
     let f = fit c.args.plan.now c.args.audio.now c.requires.fits in
-    let k = keeps_rules c.args.plan.now c.args.audio.now c.args.self.now.least c.args.self.now.greatest q f (omega (arith, c.requires.sizes.0, c.requires.sizes.1)) c.requires.sizes.1 in
+    let k = keeps_rules c.args.plan.now c.args.audio.now c.args.least c.args.greatest q f (omega (arith, c.requires.least, c.requires.greatest)) c.requires.greatest in
     omega (arith, c.bits-bits.ensures, k.depth)
 
 pub unreachable-requires : goal.unreachable-requires
 unreachable-requires c =
     let q = planned c.args.plan.now c.block_size-size.ensures.good in
     let f = fit c.args.plan.now c.args.audio.now c.requires.fits in
-    let k = keeps_rules c.args.plan.now c.args.audio.now c.args.self.now.least c.args.self.now.greatest q f (omega (arith, c.requires.sizes.0, c.requires.sizes.1)) c.requires.sizes.1 in
+    let k = keeps_rules c.args.plan.now c.args.audio.now c.args.least c.args.greatest q f (omega (arith, c.requires.least, c.requires.greatest)) c.requires.greatest in
     let many : length c.channels.result.now ≡ length c.args.audio.now.channels = sym (length-map c.channels.result.now (λ v. v.items)) ∙ ap length c.channels.ensures.items in
     let size = c.block_size-size.ensures.value in
     let bits = c.bits-bits.ensures in
@@ -34,7 +34,7 @@ unreachable-requires c =
     let rate = c.rate.ensures in
     c.in-Err.ensures.refused.1 (record {
       least_block = omega (arith, size, k.least_block);
-      blocks = omega (arith, c.requires.sizes.0);
+      blocks = omega (arith, c.requires.least);
       greatest_block = omega (arith, size, k.greatest_block);
       least_frame = k.least_frame;
       greatest_frame = k.greatest_frame;
