@@ -44,7 +44,7 @@ use Rattle.flac_ogg.specs.Listed.{texts_of}
 use Rattle.flac_ogg.specs.Mapping.{is_first_block, packet_layout}
 use Rattle.flac_ogg.specs.Native.{mapping_spelling, block_spellings, packet_spellings, native_text, AreStream}
 use Rattle.flac_ogg.specs.Held.{ArePages}
-use Rattle.flac_encoder.specs.PushingOgg.{PushedOgg, trying_ogg, StandsForOgg, Opens, IsNextPacket, PushesOgg, BeginsPushOgg}
+use Rattle.flac_encoder.specs.PushingOgg.{PushedOgg, trying_ogg, StandsForOgg, IsOpen, Opens, IsNextPacket, PushesOgg, BeginsPushOgg}
 use Rattle.flac_ogg.specs.Stream.{start, packet_start, closed_packet, AreItems, OggStream}
 use Rattle.flac_ogg.specs.Writing.{header_count}
 use Rattle.flac_ogg.specs.declared.headers.Headers.{Headers}
@@ -114,10 +114,10 @@ module _ (info : Info) (list : List Block) (digest : IsBytes 16 info.digest) whe
       let here : bits_of (drop 13 q.packet) ≡ block = sym (behind_mapping q.packet mapping block first (mapping_long (header_count (length list)))) in
       ap (λ t. unsigned 32 0x664C6143 ++ (t ++ joined (texts_of qs))) here ∙ ap (λ t. unsigned 32 0x664C6143 ++ (block ++ t)) (ap joined others ∙ joined_blocks list)
 
-pub opened_ogg : {S : Type 0} (g : target.Ghosts S) (s : Shape) (list : List Block) (old : S) (h : Headers) (e : PushedOgg S) → shape_fault s ≡ None → list_fault info_seen list ≡ None → AllAre FitsFields list → e.serial < 2 ^ 32
-    → h.serial ≡ e.serial → AreHeaders (packet_spellings (header_count (length list)) (open_info s) list []) h → e.pushed ≡ unpushed s e.pushed.target → e.sequence ≡ h.held.next → e.middle ≡ h.held.middle.items
-    → e.last ≡ h.held.last.items → (g.known old ≡ true → g.sent e.pushed.target ≡ g.sent old ++ h.sent.items) → Opens g list old e
-opened_ogg g s list old h e shape good fits small serial are pushed sequence middle last sent = go are.packets are.texts_are are.kinds_are are.good are.pages
+pub opened_head : {S : Type 0} (s : Shape) (list : List Block) (h : Headers) (e : PushedOgg S) → shape_fault s ≡ None → list_fault info_seen list ≡ None → AllAre FitsFields list → e.serial < 2 ^ 32 → h.serial ≡ e.serial
+    → AreHeaders (packet_spellings (header_count (length list)) (open_info s) list []) h → e.pushed ≡ unpushed s e.pushed.target → e.sequence ≡ h.held.next → e.middle ≡ h.held.middle.items → e.last ≡ h.held.last.items
+    → (packets : List Placed) × IsOpen list e packets (bits_of h.sent.items)
+opened_head s list h e shape good fits small serial are pushed sequence middle last = go are.packets are.texts_are are.kinds_are are.good are.pages
   where
     info : Info
     info = open_info s
@@ -129,7 +129,7 @@ opened_ogg g s list old h e shape good fits small serial are pushed sequence mid
     items = closing (block_of.StreamInfo info ∷ list)
 
     go : (packets : List Placed) → texts_of packets ≡ packet_spellings (header_count (length list)) (open_info s) list [] → map (λ q. q.kind) packets ≡ replicate (length (packet_spellings (header_count (length list)) (open_info s) list [])) kind_of.Header
-        → All IsPlaced packets → ArePages h.serial packets (bits_of h.sent.items) (bits_of h.held.middle.items) (bits_of h.held.last.items) h.held.next → Opens g list old e
+        → All IsPlaced packets → ArePages h.serial packets (bits_of h.sent.items) (bits_of h.held.middle.items) (bits_of h.held.last.items) h.held.next → (packets : List Placed) × IsOpen list e packets (bits_of h.sent.items)
     go [] texts kinds placed pages = absurd (omega (arith, ap (λ (x : List (List Bool)). length x) texts))
     go (q ∷ qs) texts kinds placed pages =
         let is : IsInfo info = record { rules = keeps_open s (shaped s shape); digest = zero_bytes } in
@@ -149,15 +149,28 @@ opened_ogg g s list old h e shape good fits small serial are pushed sequence mid
         let told : open_info e.pushed.shape ≡ info = ap (λ (p : Pushed _). open_info p.shape) pushed in
         let shaped_as : s.profile ≡ e.pushed.shape.profile = sym (ap (λ (p : Pushed _). p.shape.profile) pushed) in
         let same_stream = subst (λ k. AreStream k (bytes_of (q ∷ qs)) items) shaped_as are_stream in
-        let stands = stands_for e items q qs (bits_of h.sent.items) held there same_stream placed small (first_long info list zero_bytes q.packet first) in
-        record {
-          packets = q ∷ qs;
-          text = bits_of h.sent.items;
-          texts = texts ∙ ap (λ i. packet_spellings count i list []) (sym told);
-          kinds = kinds ∙ ap (λ n. replicate n kind_of.Header) many;
-          stands = subst (λ i. StandsForOgg e (closing (block_of.StreamInfo i ∷ list)) (q ∷ qs) (bits_of h.sent.items)) (sym told) stands;
-          sent = λ known. ap bits_of (sent known) ∙ bits_of-append (g.sent old) h.sent.items;
-        }
+        let stands = stands_for e items q qs (bits_of h.sent.items) held there same_stream placed small (first_long info list zero_bytes q.packet first) in (
+          q ∷ qs,
+          record {
+            texts = texts ∙ ap (λ i. packet_spellings count i list []) (sym told);
+            kinds = kinds ∙ ap (λ n. replicate n kind_of.Header) many;
+            stands = subst (λ i. StandsForOgg e (closing (block_of.StreamInfo i ∷ list)) (q ∷ qs) (bits_of h.sent.items)) (sym told) stands;
+          },
+        )
+
+pub opened_ogg : {S : Type 0} (g : target.Ghosts S) (s : Shape) (list : List Block) (old : S) (h : Headers) (e : PushedOgg S) → shape_fault s ≡ None → list_fault info_seen list ≡ None → AllAre FitsFields list → e.serial < 2 ^ 32
+    → h.serial ≡ e.serial → AreHeaders (packet_spellings (header_count (length list)) (open_info s) list []) h → e.pushed ≡ unpushed s e.pushed.target → e.sequence ≡ h.held.next → e.middle ≡ h.held.middle.items
+    → e.last ≡ h.held.last.items → (g.known old ≡ true → g.sent e.pushed.target ≡ g.sent old ++ h.sent.items) → Opens g list old e
+opened_ogg g s list old h e shape good fits small serial are pushed sequence middle last sent =
+    let head = opened_head s list h e shape good fits small serial are pushed sequence middle last in
+    record {
+      packets = head.0;
+      text = bits_of h.sent.items;
+      texts = head.1.texts;
+      kinds = head.1.kinds;
+      stands = head.1.stands;
+      sent = λ known. ap bits_of (sent known) ∙ bits_of-append (g.sent old) h.sent.items;
+    }
 
 -- ---- one more frame
 

@@ -1,7 +1,8 @@
 -- An encoder that samples are pushed to, a block at a time, and the stream that it has written.
-use Rattle.std.specs.Prelude.{◌≡◌, ◌⊎◌, ℕ, suc, ◌+◌, ◌^◌, ℤ, Bool, true, false, not, cond, ◌||◌, nat_eq, nat_lt, nat_le, List, [], ◌∷◌, ◌++◌, length, Option, Some, None, option_map}
+use Rattle.std.specs.Prelude.{◌≡◌, ◌⊎◌, ◌<◌, ℕ, suc, ◌+◌, ◌^◌, ℤ, Bool, true, false, not, cond, ◌||◌, nat_eq, nat_lt, nat_le, List, [], ◌∷◌, ◌++◌, length, Option, Some, None, option_map}
 use Rattle.std.specs.Option.{option_or}
 use Rattle.flac_bits.specs.Bits.{bits_of}
+use Rattle.flac_bits.specs.State.{Rises}
 use Rattle.flac_bits.specs.Items.{Stream, after}
 use Rattle.flac_bits.specs.declared.target.Target as target
 use Rattle.flac_bits.specs.declared.why.Why.TheVariants.{Truncated}
@@ -106,6 +107,18 @@ push_fault e block =
 -- The fault that is reported: the first reason, or if there is none, that memory ran out or that the target failed.
 abbrev pub IsFirst : Option EncodeFault → EncodeFault → Type 0
 IsFirst reason e = (reason ≡ Some e) ⊎ ((reason ≡ None) × ((e ≡ Memory) ⊎ (e ≡ Write)))
+
+-- A target returned an error, and this is what is left of it: the error is counted, if the target was known or if the
+-- count can rise, and it goes through the same references.
+pub record Fails {S : Type 0} (g : target.Ghosts S) (old left : S) : Type 0 where
+  pub failed : g.known old ≡ true → g.errors old < g.errors left
+  pub risen : Rises (g.errors old) (g.errors left)
+  pub names : g.names left ≡ g.names old
+
+-- the same of a target that was to be sent these bits: it was sent a prefix of them
+pub record FailsIn {S : Type 0} (g : target.Ghosts S) (text : List Bool) (old left : S) : Type 0 where
+  pub fails : Fails g old left
+  pub begun : g.known old ≡ true → (front : List Bool) × (rest : List Bool) × (text ≡ front ++ rest) × (bits_of (g.sent left) ≡ bits_of (g.sent old) ++ front)
 
 -- ---- the stream
 

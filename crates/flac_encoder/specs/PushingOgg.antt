@@ -1,5 +1,5 @@
 -- An encoder of an Ogg stream that samples are pushed to, a block at a time, and its stream (RFC 9639, section 10.1).
-use Rattle.std.specs.Prelude.{◌≡◌, ℕ, ◌+◌, ◌^◌, ◌<◌, ℤ, Bool, true, false, cond, List, [], ◌∷◌, ◌++◌, length, map, replicate, Option, Some, None, option_map}
+use Rattle.std.specs.Prelude.{◌≡◌, ℕ, ◌+◌, ◌^◌, ◌<◌, ℤ, Bool, true, cond, List, [], ◌∷◌, ◌++◌, length, map, replicate, Option, Some, None, option_map}
 use Rattle.std.specs.List.{All}
 use Rattle.std.specs.Option.{option_or}
 use Rattle.flac_bits.specs.Bits.{bits_of}
@@ -12,13 +12,12 @@ use Rattle.flac_frame.specs.Audio.{samples_each}
 use Rattle.flac_native.specs.Decoding.{beginning}
 use Rattle.flac_native.specs.Stream.{Piece, marked, framed}
 use Rattle.flac_native.specs.Given.{closing}
-use Rattle.flac_encoder.specs.Pushing.{Shape, shape_fault, open_info, Pushed, trying, StandsFor, sound_of, frame_with}
+use Rattle.flac_encoder.specs.Pushing.{Shape, shape_fault, open_info, Pushed, unpushed, trying, FailsIn, StandsFor, sound_of, frame_with}
 use Rattle.flac_native.specs.Writing.{SpellsFrame, SpellsLeast}
 use Rattle.flac_native.specs.declared.fault.EncodeFault.{EncodeFault}
 use Rattle.flac_native.specs.declared.fault.EncodeFault.TheVariants.{BadMapping, Setup}
 use Rattle.flac_pages.specs.declared.writing.PacketKind.TheVariants as kind_of
-use Rattle.flac_pages.specs.Placed.{Placed, IsPlaced, marks_of, sequence_behind, stream_spelling}
-use Rattle.flac_pages.specs.Written.{packet_spelling}
+use Rattle.flac_pages.specs.Placed.{Placed, IsPlaced, stream_spelling}
 use Rattle.flac_ogg.specs.Held.{ArePages}
 use Rattle.flac_ogg.specs.Stream.{OggStream}
 use Rattle.flac_ogg.specs.Native.{AreStream, native_text, packet_spellings}
@@ -60,6 +59,13 @@ pub record StandsForOgg {S : Type 0} (e : PushedOgg S) (items : List Piece) (pac
   pub small : e.serial < 2 ^ 32
   pub first : (q : Placed) × (qs : List Placed) × (packets ≡ q ∷ qs) × (length q.packet ≡ 51)
 
+-- The stream of an encoder that was just made: that of STREAMINFO and the list, each in a header packet; this text is
+-- the pages of all but the last.
+pub record IsOpen {S : Type 0} (list : List Block) (e : PushedOgg S) (packets : List Placed) (text : List Bool) : Type 0 where
+  pub texts : texts_of packets ≡ packet_spellings (header_count (length list)) (open_info e.pushed.shape) list []
+  pub kinds : kinds_in packets ≡ replicate (length list + 1) kind_of.Header
+  pub stands : StandsForOgg e (closing (blocks.StreamInfo (open_info e.pushed.shape) ∷ list)) packets text
+
 -- ---- the calls
 
 -- The encoder was made: its stream is that of STREAMINFO and the list, each in a header packet, and the target was sent
@@ -71,6 +77,17 @@ pub record Opens {S : Type 0} (g : target.Ghosts S) (list : List Block) (old : S
   pub kinds : kinds_in packets ≡ replicate (length list + 1) kind_of.Header
   pub stands : StandsForOgg e (closing (blocks.StreamInfo (open_info e.pushed.shape) ∷ list)) packets text
   pub sent : g.known old ≡ true → bits_of (g.sent e.pushed.target) ≡ bits_of (g.sent old) ++ text
+
+-- The encoder could not be made: the target was sent a prefix of the header packets, and returned an error. So what was
+-- sent is a prefix of the stream of the encoder that was to be made.
+pub record BeginsOpening {S : Type 0} (g : target.Ghosts S) (shape : Shape) (serial : ℕ) (list : List Block) (old left : S) : Type 0 where
+  pub to : PushedOgg S
+  pub made : to.pushed ≡ unpushed shape left
+  pub number : to.serial ≡ serial
+  pub packets : List Placed
+  pub text : List Bool
+  pub opens : IsOpen list to packets text
+  pub fails : FailsIn g text old left
 
 -- The packet is the next frame: it has exactly the samples of the block, no frame of its family, with the predictors of
 -- the encoder, is shorter, its last page has the number of samples so far, and the stream of the encoder is then the

@@ -7,7 +7,7 @@ ghost use Rattle.flac_bits.specs.State.{Rises};
 ghost use Rattle.flac_frame.specs.Audio.{samples_each};
 ghost use Rattle.flac_native.specs.Given.{predictors_fault};
 ghost use Rattle.flac_native.specs.Stream.{Piece};
-ghost use Rattle.flac_encoder.specs.Pushing.{shape_of, shape_fault, open_info, unpushed, behind_block, spent_with, push_fault, IsFirst};
+ghost use Rattle.flac_encoder.specs.Pushing.{shape_of, shape_fault, open_info, unpushed, behind_block, spent_with, push_fault, IsFirst, FailsIn};
 ghost use Rattle.flac_native.specs.Writing.{head_spelling};
 ghost use Rattle.flac_native.specs.declared.fault.EncodeFault.TheVariants.{Spent, Setup};
 ghost use Rattle.flac_pages.specs.Placed.{Placed, sequence_behind};
@@ -16,7 +16,7 @@ ghost use Rattle.flac_pages.specs.declared.writing.PacketKind.TheVariants.{Frame
 ghost use Rattle.flac_ogg.specs.Headers.{AreHeaders};
 ghost use Rattle.flac_ogg.specs.Native.{packet_spellings};
 ghost use Rattle.flac_ogg.specs.Writing.{header_count};
-ghost use Rattle.flac_encoder.specs.PushingOgg.{open_fault, listed_fault, trying_ogg, StandsForOgg, Opens, PushesOgg, BeginsPushOgg, EndsOgg};
+ghost use Rattle.flac_encoder.specs.PushingOgg.{open_fault, listed_fault, trying_ogg, StandsForOgg, Opens, BeginsOpening, PushesOgg, BeginsPushOgg, EndsOgg};
 
 use crate::block_encoder::BlockEncoder;
 use crate::stream_encoder::StreamEncoder;
@@ -83,6 +83,7 @@ fn native_head(
     ensures head { IfOk result (λ head. bits_of head.items ≡ head_spelling (open_info (shape_of format.now)) list.now) }
     ensures accepted { OnOk result (shape_fault (shape_of format.now) ≡ None) }
     ensures refused { IfErr result (λ e. IsFirst (option_map Setup (shape_fault (shape_of format.now))) e) }
+    ensures unsent { IfErr result (λ e. e ≢ EncodeFault.Write) }
 {
     let target = Collected::new(alloc);
     match StreamEncoder::new_in(alloc, format, list, target) {
@@ -96,7 +97,8 @@ fn native_head(
 
 /// A fault of the format goes before a list that does not begin with a Vorbis comment, and other faults after it.
 fn listed_fault(fault: EncodeFault, listed: bool) -> EncodeFault
-    ensures { result ≡ listed_fault fault listed }
+    ensures value { result ≡ listed_fault fault listed }
+    ensures unsent { fault ≢ EncodeFault.Write → result ≢ EncodeFault.Write }
 {
     match fault {
         EncodeFault::Setup(fault) => EncodeFault::Setup(fault),
@@ -116,6 +118,7 @@ fn open_head(alloc: Global, format: &StreamFormat, list: &BlockList) -> Result<V
     ensures accepted { OnOk result (shape_fault (shape_of format.now) ≡ None) }
     ensures listed { OnOk result (open_fault (shape_of format.now) list.now ≡ None) }
     ensures refused { IfErr result (λ e. IsFirst (open_fault (shape_of format.now) list.now) e) }
+    ensures unsent { IfErr result (λ e. e ≢ EncodeFault.Write) }
 {
     let listed = begins_with_comment(list.blocks());
     match native_head(alloc, format, list) {
@@ -142,6 +145,7 @@ fn open_headers(
     ensures accepted { OnOk result (shape_fault (shape_of format.now) ≡ None) }
     ensures listed { OnOk result (open_fault (shape_of format.now) list.now ≡ None) }
     ensures refused { IfErr result (λ e. IsFirst (open_fault (shape_of format.now) list.now) e) }
+    ensures unsent { IfErr result (λ e. e ≢ EncodeFault.Write) }
 {
     let head = open_head(alloc, format, list)?;
     match headers_of(alloc, serial, head.as_slice(), list) {
@@ -157,6 +161,7 @@ fn send_owned<W: Target + Drop>(target: W, bytes: &[u8]) -> Result<W, EncodeFaul
     ensures counted { IfOk result (λ t. W.errors t ≡ W.errors target) }
     ensures names { IfOk result (λ t. W.names t ≡ W.names target) }
     ensures write { IfErr result (λ e. e ≡ EncodeFault.Write) }
+    ensures failed { IfErr result (λ _. (left : W) × FailsIn W.Target (bits_of bytes.now) target left) }
 {
     let mut target = target;
     match send_all(&mut target, bytes) {
@@ -228,6 +233,8 @@ impl<W: Target + Drop> OggEncoder<W> {
         ensures names { IfOk result (λ e. W.names e.pushed.target ≡ W.names target) }
         ensures accepted { OnOk result (open_fault (record { profile = Profile.Subset; rate = rate; bits = bits; channels = channels; block_size = block_size }) list.now ≡ None) }
         ensures refused { IfErr result (λ e. IsFirst (open_fault (record { profile = Profile.Subset; rate = rate; bits = bits; channels = channels; block_size = block_size }) list.now) e) }
+        // An error of the target is counted, and a prefix of the header packets was sent before it.
+        ensures failed { IfErr result (λ e. e ≡ EncodeFault.Write → (left : W) × BeginsOpening W.Target (record { profile = Profile.Subset; rate = rate; bits = bits; channels = channels; block_size = block_size }) serial list.now target left) }
     {
         let format = StreamFormat {
             profile: Profile::Subset,
@@ -269,6 +276,8 @@ impl<W: Target + Drop> OggEncoder<W> {
         ensures names { IfOk result (λ e. W.names e.pushed.target ≡ W.names target) }
         ensures accepted { OnOk result (open_fault (shape_of format.now) list.now ≡ None) }
         ensures refused { IfErr result (λ e. IsFirst (open_fault (shape_of format.now) list.now) e) }
+        // An error of the target is counted, and a prefix of the header packets was sent before it.
+        ensures failed { IfErr result (λ e. e ≡ EncodeFault.Write → (left : W) × BeginsOpening W.Target (shape_of format.now) serial list.now target left) }
     {
         let headers = open_headers(alloc, serial, format, list)?;
         let _blocks = list.blocks(); // for the proof alone: what holds of every list
@@ -368,6 +377,8 @@ impl<W: Target + Drop> OggEncoder<W> {
         ensures names { IfOk result (λ target. W.names target ≡ W.names self.pushed.target) }
         ensures spent { (result ≡ Err EncodeFault.Spent) ↔ (self.pushed.spent ≡ true) }
         ensures only { IfErr result (λ e. (e ≡ EncodeFault.Spent) ⊎ (e ≡ EncodeFault.Write)) }
+        // An error of the target is counted, and a prefix of the packet was sent before it.
+        ensures failed { IfErr result (λ e. e ≡ EncodeFault.Write → (left : W) × FailsIn W.Target (bits_of self.last) self.pushed.target left) }
     {
         let spent = self.blocks.is_spent();
         let (held, target) = self.into_parts();

@@ -1,7 +1,7 @@
 //! Encodes a native stream a block at a time.
 
 ghost use Rattle.std.specs.Prelude.{◌≡◌, None, ◌<◌, IfOk, IfErr, Some, ◌≢◌, ◌++◌, ◌↔◌, option_map, true, OnOk, Err, Bool, List, map};
-ghost use Rattle.flac_encoder.specs.Pushing.{shape_of, shape_fault, open_info, unpushed, behind_block, spent_with, trying, push_fault, IsFirst, StandsFor, Pushes, BeginsPush};
+ghost use Rattle.flac_encoder.specs.Pushing.{shape_of, shape_fault, open_info, unpushed, behind_block, spent_with, trying, push_fault, IsFirst, FailsIn, StandsFor, Pushes, BeginsPush};
 ghost use Rattle.flac_bits.specs.Bits.{bits_of};
 ghost use Rattle.flac_frame.specs.Audio.{samples_each};
 ghost use Rattle.flac_native.specs.Given.{predictors_fault};
@@ -72,6 +72,8 @@ impl<W: Target + Drop> StreamEncoder<W> {
         ensures names { IfOk result (λ e. W.names e.target ≡ W.names target) }
         ensures accepted { OnOk result (shape_fault (record { profile = Profile.Subset; rate = rate; bits = bits; channels = channels; block_size = block_size }) ≡ None) }
         ensures refused { IfErr result (λ e. IsFirst (option_map Setup (shape_fault (record { profile = Profile.Subset; rate = rate; bits = bits; channels = channels; block_size = block_size }))) e) }
+        // An error of the target is counted, and a prefix was sent before it.
+        ensures failed { IfErr result (λ e. e ≡ EncodeFault.Write → (left : W) × FailsIn W.Target (head_spelling (open_info (record { profile = Profile.Subset; rate = rate; bits = bits; channels = channels; block_size = block_size })) list.now) target left) }
     {
         let format = StreamFormat {
             profile: Profile::Subset,
@@ -109,6 +111,8 @@ impl<W: Target + Drop> StreamEncoder<W> {
         ensures names { IfOk result (λ e. W.names e.target ≡ W.names target) }
         ensures accepted { OnOk result (shape_fault (shape_of format.now) ≡ None) }
         ensures refused { IfErr result (λ e. IsFirst (option_map Setup (shape_fault (shape_of format.now))) e) }
+        // An error of the target is counted, and a prefix was sent before it.
+        ensures failed { IfErr result (λ e. e ≡ EncodeFault.Write → (left : W) × FailsIn W.Target (head_spelling (open_info (shape_of format.now)) list.now) target left) }
     {
         let blocks = BlockEncoder::new(alloc, format)?;
         let _blocks = list.blocks(); // for its clauses alone

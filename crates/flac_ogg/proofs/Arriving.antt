@@ -370,7 +370,7 @@ nothing_read profile takes errors mark text calm sink why is =
       done = λ quiet e. absurd (none_some (place.Marker, why) (sym e));
       refused = λ quiet to w e room same. absurd (room (sym (same_end place.Marker to why w e).1 ∙ is));
       begun = ([], sink, begins, refl, λ same. refl);
-      broken = λ to w e out. ([], begins, inr (refl, sym (same_end place.Marker to why w e).0), refl);
+      broken = λ to w e out. let told = same_end place.Marker to why w e in ([], begins, inr (refl, sym told.0, sym told.1 ∙ is), refl);
       failed = λ rose. absurd (omega (arith, rose));
     }
 

@@ -1,14 +1,15 @@
 -- A byte in front of those that a source gives.
-use Rattle.std.proofs.Common.{◌≡◌, ℕ, ◌<◌, Bool, true, false, List, [], ◌∷◌, ◌++◌, length, take, slice_set, Option, Some, None, inr, refl, ap, arith}
+use Rattle.std.proofs.Common.{◌≡◌, ℕ, ◌<◌, Bool, true, false, List, [], ◌∷◌, ◌++◌, length, take, slice_set, Option, Some, None, inl, inr, refl, ap, arith}
 use Rattle.flac_bits.specs.State.{Mark}
-use Rattle.flac_bits.specs.Handing.{Hands}
+use Rattle.flac_bits.specs.Handing.{Reading, Hands, Decides}
 use Rattle.flac_bits.specs.declared.why.Why.{Why}
+use Rattle.flac_bits.specs.declared.why.Why.TheVariants.{Read}
 use Rattle.flac_native.specs.Stream.{Piece}
 use Rattle.flac_native.specs.declared.fault.Place.{Place}
 use Rattle.flac_native.specs.declared.fault.Place.TheVariants as place
 use Rattle.flac_ogg.specs.Stream.{start}
 use Rattle.flac_ogg.specs.Fronts.{front_bytes}
-use Rattle.flac_ogg.specs.Either.{begins_page, read_either}
+use Rattle.flac_ogg.specs.Either.{begins_page, read_either, by_first_byte, read_any}
 use Rattle.flac_ogg.proofs.MeaningContents.{ahead_of}
 use Rattle.flac_ogg.proofs.MeaningStreams.{goes_begins}
 use Rattle.flac_header.specs.declared.subset.Profile.{Profile}
@@ -27,18 +28,27 @@ begins_nothing : (profile : Profile) (is_ogg : Bool) (mark : Mark) (text : List 
 begins_nothing profile true mark text = (goes_begins profile mark text [] (start profile) (ahead_of mark text) (refl, refl)).begins
 begins_nothing profile false mark text = ([], text, refl, refl)
 
--- at the marker it is told that a call was broken off before the first item
-breaks_nothing : (profile : Profile) (is_ogg : Bool) (mark : Mark) (text : List Bool) (at : Place) (why : Why) → at ≡ place.Marker → (read_either profile is_ogg mark text).breaks [] at why
-breaks_nothing profile true mark text at why e = inr (refl, e)
-breaks_nothing profile false mark text at why e = e
+-- a call that pulls the first byte alone hands out the same
+pub hands_by_byte : {K : Type 0} (r : Reading Piece Place) (takes : K → Piece → K → Type 0) (errors : K → ℕ) (calm : Type 0) (old new : K) (outcome : Option (Place × Why)) → Hands r takes errors calm old new outcome → Hands (by_first_byte r) takes errors calm old new outcome
+hands_by_byte r takes errors calm old new outcome h = record {
+  done = h.done;
+  refused = h.refused;
+  begun = h.begun;
+  broken = λ at why is out. let b = h.broken at why is out in (b.0, b.1, inl b.2, b.3);
+  failed = h.failed;
+}
+
+-- and decides the same
+pub decides_by_byte : (r : Reading Piece Place) (outcome : Option (Place × Why)) → Decides r outcome → Decides (by_first_byte r) outcome
+decides_by_byte r outcome d = record { accepted = d.accepted; is_refused = d.is_refused; shown = d.shown }
 
 -- the source failed before the first item
 pub nothing_came : {K : Type 0} (profile : Profile) (is_ogg : Bool) (mark : Mark) (text : List Bool) (takes : K → Piece → K → Type 0) (errors : K → ℕ) (calm : Type 0) (sink : K) (outcome : Option (Place × Why))
-    → (calm → ⊥) → ((at : Place) (why : Why) → outcome ≡ Some (at, why) → at ≡ place.Marker) → Hands (read_either profile is_ogg mark text) takes errors calm sink sink outcome
+    → (calm → ⊥) → ((at : Place) (why : Why) → outcome ≡ Some (at, why) → (at ≡ place.Marker) × (why ≡ Read)) → Hands (read_any profile is_ogg mark text) takes errors calm sink sink outcome
 nothing_came profile is_ogg mark text takes errors calm sink outcome none marker = record {
   done = λ quiet e. absurd (none quiet);
   refused = λ quiet at why e room same. absurd (none quiet);
   begun = ([], sink, begins_nothing profile is_ogg mark text, refl, λ same. refl);
-  broken = λ at why e out. ([], begins_nothing profile is_ogg mark text, breaks_nothing profile is_ogg mark text at why (marker at why e), refl);
+  broken = λ at why e out. let told = marker at why e in ([], begins_nothing profile is_ogg mark text, inr (refl, told.0, told.1), refl);
   failed = λ rose. absurd (omega (arith, rose));
 }

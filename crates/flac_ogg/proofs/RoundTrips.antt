@@ -26,7 +26,7 @@ use Rattle.flac_pages.specs.Placed.{Placed, pages_from, marks_of, sequence_behin
 use Rattle.flac_pages.specs.Written.{pages_of_packet, page_at}
 use Rattle.flac_pages.specs.declared.writing.PacketMarks.{PacketMarks}
 use Rattle.flac_ogg.specs.Decoding.{ogg_reading}
-use Rattle.flac_ogg.specs.Either.{begins_page, read_either}
+use Rattle.flac_ogg.specs.Either.{begins_page, by_first_byte, read_any}
 use Rattle.flac_ogg.specs.Verifying.{bytes_reading}
 use Rattle.flac_ogg.specs.Stream.{OggStream}
 use Rattle.flac_ogg.specs.Writing.{ArePackets, EncodesOgg}
@@ -94,6 +94,10 @@ begins_ogg serial p list a bytes (q ∷ qs) small are is =
     let f = stream_front serial q qs in
     first_byte bytes 79 small (omega arith) (record { rest = f.0; text = is ∙ f.1 })
 
+-- the first byte changes no items
+just_by_byte : (r : Reading Piece Place) (items : List Piece) → IsJust r items → IsJust (by_first_byte r) items
+just_by_byte r items just = record { whole = just.whole; only = just.only; accepted = just.accepted }
+
 -- ---- in memory
 
 pub ogg_bytes : (serial : ℕ) (p : Cut) (list : List Block) (a : Sound) (bytes : List ℕ) → AreBytes bytes → EncodesOgg serial p list a [] (bits_of bytes) → OggBytes serial p list a bytes
@@ -105,7 +109,7 @@ ogg_bytes serial p list a bytes small e =
     record {
       encodes = e;
       container = page;
-      read = subst (λ k. IsJust (read_either p.profile k (beginning Truncated) (bits_of bytes)) items) (sym page) just;
+      read = subst (λ k. IsJust (read_any p.profile k (beginning Truncated) (bits_of bytes)) items) (sym page) (just_by_byte _ items just);
     }
 
 pub native_bytes : (p : Cut) (list : List Block) (a : Sound) (bytes : List ℕ) → AreBytes bytes → Encodes p list a [] (bits_of bytes) → NativeBytes p list a bytes
@@ -117,7 +121,7 @@ native_bytes p list a bytes small e =
     record {
       encodes = e;
       container = marker;
-      read = subst (λ k. IsJust (read_either p.profile k (beginning Truncated) (bits_of bytes)) items) (sym marker) just;
+      read = subst (λ k. IsJust (read_any p.profile k (beginning Truncated) (bits_of bytes)) items) (sym marker) (just_by_byte _ items just);
     }
 
 -- so they are a stream of some items

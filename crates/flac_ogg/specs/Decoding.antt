@@ -48,15 +48,15 @@ BreaksAtPage profile mark items text at why = (n : ℕ) × IsBrokenAt n (after g
 
 -- It is an Ogg stream of these items, or is refused after them, or its first packets are these items; the place of the
 -- next one is that in a native stream. An error of the device is reported at the page after those that were read, which
--- are the pages of these items. Before the first item an error of the device or of memory may be reported at the marker
--- too.
+-- are the pages of these items. Before the first item memory may run out at the marker too: the room for a page is
+-- allocated before anything is read.
 abbrev pub ogg_reading : Profile → Mark → List Bool → Reading Piece Place
 ogg_reading profile mark text = record {
   whole = λ items. OggStream profile mark items text;
   refused = λ items at why. OggRefused profile mark items text at why;
   begins = λ items. BeginsWith profile mark items text;
   place = λ items. grammar.place (after grammar (start profile) items);
-  breaks = λ items at why. BreaksAtPage profile mark items text at why ⊎ ((items ≡ []) × (at ≡ place.Marker));
+  breaks = λ items at why. BreaksAtPage profile mark items text at why ⊎ ((items ≡ []) × (at ≡ place.Marker) × (why ≡ Memory));
 }
 
 -- ---- where pages begin

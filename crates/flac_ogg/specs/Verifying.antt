@@ -7,12 +7,12 @@ use Rattle.flac_bits.specs.declared.why.Why.TheVariants.{Truncated, Memory}
 use Rattle.flac_native.specs.Stream.{Piece}
 use Rattle.flac_native.specs.Decoding.{beginning}
 use Rattle.flac_native.specs.declared.fault.Place.{Place}
-use Rattle.flac_ogg.specs.Either.{begins_page, read_either}
+use Rattle.flac_ogg.specs.Either.{begins_page, read_any}
 use Rattle.flac_header.specs.declared.subset.Profile.{Profile}
 
 -- how bytes are read in the container that the first of them names; after the last one the input ends
 abbrev pub bytes_reading : Profile → List ℕ → Reading Piece Place
-bytes_reading profile bytes = read_either profile (begins_page bytes) (beginning Truncated) (bits_of bytes)
+bytes_reading profile bytes = read_any profile (begins_page bytes) (beginning Truncated) (bits_of bytes)
 
 -- the bytes are a stream if nothing is reported, and else are refused at this place and for this reason, unless memory
 -- ran out

@@ -1,6 +1,6 @@
 //! Decodes a stream in either container.
 
-ghost use Rattle.std.specs.Prelude.{◌≡◌, ◌≢◌, true, List, IfOk, IfErr, None, Some, ◌<◌, ◌≤◌, ◌+◌, ◌++◌, [], OnOk, Ok, ◌⊎◌};
+ghost use Rattle.std.specs.Prelude.{◌≡◌, ◌≢◌, true, List, IfOk, IfErr, None, Some, ◌<◌, ◌≤◌, ◌+◌, ◌*◌, ◌++◌, [], OnOk, Ok, ◌⊎◌};
 ghost use Rattle.flac_bits.specs.Bits.{bits_of};
 ghost use Rattle.flac_bits.specs.State.{short_of, Rises};
 ghost use Rattle.flac_native.specs.Stream.{Piece};
@@ -17,7 +17,7 @@ ghost use Rattle.flac_bits.specs.Handing.{Hands, Decides, outcome_of};
 ghost use Rattle.flac_native.specs.Item.{told};
 ghost use Rattle.flac_ogg.specs.Decoding.{IsFront, ogg_reading};
 ghost use Rattle.flac_ogg.specs.Fronts.{front_bytes, front_count};
-ghost use Rattle.flac_ogg.specs.Either.{begins_page, read_either};
+ghost use Rattle.flac_ogg.specs.Either.{begins_page, read_either, read_any};
 
 use crate::packets::OggPackets;
 use flac_bits::{Source, Why};
@@ -39,7 +39,7 @@ use std::io;
 /// ```
 ///
 /// # Errors
-/// [`Why::Memory`] if the allocation for a page fails.
+/// [`Why::Memory`] at [`Place::Marker`] if the allocation for a page fails.
 pub fn ogg_decoder<R: Source + Drop>(
     alloc: Global,
     source: R,
@@ -50,6 +50,8 @@ pub fn ogg_decoder<R: Source + Drop>(
     ensures known { IfOk result (λ d. (stage_of d).container.pages.known ≡ R.known source) }
     ensures errors { IfOk result (λ d. (stage_of d).container.pages.errors ≡ R.errors source) }
     ensures met { IfOk result (λ d. (stage_of d).container.pages.raised ≡ R.raised source) }
+    ensures most { IfOk result (λ d. ((stage_of d).container.pages.most ≡ 8 * R.most source) × ((stage_of d).container.pages.body ≡ [])) }
+    ensures names { IfOk result (λ d. (stage_of d).container.pages.names ≡ R.names source) }
     // What is still to come is what the input is.
     ensures stream { IfOk result (λ d. (items : List Piece) → OggStream profile (beginning (short_of ((R.behind source).fails))) items (bits_of (R.coming source)) → ItemsCome (start profile) (ahead (stage_of d).container.pages) items None) }
     ensures refused { IfOk result (λ d. (items : List Piece) (at : Where) (why : Reason) → OggRefused profile (beginning (short_of ((R.behind source).fails))) items (bits_of (R.coming source)) at why → ItemsCome (start profile) (ahead (stage_of d).container.pages) items (Some (at, why))) }
@@ -58,6 +60,7 @@ pub fn ogg_decoder<R: Source + Drop>(
     // Read is returned only if the source returns an error in the call, unless one is announced.
     ensures clear { IfOk result (λ d. (R.behind source).fails ≡ None → IsClear (stage_of d).container.pages (stage_of d).track) }
     ensures memory { IfErr result (λ f. f.why ≡ Why.Memory) }
+    ensures place { IfErr result (λ f. f.at ≡ Place.Marker) }
 {
     match Pages::new(alloc, source) {
         Ok(pages) => Ok(Decoder::over(OggPackets::over(pages), Track::new(alloc, profile))),
@@ -104,6 +107,8 @@ pub fn decode_ogg<R: Source, S: Sink>(
     ensures risen { IfErr result (λ f. f.why ≡ Why.Read → Rises (R.raised source.old) (R.raised source.new)) }
     ensures sink { IfErr result (λ f. f.why ≡ Why.Sink → Rises (S.errors sink.old) (S.errors sink.new)) }
     ensures write { IfErr result (λ f. f.why ≢ Why.Write) }
+    // Ok only if the source returned no error in the call, unless one was announced, whatever is known of its bytes.
+    ensures counted { OnOk result (R.errors source.new ≡ R.errors source.old) }
     ensures kept { R.errors source.old ≤ R.errors source.new }
     ensures names { S.names sink.new ≡ S.names sink.old }
     ensures source_names { R.names source.new ≡ R.names source.old }
@@ -225,6 +230,8 @@ fn decode_as<R: Source, S: Sink>(
         ((R.errors source.new ≡ R.errors source.old) × (R.raised source.new ≡ R.raised source.old)) sink.old sink.new (outcome_of told result) }
     ensures decides { R.known source.old ≡ true → S.known sink.old ≡ true → R.errors source.new ≡ R.errors source.old → R.raised source.new ≡ R.raised source.old → S.errors sink.new ≡ S.errors sink.old →
         Decides (read_either profile is_ogg (beginning (short_of ((R.behind source.old).fails))) (bits_of (R.coming source.old))) (outcome_of told result) }
+    // Ok only if the source returned no error in the call, unless one was announced, whatever is known of its bytes.
+    ensures counted { OnOk result (R.errors source.new ≡ R.errors source.old) }
     ensures kept { R.errors source.old ≤ R.errors source.new }
     ensures read { IfErr result (λ f. R.known source.old ≡ true → (R.behind source.old).fails ≡ None → f.why ≡ Why.Read → (R.errors source.old < R.errors source.new) ⊎ (R.raised source.old < R.raised source.new)) }
     // An error of the source and of the sink is counted, if the count can rise, whatever is known of them: no other
@@ -261,11 +268,13 @@ pub fn decode_any<R: Source, S: Sink>(
     // Ok only if the bytes are such a stream, and the sink took exactly its items; refused only as the bytes are, after
     // exactly the items before; and in each case the sink took whole items, from the start.
     ensures hands { R.known source.old ≡ true → S.known sink.old ≡ true →
-        Hands (read_either profile (begins_page (R.coming source.old)) (beginning (short_of ((R.behind source.old).fails))) (bits_of (R.coming source.old))) (taken S.takes) S.errors
+        Hands (read_any profile (begins_page (R.coming source.old)) (beginning (short_of ((R.behind source.old).fails))) (bits_of (R.coming source.old))) (taken S.takes) S.errors
         ((R.errors source.new ≡ R.errors source.old) × (R.raised source.new ≡ R.raised source.old)) sink.old sink.new (outcome_of told result) }
     // Such a stream is not refused, unless memory runs out, and the place and the reason are those that the bytes show.
     ensures decides { R.known source.old ≡ true → S.known sink.old ≡ true → R.errors source.new ≡ R.errors source.old → R.raised source.new ≡ R.raised source.old → S.errors sink.new ≡ S.errors sink.old →
-        Decides (read_either profile (begins_page (R.coming source.old)) (beginning (short_of ((R.behind source.old).fails))) (bits_of (R.coming source.old))) (outcome_of told result) }
+        Decides (read_any profile (begins_page (R.coming source.old)) (beginning (short_of ((R.behind source.old).fails))) (bits_of (R.coming source.old))) (outcome_of told result) }
+    // Ok only if the source returned no error in the call, unless one was announced, whatever is known of its bytes.
+    ensures counted { OnOk result (R.errors source.new ≡ R.errors source.old) }
     ensures kept { R.errors source.old ≤ R.errors source.new }
     // Read is returned only if the source returned an error in the call, unless one was announced.
     ensures read { IfErr result (λ f. R.known source.old ≡ true → (R.behind source.old).fails ≡ None → f.why ≡ Why.Read → (R.errors source.old < R.errors source.new) ⊎ (R.raised source.old < R.raised source.new)) }

@@ -146,6 +146,9 @@ pub fn encode_ogg<W: Target>(
 ) -> Result<(), EncodeFault>
     requires { fits_plan plan.now audio.now ≡ true }
     ensures written { OnOk result (W.known target.old ≡ true → EncodesOgg serial plan.now list.now audio.now (bits_of (W.sent target.old)) (bits_of (W.sent target.new))) }
+    // Ok only if the target returned no error.
+    ensures known { OnOk result (W.known target.old ≡ true → W.known target.new ≡ true) }
+    ensures counted { OnOk result (W.errors target.new ≡ W.errors target.old) }
     ensures begun { IfErr result (λ e. e ≡ EncodeFault.Write → W.known target.old ≡ true → BeginsOgg serial plan.now list.now audio.now (bits_of (W.sent target.old)) (bits_of (W.sent target.new))) }
     ensures failed { IfErr result (λ e. e ≡ EncodeFault.Write → W.known target.old ≡ true → W.errors target.old < W.errors target.new) }
     // An error of the target is counted, if the count can rise, whatever is known of it.

@@ -120,7 +120,7 @@ fn in_both_containers(rt: HostRuntime) -> Result<(), Fail> {
     assert!(rt; are_outside(rt.alloc(), OUTSIDE)?);
     assert!(rt; are_outside(rt.alloc(), OUTSIDE_PAGES)?);
     let audio = zeros(rt.alloc(), "65537 5", 16)?;
-    let plan = Plan::new(16, &audio, 0)?;
+    let plan = Plan::new_in(audio.profile(), 16, &audio, 0)?;
     assert!(rt; plan.profile() == Profile::Lax);
     assert!(rt; come_out(rt.alloc(), &plan, &audio, OUTSIDE, OUTSIDE_PAGES)?);
     Ok(())

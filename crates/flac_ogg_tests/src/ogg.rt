@@ -32,7 +32,7 @@ fn pages_of(
     paddings: usize,
     every: u32,
 ) -> Result<(Result<(), EncodeFault>, Vec<u8>), Fail> {
-    let plan = Plan::new(4096, audio, every)?;
+    let plan = Plan::new_in(audio.profile(), 4096, audio, every)?;
     let list = comments(alloc, paddings)?;
     let mut target = Collected::new(alloc);
     let outcome = encode_ogg(alloc, 1, &plan, &list, audio, &mut target);
@@ -86,7 +86,7 @@ fn both_ways(
     paddings: usize,
 ) -> Result<Result<Vec<u8>, EncodeFault>, Fail> {
     let audio = sample(alloc)?;
-    let plan = Plan::new(4096, &audio, 0)?;
+    let plan = Plan::new_in(audio.profile(), 4096, &audio, 0)?;
     let list = comments(alloc, paddings)?;
     let outcome = encode_and_decode(alloc, serial, &plan, &list, &audio);
     drop(list);

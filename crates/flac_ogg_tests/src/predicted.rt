@@ -28,7 +28,7 @@ fn is_written(
     let audio = wave(alloc, profile, 44100)?;
     let list = list_of(alloc, count, order)?;
     let len = list.len();
-    let plan = Plan::new(16, &audio, 0)?.with_predictors(list)?;
+    let plan = Plan::new_in(audio.profile(), 16, &audio, 0)?.with_predictors(list)?;
     Ok(plan.predictors().len() == len && come_out(alloc, &plan, &audio, stream, paged)?)
 }
 
@@ -57,7 +57,7 @@ fn refused(
 ) -> Result<u8, Fail> {
     let audio = wave(alloc, profile, rate)?;
     let list = list_of(alloc, count, order)?;
-    match Plan::new(16, &audio, 0)?.with_predictors(list) {
+    match Plan::new_in(audio.profile(), 16, &audio, 0)?.with_predictors(list) {
         Ok(_) => Ok(0),
         Err(fault) => Ok(fault.number()),
     }

@@ -251,7 +251,7 @@ fn header_packets_are_counted(rt: HostRuntime) -> Result<(), Fail> {
 fn at_once(alloc: Global) -> Result<Collected, Fail> {
     let channels = vec![in alloc; (0..37).collect(alloc)?]?;
     let audio = Audio::new(44100, 16, channels)?;
-    let plan = Plan::new(16, &audio, 0)?;
+    let plan = Plan::new_in(audio.profile(), 16, &audio, 0)?;
     let list = list_of(alloc, true, 2)?;
     let mut target = Collected::new(alloc);
     let outcome = encode_ogg(alloc, 1, &plan, &list, &audio, &mut target);

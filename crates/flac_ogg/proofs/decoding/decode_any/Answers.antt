@@ -12,19 +12,19 @@ use Rattle.flac_native.specs.declared.fault.Place.{Place}
 use Rattle.flac_ogg.specs.Fronts.{front_bytes}
 use Rattle.flac_native.specs.Decoding.{taken, beginning}
 use Rattle.flac_native.proofs.Received.{same_end}
-use Rattle.flac_ogg.specs.Either.{begins_page, read_either}
-use Rattle.flac_ogg.proofs.FirstByte.{nothing_came, first_of}
+use Rattle.flac_ogg.specs.Either.{begins_page, read_either, read_any}
+use Rattle.flac_ogg.proofs.FirstByte.{nothing_came, hands_by_byte, decides_by_byte, first_of}
 use Rattle.flac_ogg.proofs.decoding.decode_any.Goals as goal
 
 -- a stream is handed out from its first byte on
 hands_all : {K : Type 0} (profile : Profile) (takes : K → Piece → K → Type 0) (errors : K → ℕ) (b b' : Bool) (h h' : Behind) (l l' : List ℕ) (e e' r r' en en' rn rn' : ℕ) (sink new : K) (outcome : Option (Place × Why)) → b ≡ b' → h ≡ h' → l ≡ l' → e ≡ e' → r ≡ r'
     → en ≡ en' → rn ≡ rn' → Hands (read_either profile b' (beginning (short_of h'.fails)) (bits_of l')) takes errors ((en' ≡ e') × (rn' ≡ r')) sink new outcome
-    → Hands (read_either profile b (beginning (short_of h.fails)) (bits_of l)) takes errors ((en ≡ e) × (rn ≡ r)) sink new outcome
-hands_all profile takes errors b b' h h' l l' e e' r r' en en' rn rn' sink new outcome bs hs ls es rs ens rns given = rw (bs, hs, ls, es, rs, ens, rns) given
+    → Hands (read_any profile b (beginning (short_of h.fails)) (bits_of l)) takes errors ((en ≡ e) × (rn ≡ r)) sink new outcome
+hands_all profile takes errors b b' h h' l l' e e' r r' en en' rn rn' sink new outcome bs hs ls es rs ens rns given = rw (bs, hs, ls, es, rs, ens, rns) (hands_by_byte _ takes errors _ sink new outcome given)
 
 decides_all : (profile : Profile) (b b' : Bool) (h h' : Behind) (l l' : List ℕ) (e e' r r' en en' rn rn' : ℕ) (outcome : Option (Place × Why)) → b ≡ b' → h ≡ h' → l ≡ l' → e ≡ e' → r ≡ r' → en ≡ en' → rn ≡ rn' → en ≡ e → rn ≡ r
-    → (en' ≡ e' → rn' ≡ r' → Decides (read_either profile b' (beginning (short_of h'.fails)) (bits_of l')) outcome) → Decides (read_either profile b (beginning (short_of h.fails)) (bits_of l)) outcome
-decides_all profile b b' h h' l l' e e' r r' en en' rn rn' outcome bs hs ls es rs ens rns same kept given = rw (bs, hs, ls) (given (sym ens ∙ same ∙ es) (sym rns ∙ kept ∙ rs))
+    → (en' ≡ e' → rn' ≡ r' → Decides (read_either profile b' (beginning (short_of h'.fails)) (bits_of l')) outcome) → Decides (read_any profile b (beginning (short_of h.fails)) (bits_of l)) outcome
+decides_all profile b b' h h' l l' e e' r r' en en' rn rn' outcome bs hs ls es rs ens rns same kept given = rw (bs, hs, ls) (decides_by_byte _ outcome (given (sym ens ∙ same ∙ es) (sym rns ∙ kept ∙ rs)))
 
 abbrev ok_front : Option ℕ → Result (Option ℕ) Fault
 ok_front o = Ok o
@@ -85,8 +85,9 @@ returns-in_err-front g c =
     rw (p.1, p.2) (record {
       hands = λ known receives.
           nothing_came c.args.profile (begins_page (R.coming source)) (beginning (short_of ((R.behind source).fails))) (bits_of (R.coming source)) (taken g.S.Sink.takes) g.S.Sink.errors _ c.args.sink.now _ (λ q. not_risen _ _ (e.rises known) q.1)
-          (λ at why is. sym (same_end _ at _ why is).0 ∙ e.place);
+          (λ at why is. let told = same_end _ at _ why is in (sym told.0 ∙ e.place, sym told.1 ∙ e.why));
       decides = λ known receives errors raised same. absurd (not_risen _ _ (e.rises known) raised);
+      counted = tt;
       kept = e.kept;
       read = λ known calm is. inr (e.rises known);
       risen = λ is. e.risen;

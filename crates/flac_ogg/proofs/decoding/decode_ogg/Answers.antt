@@ -1,5 +1,5 @@
 use Rattle.std.proofs.Common.{rules, ◌*◌, ◌∙◌, sym, ap, subst}
-use Rattle.std.proofs.lemmas.Result.{IfErr-weaker}
+use Rattle.std.proofs.lemmas.Result.{IfOk-weaker, IfErr-weaker}
 use Rattle.flac_bits.specs.Bits.{bits_of}
 use Rattle.flac_bits.specs.State.{short_of}
 use Rattle.flac_bits.specs.Handing.{outcome_of}
@@ -61,3 +61,9 @@ returns-clause-read g c =
     let rose = read (ap (λ (p : Place). p.known) (c.over-packets.ensures ∙ c.over.ensures) ∙ known) is (clear_start c.args.profile c.over-packets.result.pages c.new-track.result fails text front c.new-track.ensures none) in
     search (rules, rose, last, first))
     c.hand_out-outcome.ensures.read
+
+pub returns-clause-counted : goal.returns-clause-counted
+returns-clause-counted g c =
+    let last = ap (λ (p : Place). p.errors) (sym c.into_pages-pages.ensures) in
+    let first = ap (λ (p : Place). p.errors) c.over-packets.ensures in
+    IfOk-weaker c.hand_out-outcome.result _ _ (λ x met. search (rules, met.1, last, first)) c.hand_out-outcome.ensures.met

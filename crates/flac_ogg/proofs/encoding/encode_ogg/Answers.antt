@@ -60,6 +60,8 @@ prepare-requires-clause-room g c = room_is c.args.plan.now c.in-Ok.buffers c.blo
 pub returns-then-not-may_be_ogg : goal.returns-then-not-may_be_ogg
 returns-then-not-may_be_ogg g c = record {
   written = tt;
+  known = tt;
+  counted = tt;
   begun = λ is. absurd (mapping_write is);
   failed = λ is. absurd (mapping_write is);
   risen = λ is. absurd (mapping_write is);
@@ -73,6 +75,8 @@ returns-then-not-may_be_ogg g c = record {
 pub returns-in_default : goal.returns-in_default
 returns-in_default g c = record {
   written = tt;
+  known = tt;
+  counted = tt;
   begun = λ is. absurd (memory_write is);
   failed = λ is. absurd (memory_write is);
   risen = λ is. absurd (memory_write is);
@@ -89,6 +93,8 @@ returns-in_default g c = record {
 pub returns-in_default-prepare : goal.returns-in_default-prepare
 returns-in_default-prepare g c = record {
   written = tt;
+  known = tt;
+  counted = tt;
   begun = λ is. absurd (memory_write is);
   failed = λ is. absurd (memory_write is);
   risen = λ is. absurd (memory_write is);
@@ -121,6 +127,8 @@ returns-in-Ok-send_prepared g c =
           let whole = ogg_encodes g.W.Target p list a s.least s.greatest s.points.items h made c.args.target.now c.send_prepared.new.target _ old (omega (arith, serial_is, c.ranges.serial.fits)) c.block_size-size.ensures.good c.requires c.blocks-blocks.ensures.good
           c.blocks-blocks.ensures.fits counted w in
           subst (λ n. EncodesOgg n p list a old (bits_of (g.W.Target.sent c.send_prepared.new.target))) serial_is (all_sent h.serial p list a _ old _ whole (w.sends.sent known));
+      known = w.sends.known;
+      counted = w.sends.counted;
       begun = tt;
       failed = tt;
       risen = tt;
@@ -147,6 +155,8 @@ returns g c =
     let w = c.in-Err.ensures first (block_spellings list ++ []) made in
     record {
       written = tt;
+      known = tt;
+      counted = tt;
       begun = λ is known.
           let old = bits_of (g.W.Target.sent c.args.target.now) in
           let serial_is = c.in-Ok-prepare.ensures.serial in

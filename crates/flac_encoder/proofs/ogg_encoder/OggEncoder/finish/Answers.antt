@@ -5,6 +5,7 @@ use Rattle.flac_bits.specs.declared.target.Target as target
 use Rattle.flac_bits.proofs.Holding.{bits_of-append}
 use Rattle.flac_native.specs.declared.fault.EncodeFault.{EncodeFault}
 use Rattle.flac_native.specs.declared.fault.EncodeFault.TheVariants as fault
+use Rattle.flac_encoder.specs.Pushing.{FailsIn}
 use Rattle.flac_encoder.specs.PushingOgg.{PushedOgg, EndsOgg}
 use Rattle.flac_encoder.proofs.ogg_encoder.OggEncoder.finish.Goals as goal
 
@@ -45,6 +46,11 @@ write_only : {S : Type 0} (r : Result S EncodeFault) → IfErr r (λ e. e ≡ fa
 write_only (Ok n) write = tt
 write_only (Err e) write = inr write
 
+-- the target that is left has counted an error
+fails : {S : Type 0} (g : target.Ghosts S) (bytes last : List ℕ) (t old : S) (r : Result S EncodeFault) → bytes ≡ last → t ≡ old → IfErr r (λ e. (left : S) × FailsIn g (bits_of bytes) t left) → IfErr r (λ e. e ≡ fault.Write → (left : S) × FailsIn g (bits_of last) old left)
+fails g bytes last t old (Ok n) is same told = tt
+fails {S} g bytes last t old (Err e) is same told = λ write. subst (λ x. (left : S) × FailsIn g (bits_of last) x left) same (subst (λ b. (left : S) × FailsIn g (bits_of b) t left) is told)
+
 pub returns-then-spent : goal.returns-then-spent
 returns-then-spent g c =
     rw (← c.self.view_is) (record {
@@ -54,6 +60,7 @@ returns-then-spent g c =
       names = tt;
       spent = (λ is. sym c.is_spent-spent.ensures ∙ c.if-spent.true, λ is. refl);
       only = inl refl;
+      failed = λ is. absurd (write_spent (sym is));
     })
 
 pub returns : goal.returns
@@ -74,4 +81,5 @@ returns g c =
         λ is. absurd (not_spent _ _ (c.is_spent-spent.ensures ∙ ap (λ (x : PushedOgg _). x.pushed.spent) c.self.view_is) c.if-spent.false is),
       );
       only = write_only r told.write;
+      failed = fails W c.as_slice.result.now p.last _ p.pushed.target r (c.as_slice.ensures.value ∙ given.last) t told.failed;
     }

@@ -30,6 +30,7 @@ returns-in_err-blocks g c =
       names = tt;
       accepted = tt;
       refused = c.in_err-blocks.ensures.refused;
+      failed = λ is. absurd (c.in_err-blocks.ensures.unsent is);
     })
 
 pub returns-in-Ok : goal.returns-in-Ok
@@ -51,16 +52,26 @@ returns-in-Ok g c =
       names = sends.names;
       accepted = ok.accepted;
       refused = tt;
+      failed = tt;
     }
 
 pub returns-in-Err : goal.returns-in-Err
-returns-in-Err g c = record {
-  made = tt;
-  stands = tt;
-  written = tt;
-  known = tt;
-  counted = tt;
-  names = tt;
-  accepted = tt;
-  refused = inr (ap (option_map Setup) c.in_ok-blocks.ensures.accepted, inr refl);
-}
+returns-in-Err g c =
+    let sends = c.in-Err.ensures in
+    record {
+      made = tt;
+      stands = tt;
+      written = tt;
+      known = tt;
+      counted = tt;
+      names = tt;
+      accepted = tt;
+      refused = inr (ap (option_map Setup) c.in_ok-blocks.ensures.accepted, inr refl);
+      failed = λ is. (
+        c.send_head.new.target,
+        record {
+          fails = record { failed = sends.rises; risen = sends.risen; names = sends.names };
+          begun = λ known. let b = sends.begun known in (b.0, b.1, sym (no_table _ _ c.args.list.now _ c.open_info-info.ensures (ap table_of c.new-points.ensures.items)) ∙ b.2, b.3);
+        },
+      );
+    }
