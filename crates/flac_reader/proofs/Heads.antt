@@ -46,6 +46,7 @@ pub record HeadSoFar {C : Type 0} (g : container.Ghosts C) (old now : Stage C) (
   pub errors : g.errors now.container ≡ g.errors old.container
   pub raised : g.raised now.container ≡ g.raised old.container
   pub met : g.met now.container ≡ g.met old.container
+  pub names : g.names now.container ≡ g.names old.container
   pub passed : g.known old.container ≡ true → (blocks : List Block) (frames : List Frame) (end : Option (Place × Why)) → Comes g old (stream_items blocks frames) end → Passed g keep blocks frames end now kept from size
 
 pub head_starts : {C : Type 0} (g : container.Ghosts C) (s : Stage C) (keep : Keep) (kept : List Block) (from : ℕ) → kept ≡ [] → HeadSoFar g s s keep kept from from
@@ -54,6 +55,7 @@ head_starts g s keep kept from none = record {
   errors = refl;
   raised = refl;
   met = refl;
+  names = refl;
   passed = λ known blocks frames end comes. record { taken = []; left = blocks; split = refl; wanted = none; counted = sym (and_none from); comes = comes };
 }
 
@@ -78,6 +80,7 @@ head_more g old now new keep kept more from before size far counts took = record
   errors = counts.met.1 ∙ far.errors;
   raised = counts.met.2 ∙ far.raised;
   met = counts.met.3 ∙ far.met;
+  names = counts.names ∙ far.names;
   passed = λ known blocks frames end comes.
       let p = far.passed known blocks frames end comes in
       let t = took (far.known known, counts.met.1, counts.met.2) (room true) p.left frames end p.comes in
@@ -98,6 +101,7 @@ head_ok g old now new keep kept from size x y far counts = record {
   kept = omega (arith, counts.kept, far.errors);
   risen = tt;
   output = tt;
+  names = counts.names ∙ far.names;
 }
 
 pub head_err : {C X Y : Type 0} (g : container.Ghosts C) (old now new : Stage C) (keep : Keep) (kept : List Block) (from size : ℕ) (f : Fault) → HeadSoFar g old now keep kept from size → Counted {X = X} g now new (Err f) → Counted {X = Y} g old new (Err f)
@@ -106,6 +110,7 @@ head_err g old now new keep kept from size f far counts = record {
   kept = omega (arith, counts.kept, far.errors);
   risen = λ is. subst (λ n. Rises n (g.met new.container)) far.met (counts.risen is);
   output = counts.output;
+  names = counts.names ∙ far.names;
 }
 
 -- no block is left
@@ -133,13 +138,13 @@ no_room at why is roomy = roomy (ap (λ k. Err k) is)
 
 -- an error's count is the same for every kind of answer
 pub err_counts : {C X Y : Type 0} (g : container.Ghosts C) (old new : Stage C) (f : Fault) → Counted {X = X} g old new (Err f) → Counted {X = Y} g old new (Err f)
-err_counts g old new f h = record { met = tt; kept = h.kept; risen = h.risen; output = h.output }
+err_counts g old new f h = record { met = tt; kept = h.kept; risen = h.risen; output = h.output; names = h.names }
 
 pub ok_counts : {C X Y : Type 0} (g : container.Ghosts C) (old new : Stage C) (x : X) (y : Y) → Counted {X = X} g old new (Ok x) → Counted {X = Y} g old new (Ok y)
-ok_counts g old new x y h = record { met = h.met; kept = h.kept; risen = tt; output = tt }
+ok_counts g old new x y h = record { met = h.met; kept = h.kept; risen = tt; output = tt; names = h.names }
 
 pub same_counts : {C X : Type 0} (g : container.Ghosts C) (s : Stage C) (x : X) → Counted {X = X} g s s (Ok x)
-same_counts g s x = record { met = (λ k. k, refl, refl, refl); kept = omega arith; risen = tt; output = tt }
+same_counts g s x = record { met = (λ k. k, refl, refl, refl); kept = omega arith; risen = tt; output = tt; names = refl }
 
 -- the metadata was read
 pub head_read : {C : Type 0} (g : container.Ghosts C) (old new : Stage C) (keep : Keep) (kept : List Block) (start : ℕ) (x : ⊤) → Counted {X = ⊤} g old new (Ok x)
@@ -150,6 +155,8 @@ head_read g old new keep kept start x counts head size = record {
   known = counts.met.0;
   errors = counts.met.1;
   raised = counts.met.2;
+  met = counts.met.3;
+  names = counts.names;
   blocks = λ known blocks frames end comes. (head (known, counts.met.1, counts.met.2) (room x) blocks frames end comes).0;
   frames = λ known blocks frames end comes. (head (known, counts.met.1, counts.met.2) (room x) blocks frames end comes).1;
   counted = λ known blocks frames end comes. size (known, counts.met.1, counts.met.2) blocks frames end comes;

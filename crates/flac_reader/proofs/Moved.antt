@@ -1,5 +1,5 @@
 -- A device that was moved, as a source.
-use Rattle.std.proofs.Common.{◌≡◌, ℕ, Bool, true, false, ◌&&◌, nat_lt, List, [], take, Option, Some, None, IfSome, refl, ap, subst, ◌∙◌}
+use Rattle.std.proofs.Common.{◌≡◌, ℕ, Bool, true, false, ◌&&◌, nat_lt, List, [], take, Option, Some, None, IfSome, Result, Ok, Err, IfOk, refl, ap, subst, ◌∙◌}
 use Rattle.std.specs.Prelude.{is_some, unwrap_or}
 use Rattle.flac_bits.specs.Bits.{bits_of}
 use Rattle.flac_bits.specs.Handing.{by_grammar}
@@ -11,6 +11,7 @@ use Rattle.flac_native.specs.Resuming.{resumed}
 use Rattle.flac_native.specs.Stream.{grammar}
 use Rattle.flac_native.specs.declared.fault.Fault.{Fault}
 use Rattle.flac_native.specs.declared.container.Container as container
+use Rattle.flac_reader.specs.Opening.{IsOver}
 use Rattle.flac_reader.specs.Seeking.{Sought, RefusesSeek}
 use Rattle.flac_reader.specs.Moved.{read_resumed}
 use Rattle.flac_reader.specs.declared.reader.Reader.{Reader}
@@ -18,6 +19,10 @@ use Rattle.flac_reader.specs.declared.reader.Reader.{Reader}
 pub there : (old new : Option ℕ) (to at n : ℕ) → at ≡ to → IfSome old (λ _. (n ≡ at) × (new ≡ Some n)) → IfSome old (λ _. new ≡ Some to)
 there None new to at n e h = tt
 there (Some p) new to at n e h = h.1 ∙ ap (λ k. Some k) (h.0 ∙ e)
+
+pub both_ok : {X E : Type 0} (r : Result X E) (P Q : X → Type 0) → IfOk r P → IfOk r Q → IfOk r (λ x. P x × Q x)
+both_ok (Ok x) P Q p q = (p, q)
+both_ok (Err e) P Q p q = tt
 
 abbrev most : ℕ
 most = 18446744073709551615
@@ -37,6 +42,13 @@ moved_found {T = T} remaining device d errors room profile info sample reader e 
     let P : T → ℕ → ℕ → Type 0 = λ x n m. (is_some (remaining x) && nat_lt n most) ≡ true → Sought info sample (by_grammar grammar (resumed profile info) (beginning Truncated) (bits_of (take m (unwrap_or (remaining x) [])))) reader in
     let done : P device 0 most = subst (λ x. P x 0 most) e (subst (λ n. P d n most) z (subst (λ m. P d errors m) full h)) in
     done (both (is_some (remaining device)) k)
+
+pub moved_over : {T C : Type 0} {g : container.Ghosts C} (remaining : T → Option (List ℕ)) (device d : T) (errors : ℕ) (reader : Reader C g) → d ≡ device → errors ≡ 0
+    → IsOver (is_some (remaining d) && nat_lt errors most) errors errors [] reader → IsOver (is_some (remaining device)) 0 0 [] reader
+moved_over {T = T} remaining device d errors reader e z over =
+    let P : T → ℕ → Type 0 = λ x n. IsOver (is_some (remaining x) && nat_lt n most) n n [] reader in
+    let done : P device 0 = subst (λ x. P x 0) e (subst (λ n. P d n) z over) in
+    subst (λ b. IsOver b 0 0 [] reader) (only (is_some (remaining device))) done
 
 pub moved_refused : {T : Type 0} (remaining : T → Option (List ℕ)) (device d : T) (errors room left : ℕ) (profile : Profile) (info : Info) (sample : ℕ) (f : Fault) → d ≡ device → errors ≡ 0 → room ≡ most
     → RefusesSeek info sample (by_grammar grammar (resumed profile info) (beginning Truncated) (bits_of (take room (unwrap_or (remaining d) [])))) (is_some (remaining d) && nat_lt errors most) errors errors left left f

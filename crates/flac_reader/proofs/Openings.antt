@@ -1,5 +1,6 @@
 -- A reader that was opened over an input.
-use Rattle.std.proofs.Common.{◌≡◌, true, List, Option, Some, None, sym, subst}
+use Rattle.std.proofs.Common.{◌≡◌, ℕ, Bool, true, List, Option, Some, None, sym, subst, ◌∙◌}
+use Rattle.std.specs.Borrow.{GName}
 use Rattle.flac_bits.specs.Handing.{Reading}
 use Rattle.flac_bits.specs.declared.why.Why.{Why}
 use Rattle.flac_meta.specs.declared.block.Block.{Block}
@@ -14,7 +15,7 @@ use Rattle.flac_native.specs.declared.decoder.Course.TheVariants as course
 use Rattle.flac_native.specs.declared.container.Container as container
 use Rattle.flac_reader.specs.Coming.{Comes, ComesBehind, HeadOf, stream_items}
 use Rattle.flac_reader.specs.Kept.{first_info}
-use Rattle.flac_reader.specs.Opening.{IsReadAs, Opens}
+use Rattle.flac_reader.specs.Opening.{IsReadAs, Opens, Starts}
 use Rattle.flac_reader.specs.declared.keep.Keep.{Keep}
 use Rattle.flac_reader.specs.declared.reader.Reader.{Reader}
 
@@ -35,6 +36,18 @@ opens_over {g = g} r keep reader s p begun at gives known head info = record {
   where
     comes : (blocks : List Block) (frames : List Frame) (end : Option (Place × Why)) → IsReadAs r blocks frames end → Comes g s (stream_items blocks frames) end
     comes blocks frames end is = begun_comes g s p (stream_items blocks frames) end begun at (is.parts, sym is.items, gives is.parts end is.read)
+
+-- where the decoder was over this source
+pub starts_over : {C : Type 0} {g : container.Ghosts C} (reader : Reader C g) (s : Stage C) (keep : Keep) (known : Bool) (errors raised : ℕ) (names : List GName)
+    → g.known s.container ≡ known → g.errors s.container ≡ errors → g.met s.container ≡ raised → g.names s.container ≡ names
+    → HeadOf g s (stage_of reader.decoder) keep reader.blocks.items reader.ahead reader.start → first_info reader.blocks.items ≡ Some reader.info → reader.ahead ≡ true → (reader.first ≡ 0) × (reader.behind ≡ 0) → Starts known errors raised names reader
+starts_over reader s keep known errors raised names is e m n head info ahead numbers = record {
+  info = info;
+  ahead = ahead;
+  first = numbers.0;
+  next = numbers.1;
+  source = record { known = λ k. head.known (is ∙ k); errors = head.errors ∙ e; met = head.met ∙ m; names = head.names ∙ n };
+}
 
 -- the input is a stream, or is refused
 pub either_end : (gives : List Piece → Option (Place × Why) → Type 0) (r : Reading Piece Place) → ((parts : List Piece) → r.whole parts → gives parts None) → ((parts : List Piece) (at : Place) (why : Why) → r.refused parts at why → gives parts (Some (at, why)))

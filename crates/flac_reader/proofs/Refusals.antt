@@ -65,6 +65,7 @@ blocks_refused g old last keep kept f counts head = record {
   kept = counts.kept;
   risen = counts.risen;
   output = counts.output;
+  names = counts.names;
   refused = λ calm other blocks frames end comes. inl (head calm (had_room f other) blocks frames end comes);
 }
 
@@ -76,6 +77,7 @@ no_info_refused g old last keep kept x counts none head = record {
   kept = counts.kept;
   risen = λ is. absurd (other is);
   output = refl;
+  names = counts.names;
   refused = λ calm other blocks frames end comes.
       let h = head calm (room x) blocks frames end comes in
       inr (refl, sym (first_kept keep blocks) ∙ ap first_info (sym h.0) ∙ none);

@@ -1,19 +1,20 @@
 -- What an iterator over samples has still to give, step by step.
-use Rattle.std.proofs.Common.{◌≡◌, ℕ, ◌+◌, ◌<◌, ◌≤◌, Bool, true, false, cond, ℤ, List, [], ◌∷◌, ◌++◌, map, Option, Some, None, Result, Ok, Err, refl, sym, ap, subst, ◌∙◌, arith}
+use Rattle.std.proofs.Common.{◌≡◌, ℕ, ◌+◌, ◌<◌, ◌≤◌, min, ◌⊎◌, inl, inr, IfSome, length, Bool, true, false, cond, ℤ, List, [], ◌∷◌, ◌++◌, map, Option, Some, None, Result, Ok, Err, refl, sym, ap, subst, ◌∙◌, arith}
 use Rattle.flac_bits.specs.declared.why.Why.{Why}
 use Rattle.flac_bits.specs.State.{Rises}
 use Rattle.flac_bits.specs.declared.why.Why.TheVariants.{Memory, Read}
 use Rattle.flac_frame.specs.Frame.{Frame}
 use Rattle.flac_frame.specs.Interleaved.{interleaved}
 use Rattle.flac_native.specs.Item.{Item, frame}
-use Rattle.flac_native.specs.Giving.{stage_of, held, Stage}
+use Rattle.flac_native.specs.Giving.{stage_of, Stage}
 use Rattle.flac_native.specs.declared.fault.Place.{Place}
+use Rattle.flac_native.specs.declared.fault.Place.TheVariants as place
 use Rattle.flac_native.specs.declared.fault.Fault.{Fault}
 use Rattle.flac_native.specs.declared.container.Container as container
-use Rattle.flac_reader.specs.Coming.{FramesCome, IsFirst, IsCalm, Counted, only_frame}
-use Rattle.flac_reader.specs.Giving.{Gives}
-use Rattle.flac_reader.specs.Places.{all_samples, left_at, is_over}
-use Rattle.flac_reader.specs.Sampling.{SamplesLeft, ComeBehind, SamplesCome, IsFirstSample, calls_left, GivesSample}
+use Rattle.flac_reader.specs.Coming.{FramesCome, IsFirst, IsCalm, IsPast, Counted, size_of}
+use Rattle.flac_reader.specs.Giving.{last_frame, Gives}
+use Rattle.flac_reader.specs.Places.{all_samples, samples_from, left_at, is_over}
+use Rattle.flac_reader.specs.Sampling.{SamplesLeft, ComeBehind, SamplesCome, IsFirstSample, count_after, first_after, Enters, Steps, calls_left, GivesSample}
 use Rattle.flac_reader.specs.inner.Stepping.{TakesSample, EntersFrame}
 use Rattle.flac_reader.specs.declared.reader.Reader.{Reader}
 use Rattle.flac_reader.specs.declared.samples.Samples.{Samples}
@@ -21,10 +22,6 @@ use Rattle.flac_reader.specs.declared.spot.Spot.{Spot}
 use Rattle.flac_reader.specs.declared.spot.Spot.TheVariants as spot
 use Rattle.flac_reader.proofs.Heads.{room, same_room, same_counts}
 use Rattle.flac_reader.proofs.Places.{from_start}
-
--- the frame that a reader read last
-abbrev pub last_frame : {C : Type 0} {g : container.Ghosts C} → Reader C g → Option Item
-last_frame r = only_frame (held (stage_of r.decoder).course (stage_of r.decoder).track)
 
 -- ---- where a spot is
 
@@ -39,12 +36,55 @@ apart spot.Next r samples end going come = come
 apart (spot.Inside c i) r samples end going come = come
 apart spot.Over r samples end going come = absurd cc
 
+-- ---- which frames were read
+
+-- these, of which all but the last have no samples; the last is the frame that was read last, from its start on
+pub record EnteredSo {C : Type 0} {g : container.Ghosts C} (old now : Samples C g) (passed : List Frame) (f : Frame) : Type 0 where
+  pub empty : all_samples passed ≡ []
+  pub held : last_frame now.reader ≡ Some (frame f)
+  pub at : now.spot ≡ spot.Inside 0 0
+  pub first : now.reader.first ≡ count_after old.reader.behind passed
+  pub next : now.reader.behind ≡ min (now.reader.first + f.size) 18446744073709551615
+  pub left : old.left ≡ now.left + length passed + 1
+
+-- none so far, or these
+abbrev pub ReadSo : {C : Type 0} {g : container.Ghosts C} → Samples C g → Samples C g → Type 0
+ReadSo old now = ((now.reader ≡ old.reader) × (now.left ≡ old.left)) ⊎ ((passed : List Frame) × (f : Frame) × EnteredSo old now passed f)
+
+-- all of these have no samples
+record PassedSo {C : Type 0} {g : container.Ghosts C} (old now : Samples C g) (passed : List Frame) : Type 0 where
+  pub empty : all_samples passed ≡ []
+  pub first : now.reader.first ≡ first_after old.reader.first old.reader.behind passed
+  pub next : now.reader.behind ≡ count_after old.reader.behind passed
+  pub left : old.left ≡ now.left + length passed
+
+-- so it is if nothing is left of the frame that was read last
+passed_so : {C : Type 0} {g : container.Ghosts C} (old now : Samples C g) → ReadSo old now → left_at now.spot (last_frame now.reader) ≡ [] → (passed : List Frame) × PassedSo old now passed
+unfolding all_samples count_after
+passed_so {g = g} old now (inl (same, left)) none = (
+  [],
+  record { empty = refl; first = ap (λ (r : Reader _ g). r.first) same; next = ap (λ (r : Reader _ g). r.behind) same; left = omega (arith, left) },
+)
+passed_so old now (inr (passed, f, e)) none =
+    let left : samples_from f 0 0 ≡ [] = subst (λ o. left_at (spot.Inside 0 0) o ≡ []) e.held (subst (λ s. left_at s (last_frame now.reader) ≡ []) e.at none) in (
+      f ∷ passed,
+      record {
+        empty = ap (λ k. k ++ all_samples passed) (sym (from_start f) ∙ left) ∙ e.empty;
+        first = e.first;
+        next = e.next ∙ ap (λ n. min (n + f.size) 18446744073709551615) e.first;
+        left = omega (arith, e.left);
+      },
+    )
+
 -- so far, where the source told its bytes from the start: no sample was given, and the same ones come
 pub record SamplesSoFar {C : Type 0} {g : container.Ghosts C} (old now : Samples C g) : Type 0 where
   pub known : g.known (stage_of old.reader.decoder).container ≡ true → g.known (stage_of now.reader.decoder).container ≡ true
   pub errors : g.errors (stage_of now.reader.decoder).container ≡ g.errors (stage_of old.reader.decoder).container
   pub raised : g.raised (stage_of now.reader.decoder).container ≡ g.raised (stage_of old.reader.decoder).container
   pub met : g.met (stage_of now.reader.decoder).container ≡ g.met (stage_of old.reader.decoder).container
+  pub names : g.names (stage_of now.reader.decoder).container ≡ g.names (stage_of old.reader.decoder).container
+  pub past : IsPast (stage_of old.reader.decoder) → IsPast (stage_of now.reader.decoder)
+  pub reads : ReadSo old now
   pub blocks : now.reader.blocks ≡ old.reader.blocks
   pub info : now.reader.info ≡ old.reader.info
   pub start : now.reader.start ≡ old.reader.start
@@ -58,6 +98,9 @@ samples_start s going = record {
   errors = refl;
   raised = refl;
   met = refl;
+  names = refl;
+  past = λ k. k;
+  reads = inl (refl, refl);
   blocks = refl;
   info = refl;
   start = refl;
@@ -156,15 +199,31 @@ refusal_comes new (x ∷ xs) samples end f s split over first = absurd (not_fram
 
 -- ---- one turn
 
-pub turn : {C : Type 0} {g : container.Ghosts C} (old now next new : Samples C g) → SamplesSoFar old now → next.reader ≡ now.reader → next.left ≤ now.left → TakesSample now.spot next.spot (last_frame now.reader) None
+pub turn : {C : Type 0} {g : container.Ghosts C} (old now next new : Samples C g) → SamplesSoFar old now → next.reader ≡ now.reader → next.left + 1 ≡ now.left → TakesSample now.spot next.spot (last_frame now.reader) None
     → Gives {X = Bool} next.reader new.reader (λ _. last_frame new.reader) (Ok true) → new.left ≡ next.left → EntersFrame (last_frame new.reader) new.spot (Ok true) → SamplesSoFar old new
 turn {g = g} old now next new far same fewer none gives left enters =
     let met = subst (λ (r : Reader _ g). Counted {X = Bool} g (stage_of r.decoder) (stage_of new.reader.decoder) (Ok true)) same gives.counts in
+    let p = passed_so old now far.reads none.0 in
+    let f = enters.0 in
     record {
       known = λ k. met.met.0 (far.known k);
       errors = met.met.1 ∙ far.errors;
       raised = met.met.2 ∙ far.raised;
       met = met.met.3 ∙ far.met;
+      names = met.names ∙ far.names;
+      past = λ k. subst (λ o. IfSome o (λ _. IsPast (stage_of new.reader.decoder))) enters.1 (gives.past (subst (λ (r : Reader _ g). IsPast (stage_of r.decoder)) (sym same) (far.past k)));
+      reads = inr (
+        p.0,
+        f,
+        record {
+          empty = p.1.empty;
+          held = enters.1;
+          at = enters.2;
+          first = gives.samples.0 ∙ ap (λ (r : Reader _ g). r.behind) same ∙ p.1.next;
+          next = gives.samples.1 ∙ ap (λ k. min (next.reader.behind + size_of k) 18446744073709551615) enters.1 ∙ ap (λ n. min (n + f.size) 18446744073709551615) (sym gives.samples.0);
+          left = omega (arith, left, fewer, p.1.left);
+        },
+      );
       blocks = gives.blocks ∙ ap (λ (r : Reader _ g). r.blocks) same ∙ far.blocks;
       info = gives.info ∙ ap (λ (r : Reader _ g). r.info) same ∙ far.info;
       start = gives.start ∙ ap (λ (r : Reader _ g). r.start) same ∙ far.start;
@@ -194,6 +253,8 @@ pub give_over : {C : Type 0} {g : container.Ghosts C} (s : Samples C g) → is_o
 give_over {g = g} s is = record {
   sample = λ calm roomy samples end come. go s.spot refl is samples end come;
   counts = same_counts g (stage_of s.reader.decoder) None;
+  reads = inl (record { reader = refl; left = omega arith });
+  past = λ k. tt;
   ended = λ e. at s.spot is;
   spent = tt;
   over = λ e. (refl, refl);
@@ -213,10 +274,21 @@ give_over {g = g} s is = record {
     go spot.Next e is samples end come = absurd cc
     go (spot.Inside c i) e is samples end come = absurd cc
 
+-- the frame that was read last, without a further one
+entered : {C : Type 0} {g : container.Ghosts C} (old now new : Samples C g) (passed : List Frame) (f : Frame) (steps : ℕ) → EnteredSo old now passed f → new.reader ≡ now.reader → old.left ≡ new.left + length passed + 1 + steps → Enters old new passed steps
+entered {g = g} old now new passed f steps e same left =
+    let next : now.reader.behind ≡ min (now.reader.first + size_of (last_frame now.reader)) 18446744073709551615 = e.next ∙ ap (λ o. min (now.reader.first + size_of o) 18446744073709551615) (sym e.held) in
+    record {
+      empty = e.empty;
+      first = ap (λ (r : Reader _ g). r.first) same ∙ e.first;
+      next = subst (λ (r : Reader _ g). r.behind ≡ min (r.first + size_of (last_frame r)) 18446744073709551615) (sym same) next;
+      left = left;
+    }
+
 abbrev told_sample : Option ℤ → Result (Option ℤ) Fault
 told_sample o = Ok o
 
-pub give_sample : {C : Type 0} {g : container.Ghosts C} (old now new : Samples C g) (x : ℤ) → is_over old.spot ≡ false → SamplesSoFar old now → new.reader ≡ now.reader → new.left < now.left → TakesSample now.spot new.spot (last_frame now.reader) (Some x)
+pub give_sample : {C : Type 0} {g : container.Ghosts C} (old now new : Samples C g) (x : ℤ) → is_over old.spot ≡ false → SamplesSoFar old now → new.reader ≡ now.reader → new.left + 1 ≡ now.left → TakesSample now.spot new.spot (last_frame now.reader) (Some x)
     → GivesSample old new (Ok (Some x))
 give_sample {g = g} old now new x going far same fewer takes = record {
   sample = λ calm roomy samples end come. gave now new x samples end far.going same takes (far.same calm.0 samples end come);
@@ -225,7 +297,10 @@ give_sample {g = g} old now new x going far same fewer takes = record {
     kept = omega (arith, far.errors);
     risen = tt;
     output = tt;
+    names = far.names;
   });
+  reads = steps far.reads;
+  past = λ k. subst (λ (r : Reader _ g). IsPast (stage_of r.decoder)) (sym same) (far.past k);
   ended = λ e. absurd (some_none e);
   spent = tt;
   over = λ e. absurd (not_over old.spot going e);
@@ -238,11 +313,16 @@ give_sample {g = g} old now new x going far same fewer takes = record {
     some_none : told_sample (Some x) ≡ Ok None → ⊥
     some_none e = absurd cc
 
+    steps : ReadSo old now → Steps old new 1
+    steps (inl (r, l)) = inl (record { reader = same ∙ r; left = omega (arith, l, fewer) })
+    steps (inr (passed, f, e)) = inr (passed, entered old now new passed f 1 e same (omega (arith, e.left, fewer)))
+
 -- the frame that comes next is none
-pub give_end : {C : Type 0} {g : container.Ghosts C} (old now next new : Samples C g) → is_over old.spot ≡ false → SamplesSoFar old now → next.reader ≡ now.reader → TakesSample now.spot next.spot (last_frame now.reader) None
+pub give_end : {C : Type 0} {g : container.Ghosts C} (old now next new : Samples C g) → is_over old.spot ≡ false → SamplesSoFar old now → next.reader ≡ now.reader → new.left + 1 ≡ now.left → TakesSample now.spot next.spot (last_frame now.reader) None
     → Gives {X = Bool} next.reader new.reader (λ _. last_frame new.reader) (Ok false) → EntersFrame (last_frame new.reader) new.spot (Ok false) → GivesSample old new (Ok None)
-give_end {g = g} old now next new going far same none gives enters =
+give_end {g = g} old now next new going far same fewer none gives enters =
     let met = subst (λ (r : Reader _ g). Counted {X = Bool} g (stage_of r.decoder) (stage_of new.reader.decoder) (Ok false)) same gives.counts in
+    let p = passed_so old now far.reads none.0 in
     record {
       sample = λ calm roomy samples end come.
           let q = behind now next samples end far.going same none.0 (far.same calm.0 samples end come) in
@@ -254,7 +334,18 @@ give_end {g = g} old now next new going far same none gives enters =
         kept = omega (arith, met.kept, far.errors);
         risen = tt;
         output = tt;
+        names = met.names ∙ far.names;
       };
+      reads = inr (
+        p.0,
+        record {
+          empty = p.1.empty;
+          first = gives.samples.0 ∙ ap (λ (r : Reader _ g). r.behind) same ∙ p.1.next;
+          next = gives.samples.1 ∙ ap (λ n. min (n + size_of (last_frame new.reader)) 18446744073709551615) (sym gives.samples.0);
+          left = omega (arith, fewer, p.1.left);
+        },
+      );
+      past = λ k. tt;
       ended = λ e. enters.1;
       spent = tt;
       over = λ e. absurd (not_over old.spot going e);
@@ -269,6 +360,7 @@ pub give_refusal : {C : Type 0} {g : container.Ghosts C} (old now next new : Sam
     → Gives {X = Bool} next.reader new.reader (λ _. last_frame new.reader) (Err f) → EntersFrame (last_frame new.reader) new.spot (Err f) → GivesSample old new (Err f)
 give_refusal {g = g} old now next new f going far same none gives over =
     let met = subst (λ (r : Reader _ g). Counted {X = Bool} g (stage_of r.decoder) (stage_of new.reader.decoder) (Err f)) same gives.counts in
+    let p = passed_so old now far.reads none.0 in
     record {
       sample = λ calm roomy samples end come.
           let q = behind now next samples end far.going same none.0 (far.same calm.0 samples end come) in
@@ -279,7 +371,18 @@ give_refusal {g = g} old now next new f going far same none gives over =
         kept = omega (arith, met.kept, far.errors);
         risen = λ is. subst (λ n. Rises n (g.met (stage_of new.reader.decoder).container)) far.met (met.risen is);
         output = met.output;
+        names = met.names ∙ far.names;
       };
+      reads = inl (
+        p.0,
+        record {
+          empty = p.1.empty;
+          first = gives.samples.0 ∙ ap (λ (r : Reader _ g). r.first) same ∙ p.1.first;
+          next = gives.samples.1 ∙ ap (λ (r : Reader _ g). r.behind) same ∙ p.1.next;
+          memory = λ k. gives.memory (subst (λ (r : Reader _ g). IsPast (stage_of r.decoder)) (sym same) (far.past k));
+        },
+      );
+      past = λ k. tt;
       ended = λ e. over;
       spent = over;
       over = λ e. absurd (not_over old.spot going e);
@@ -290,15 +393,19 @@ give_refusal {g = g} old now next new f going far same none gives over =
     }
 
 -- after as many calls as can be counted
-pub give_no_more : {C : Type 0} {g : container.Ghosts C} (old now new : Samples C g) (at : Place) → is_over old.spot ≡ false → SamplesSoFar old now → new.reader ≡ now.reader → new.spot ≡ spot.Over → GivesSample old new (Err (record { at = at; why = Memory }))
-give_no_more {g = g} old now new at going far same over = record {
+pub give_no_more : {C : Type 0} {g : container.Ghosts C} (old now new : Samples C g) → is_over old.spot ≡ false → SamplesSoFar old now → new.reader ≡ now.reader → new.spot ≡ spot.Over → new.left ≡ now.left → now.left ≡ 0
+    → GivesSample old new (Err (record { at = place.Frame 18446744073709551615; why = Memory }))
+give_no_more {g = g} old now new going far same over left none = record {
   sample = λ calm roomy. absurd (roomy refl);
-  counts = subst (λ (r : Reader _ g). Counted {X = Option ℤ} g (stage_of old.reader.decoder) (stage_of r.decoder) (Err (record { at = at; why = Memory }))) (sym same) (record {
+  counts = subst (λ (r : Reader _ g). Counted {X = Option ℤ} g (stage_of old.reader.decoder) (stage_of r.decoder) (Err (record { at = place.Frame 18446744073709551615; why = Memory }))) (sym same) (record {
     met = tt;
     kept = omega (arith, far.errors);
     risen = λ is. absurd (other is);
     output = refl;
+    names = far.names;
   });
+  reads = inr (record { fault = refl; none = left ∙ none; steps = steps far.reads });
+  past = λ k. tt;
   ended = λ e. over;
   spent = over;
   over = λ e. absurd (not_over old.spot going e);
@@ -310,3 +417,7 @@ give_no_more {g = g} old now new at going far same over = record {
   where
     other : Memory ≡ Read → ⊥
     other e = absurd cc
+
+    steps : ReadSo old now → Steps old new 0
+    steps (inl (r, l)) = inl (record { reader = same ∙ r; left = omega (arith, l, left) })
+    steps (inr (passed, f, e)) = inr (passed, entered old now new passed f 0 e same (omega (arith, e.left, left)))

@@ -1,6 +1,7 @@
 -- A search for the frame that holds a sample.
-use Rattle.std.proofs.Common.{◌≡◌, ℕ, Bool, true, IfOk, IfErr, List, [], ◌∷◌, ◌++◌, append_assoc, map, Option, Some, None, Result, Ok, Err, refl, sym, ap, subst, ◌∙◌, arith}
+use Rattle.std.proofs.Common.{◌≡◌, ℕ, Bool, true, IfOk, IfErr, IfSome, MatchOption, List, [], ◌∷◌, ◌++◌, append_assoc, map, Option, Some, None, Result, Ok, Err, refl, sym, ap, subst, ◌∙◌, arith}
 use Rattle.std.specs.Prelude.{◌≢◌}
+use Rattle.std.specs.Borrow.{GName}
 use Rattle.std.specs.List.{list_any}
 use Rattle.std.proofs.lemmas.List.{append-nil}
 use Rattle.std.proofs.lemmas.List.Folds.{list_any-append}
@@ -22,8 +23,9 @@ use Rattle.flac_native.specs.declared.decoder.Decoder.{Decoder}
 use Rattle.flac_native.specs.declared.fault.Place.{Place}
 use Rattle.flac_native.specs.declared.fault.Fault.{Fault}
 use Rattle.flac_native.specs.declared.container.Container as container
-use Rattle.flac_reader.specs.Coming.{Comes, IsFirst, IsCalm, HadRoom, Counted, only_frame}
-use Rattle.flac_reader.specs.Opening.{IsReadAs}
+use Rattle.flac_reader.specs.Coming.{Comes, IsFirst, IsCalm, IsPast, HadRoom, Counted, only_frame}
+use Rattle.flac_reader.specs.Opening.{IsReadAs, IsOver}
+use Rattle.flac_reader.specs.Giving.{last_frame}
 use Rattle.flac_reader.specs.Seeking.{holds, PassedBy, HoldsFirst, Finds, Sought, SeeksTo, RefusesSeek}
 use Rattle.flac_reader.specs.inner.Seeking.{FirstIfHeld, Passes}
 use Rattle.flac_reader.specs.declared.reader.Reader.{Reader}
@@ -84,6 +86,8 @@ pub record SearchSoFar {C : Type 0} (g : container.Ghosts C) (old now : Stage C)
   pub errors : g.errors now.container ≡ g.errors old.container
   pub raised : g.raised now.container ≡ g.raised old.container
   pub met : g.met now.container ≡ g.met old.container
+  pub names : g.names now.container ≡ g.names old.container
+  pub past : IsPast old → IsPast now
   pub passed : g.known old.container ≡ true → (frames : List Frame) (end : Option (Place × Why)) → Comes g old (map frame frames) end → PassedSoFar g info sample frames end now
 
 pub search_starts : {C : Type 0} (g : container.Ghosts C) (s : Stage C) (info : Info) (sample : ℕ) → SearchSoFar g s s info sample
@@ -92,6 +96,8 @@ search_starts g s info sample = record {
   errors = refl;
   raised = refl;
   met = refl;
+  names = refl;
+  past = λ k. k;
   passed = λ known frames end comes. record { taken = []; left = frames; split = refl; by = refl; comes = comes };
 }
 
@@ -100,12 +106,14 @@ abbrev pub Passing : {C : Type 0} → container.Ghosts C → Info → ℕ → St
 Passing g info sample now new result = IsCalm g now new → HadRoom result → (frames : List Frame) (end : Option (Place × Why)) → Comes g now (map frame frames) end → Passes g info sample frames end result new
 
 -- one more
-pub search_more : {C : Type 0} (g : container.Ghosts C) (old now new : Stage C) (info : Info) (sample : ℕ) → SearchSoFar g old now info sample → Counted {X = Option ℕ} g now new (Ok None) → Passing g info sample now new (Ok None) → SearchSoFar g old new info sample
-search_more g old now new info sample far counts passes = record {
+pub search_more : {C : Type 0} (g : container.Ghosts C) (old now new : Stage C) (info : Info) (sample : ℕ) → SearchSoFar g old now info sample → Counted {X = Option ℕ} g now new (Ok None) → Passing g info sample now new (Ok None) → (IsPast now → IsPast new) → SearchSoFar g old new info sample
+search_more g old now new info sample far counts passes past = record {
   known = λ k. counts.met.0 (far.known k);
   errors = counts.met.1 ∙ far.errors;
   raised = counts.met.2 ∙ far.raised;
   met = counts.met.3 ∙ far.met;
+  names = counts.names ∙ far.names;
+  past = λ k. past (far.past k);
   passed = λ known frames end comes.
       let p = far.passed known frames end comes in
       let t = passes (far.known known, counts.met.1, counts.met.2) (room None) p.left end p.comes in
@@ -143,6 +151,7 @@ search_ok g old now new info sample x y far counts = record {
   kept = omega (arith, counts.kept, far.errors);
   risen = tt;
   output = tt;
+  names = counts.names ∙ far.names;
 }
 
 pub search_err : {C X Y : Type 0} (g : container.Ghosts C) (old now new : Stage C) (info : Info) (sample : ℕ) (f : Fault) → SearchSoFar g old now info sample → Counted {X = X} g now new (Err f) → Counted {X = Y} g old new (Err f)
@@ -151,6 +160,7 @@ search_err g old now new info sample f far counts = record {
   kept = omega (arith, counts.kept, far.errors);
   risen = λ is. subst (λ n. Rises n (g.met new.container)) far.met (counts.risen is);
   output = counts.output;
+  names = counts.names ∙ far.names;
 }
 
 -- ---- what one call says
@@ -165,6 +175,12 @@ frame_passes g info sample frames end f s (Some n) is found first = (holds_first
 pub none_passes : {C : Type 0} (g : container.Ghosts C) (info : Info) (sample : ℕ) (frames : List Frame) (end : Option (Place × Why)) (s : Stage C) (n : ℕ) → only_frame (held s.course s.track) ≡ None
     → IsFirst g (map frame frames) end (Ok (held s.course s.track)) s → Passes g info sample frames end (Ok (Some n)) s
 none_passes g info sample frames end s n none first = (none_first g info sample frames end (held s.course s.track) s none first, first)
+
+-- it is after the last metadata block, whether it holds the sample or not
+pub frame_past : {C : Type 0} (s : Stage C) (r : Option ℕ) (f : Frame) → held s.course s.track ≡ Some (frame f) → IfSome (only_frame (held s.course s.track)) (λ _. IsPast s)
+    → MatchOption r (IsPast s) (λ _. IfSome (only_frame (held s.course s.track)) (λ _. IsPast s))
+frame_past s None f is past = subst (λ h. IfSome (only_frame h) (λ _. IsPast s)) is past
+frame_past s (Some n) f is past = past
 
 -- ---- over an input
 
@@ -200,15 +216,26 @@ pub finds_at : {C : Type 0} {g : container.Ghosts C} (info : Info) (sample : ℕ
 finds_at {g = g} info sample frames end reader d is ahead finds =
     subst (λ k. Finds g info sample frames end k (stage_of reader.decoder)) (sym ahead) (subst (λ (k : Decoder _ g). Finds g info sample frames end true (stage_of k)) (sym is) finds)
 
+pub over_at : {C : Type 0} {g : container.Ghosts C} (reader : Reader C g) (old d : Decoder C g) (n : ℕ) (known : Bool) (errors raised : ℕ) (names : List GName) → reader.decoder ≡ d
+    → g.known (stage_of old).container ≡ known → g.errors (stage_of old).container ≡ errors → g.met (stage_of old).container ≡ raised → g.names (stage_of old).container ≡ names
+    → Counted {X = ℕ} g (stage_of old) (stage_of d) (Ok n) → IsOver known errors raised names reader
+over_at {g = g} reader old d n known errors raised names is k e m l counts =
+    let P : Decoder _ g → Type 0 = λ x. Counted {X = ℕ} g (stage_of old) (stage_of x) (Ok n) in
+    let c = subst P (sym is) counts in
+    record { known = λ h. c.met.0 (k ∙ h); errors = c.met.1 ∙ e; met = c.met.3 ∙ m; names = c.names ∙ l }
+
+pub past_at : {C : Type 0} {g : container.Ghosts C} (reader : Reader C g) (d : Decoder C g) → reader.decoder ≡ d → IfSome (only_frame (held (stage_of d).course (stage_of d).track)) (λ _. IsPast (stage_of d)) → IfSome (last_frame reader) (λ _. IsPast (stage_of reader.decoder))
+past_at {g = g} reader d is past = subst (λ (x : Decoder _ g). IfSome (only_frame (held (stage_of x).course (stage_of x).track)) (λ _. IsPast (stage_of x))) (sym is) past
+
 -- where bytes in memory begin
 abbrev pub memory_cursor : List ℕ → Cursor
 memory_cursor bytes = record { left = bits_of bytes; mark = beginning Truncated }
 
 -- over bytes in memory no error of the source comes
-pub seeks_memory : {C : Type 0} (S : Type 0) {g : container.Ghosts C} (info : Info) (sample : ℕ) (r : Reading Piece Place) (result : Result (Reader C g) Fault) → IfOk result (λ x. true ≡ true → Sought info sample r x)
-    → IfErr result (λ f. f.why ≢ Memory → (left : S) × RefusesSeek info sample r true 0 0 0 0 f) → SeeksTo info sample r result
-seeks_memory S info sample r (Ok x) sought refused = sought refl
-seeks_memory S info sample r (Err f) sought refused = λ other. (refused other).1.refused refl refl refl
+pub seeks_memory : {C : Type 0} (S N : Type 0) {g : container.Ghosts C} (info : Info) (sample : ℕ) (r : Reading Piece Place) (result : Result (Reader C g) Fault) → IfOk result (λ x. true ≡ true → Sought info sample r x)
+    → IfErr result (λ f. f.why ≢ Memory → (left : S) × N × RefusesSeek info sample r true 0 0 0 0 f) → SeeksTo info sample r result
+seeks_memory S N info sample r (Ok x) sought refused = sought refl
+seeks_memory S N info sample r (Err f) sought refused = λ other. (refused other).2.refused refl refl refl
 
 pub search_no_more : {C X : Type 0} (g : container.Ghosts C) (old now : Stage C) (info : Info) (sample : ℕ) (at : Place) → SearchSoFar g old now info sample → Counted {X = X} g old now (Err (record { at = at; why = Memory }))
 search_no_more g old now info sample at far = record {
@@ -216,6 +243,7 @@ search_no_more g old now info sample at far = record {
   kept = omega (arith, far.errors);
   risen = λ is. absurd (other is);
   output = refl;
+  names = far.names;
 }
   where
     other : Memory ≡ Read → ⊥

@@ -18,6 +18,7 @@ use Rattle.flac_native.specs.declared.fault.Place.{Place}
 use Rattle.flac_native.specs.declared.fault.Fault.{Fault}
 use Rattle.flac_native.specs.declared.decoder.Course.{Course}
 use Rattle.flac_native.specs.declared.decoder.Course.TheVariants as course
+use Rattle.flac_native.specs.declared.track.Phase.TheVariants.{Frames}
 use Rattle.flac_native.specs.declared.container.Container as container
 use Rattle.flac_reader.specs.Kept.{keeps}
 use Rattle.flac_reader.specs.Starting.{frames_start}
@@ -55,12 +56,17 @@ abbrev pub HadRoom : {X : Type 0} → Result X Fault → Type 0
 HadRoom result = reason_of told result ≡ Err Memory → ⊥
 
 -- Errors of the device are counted: a call that returns a value met none, and one that returns Read raises the count,
--- if it can rise. No call returns an error of the output.
+-- if it can rise. No call returns an error of the output. The references that the container goes through stay.
 pub record Counted {C X : Type 0} (g : container.Ghosts C) (old new : Stage C) (result : Result X Fault) : Type 0 where
   pub met : IfOk result (λ _. (g.known old.container ≡ true → g.known new.container ≡ true) × (g.errors new.container ≡ g.errors old.container) × (g.raised new.container ≡ g.raised old.container) × (g.met new.container ≡ g.met old.container))
   pub kept : g.errors old.container ≤ g.errors new.container
   pub risen : IfErr result (λ f. f.why ≡ Read → Rises (g.met old.container) (g.met new.container))
   pub output : IfErr result (λ f. of_output f.why ≡ false)
+  pub names : g.names new.container ≡ g.names old.container
+
+-- the last metadata block was read, so that a frame or the end comes next
+abbrev pub IsPast : {C : Type 0} → Stage C → Type 0
+IsPast s = (p : Progress) × IsAt s.track p × (p.stand.phase ≡ Frames)
 
 -- ---- the metadata
 
@@ -108,6 +114,8 @@ pub record HeadOf {C : Type 0} (g : container.Ghosts C) (old new : Stage C) (kee
   pub known : g.known old.container ≡ true → g.known new.container ≡ true
   pub errors : g.errors new.container ≡ g.errors old.container
   pub raised : g.raised new.container ≡ g.raised old.container
+  pub met : g.met new.container ≡ g.met old.container
+  pub names : g.names new.container ≡ g.names old.container
   pub blocks : g.known old.container ≡ true → (blocks : List Block) (frames : List Frame) (end : Option (Place × Why)) → Comes g old (stream_items blocks frames) end → kept ≡ filter (keeps keep) blocks
   pub frames : g.known old.container ≡ true → (blocks : List Block) (frames : List Frame) (end : Option (Place × Why)) → Comes g old (stream_items blocks frames) end → FramesCome g ahead new frames end
   pub counted : g.known old.container ≡ true → (blocks : List Block) (frames : List Frame) (end : Option (Place × Why)) → Comes g old (stream_items blocks frames) end → start ≡ frames_start blocks

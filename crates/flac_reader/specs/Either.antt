@@ -1,9 +1,11 @@
 -- What a reader returns that was opened over an input in either container.
+use Rattle.std.specs.Prelude.{ℕ, Bool, List}
+use Rattle.std.specs.Borrow.{GName}
 use Rattle.flac_bits.specs.Handing.{Reading}
 use Rattle.flac_native.specs.Stream.{Piece}
 use Rattle.flac_native.specs.declared.fault.Place.{Place}
 use Rattle.flac_native.specs.declared.container.Container as container
-use Rattle.flac_reader.specs.Opening.{Opens}
+use Rattle.flac_reader.specs.Opening.{Opens, Starts}
 use Rattle.flac_reader.specs.declared.keep.Keep.{Keep}
 use Rattle.flac_reader.specs.declared.reader.Reader.{Reader}
 use Rattle.flac_reader.specs.declared.either.Opened.{Opened}
@@ -12,3 +14,7 @@ use Rattle.flac_reader.specs.declared.either.Opened.TheVariants as opened
 abbrev pub OpensEither : {C D : Type 0} {g : container.Ghosts C} {h : container.Ghosts D} → Reading Piece Place → Keep → Opened (Reader C g) (Reader D h) → Type 0
 OpensEither r keep (opened.Native reader) = Opens r keep reader
 OpensEither r keep (opened.Ogg reader) = Opens r keep reader
+
+abbrev pub StartsEither : {C D : Type 0} {g : container.Ghosts C} {h : container.Ghosts D} → (known : Bool) (errors raised : ℕ) (names : List GName) → Opened (Reader C g) (Reader D h) → Type 0
+StartsEither known errors raised names (opened.Native reader) = Starts known errors raised names reader
+StartsEither known errors raised names (opened.Ogg reader) = Starts known errors raised names reader

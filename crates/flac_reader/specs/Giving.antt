@@ -1,19 +1,29 @@
 -- What one call of a reader returns.
-use Rattle.std.specs.Prelude.{◌≡◌, ◌+◌, min, false, Option, Result, IfOk}
+use Rattle.std.specs.Prelude.{◌≡◌, ◌≢◌, ◌+◌, min, true, false, Option, Result, Ok, IfOk, IfErr, IfSome, MatchResult}
+use Rattle.flac_bits.specs.declared.why.Why.TheVariants.{Memory}
 use Rattle.flac_native.specs.Item.{Item}
-use Rattle.flac_native.specs.Giving.{stage_of}
+use Rattle.flac_native.specs.Giving.{stage_of, held, seen_by}
 use Rattle.flac_native.specs.declared.fault.Fault.{Fault}
 use Rattle.flac_native.specs.declared.container.Container as container
-use Rattle.flac_reader.specs.Coming.{GivesFrame, Counted, size_of}
+use Rattle.flac_reader.specs.Coming.{GivesFrame, Counted, IsPast, only_frame, size_of}
 use Rattle.flac_reader.specs.declared.reader.Reader.{Reader}
 
+-- the frame that a reader read last
+abbrev pub last_frame : {C : Type 0} {g : container.Ghosts C} → Reader C g → Option Item
+last_frame reader = only_frame (held (stage_of reader.decoder).course (stage_of reader.decoder).track)
+
 -- The call returned the first frame of those that were to come, and left the others. The samples of all frames so far
--- are counted, up to 2^64 - 1, and the metadata stays.
+-- are counted, up to 2^64 - 1; after an error the numbers are as before. The metadata stays. After the last metadata
+-- block no allocation fails.
 pub record Gives {C X : Type 0} {g : container.Ghosts C} (old new : Reader C g) (view : X → Option Item) (result : Result X Fault) : Type 0 where
   pub frame : GivesFrame g old.ahead (stage_of old.decoder) (stage_of new.decoder) view result
   pub counts : Counted g (stage_of old.decoder) (stage_of new.decoder) result
   pub ahead : new.ahead ≡ false
-  pub samples : IfOk result (λ x. (new.first ≡ old.behind) × (new.behind ≡ min (old.behind + size_of (view x)) 18446744073709551615))
+  -- what was read ahead is returned, without an error
+  pub given : old.ahead ≡ true → (new.decoder ≡ old.decoder) × (seen_by view result ≡ Ok (last_frame old))
+  pub memory : IsPast (stage_of old.decoder) → IfErr result (λ f. f.why ≢ Memory)
+  pub past : IsPast (stage_of old.decoder) → IfOk result (λ x. IfSome (view x) (λ _. IsPast (stage_of new.decoder)))
+  pub samples : MatchResult result (λ x. (new.first ≡ old.behind) × (new.behind ≡ min (old.behind + size_of (view x)) 18446744073709551615)) (λ _. (new.first ≡ old.first) × (new.behind ≡ old.behind))
   pub blocks : new.blocks ≡ old.blocks
   pub info : new.info ≡ old.info
   pub start : new.start ≡ old.start

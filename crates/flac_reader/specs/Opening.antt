@@ -1,5 +1,6 @@
 -- What a reader returns that was opened over an input.
-use Rattle.std.specs.Prelude.{◌≡◌, List, filter, Option, Some}
+use Rattle.std.specs.Prelude.{◌≡◌, ℕ, Bool, true, List, filter, Option, Some}
+use Rattle.std.specs.Borrow.{GName}
 use Rattle.flac_bits.specs.Handing.{Reading}
 use Rattle.flac_bits.specs.declared.why.Why.{Why}
 use Rattle.flac_meta.specs.declared.block.Block.{Block}
@@ -28,3 +29,20 @@ pub record Opens {C : Type 0} {g : container.Ghosts C} (r : Reading Piece Place)
   pub frames : (blocks : List Block) (frames : List Frame) (end : Option (Place × Why)) → IsReadAs r blocks frames end → FramesCome g reader.ahead (stage_of reader.decoder) frames end
   pub start : (blocks : List Block) (frames : List Frame) (end : Option (Place × Why)) → IsReadAs r blocks frames end → reader.start ≡ frames_start blocks
   pub info : first_info reader.blocks.items ≡ Some reader.info
+
+-- A reader was made over a source that has these counts of errors and goes through these references: it met no error,
+-- and if the bytes of the source were known, what comes is known too.
+pub record IsOver {C : Type 0} {g : container.Ghosts C} (is_known : Bool) (error_count raised_count : ℕ) (references : List GName) (reader : Reader C g) : Type 0 where
+  pub known : is_known ≡ true → g.known (stage_of reader.decoder).container ≡ true
+  pub errors : g.errors (stage_of reader.decoder).container ≡ error_count
+  pub met : g.met (stage_of reader.decoder).container ≡ raised_count
+  pub names : g.names (stage_of reader.decoder).container ≡ references
+
+-- Such a reader was opened, whether the bytes are known or not: STREAMINFO is among the blocks that it keeps, the first
+-- frame or the end is read ahead, and no sample was given.
+pub record Starts {C : Type 0} {g : container.Ghosts C} (known : Bool) (errors raised : ℕ) (names : List GName) (reader : Reader C g) : Type 0 where
+  pub info : first_info reader.blocks.items ≡ Some reader.info
+  pub ahead : reader.ahead ≡ true
+  pub first : reader.first ≡ 0
+  pub next : reader.behind ≡ 0
+  pub source : IsOver known errors raised names reader

@@ -24,11 +24,13 @@ abbrev pub IsRefusal : List Block → List Frame → Option (Place × Why) → F
 IsRefusal blocks frames end f = ((frames ≡ []) × (end ≡ Some (told f))) ⊎ ((f ≡ record { at = place.Block 0; why = NotStreamInfoFirst }) × (first_info blocks ≡ None))
 
 -- The metadata was refused from old on, and the decoder is in the state `last`: an error of the device raised the
--- count, and without one, and with memory, what was to come is refused in this way. No error of the output is met.
+-- count, and without one, and with memory, what was to come is refused in this way. No error of the output is met, and
+-- the references that the container goes through stay.
 pub record RefusedHead {C : Type 0} (g : container.Ghosts C) (old last : Stage C) (f : Fault) : Type 0 where
   pub kept : g.errors old.container ≤ g.errors last.container
   pub risen : f.why ≡ Read → Rises (g.met old.container) (g.met last.container)
   pub output : of_output f.why ≡ false
+  pub names : g.names last.container ≡ g.names old.container
   pub refused : IsCalm g old last → f.why ≢ Memory → (blocks : List Block) (frames : List Frame) (end : Option (Place × Why)) → Comes g old (stream_items blocks frames) end → IsRefusal blocks frames end f
 
 -- some decoder was left in such a state, unless memory ran out

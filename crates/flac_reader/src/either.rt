@@ -6,7 +6,7 @@ ghost use Rattle.flac_bits.specs.State.{short_of};
 ghost use Rattle.flac_native.specs.Decoding.{beginning};
 ghost use Rattle.flac_ogg.specs.Fronts.{front_bytes};
 ghost use Rattle.flac_ogg.specs.Either.{begins_page, read_either};
-ghost use Rattle.flac_reader.specs.Either.{OpensEither};
+ghost use Rattle.flac_reader.specs.Either.{OpensEither, StartsEither};
 ghost use Rattle.flac_reader.specs.Refusing.{RefusesInput};
 
 use crate::keep::Keep;
@@ -35,7 +35,8 @@ fn open_as<R: Source + Drop>(
     keep: Keep,
 ) -> Result<Opened<Reader<BitReader<Fronted<R>>>, Reader<OggPackets<Fronted<R>>>>, Fault>
     ensures opens { IfOk result (λ o. R.known source.source ≡ true → OpensEither (read_either profile is_ogg (beginning (short_of ((R.behind source.source).fails))) (bits_of (front_bytes source.front ++ R.coming source.source))) keep o) }
-    ensures refused { IfErr result (λ f. f.why ≢ Why.Memory → (left : R) × RefusesInput (read_either profile is_ogg (beginning (short_of ((R.behind source.source).fails))) (bits_of (front_bytes source.front ++ R.coming source.source))) (R.known source.source) (R.errors source.source) (R.raised source.source) (R.errors left) (R.raised left) f) }
+    ensures starts { IfOk result (λ o. StartsEither (R.known source.source) (R.errors source.source) (R.raised source.source) (R.names source.source) o) }
+    ensures refused { IfErr result (λ f. f.why ≢ Why.Memory → (left : R) × (R.names left ≡ R.names source.source) × RefusesInput (read_either profile is_ogg (beginning (short_of ((R.behind source.source).fails))) (bits_of (front_bytes source.front ++ R.coming source.source))) (R.known source.source) (R.errors source.source) (R.raised source.source) (R.errors left) (R.raised left) f) }
 {
     if is_ogg {
         match open_ogg(alloc, source, profile, keep) {
@@ -71,9 +72,11 @@ pub fn open<R: Source + Drop>(
     // The blocks that are kept, and the frames to come, are those of the stream that the bytes are in the container
     // that the first of them names.
     ensures opens { IfOk result (λ o. R.known source ≡ true → OpensEither (read_either profile (begins_page (R.coming source)) (beginning (short_of ((R.behind source).fails))) (bits_of (R.coming source))) keep o) }
+    // The numbers are 0, and no error of the source was met.
+    ensures starts { IfOk result (λ o. StartsEither (R.known source) (R.errors source) (R.raised source) (R.names source) o) }
     // Refused only as the input is, before its first frame; or because memory runs out, or because of an error of the
     // source, which is then counted.
-    ensures refused { IfErr result (λ f. f.why ≢ Why.Memory → (left : R) × RefusesInput (read_either profile (begins_page (R.coming source)) (beginning (short_of ((R.behind source).fails))) (bits_of (R.coming source))) (R.known source) (R.errors source) (R.raised source) (R.errors left) (R.raised left) f) }
+    ensures refused { IfErr result (λ f. f.why ≢ Why.Memory → (left : R) × (R.names left ≡ R.names source) × RefusesInput (read_either profile (begins_page (R.coming source)) (beginning (short_of ((R.behind source).fails))) (bits_of (R.coming source))) (R.known source) (R.errors source) (R.raised source) (R.errors left) (R.raised left) f) }
 {
     let mut source = source;
     match pull_front(&mut source) {

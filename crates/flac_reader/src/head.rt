@@ -1,11 +1,11 @@
 //! Reads the metadata of a stream.
 
-ghost use Rattle.std.specs.Prelude.{◌≡◌, ◌++◌, [], ◌∷◌, List, Option, Some, true, false, OnOk, IfOk, IfErr};
+ghost use Rattle.std.specs.Prelude.{◌≡◌, ◌≢◌, ◌++◌, [], ◌∷◌, List, Option, Some, true, false, OnOk, IfOk, IfErr, IfSome};
 ghost use Rattle.flac_meta.specs.declared.block.Block.{Block as ABlock};
 ghost use Rattle.flac_frame.specs.Frame.{Frame};
 ghost use Rattle.flac_native.specs.Giving.{stage_of, held};
 ghost use Rattle.flac_reader.specs.Kept.{first_info};
-ghost use Rattle.flac_reader.specs.Coming.{Comes, IsCalm, HadRoom, Counted, HeadIs, HeadOf, GivesFrame, stream_items};
+ghost use Rattle.flac_reader.specs.Coming.{Comes, IsCalm, IsPast, HadRoom, Counted, HeadIs, HeadOf, GivesFrame, stream_items, only_frame};
 ghost use Rattle.flac_reader.specs.Refusing.{RefusedHead};
 ghost use Rattle.flac_reader.specs.inner.Taking.{Took};
 ghost use Rattle.flac_reader.specs.Starting.{and_blocks};
@@ -154,6 +154,9 @@ pub(crate) fn read_head<C: Container>(
 pub(crate) fn forward<C: Container>(decoder: &mut Decoder<C>, ahead: &mut bool) -> Result<(), Fault>
     ensures ahead { ahead.new ≡ false }
     ensures counts { Counted C.Container (stage_of decoder.old) (stage_of decoder.new) result }
+    ensures given { ahead.old ≡ true → IfErr result (λ _. ⊥) × (decoder.new ≡ decoder.old) }
+    ensures memory { IsPast (stage_of decoder.old) → IfErr result (λ f. f.why ≢ Why.Memory) }
+    ensures past { IsPast (stage_of decoder.old) → OnOk result (IfSome (only_frame (held (stage_of decoder.new).course (stage_of decoder.new).track)) (λ _. IsPast (stage_of decoder.new))) }
     ensures frame { GivesFrame C.Container ahead.old (stage_of decoder.old) (stage_of decoder.new) (λ _. held (stage_of decoder.new).course (stage_of decoder.new).track) result }
 {
     if *ahead {

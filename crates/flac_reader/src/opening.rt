@@ -7,7 +7,7 @@ ghost use Rattle.flac_bits.specs.Handing.{by_grammar};
 ghost use Rattle.flac_native.specs.Stream.{grammar, opening};
 ghost use Rattle.flac_native.specs.Decoding.{beginning};
 ghost use Rattle.flac_ogg.specs.Decoding.{ogg_reading};
-ghost use Rattle.flac_reader.specs.Opening.{Opens};
+ghost use Rattle.flac_reader.specs.Opening.{Opens, Starts};
 ghost use Rattle.flac_reader.specs.Refusing.{RefusesInput};
 
 use crate::keep::Keep;
@@ -34,9 +34,11 @@ pub fn open_native<R: Source + Drop>(
 ) -> Result<Reader<BitReader<R>>, Fault>
     // The blocks that are kept, and the frames to come, are those of the stream that the bytes are.
     ensures opens { IfOk result (λ r. R.known source ≡ true → Opens (by_grammar grammar (opening profile) (beginning (short_of ((R.behind source).fails))) (bits_of (R.coming source))) keep r) }
+    // The numbers are 0, and no error of the source was met.
+    ensures starts { IfOk result (λ r. Starts (R.known source) (R.errors source) (R.raised source) (R.names source) r) }
     // Refused only as the input is, before its first frame; or because memory runs out, or because of an error of the
     // source, which is then counted.
-    ensures refused { IfErr result (λ f. f.why ≢ Why.Memory → (left : R) × RefusesInput (by_grammar grammar (opening profile) (beginning (short_of ((R.behind source).fails))) (bits_of (R.coming source))) (R.known source) (R.errors source) (R.raised source) (R.errors left) (R.raised left) f) }
+    ensures refused { IfErr result (λ f. f.why ≢ Why.Memory → (left : R) × (R.names left ≡ R.names source) × RefusesInput (by_grammar grammar (opening profile) (beginning (short_of ((R.behind source).fails))) (bits_of (R.coming source))) (R.known source) (R.errors source) (R.raised source) (R.errors left) (R.raised left) f) }
 {
     match Reader::begin(alloc, Decoder::new(alloc, source, profile), keep) {
         Ok(reader) => Ok(reader),
@@ -66,9 +68,11 @@ pub fn open_ogg<R: Source + Drop>(
 ) -> Result<Reader<OggPackets<R>>, Fault>
     // The blocks that are kept, and the frames to come, are those of the stream that the bytes are.
     ensures opens { IfOk result (λ r. R.known source ≡ true → Opens (ogg_reading profile (beginning (short_of ((R.behind source).fails))) (bits_of (R.coming source))) keep r) }
+    // The numbers are 0, and no error of the source was met.
+    ensures starts { IfOk result (λ r. Starts (R.known source) (R.errors source) (R.raised source) (R.names source) r) }
     // Refused only as the input is, before its first frame; or because memory runs out, or because of an error of the
     // source, which is then counted.
-    ensures refused { IfErr result (λ f. f.why ≢ Why.Memory → (left : R) × RefusesInput (ogg_reading profile (beginning (short_of ((R.behind source).fails))) (bits_of (R.coming source))) (R.known source) (R.errors source) (R.raised source) (R.errors left) (R.raised left) f) }
+    ensures refused { IfErr result (λ f. f.why ≢ Why.Memory → (left : R) × (R.names left ≡ R.names source) × RefusesInput (ogg_reading profile (beginning (short_of ((R.behind source).fails))) (bits_of (R.coming source))) (R.known source) (R.errors source) (R.raised source) (R.errors left) (R.raised left) f) }
 {
     let decoder = match ogg_decoder(alloc, source, profile) {
         Ok(decoder) => decoder,

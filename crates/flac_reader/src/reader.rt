@@ -1,6 +1,6 @@
 //! A reader: metadata at once, then one frame after another.
 
-ghost use Rattle.std.specs.Prelude.{◌≡◌, ◌≢◌, ◌*◌, ◌/◌, ⊤, IfOk, IfErr, List, MatchOption, None, Option, Some, true};
+ghost use Rattle.std.specs.Prelude.{◌≡◌, ◌≢◌, ◌-◌, ◌*◌, ◌/◌, ◌^◌, ⊤, IfOk, IfErr, List, MatchOption, None, Option, Some, true};
 ghost use Rattle.std.specs.Duration.{as_nanos};
 ghost use Rattle.flac_bits.specs.declared.why.Why.{Why};
 ghost use Rattle.flac_frame.specs.Frame.{Frame};
@@ -81,6 +81,7 @@ impl<C: Container + Drop> Reader<C> {
         keep: Keep,
     ) -> Result<Reader<C>, Refused<C>>
         ensures info { IfOk result (λ r. first_info r.blocks.items ≡ Some r.info) }
+        ensures ahead { IfOk result (λ r. r.ahead ≡ true) }
         ensures start { IfOk result (λ r. (r.first ≡ 0) × (r.behind ≡ 0)) }
         ensures head { IfOk result (λ r. HeadOf C.Container (stage_of decoder) (stage_of r.decoder) keep r.blocks.items r.ahead r.start) }
         ensures refused { IfErr result (λ x. RefusedHead C.Container (stage_of decoder) (stage_of x.decoder) x.fault) }
@@ -101,6 +102,7 @@ impl<C: Container + Drop> Reader<C> {
     /// STREAMINFO.
     pub fn over(alloc: Global, decoder: Decoder<C>, keep: Keep) -> Result<Reader<C>, Fault>
         ensures info { IfOk result (λ r. first_info r.blocks.items ≡ Some r.info) }
+        ensures ahead { IfOk result (λ r. r.ahead ≡ true) }
         ensures start { IfOk result (λ r. (r.first ≡ 0) × (r.behind ≡ 0)) }
         // All wanted blocks are kept, and the frames come next: those of the stream that the decoder was to give.
         ensures head { IfOk result (λ r. HeadOf C.Container (stage_of decoder) (stage_of r.decoder) keep r.blocks.items r.ahead r.start) }
@@ -249,6 +251,8 @@ impl<C: Container> Reader<C> {
     /// ```
     pub fn into_samples(self) -> Samples<C>
         ensures reader { result.reader ≡ self }
+        // So many steps are left: one for each sample, each frame, and the end.
+        ensures left { result.left ≡ 2 ^ 64 - 1 }
         // All samples of the frames to come are given, and then the same end.
         ensures come { (frames : List Frame) (end : Option (Place × Why)) → FramesCome C.Container self.ahead (stage_of self.decoder) frames end → SamplesCome result (all_samples frames) end }
     {

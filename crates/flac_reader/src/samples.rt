@@ -1,6 +1,6 @@
 //! The samples of a stream, one by one.
 
-ghost use Rattle.std.specs.Prelude.{◌≡◌};
+ghost use Rattle.std.specs.Prelude.{◌≡◌, ◌-◌, ◌^◌};
 ghost use Rattle.std.specs.Iterator.{at_most};
 ghost use Rattle.flac_native.specs.Giving.{stage_of, held};
 ghost use Rattle.flac_reader.specs.Coming.{only_frame};
@@ -37,6 +37,7 @@ impl<C: Container> Samples<C> {
     pub(crate) fn over(reader: Reader<C>) -> Samples<C>
         ensures reader { result.reader ≡ reader }
         ensures spot { result.spot ≡ Spot.Next }
+        ensures left { result.left ≡ 2 ^ 64 - 1 }
     {
         Samples {
             reader,

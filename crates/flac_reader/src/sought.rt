@@ -1,6 +1,6 @@
 //! Readers of native streams at the frame that holds a sample. The frames of an Ogg stream are not sought.
 
-ghost use Rattle.std.specs.Prelude.{◌≡◌, ◌≢◌, ◌⊎◌, IfOk, IfErr, drop, true, is_some, List};
+ghost use Rattle.std.specs.Prelude.{◌≡◌, ◌≢◌, ◌⊎◌, ◌-◌, ◌^◌, IfOk, IfErr, IfSome, drop, true, is_some, List, []};
 ghost use Rattle.flac_bits.specs.Bits.{bits_of};
 ghost use Rattle.flac_bits.specs.State.{short_of};
 ghost use Rattle.flac_bits.specs.Handing.{by_grammar};
@@ -11,6 +11,9 @@ ghost use Rattle.flac_native.specs.Decoding.{beginning};
 ghost use Rattle.flac_native.specs.Resuming.{resumed};
 ghost use Rattle.flac_native.specs.Giving.{stage_of, held};
 ghost use Rattle.flac_reader.specs.Kept.{first_points};
+ghost use Rattle.flac_reader.specs.Coming.{IsPast};
+ghost use Rattle.flac_reader.specs.Opening.{IsOver};
+ghost use Rattle.flac_reader.specs.Giving.{last_frame};
 ghost use Rattle.flac_reader.specs.Moved.{IsMoved, read_resumed, not_moved};
 ghost use Rattle.flac_reader.specs.Seeking.{offset_before, search_start, number_of, Sought, SeeksTo, RefusesSeek, Cuts, SeeksFrames};
 
@@ -77,7 +80,13 @@ impl<R: Source + Drop> Reader<BitReader<R>> {
         sample: u64,
     ) -> Result<Reader<BitReader<Memory<'a>>>, Fault>
         ensures blocks { IfOk result (λ r. (r.blocks ≡ self.blocks) × (r.info ≡ self.info) × (r.start ≡ self.start)) }
-        ensures first { IfOk result (λ r. r.behind ≡ number_of self.info (held (stage_of r.decoder).course (stage_of r.decoder).track)) }
+        ensures ahead { IfOk result (λ r. r.ahead ≡ true) }
+        ensures first { IfOk result (λ r. (r.first ≡ r.behind) × (r.behind ≡ number_of self.info (held (stage_of r.decoder).course (stage_of r.decoder).track))) }
+        ensures source { IfOk result (λ r. IsOver true 0 0 [] r) }
+        // If a frame comes, the last metadata block was read: no allocation fails from then on.
+        ensures past { IfOk result (λ r. IfSome (last_frame r) (λ _. IsPast (stage_of r.decoder))) }
+        // Memory runs out before a frame is read, or after as many frames as can be counted.
+        ensures memory { IfErr result (λ f. f.why ≡ Why.Memory → (f.at ≡ Place.Marker) ⊎ (f.at ≡ Place.Frame (2 ^ 64 - 1))) }
         // Of the frames from that point on, the first that holds the sample comes next, and then all others; refused
         // only as the bytes are, with no such frame before.
         ensures found { SeeksTo self.info sample (by_grammar grammar (resumed profile self.info) (beginning Truncated) (bits_of (drop (offset_before sample (first_points self.blocks.items)) frames.now))) result }
@@ -104,7 +113,13 @@ impl<R: Source + Drop> Reader<BitReader<R>> {
         sample: u64,
     ) -> Result<Reader<BitReader<Memory<'a>>>, Fault>
         ensures blocks { IfOk result (λ r. (r.blocks ≡ self.blocks) × (r.info ≡ self.info) × (r.start ≡ self.start)) }
-        ensures first { IfOk result (λ r. r.behind ≡ number_of self.info (held (stage_of r.decoder).course (stage_of r.decoder).track)) }
+        ensures ahead { IfOk result (λ r. r.ahead ≡ true) }
+        ensures first { IfOk result (λ r. (r.first ≡ r.behind) × (r.behind ≡ number_of self.info (held (stage_of r.decoder).course (stage_of r.decoder).track))) }
+        ensures source { IfOk result (λ r. IsOver true 0 0 [] r) }
+        // If a frame comes, the last metadata block was read: no allocation fails from then on.
+        ensures past { IfOk result (λ r. IfSome (last_frame r) (λ _. IsPast (stage_of r.decoder))) }
+        // Memory runs out before a frame is read, or after as many frames as can be counted.
+        ensures memory { IfErr result (λ f. f.why ≡ Why.Memory → (f.at ≡ Place.Marker) ⊎ (f.at ≡ Place.Frame (2 ^ 64 - 1))) }
         // Of the frames from that point on, the first that holds the sample comes next, and then all others; refused
         // only as the bytes are, with no such frame before.
         ensures found { SeeksTo self.info sample (by_grammar grammar (resumed profile self.info) (beginning Truncated) (bits_of (drop (search_start self.start sample (first_points self.blocks.items)) stream.now))) result }
@@ -135,12 +150,18 @@ impl<R: Source + Drop> Reader<BitReader<R>> {
         sample: u64,
     ) -> Result<Reader<BitReader<S>>, Fault>
         ensures blocks { IfOk result (λ r. (r.blocks ≡ self.blocks) × (r.info ≡ self.info) × (r.start ≡ self.start)) }
-        ensures first { IfOk result (λ r. r.behind ≡ number_of self.info (held (stage_of r.decoder).course (stage_of r.decoder).track)) }
+        ensures ahead { IfOk result (λ r. r.ahead ≡ true) }
+        ensures first { IfOk result (λ r. (r.first ≡ r.behind) × (r.behind ≡ number_of self.info (held (stage_of r.decoder).course (stage_of r.decoder).track))) }
+        ensures source { IfOk result (λ r. IsOver (S.known source) (S.errors source) (S.raised source) (S.names source) r) }
+        // If a frame comes, the last metadata block was read: no allocation fails from then on.
+        ensures past { IfOk result (λ r. IfSome (last_frame r) (λ _. IsPast (stage_of r.decoder))) }
+        // Memory runs out before a frame is read, or after as many frames as can be counted.
+        ensures memory { IfErr result (λ f. f.why ≡ Why.Memory → (f.at ≡ Place.Marker) ⊎ (f.at ≡ Place.Frame (2 ^ 64 - 1))) }
         // Of the frames of the source, the first that holds the sample comes next, and then all others.
         ensures found { IfOk result (λ r. S.known source ≡ true → Sought self.info sample (by_grammar grammar (resumed profile self.info) (beginning (short_of ((S.behind source).fails))) (bits_of (S.coming source))) r) }
         // Refused only as the input is, with no such frame before; or because memory runs out, or because of an error
         // of the source, which is then counted.
-        ensures refused { IfErr result (λ f. f.why ≢ Why.Memory → (left : S) × RefusesSeek self.info sample (by_grammar grammar (resumed profile self.info) (beginning (short_of ((S.behind source).fails))) (bits_of (S.coming source))) (S.known source) (S.errors source) (S.raised source) (S.errors left) (S.raised left) f) }
+        ensures refused { IfErr result (λ f. f.why ≢ Why.Memory → (left : S) × (S.names left ≡ S.names source) × RefusesSeek self.info sample (by_grammar grammar (resumed profile self.info) (beginning (short_of ((S.behind source).fails))) (bits_of (S.coming source))) (S.known source) (S.errors source) (S.raised source) (S.errors left) (S.raised left) f) }
     {
         let Reader {
             decoder: _,
@@ -187,10 +208,15 @@ impl<R: Source + Drop> Reader<BitReader<R>> {
         sample: u64,
     ) -> Result<Reader<BitReader<Counted<T>>>, Fault>
         ensures blocks { IfOk result (λ r. (r.blocks ≡ self.blocks) × (r.info ≡ self.info) × (r.start ≡ self.start)) }
-        ensures first { IfOk result (λ r. r.behind ≡ number_of self.info (held (stage_of r.decoder).course (stage_of r.decoder).track)) }
+        ensures ahead { IfOk result (λ r. r.ahead ≡ true) }
+        ensures first { IfOk result (λ r. (r.first ≡ r.behind) × (r.behind ≡ number_of self.info (held (stage_of r.decoder).course (stage_of r.decoder).track))) }
+        // If a frame comes, the last metadata block was read: no allocation fails from then on.
+        ensures past { IfOk result (λ r. IfSome (last_frame r) (λ _. IsPast (stage_of r.decoder))) }
+        // Memory runs out before a frame is read, or after as many frames as can be counted.
+        ensures memory { IfErr result (λ f. f.why ≡ Why.Memory → (f.at ≡ Place.Marker) ⊎ (f.at ≡ Place.Frame (2 ^ 64 - 1))) }
         // Of the frames of the device from that point on, the first that holds the sample comes next, and then all
         // others.
-        ensures found { IfOk result (λ r. (moved : T) × IsMoved T.stream_position T.stream_bytes device moved (search_start self.start sample (first_points self.blocks.items)) × (is_some (T.remaining moved) ≡ true → Sought self.info sample (read_resumed profile self.info (T.remaining moved)) r)) }
+        ensures found { IfOk result (λ r. (moved : T) × IsMoved T.stream_position T.stream_bytes device moved (search_start self.start sample (first_points self.blocks.items)) × IsOver (is_some (T.remaining moved)) 0 0 [] r × (is_some (T.remaining moved) ≡ true → Sought self.info sample (read_resumed profile self.info (T.remaining moved)) r)) }
         // Refused only if the device cannot be moved, or as its bytes from there on are, with no such frame before; or
         // because memory runs out, or because of an error of the device.
         ensures refused { IfErr result (λ f. f.why ≢ Why.Memory → (f ≡ not_moved) ⊎ ((moved : T) × (left : Counted T) × IsMoved T.stream_position T.stream_bytes device moved (search_start self.start sample (first_points self.blocks.items)) × RefusesSeek self.info sample (read_resumed profile self.info (T.remaining moved)) (is_some (T.remaining moved)) 0 0 left.errors left.errors f)) }

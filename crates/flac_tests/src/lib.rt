@@ -10,4 +10,6 @@ mod reading_files;
 #[cfg(test)]
 mod reading_more;
 #[cfg(test)]
+mod reading_on;
+#[cfg(test)]
 mod reading_samples;

@@ -1,4 +1,4 @@
-use Rattle.std.proofs.Common.{rules, ◌++◌, ℕ, Option, Result, Ok, ap, sym}
+use Rattle.std.proofs.Common.{rules, ◌++◌, ℕ, Option, Result, Ok, ap, sym, ◌∙◌}
 use Rattle.std.proofs.lemmas.Result.{IfErr-weaker}
 use Rattle.flac_bits.specs.Bits.{bits_of}
 use Rattle.flac_bits.specs.Reasons.{of_output}
@@ -24,11 +24,12 @@ returns-in-Ok-clause-refused g c =
     IfErr-weaker c.open_as.result _ _ (λ f p other.
     let q = p other in (
       q.0,
+      q.1 ∙ told.names,
       refuses_as (read_either c.args.profile c.begins_page.result (beginning (short_of ((R.behind mid).fails))) (bits_of (front_bytes front ++ R.coming mid))) (read_either c.args.profile (begins_page (R.coming old)) (beginning (short_of ((R.behind old).fails))) (bits_of (R.coming old)))
           (R.known mid) (R.known old) (R.errors old) (R.raised old) (R.errors mid) (R.raised mid) (R.errors q.0) (R.raised q.0) f counted.0 counted.1 told.known
           (λ known. front_read c.args.profile front (R.coming old) (R.coming mid) c.begins_page.result (beginning (short_of ((R.behind old).fails))) (beginning (short_of ((R.behind mid).fails))) (told.bytes known) (λ none. told.end (ap answer none) known) c.begins_page.ensures
           (ap (λ (b : Behind). beginning (short_of b.fails)) (sym (told.behind known counted.0))))
-          q.1,
+          q.2,
     )) c.open_as.ensures.refused
 
 pub returns-in-Err-clause-refused : goal.returns-in-Err-clause-refused
@@ -37,7 +38,7 @@ returns-in-Err-clause-refused g c = λ other.
     let old = c.args.source in
     let mid = c.pull_front.new.source in
     let told = c.in-Err.ensures in
-    (mid, refuses_unread _ (R.known old) (R.errors old) (R.raised old) (R.errors mid) (R.raised mid) c.in-Err.fault told.kept told.risen (ap of_output told.why) told.rises)
+    (mid, told.names, refuses_unread _ (R.known old) (R.errors old) (R.raised old) (R.errors mid) (R.raised mid) c.in-Err.fault told.kept told.risen (ap of_output told.why) told.rises)
 
 pub returns-in-Ok-clause-opens : goal.returns-in-Ok-clause-opens
 returns-in-Ok-clause-opens g c = search rules

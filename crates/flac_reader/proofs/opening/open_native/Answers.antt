@@ -6,7 +6,7 @@ use Rattle.flac_native.specs.Stream.{grammar, opening}
 use Rattle.flac_native.specs.Coming.{PartsCome}
 use Rattle.flac_native.specs.Decoding.{beginning}
 use Rattle.flac_native.specs.Giving.{stage_of}
-use Rattle.flac_reader.proofs.Openings.{opens_over}
+use Rattle.flac_reader.proofs.Openings.{opens_over, starts_over}
 use Rattle.flac_reader.proofs.Refusals.{refuses_input}
 use Rattle.flac_reader.proofs.opening.open_native.Goals as goal
 
@@ -17,6 +17,13 @@ returns-in-Ok-clause-opens g c = λ known.
     opens_over (by_grammar grammar (opening c.args.profile) (beginning (short_of ((R.behind source).fails))) (bits_of (R.coming source))) c.args.keep c.in-Ok.reader (stage_of c.new.result) (opening c.args.profile) c.new.ensures.course c.new.ensures.track
     (λ parts end read. subst (λ k. PartsCome (opening c.args.profile) k parts end) (sym c.new.ensures.cursor) read) (c.new.ensures.known ∙ known) c.in-Ok.ensures.head c.in-Ok.ensures.info
 
+pub returns-in-Ok-clause-starts : goal.returns-in-Ok-clause-starts
+returns-in-Ok-clause-starts g c =
+    let R = g.R.Source in
+    let source = c.args.source in
+    starts_over c.in-Ok.reader (stage_of c.new.result) c.args.keep (R.known source) (R.errors source) (R.raised source) (R.names source) c.new.ensures.known c.new.ensures.errors.0 c.new.ensures.errors.1 c.new.ensures.names
+    c.in-Ok.ensures.head c.in-Ok.ensures.info c.in-Ok.ensures.ahead c.in-Ok.ensures.start
+
 pub returns-in-Err-clause-refused : goal.returns-in-Err-clause-refused
 returns-in-Err-clause-refused g c = λ other.
     let R = g.R.Source in
@@ -24,8 +31,10 @@ returns-in-Err-clause-refused g c = λ other.
     let left = c.into_source-source.result in
     let last = c.in-Err.refused.decoder in
     let errors : last.container.errors ≡ R.errors left = rw (← c.into_decoder.ensures) (sym c.into_source-source.ensures.errors.0) in
-    let raised : last.container.raised ≡ R.raised left = rw (← c.into_decoder.ensures) (sym c.into_source-source.ensures.errors.1) in (
+    let raised : last.container.raised ≡ R.raised left = rw (← c.into_decoder.ensures) (sym c.into_source-source.ensures.errors.1) in
+    let names : last.container.names ≡ R.names left = rw (← c.into_decoder.ensures) (sym c.into_source-source.ensures.names) in (
       left,
+      sym names ∙ c.in-Err.ensures.refused.names ∙ c.new.ensures.names,
       refuses_input (by_grammar grammar (opening c.args.profile) (beginning (short_of ((R.behind source).fails))) (bits_of (R.coming source))) (stage_of c.new.result) (stage_of last) (opening c.args.profile) c.in-Err.refused.fault (R.known source) (R.errors source) (R.raised source) (R.errors left) (R.raised left)
           c.new.ensures.course c.new.ensures.track
           (λ parts end read. subst (λ k. PartsCome (opening c.args.profile) k parts end) (sym c.new.ensures.cursor) read)

@@ -24,7 +24,7 @@ returns-in-Ok-false g c =
     let far = c.loop-self.invariant in
     let none = c.in-None.ensures in
     let told = rw c.in-Ok-false.field-0-test at c.in-Ok-false.ensures in
-    give_end c.args.self.now c.loop-self.self c.take.new.self c.enter.new.self far.0 far.1 none.reader none.sample told.gives told.spot
+    give_end c.args.self.now c.loop-self.self c.take.new.self c.enter.new.self far.0 far.1 none.reader (omega (arith, told.left, none.left, c.loop-self-test.true)) none.sample told.gives told.spot
 
 pub returns-in-Err : goal.returns-in-Err
 returns-in-Err g c =
@@ -38,9 +38,9 @@ loop-self-preserved g c =
     let far = c.loop-self.invariant in
     let none = c.in-None.ensures in
     let told = rw c.in-Ok-true.field-0-test at c.in-Ok-true.ensures in
-    (far.0, turn c.args.self.now c.loop-self.self c.take.new.self c.enter.new.self far.1 none.reader (omega (arith, none.left)) none.sample told.gives told.left told.spot)
+    (far.0, turn c.args.self.now c.loop-self.self c.take.new.self c.enter.new.self far.1 none.reader (omega (arith, none.left, c.loop-self-test.true)) none.sample told.gives told.left told.spot)
 
 pub returns : goal.returns
 returns g c =
     let far = c.loop-self.invariant in
-    give_no_more c.args.self.now c.loop-self.self _ _ far.0 far.1 refl refl
+    give_no_more c.args.self.now c.loop-self.self _ far.0 far.1 refl refl refl (omega (arith, c.loop-self-test.false))

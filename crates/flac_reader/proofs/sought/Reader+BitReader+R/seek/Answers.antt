@@ -16,4 +16,4 @@ returns-clause-found g c =
     let bytes : c.new-source.result.bytes.now ≡ drop (offset_before c.args.sample (first_points c.args.self.blocks.items)) c.args.frames.now =
     c.new-source.ensures ∙ c.bytes_from.ensures ∙ ap (λ n. drop n c.args.frames.now) c.offset_before-offset.ensures in
     subst (λ b. SeeksTo info c.args.sample (by_grammar grammar (resumed c.args.profile info) (beginning Truncated) (bits_of b)) c.seek_from.result) bytes
-    (seeks_memory _ info c.args.sample (by_grammar grammar (resumed c.args.profile info) (beginning Truncated) (bits_of c.new-source.result.bytes.now)) c.seek_from.result c.seek_from.ensures.found c.seek_from.ensures.refused)
+    (seeks_memory _ _ info c.args.sample (by_grammar grammar (resumed c.args.profile info) (beginning Truncated) (bits_of c.new-source.result.bytes.now)) c.seek_from.result c.seek_from.ensures.found c.seek_from.ensures.refused)

@@ -1,4 +1,4 @@
-use Rattle.std.proofs.Common.{sym, subst, ◌∙◌}
+use Rattle.std.proofs.Common.{inl, inr, refl, sym, ap, subst, ◌∙◌}
 use Rattle.flac_bits.specs.Bits.{bits_of}
 use Rattle.flac_bits.specs.State.{short_of}
 use Rattle.flac_bits.specs.Handing.{by_grammar}
@@ -7,7 +7,8 @@ use Rattle.flac_native.specs.Coming.{PartsCome}
 use Rattle.flac_native.specs.Decoding.{beginning}
 use Rattle.flac_native.specs.Resuming.{resumed}
 use Rattle.flac_native.specs.Giving.{stage_of}
-use Rattle.flac_reader.proofs.Searches.{seek_finds, seek_refuses, finds_at}
+use Rattle.flac_native.specs.declared.fault.Fault.{Fault}
+use Rattle.flac_reader.proofs.Searches.{seek_finds, seek_refuses, finds_at, over_at, past_at}
 use Rattle.flac_reader.proofs.sought.Reader+BitReader+R.seek_from.Goals as goal
 
 pub returns-in-Ok-find_frame-clause-found : goal.returns-in-Ok-find_frame-clause-found
@@ -22,6 +23,26 @@ returns-in-Ok-find_frame-clause-found g c = λ known frames end is.
     (c.in-Ok.ensures.known ∙ known, c.in-Ok-find_frame.ensures.counts.met.1, c.in-Ok-find_frame.ensures.counts.met.2)
     c.in-Ok-find_frame.ensures.finds frames end is)
 
+pub returns-in-Ok-find_frame-clause-source : goal.returns-in-Ok-find_frame-clause-source
+returns-in-Ok-find_frame-clause-source g c =
+    let S = g.S.Source in
+    let source = c.args.source in
+    let told = c.in-Ok.ensures in
+    over_at c.before_frame.result c.in-Ok.decoder c.find_frame.new.decoder c.in-Ok-find_frame.first (S.known source) (S.errors source) (S.raised source) (S.names source) c.before_frame.ensures.decoder told.known told.errors.0 told.errors.1 told.names
+    c.in-Ok-find_frame.ensures.counts
+
+pub returns-in-Ok-find_frame-clause-past : goal.returns-in-Ok-find_frame-clause-past
+returns-in-Ok-find_frame-clause-past g c =
+    past_at c.before_frame.result c.find_frame.new.decoder c.before_frame.ensures.decoder
+    (c.in-Ok-find_frame.ensures.past (resumed c.args.profile c.args.self.info, c.in-Ok.ensures.track, refl))
+
+pub returns-clause-memory : goal.returns-clause-memory
+returns-clause-memory g c = λ is.
+    inr (ap (λ (f : Fault). f.at) (c.in-Err-find_frame.ensures.memory (resumed c.args.profile c.args.self.info, c.in-Ok.ensures.track, refl) is))
+
+pub returns-in-Err-clause-memory : goal.returns-in-Err-clause-memory
+returns-in-Err-clause-memory g c = λ is. inl (ap (λ (f : Fault). f.at) c.in-Err.ensures.memory)
+
 pub returns-clause-refused : goal.returns-clause-refused
 returns-clause-refused g c = λ other.
     let S = g.S.Source in
@@ -31,6 +52,7 @@ returns-clause-refused g c = λ other.
     let first = c.in-Ok.ensures.errors in
     let last = c.into_source-source.ensures.errors in (
       left,
+      c.into_source-source.ensures.names ∙ c.in-Err-find_frame.ensures.counts.names ∙ c.in-Ok.ensures.names,
       seek_refuses (by_grammar grammar (resumed c.args.profile info) (beginning (short_of ((S.behind source).fails))) (bits_of (S.coming source))) info c.args.sample
           c.in-Ok.decoder c.find_frame.new.decoder (resumed c.args.profile info) c.in-Err-find_frame.fault (S.known source) (S.errors source) (S.raised source) (S.errors left) (S.raised left)
           c.in-Ok.ensures.course c.in-Ok.ensures.track

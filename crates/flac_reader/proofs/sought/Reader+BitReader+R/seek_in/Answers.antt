@@ -17,7 +17,7 @@ returns-clause-found g c =
     let bytes : c.new-source.result.bytes.now ≡ drop (search_start c.args.self.start c.args.sample (first_points c.args.self.blocks.items)) c.args.stream.now =
     c.new-source.ensures ∙ c.bytes_from.ensures ∙ ap (λ n. drop n c.args.stream.now) c.seek_offset-offset.ensures in
     subst (λ b. SeeksTo info c.args.sample (by_grammar grammar (resumed c.args.profile info) (beginning Truncated) (bits_of b)) c.seek_from.result) bytes
-    (seeks_memory _ info c.args.sample (by_grammar grammar (resumed c.args.profile info) (beginning Truncated) (bits_of c.new-source.result.bytes.now)) c.seek_from.result c.seek_from.ensures.found c.seek_from.ensures.refused)
+    (seeks_memory _ _ info c.args.sample (by_grammar grammar (resumed c.args.profile info) (beginning Truncated) (bits_of c.new-source.result.bytes.now)) c.seek_from.result c.seek_from.ensures.found c.seek_from.ensures.refused)
 
 pub returns-clause-whole : goal.returns-clause-whole
 returns-clause-whole g c = λ frames cuts.
@@ -27,5 +27,5 @@ returns-clause-whole g c = λ frames cuts.
     c.new-source.ensures ∙ c.bytes_from.ensures ∙ ap (λ n. drop n c.args.stream.now) c.seek_offset-offset.ensures in
     let found : SeeksTo info c.args.sample (by_grammar grammar (resumed c.args.profile info) (beginning Truncated) (bits_of (drop at c.args.stream.now))) c.seek_from.result =
     subst (λ b. SeeksTo info c.args.sample (by_grammar grammar (resumed c.args.profile info) (beginning Truncated) (bits_of b)) c.seek_from.result) bytes
-    (seeks_memory _ info c.args.sample (by_grammar grammar (resumed c.args.profile info) (beginning Truncated) (bits_of c.new-source.result.bytes.now)) c.seek_from.result c.seek_from.ensures.found c.seek_from.ensures.refused) in
+    (seeks_memory _ _ info c.args.sample (by_grammar grammar (resumed c.args.profile info) (beginning Truncated) (bits_of c.new-source.result.bytes.now)) c.seek_from.result c.seek_from.ensures.found c.seek_from.ensures.refused) in
     cut_found c.args.profile c.args.stream.now info c.args.sample at frames c.seek_from.result found cuts
