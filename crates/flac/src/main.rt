@@ -4,8 +4,8 @@
 use flac_bits::Counted;
 use flac_cli::{Task, run};
 use flac_files::JobFiles;
-use flac_jobs::Job;
-use flac_words::{given_words, job};
+use flac_jobs::{CommandLine, Job};
+use flac_words::{command_line, given_words};
 use std::process::ExitCode;
 
 /// Reads the command line, does the job, and ends with its status.
@@ -14,16 +14,16 @@ fn main(rt: HostRuntime) -> ExitCode {
         Ok(given) => given,
         Err(fault) => return ExitCode::from(fault.tell(&rt)),
     };
-    ExitCode::from(match job(rt.alloc(), given.as_slice()) {
-        Ok(job) => perform(&rt, &job),
+    ExitCode::from(match command_line(rt.alloc(), given.as_slice()) {
+        Ok(line) => perform(&rt, &line),
         Err(fault) => fault.tell(&rt),
     })
 }
 
 /// Opens the files of the job, and does it. Returns the status.
-fn perform(rt: &HostRuntime, job: &Job<'_>) -> u8 {
-    match JobFiles::open(rt, job) {
-        Ok(files) => do_over(rt, job, files),
+fn perform(rt: &HostRuntime, line: &CommandLine<'_>) -> u8 {
+    match JobFiles::open(rt, &line.job, line.force) {
+        Ok(files) => do_over(rt, &line.job, files),
         Err(refused) => refused.tell(rt),
     }
 }

@@ -6,7 +6,7 @@ use Rattle.flac_native.specs.declared.fault.EncodeFault.{EncodeFault}
 use Rattle.flac_cli.specs.Refusals.{refusal_of}
 use Rattle.flac_cli.specs.declared.predictors.ListFault.{ListFault}
 use Rattle.flac_cli.specs.declared.predictors.ListFault.TheVariants as faults
-use Rattle.flac_cli.specs.declared.encoding.Refusal.TheVariants.{Input, Setup, RawLength, Output}
+use Rattle.flac_cli.specs.declared.encoding.Refusal.TheVariants.{Input, Setup, NotRaw, RawLength, Output}
 
 -- A fault of the samples is none.
 pub not_setup : {X : Type 0} (f : SetupFault) (e : EncodeFault) → Setup f ≡ Output e → X
@@ -24,6 +24,10 @@ same_output e f h = cc
 -- An error of the source is none.
 pub not_input : {X : Type 0} (why : Why) (e : EncodeFault) → Input why ≡ Output e → X
 not_input why e h = absurd cc
+
+-- A file of another kind is none.
+pub not_kind : {X : Type 0} (e : EncodeFault) → NotRaw ≡ Output e → X
+not_kind e h = absurd cc
 
 -- A length that is not whole is none.
 pub not_length : {X : Type 0} (e : EncodeFault) → RawLength ≡ Output e → X

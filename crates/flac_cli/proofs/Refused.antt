@@ -1,5 +1,5 @@
 -- Why raw samples are refused.
-use Rattle.std.proofs.Common.{◌≡◌, ◌≢◌, ◌↔◌, ◌⊎◌, ◌≤◌, ◌<◌, ◌*◌, ◌%◌, ◌-◌, ◌^◌, ◌&&◌, ◌||◌, ℕ, Bool, true, false, cond, nat_eq, nat_lt, nat_le, ℤ, pos, negsuc, List, [], ◌∷◌, ◌++◌, length, All, Option, Some, None, is_some, is_none, Result, Ok, Err, OnOk, IfErr, refl, sym, ap, ◌∙◌, subst, arith, inl, inr}
+use Rattle.std.proofs.Common.{◌≡◌, ◌≢◌, ◌↔◌, ◌⊎◌, ◌≤◌, ◌<◌, ◌*◌, ◌%◌, ◌-◌, ◌^◌, ◌&&◌, ◌||◌, not, ℕ, Bool, true, false, cond, nat_eq, nat_lt, nat_le, ℤ, pos, negsuc, List, [], ◌∷◌, ◌++◌, length, All, Option, Some, None, is_some, is_none, Result, Ok, Err, OnOk, IfErr, refl, sym, ap, ◌∙◌, subst, arith, inl, inr}
 use Rattle.std.specs.List.{list_all}
 use Rattle.std.proofs.lemmas.Bool.{lt-ltb, ne_eqb}
 use Rattle.std.proofs.lemmas.Bool.Decides.{nat_tests}
@@ -27,12 +27,13 @@ use Rattle.flac_cli.specs.Predictors.{AreListed}
 use Rattle.flac_cli.specs.inner.Predictors.{IsWrongLine}
 use Rattle.flac_cli.specs.Raw.{raw_channels, raw_sound}
 use Rattle.flac_cli.specs.inner.Raw.{AreChannels}
-use Rattle.flac_cli.specs.Refusals.{format_fault, raw_fault, stream_fault, refusal, refusal_of, IsReason, IsOutside}
+use Rattle.flac_cli.specs.Refusals.{format_fault, raw_fault, input_fault, stream_fault, refusal, refusal_of, IsReason, IsOutside}
 use Rattle.flac_cli.specs.Reports.{Files, fault_line, path_of, line_text, IsReport}
 use Rattle.flac_cli.specs.declared.encoding.Refusal.{Refusal}
-use Rattle.flac_cli.specs.declared.encoding.Refusal.TheVariants.{Input, Setup, RawLength, Output}
+use Rattle.flac_cli.specs.declared.encoding.Refusal.TheVariants.{Input, Setup, NotRaw, RawLength, Output}
 use Rattle.flac_cli.specs.declared.predictors.ListFault.{ListFault}
 use Rattle.flac_cli.specs.declared.predictors.ListFault.TheVariants as faults
+use Rattle.flac_jobs.specs.Kinds.{file_kind}
 use Rattle.flac_jobs.specs.declared.formats.RawFormat.{RawFormat}
 
 -- ---- samples that can be encoded
@@ -121,6 +122,26 @@ module _ (profile : Profile) (format : RawFormat) (raw : List ℕ) where
       let good : audio_fault profile format.rate format.bits (raw_channels format.channels (sample_width format.bits) raw) ≡ None = subst (λ (s : Sound). audio_fault s.profile s.rate s.bits s.channels ≡ None) is (sound_good a sound) in
       rw (sym h, all, good) refl
 
+-- ---- bytes that are taken as raw samples, or are not
+
+module _ (asked : Asked) (bytes : List ℕ) where
+  pub bad_asked_format : (e : SetupFault) → Some e ≡ format_fault asked.profile asked.format → input_fault asked bytes ≡ Some (Setup e)
+  unfolding input_fault
+  bad_asked_format e h = rw (sym h) refl
+
+  module _ (refused : Bool) (is : refused ≡ (not asked.any && is_some (file_kind bytes))) (good : None ≡ format_fault asked.profile asked.format) where
+    pub not_taken : refused ≡ true → input_fault asked bytes ≡ Some NotRaw
+    unfolding input_fault
+    not_taken h =
+        let e : (not asked.any && is_some (file_kind bytes)) ≡ true = sym is ∙ h in
+        rw (sym good, e) refl
+
+    pub taken : refused ≡ false → input_fault asked bytes ≡ raw_fault asked.profile asked.format bytes
+    unfolding input_fault
+    taken h =
+        let e : (not asked.any && is_some (file_kind bytes)) ≡ false = sym is ∙ h in
+        rw (sym good, e) refl
+
 -- ---- the calls that write a stream
 
 pub native_accepts : {A : Type 0} (r : Result A EncodeFault) (b : Bool) → ((r ≡ Err RepeatedBlock) ↔ (b ≡ true)) → OnOk r (cond b (Some RepeatedBlock) None ≡ None)
@@ -172,12 +193,12 @@ module _ (asked : Asked) (ps : List LinearPredictor) (bytes : List ℕ) where
   pub unreasoned : AreListed asked.list ps → refusal asked ps bytes ≡ None → IsReason asked bytes None
   unreasoned listed h = inr (ps, listed, sym h)
 
-  pub refused_raw : (e : Refusal) → IsOutside e ⊎ (raw_fault asked.profile asked.format bytes ≡ Some e) → IsOutside e ⊎ (refusal asked ps bytes ≡ Some e)
+  pub refused_raw : (e : Refusal) → IsOutside e ⊎ (input_fault asked bytes ≡ Some e) → IsOutside e ⊎ (refusal asked ps bytes ≡ Some e)
   unfolding refusal
   refused_raw e (inl out) = inl out
   refused_raw e (inr h) = inr (rw h refl)
 
-  module _ (a : Sound) (raw : raw_fault asked.profile asked.format bytes ≡ None) (is : a ≡ raw_sound asked.profile asked.format bytes) where
+  module _ (a : Sound) (raw : input_fault asked bytes ≡ None) (is : a ≡ raw_sound asked.profile asked.format bytes) where
     pub refused_plan : (e : SetupFault) → plan_fault (cut_as asked a ps) ≡ Some e → refusal asked ps bytes ≡ Some (Setup e)
     unfolding refusal
     refused_plan e h =

@@ -57,8 +57,8 @@ pub record EncodesRaw (asked : Asked) (bytes : List ℕ) (before after : List Bo
 
 -- what a job asks for whose list has this text, if it is an encoding
 abbrev pub asked_for : Job → (list : List ℕ) → Option Asked
-asked_for (job.Encode input output format c comments lax predictors) list =
-    Some (record { profile = profile_of lax; format = format; container = c; words = map (λ w. w.now) comments.items; list = list })
+asked_for (job.Encode input output format c comments lax predictors raw) list =
+    Some (record { profile = profile_of lax; format = format; container = c; words = map (λ w. w.now) comments.items; list = list; any = raw })
 asked_for other list = None
 
 abbrev pub asked_by : Task → Option Asked

@@ -2,6 +2,7 @@ pub mod Asked
 pub mod Counted
 pub mod Encoded
 pub mod Lined
+pub mod Named
 pub mod Outcomes
 pub mod Predictors
 pub mod Raw
@@ -10,4 +11,6 @@ pub mod Reports
 pub mod Retagged
 pub mod Samples
 pub mod Streams
+pub mod WaveRefusals
+pub mod Waves
 pub mod inner

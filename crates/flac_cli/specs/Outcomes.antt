@@ -1,9 +1,10 @@
 -- What the program reports of a job that reads a stream, native or Ogg.
-use Rattle.std.specs.Prelude.{◌≡◌, ◌⊎◌, ◌≤◌, ◌<◌, ℕ, List, ◌++◌, map, Option, Some, None}
+use Rattle.std.specs.Prelude.{◌≡◌, ◌⊎◌, ◌≤◌, ◌<◌, ℕ, List, [], ◌++◌, map, codes, Option, Some, None}
 use Rattle.flac_bits.specs.Bits.{bits_of}
 use Rattle.flac_bits.specs.Handing.{Reading}
 use Rattle.flac_bits.specs.Reasons as reasons
-use Rattle.flac_bits.specs.State.{Behind, short_of}
+use Rattle.flac_bits.specs.Forms.{AreBytes}
+use Rattle.flac_bits.specs.State.{Behind, short_of, the_end}
 use Rattle.flac_bits.specs.declared.why.Why.{Why}
 use Rattle.flac_bits.specs.declared.why.Why.TheVariants as why
 use Rattle.flac_meta.specs.Spelling.{comments_length}
@@ -13,10 +14,14 @@ use Rattle.flac_native.specs.Places.{fault_text}
 use Rattle.flac_native.specs.Retag.{HasHead, IsRefused}
 use Rattle.flac_native.specs.Stream.{Piece}
 use Rattle.flac_native.specs.declared.fault.Place.{Place}
-use Rattle.flac_ogg.specs.Either.{begins_page, read_either}
+use Rattle.flac_ogg.specs.Either.{begins_page, read_any}
+use Rattle.flac_cli.specs.Asked.{Asked}
 use Rattle.flac_cli.specs.Encoded.{comments_of}
 use Rattle.flac_cli.specs.Reports.{fault_line}
 use Rattle.flac_cli.specs.Streams.{profile_of}
+use Rattle.flac_cli.specs.Waves.{kept_fault, EncodesWave}
+use Rattle.flac_cli.specs.declared.held_wave.KeptFault.{KeptFault}
+use Rattle.flac_cli.specs.declared.held_wave.KeptFault.TheVariants as kept
 use Rattle.flac_jobs.specs.declared.jobs.Job.{Job}
 use Rattle.flac_jobs.specs.declared.jobs.Job.TheVariants as job
 
@@ -40,7 +45,7 @@ IsAnswer (Some f) path status before after = (status ≡ 1) × (after ≡ before
 
 -- how an input is read: as an Ogg stream if its first byte is that of a page, else as a native one
 abbrev pub input_reading : Profile → List ℕ → Behind → Reading Piece Place
-input_reading profile bytes behind = read_either profile (begins_page bytes) (beginning (short_of behind.fails)) (bits_of bytes)
+input_reading profile bytes behind = read_any profile (begins_page bytes) (beginning (short_of behind.fails)) (bits_of bytes)
 
 -- it is a stream, or is refused at this place and for this reason
 abbrev pub Reads : Profile → List ℕ → Behind → Outcome → Type 0
@@ -74,15 +79,62 @@ IsUnlisted printed outcome = IsOutOfMemory outcome ⊎ ((printed → ⊥) × ((a
 
 -- What was reported is what the input is, and what the input is was reported, unless the outcome is one that no input
 -- shows.
-pub record Fits (outside is : Outcome → Type 0) (outcome : Outcome) : Type 0 where
+pub record Fits {O : Type 0} (outside is : O → Type 0) (outcome : O) : Type 0 where
   pub right : outside outcome ⊎ is outcome
-  pub each : (other : Outcome) → is other → outside outcome ⊎ (outcome ≡ other)
+  pub each : (other : O) → is other → outside outcome ⊎ (outcome ≡ other)
 
 -- The status and the line are those of such an outcome.
 pub record Reports (outside is : Outcome → Type 0) (path : List ℕ) (status : ℕ) (before after : List ℕ) : Type 0 where
   pub outcome : Outcome
   pub answer : IsAnswer outcome path status before after
   pub fits : Fits outside is outcome
+
+-- ---- decoding to a WAV file
+
+-- What is reported: of the stream, or why its blocks keep no WAV file of its samples.
+pub data WaveOutcome : Type 0 where
+  streamed : Outcome → WaveOutcome
+  unkept : KeptFault → WaveOutcome
+
+-- The input is a stream that keeps a WAV file; or a stream that keeps none, for this reason; or it is refused at this
+-- place and for this reason.
+abbrev pub ReadsWave : Profile → List ℕ → Behind → WaveOutcome → Type 0
+ReadsWave profile bytes behind (streamed None) = (items : List Piece) × (input_reading profile bytes behind).whole items × (kept_fault items ≡ None)
+ReadsWave profile bytes behind (streamed (Some f)) = Reads profile bytes behind (Some f)
+ReadsWave profile bytes behind (unkept fault) = (items : List Piece) × (input_reading profile bytes behind).whole items × (kept_fault items ≡ Some fault)
+
+-- memory ran out at some place
+abbrev pub IsWaveOutOfMemory : WaveOutcome → Type 0
+IsWaveOutOfMemory outcome = (at : Place) × (outcome ≡ streamed (Some (Some at, why.Memory)))
+
+-- the number and the name
+abbrev pub text_of_kept : KeptFault → List ℕ
+text_of_kept kept.NotKept = codes "71 NotKept"
+text_of_kept kept.OtherBits = codes "72 OtherBits"
+
+abbrev pub IsWaveAnswer : WaveOutcome → (path : List ℕ) → (status : ℕ) → (before after : List ℕ) → Type 0
+IsWaveAnswer (streamed outcome) path status before after = IsAnswer outcome path status before after
+IsWaveAnswer (unkept fault) path status before after = (status ≡ 1) × (after ≡ before ++ fault_line path (text_of_kept fault))
+
+-- The status and the line are those of what the input is; or memory ran out: then the line says that.
+pub record ReportsWaveDecoding (profile : Profile) (bytes : List ℕ) (behind : Behind) (path : List ℕ) (status : ℕ) (before after : List ℕ) : Type 0 where
+  pub outcome : WaveOutcome
+  pub answer : IsWaveAnswer outcome path status before after
+  pub fits : Fits IsWaveOutOfMemory (ReadsWave profile bytes behind) outcome
+
+-- The bytes of a stream that was encoded of a WAV file are a stream that keeps a WAV file.
+abbrev pub KeptFilesAreRead : Type 0
+KeptFilesAreRead = (asked : Asked) (bytes stream : List ℕ) → AreBytes stream → EncodesWave asked bytes [] (bits_of stream) → ReadsWave asked.profile stream the_end (streamed None)
+
+-- So what is reported of decoding them, in the same profile, is that this is done, or that memory ran out at some
+-- place.
+abbrev pub KeptFilesAreDecoded : Type 0
+KeptFilesAreDecoded =
+    (asked : Asked) (bytes stream : List ℕ) → AreBytes stream → EncodesWave asked bytes [] (bits_of stream)
+    → (path : List ℕ) (status : ℕ) (before after : List ℕ) → ReportsWaveDecoding asked.profile stream the_end path status before after
+    → ((status ≡ 0) × (after ≡ before)) ⊎ ((at : Place) × (status ≡ 1) × (after ≡ before ++ fault_line path (fault_text (record { at = at; why = why.Memory }))))
+
+-- ---- each job
 
 -- This holds for each job that reads a stream. Decoding and retagging write to the target, of which `served` says that
 -- it did not fail, and a test prints to standard output, of which `printed` says so. Listing prints too, and of its
@@ -91,6 +143,8 @@ abbrev pub ReportsInput : Job → (bytes : List ℕ) → Behind → (served prin
 ReportsInput (job.Test input lax) bytes behind served printed status before after = printed → Reports IsOutOfMemory (Reads (profile_of lax) bytes behind) input.now status before after
 ReportsInput (job.Decode input output lax) bytes behind served printed status before after = served → Reports IsOutOfMemory (Reads (profile_of lax) bytes behind) input.now status before after
 ReportsInput (job.List input lax) bytes behind served printed status before after = Reports (IsUnlisted printed) (Reads (profile_of lax) bytes behind) input.now status before after
-ReportsInput (job.Encode input output format c comments lax predictors) bytes behind served printed status before after = Unit {0}
+ReportsInput (job.Encode input output format c comments lax predictors raw) bytes behind served printed status before after = Unit {0}
+ReportsInput (job.DecodeWave input output lax) bytes behind served printed status before after = served → ReportsWaveDecoding (profile_of lax) bytes behind input.now status before after
+ReportsInput (job.EncodeWave input output block seek_every c comments lax predictors) bytes behind served printed status before after = Unit {0}
 ReportsInput (job.Retag input output comments) bytes behind served printed status before after =
     served → Reports IsRetagOutOfMemory (IsRetagged (map (λ c. c.now) comments.items) bytes behind) input.now status before after

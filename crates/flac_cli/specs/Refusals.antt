@@ -1,5 +1,5 @@
 -- Which raw samples cannot be encoded as asked for, and for which first reason.
-use Rattle.std.specs.Prelude.{◌≡◌, ◌⊎◌, ◌*◌, ◌%◌, ℕ, nat_eq, cond, List, length, codes, Err, Option, Some, None, option_map}
+use Rattle.std.specs.Prelude.{◌≡◌, ◌⊎◌, ◌*◌, ◌%◌, ◌&&◌, not, is_some, ℕ, nat_eq, cond, List, length, codes, Err, Option, Some, None, option_map}
 use Rattle.std.specs.Option.{option_or}
 use Rattle.flac_bits.specs.Reasons as reasons
 use Rattle.flac_bits.specs.declared.why.Why.TheVariants as why
@@ -24,7 +24,8 @@ use Rattle.flac_cli.specs.Raw.{raw_channels, raw_sound}
 use Rattle.flac_cli.specs.declared.encoding.Refusal.{Refusal}
 use Rattle.flac_cli.specs.declared.predictors.ListFault.{ListFault}
 use Rattle.flac_cli.specs.declared.predictors.ListFault.TheVariants as faults
-use Rattle.flac_cli.specs.declared.encoding.Refusal.TheVariants.{Input, Setup, RawLength, Line, Output}
+use Rattle.flac_cli.specs.declared.encoding.Refusal.TheVariants.{Input, Setup, NotRaw, RawLength, Line, Output}
+use Rattle.flac_jobs.specs.Kinds.{file_kind}
 use Rattle.flac_jobs.specs.declared.formats.RawFormat.{RawFormat}
 use Rattle.flac_jobs.specs.declared.formats.ContainerKind.{ContainerKind}
 use Rattle.flac_jobs.specs.declared.formats.ContainerKind.TheVariants as container
@@ -41,6 +42,14 @@ raw_fault profile format bytes =
     (option_map Setup (audio_fault profile format.rate format.bits (raw_channels format.channels (sample_width format.bits) bytes)))
     (Some RawLength))
 
+-- Why these bytes are not taken as such samples: the format; then, unless any bytes are taken, that they begin as a
+-- file that may hold a song, which would become noise; then their number and the samples.
+unfoldable pub input_fault : Asked → (bytes : List ℕ) → Option Refusal
+input_fault asked bytes =
+    option_or (option_map Setup (format_fault asked.profile asked.format))
+    (cond (not asked.any && is_some (file_kind bytes)) (Some NotRaw)
+    (raw_fault asked.profile asked.format bytes))
+
 -- Why the calls that write a stream refuse these blocks: a native one has one seek table at most (section 8), and one
 -- in Ogg none.
 abbrev pub stream_fault : ContainerKind → Cut → List Block → Option EncodeFault
@@ -51,7 +60,7 @@ stream_fault (container.Ogg serial) p list = cond (may_be_ogg p list) None (Some
 -- samples; how they are cut into blocks; the predictors; the words as comments; the container.
 unfoldable pub refusal : Asked → List LinearPredictor → (bytes : List ℕ) → Option Refusal
 refusal asked ps bytes =
-    option_or (raw_fault asked.profile asked.format bytes)
+    option_or (input_fault asked bytes)
     (option_or (option_map Setup (plan_fault (cut_as asked (raw_sound asked.profile asked.format bytes) ps)))
     (option_or (option_map Input (list_fault info_seen (comment_list asked.words)))
     (option_map Output (stream_fault asked.container (cut_as asked (raw_sound asked.profile asked.format bytes) ps) (comment_list asked.words)))))
@@ -67,6 +76,7 @@ IsReason asked bytes reason =
 abbrev pub text_of : Refusal → List ℕ
 text_of (Input why) = reasons.text_of why
 text_of (Setup fault) = setup.text_of fault
+text_of NotRaw = codes "56 NotRaw"
 text_of RawLength = codes "48 RawLength"
 text_of (Line number) = codes "53 PredictorLine"
 text_of (Output fault) = numbers.text_of fault

@@ -2,5 +2,8 @@
 pub mod Lined
 pub mod Outcomes
 pub mod Predictors
+pub mod Preparing
 pub mod Raw
 pub mod Taking
+pub mod WaveOutcomes
+pub mod Waving

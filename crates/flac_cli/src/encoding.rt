@@ -1,23 +1,25 @@
 //! Encoding of raw samples.
 
-ghost use Rattle.std.specs.Prelude.{◌≡◌, ◌≢◌, ◌≤◌, ◌<◌, ◌⊎◌, true, map, MatchResult, IfOk, IfErr, OnOk, OnErr, Some, None};
+ghost use Rattle.std.specs.Prelude.{◌≡◌, ◌≢◌, ◌≤◌, ◌<◌, ◌⊎◌, ◌&&◌, not, is_some, true, map, MatchResult, IfOk, IfErr, OnOk, OnErr, Some, None};
 ghost use Rattle.flac_bits.specs.Bits.{bits_of};
+ghost use Rattle.flac_jobs.specs.Kinds.{file_kind};
 ghost use Rattle.flac_meta.specs.Listed.{list_fault, info_seen};
 ghost use Rattle.flac_native.specs.Given.{cut_of, with_predictors, fits_plan, plan_fault};
 ghost use Rattle.flac_cli.specs.Asked.{asked_of};
 ghost use Rattle.flac_cli.specs.Encoded.{comments_of, comment_list, EncodesIn, EncodesRaw, BeginsIn, BeginsRaw};
 ghost use Rattle.flac_cli.specs.Lined.{text_at};
 ghost use Rattle.flac_cli.specs.Raw.{IsRaw, raw_sound};
-ghost use Rattle.flac_cli.specs.Refusals.{raw_fault, stream_fault, refusal_of, text_of, IsReason, IsOutside};
+ghost use Rattle.flac_cli.specs.Refusals.{raw_fault, input_fault, stream_fault, refusal_of, text_of, IsReason, IsOutside};
 ghost use Rattle.flac_cli.specs.Reports.{line_text};
 ghost use Rattle.flac_cli.specs.declared.encoding.Refusal.TheVariants.{Input, Setup, Output};
 
+use crate::fronted::Fronted;
 use crate::lines::At;
 use crate::predictors::{ListFault, predictors_in};
-use crate::raw::read_channels;
+use crate::raw::{fill, read_channels};
 use flac_bits::{Source, Target, Why};
 use flac_frame::{Audio, SetupFault, format_fault};
-use flac_jobs::{ContainerKind, RawFormat};
+use flac_jobs::{ContainerKind, RawFormat, file_kind};
 use flac_meta::{BlockList, Bytes, Comments, Texts};
 use flac_native::{EncodeFault, Plan, Profile, encode, sample_width};
 use flac_ogg::encode_ogg;
@@ -40,6 +42,8 @@ pub(crate) struct Encoding<'a> {
     pub(crate) comments: &'a [&'a str],
     /// The text of a list of predictors that the encoder tries too, empty if there is none.
     pub(crate) list: &'a [u8],
+    /// Whether any bytes are taken as samples, also those that begin as a file that may hold a song.
+    pub(crate) any: bool,
 }
 
 /// Why raw samples are not encoded.
@@ -49,6 +53,8 @@ pub(crate) enum Refusal {
     Input(Why),
     /// The samples or their format cannot be encoded.
     Setup(SetupFault),
+    /// The input begins as a file that may hold a song, and not any bytes are taken.
+    NotRaw,
     /// The input is not a whole number of samples of every channel.
     RawLength,
     /// The line of the list of this number, counted from 1, is no predictor.
@@ -100,6 +106,7 @@ impl Refusal {
         match self {
             Refusal::Input(why) => why.as_str(),
             Refusal::Setup(fault) => fault.as_str(),
+            Refusal::NotRaw => "56 NotRaw",
             Refusal::RawLength => "48 RawLength",
             Refusal::Line(_) => "53 PredictorLine",
             Refusal::Output(fault) => fault.as_str(),
@@ -122,7 +129,7 @@ impl Refusal {
 /// # Errors
 /// The first reason for which they are no samples of the format: rate, depth, channels, the number of bytes, a sample
 /// that does not fit the depth, too many samples. An error of the source, or out of memory.
-fn audio_of<R: Source>(
+pub(crate) fn audio_of<R: Source>(
     alloc: Global,
     source: &mut R,
     profile: Profile,
@@ -133,6 +140,7 @@ fn audio_of<R: Source>(
     ensures accepted { OnOk result (R.known source.old ≡ true → raw_fault profile format (R.coming source.old) ≡ None) }
     ensures refused { IfErr result (λ e. R.known source.old ≡ true → R.raised source.new ≡ R.raised source.old → IsOutside e ⊎ (raw_fault profile format (R.coming source.old) ≡ Some e)) }
     ensures unwritten { IfErr result (λ e. e ≢ Output EncodeFault.Write) }
+    ensures names { R.names source.new ≡ R.names source.old }
 {
     let channels = format.channels as usize;
     if let Some(fault) = format_fault(profile, format.rate, format.bits, channels) {
@@ -148,11 +156,63 @@ fn audio_of<R: Source>(
     Ok(audio)
 }
 
+/// How the samples are divided into frames, in their own profile.
+///
+/// # Errors
+/// The first reason for which they cannot be: the block size, the seek points.
+fn own_plan(format: RawFormat, audio: &Audio) -> Result<Plan, SetupFault>
+    ensures made { MatchResult result (λ p. p ≡ cut_of format.block audio.now format.seek_every) (λ e. plan_fault (cut_of format.block audio.now format.seek_every) ≡ Some e) }
+    ensures fits { IfOk result (λ p. fits_plan p audio.now ≡ true) }
+{
+    Plan::new_in(audio.profile(), format.block, audio, format.seek_every)
+}
+
+/// Whether bytes that begin so are not taken as samples.
+fn is_refused(any: bool, front: &[u8]) -> bool
+    ensures { result ≡ (not any && is_some (file_kind front.now)) }
+{
+    !any && file_kind(front).is_some()
+}
+
+/// The samples that the bytes of a source are, for an encoding. The bytes of a file that may hold a song are refused
+/// ([`file_kind`]), unless any bytes are taken.
+///
+/// # Errors
+/// The first reason for which they are not taken: that of the format, that they begin as such a file, and those of
+/// [`audio_of`].
+fn samples_of<R: Source>(
+    alloc: Global,
+    encoding: &Encoding<'_>,
+    source: &mut R,
+) -> Result<Audio, Refusal>
+    ensures raw { IfOk result (λ a. R.known source.old ≡ true → IsRaw encoding.now.profile encoding.now.format (R.coming source.old) a) }
+    ensures sound { IfOk result (λ a. R.known source.old ≡ true → a ≡ raw_sound encoding.now.profile encoding.now.format (R.coming source.old)) }
+    ensures accepted { OnOk result (R.known source.old ≡ true → input_fault (asked_of encoding.now) (R.coming source.old) ≡ None) }
+    ensures refused { IfErr result (λ e. R.known source.old ≡ true → R.raised source.new ≡ R.raised source.old → IsOutside e ⊎ (input_fault (asked_of encoding.now) (R.coming source.old) ≡ Some e)) }
+    ensures unwritten { IfErr result (λ e. e ≢ Output EncodeFault.Write) }
+{
+    let format = encoding.format;
+    let channels = format.channels as usize;
+    if let Some(fault) = format_fault(encoding.profile, format.rate, format.bits, channels) {
+        return Err(Refusal::Setup(fault));
+    }
+    let mut places = [0; 4];
+    let count = fill(source, &mut places, 4)?;
+    let front = &places[..count];
+    if is_refused(encoding.any, front) {
+        return Err(Refusal::NotRaw);
+    }
+    let mut fronted = Fronted { front, source };
+    let audio = audio_of(alloc, &mut fronted, encoding.profile, format);
+    let _source = fronted.into_source(); // for its clauses alone
+    audio
+}
+
 /// How the samples are divided into frames, for which these predictors are tried.
 ///
 /// # Errors
 /// The first reason for which they cannot be: the block size, the seek points, the predictors.
-fn plan_of(
+pub(crate) fn plan_of(
     format: RawFormat,
     audio: &Audio,
     predictors: Vec<LinearPredictor>,
@@ -162,7 +222,7 @@ fn plan_of(
     ensures good { IfOk result (λ p. plan_fault p ≡ None) }
 {
     // The block sizes are read only for the proof, which then knows what the model of a `Plan` keeps to.
-    let plan = Plan::new(format.block, audio, format.seek_every)?;
+    let plan = own_plan(format, audio)?;
     let _size = plan.block_size();
     let tried = plan.with_predictors(predictors)?;
     let _size = tried.block_size();
@@ -197,7 +257,7 @@ fn comment_list(alloc: Global, words: &[&str]) -> Result<BlockList, Why>
 }
 
 /// Writes the samples as a stream. After an error, nothing or a prefix of the stream was sent.
-fn write_stream<W: Target>(
+pub(crate) fn write_stream<W: Target>(
     alloc: Global,
     container: ContainerKind,
     plan: &Plan,
@@ -223,8 +283,8 @@ fn write_stream<W: Target>(
 ///
 /// # Errors
 /// The first reason for which the samples cannot be encoded as asked for: a line of the list, for which the source is
-/// not read; the samples, the block size and the seek points, the predictors, the comments, the container. An error of
-/// the source or of the target, or out of memory.
+/// not read; the format, a file that may hold a song, the samples; the block size and the seek points, the predictors,
+/// the comments, the container. An error of the source or of the target, or out of memory.
 pub(crate) fn encode_raw<R: Source, W: Target>(
     alloc: Global,
     encoding: &Encoding<'_>,
@@ -240,7 +300,7 @@ pub(crate) fn encode_raw<R: Source, W: Target>(
     ensures failed { IfErr result (λ e. e ≡ Output EncodeFault.Write → W.known target.old ≡ true → W.errors target.old < W.errors target.new) }
 {
     let predictors = predictors_in(alloc, encoding.list)?;
-    let audio = audio_of(alloc, source, encoding.profile, encoding.format)?;
+    let audio = samples_of(alloc, encoding, source)?;
     let plan = plan_of(encoding.format, &audio, predictors)?;
     let list = comment_list(alloc, encoding.comments)?;
     write_stream(alloc, encoding.container, &plan, &list, &audio, target)?;

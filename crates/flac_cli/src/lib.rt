@@ -4,6 +4,9 @@
 mod counts;
 mod decoding;
 mod encoding;
+mod fronted;
+mod held_wave;
+mod laws;
 mod lines;
 mod list;
 mod listing;
@@ -12,6 +15,9 @@ mod predictors;
 mod raw;
 mod retagging;
 mod runs;
+mod wave_decoding;
+mod wave_encoding;
 
 pub use flac_jobs::{ContainerKind, Job, LineFault, RawFormat};
+pub use laws::{kept_files_are_read, kept_files_come_back};
 pub use runs::{Task, run};

@@ -8,16 +8,10 @@ ghost use Rattle.flac_cli.specs.Reports.{fault_line};
 
 use flac_bits::{Target, Why, send_all};
 use flac_native::Place;
+use itoa::Buffer;
 
 /// How many bytes are held before they are sent.
 const ROOM: usize = 1024;
-
-/// The last decimal digit of a number, as a character.
-fn last_digit(number: u64) -> u8
-    ensures { result ≡ 48 + number % 10 }
-{
-    b'0' + (number % 10) as u8
-}
 
 /// Where in a file a reason applies.
 #[derive(Clone, Copy)]
@@ -28,6 +22,8 @@ pub(crate) enum At {
     Place(Place),
     /// In the line of this number, counted from 1.
     Line(u64),
+    /// At the chunk of a WAV file of this number, counted from 0.
+    Chunk(u64),
 }
 
 impl At {
@@ -152,12 +148,8 @@ impl<W: Target> Lines<W> {
     pub(crate) fn put_number(&mut self, number: u64) -> Result<(), Why>
         ensures { Adds W.Target (decimal number) self.old.target self.new.target (take self.old.held self.old.bytes) (take self.new.held self.new.bytes) result }
     {
-        let digit = last_digit(number);
-        if number < 10 {
-            return self.put_bytes(&[digit]);
-        }
-        self.put_number(number / 10)?;
-        self.put_bytes(&[digit])
+        let mut buffer = Buffer::new();
+        self.put(buffer.format(number))
     }
 
     /// Adds a text and a number.
@@ -203,6 +195,10 @@ impl<W: Target> Lines<W> {
             }
             At::Line(number) => {
                 self.put_counted("line ", number)?;
+                self.put_both(": ", text)
+            }
+            At::Chunk(number) => {
+                self.put_counted("chunk ", number)?;
                 self.put_both(": ", text)
             }
         }

@@ -18,7 +18,7 @@ const PIECE: usize = 16384;
 ///
 /// # Errors
 /// [`Why::Read`] if the source returns an error.
-fn fill<R: Source>(source: &mut R, places: &mut [u8], most: usize) -> Result<usize, Why>
+pub(crate) fn fill<R: Source>(source: &mut R, places: &mut [u8], most: usize) -> Result<usize, Why>
     requires { most ≤ length places.old }
     ensures few { IfOk result (λ n. n ≤ most) }
     ensures bytes { IfOk result (λ n. R.known source.old ≡ true → R.coming source.old ≡ take n places.new ++ R.coming source.new) }
@@ -27,6 +27,7 @@ fn fill<R: Source>(source: &mut R, places: &mut [u8], most: usize) -> Result<usi
     ensures counted { OnOk result (R.raised source.new ≡ R.raised source.old) }
     ensures most { IfOk result (λ n. R.most source.new + n ≤ R.most source.old) }
     ensures failed { OnErr result (R.known source.old ≡ true → R.raised source.old < R.raised source.new) }
+    ensures names { R.names source.new ≡ R.names source.old }
 {
     let mut count = 0;
     while count < most {
@@ -193,6 +194,7 @@ pub(crate) fn read_channels<R: Source>(
     ensures channels { IfOk result (λ o. IfSome o (λ lists. R.known source.old ≡ true → AreChannels (R.coming source.old) channels width (map (λ c. c.items) lists.items))) }
     ensures part { IfOk result (λ o. o ≡ None → R.known source.old ≡ true → length (R.coming source.old) % (channels * width) ≢ 0) }
     ensures memory { IfErr result (λ e. R.known source.old ≡ true → R.raised source.new ≡ R.raised source.old → e ≡ Why.Memory) }
+    ensures names { R.names source.new ≡ R.names source.old }
 {
     let stride = channels * width;
     let size = PIECE / stride * stride;

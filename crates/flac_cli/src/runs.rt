@@ -1,33 +1,41 @@
 //! What the program does for a job.
 
-ghost use Rattle.std.specs.Prelude.{◌≡◌, ◌≢◌, ◌≤◌, ◌<◌, ◌++◌, true, cond, map, List, [], Some, IfOk, IfErr, OnOk, OnErr};
+ghost use Rattle.std.specs.Prelude.{◌≡◌, ◌≢◌, ◌↔◌, ◌≤◌, ◌<◌, ◌++◌, ◌⊎◌, true, cond, map, List, [], Some, IfOk, IfErr, OnOk, OnErr};
 ghost use Rattle.flac_bits.specs.Handing.{outcome_of};
 ghost use Rattle.flac_native.specs.Retag.{not_written};
 ghost use Rattle.flac_native.specs.Samples.{samples_from};
 ghost use Rattle.flac_native.specs.Stream.{Piece};
 ghost use Rattle.flac_cli.specs.Streams.{IsStream, Tells, profile_of};
-ghost use Rattle.flac_jobs.specs.Asks.{AsksDecode, AsksStream, asks_lax};
+ghost use Rattle.flac_jobs.specs.Asks.{AsksDecode, AsksDecodeWave, AsksStream, asks_lax};
 ghost use Rattle.flac_cli.specs.Samples.{all_samples};
 ghost use Rattle.flac_cli.specs.Counted.{AsksTest, line_of, counts_line, frames_in, samples_in_all, printed};
 ghost use Rattle.flac_cli.specs.Encoded.{asked_by, HasEncoded, HasBegun};
 ghost use Rattle.flac_cli.specs.inner.Lined.{Adds};
-ghost use Rattle.flac_cli.specs.Outcomes.{Fits, Reads, IsRetagged, IsOutOfMemory, IsRetagOutOfMemory, IsUnlisted, IsAnswer, Reports as ReportsOf, ReportsInput};
+ghost use Rattle.flac_cli.specs.Outcomes.{Fits, Reads, input_reading, IsRetagged, IsOutOfMemory, IsRetagOutOfMemory, IsUnlisted, IsAnswer, Reports as ReportsOf, ReportsWaveDecoding, ReportsInput, text_of_kept};
 ghost use Rattle.flac_cli.specs.inner.Outcomes.{at_place};
 ghost use Rattle.flac_cli.specs.Refusals.{CanBeEncoded};
 ghost use Rattle.flac_cli.specs.Reports.{fault_line, path_of, line_text, files_of, Serves, Reports};
 ghost use Rattle.flac_cli.specs.Retagged.{HasRetagged, RetagsWith};
+ghost use Rattle.flac_cli.specs.Named.{NamesDecoding, NamesRetagging, NamesFault};
 ghost use Rattle.flac_bits.specs.Bits.{bits_of};
+ghost use Rattle.flac_cli.specs.Asked.{asked_of};
+ghost use Rattle.flac_cli.specs.Waves.{EncodesWave, BeginsWave, wave_in, asked_for_wave, HasEncodedWave, HasBegunWave};
+ghost use Rattle.flac_cli.specs.WaveRefusals.{IsWaveReason, IsWaveReport, CanBeKept, ReportsWaveEncoding, at_chunk, wave_text};
 
 use crate::counts::Counts;
 use crate::decoding::decode_stream;
 use crate::encoding::{Encoding, Refusal, encode_raw};
+use crate::held_wave::KeptFault;
 use crate::lines::{At, Lines, write_line};
 use crate::listing::Listing;
 use crate::retagging::retag_with;
+use crate::wave_decoding::{WaveFailure, decode_wave};
+use crate::wave_encoding::{WaveRefusal, encode_wave};
 use flac_bits::{Source, Target, Why};
 use flac_frame::SetupFault;
-use flac_jobs::Job;
+use flac_jobs::{Job, RawFormat};
 use flac_native::{EncodeFault, Fault, Place, Profile, RetagFault, SampleWriter};
+use flac_wave::WaveFault;
 use std::alloc::Global;
 
 /// Decodes a stream into a writer of samples.
@@ -199,14 +207,14 @@ impl<'a> Paths<'a> {
 
 /// Whether the error is that of the file that a decoding writes.
 fn is_of_samples(why: Why) -> bool
-    ensures { result ≡ true → why ≡ Why.Sink }
+    ensures { (result ≡ true) ↔ (why ≡ Why.Sink) }
 {
     matches!(why, Why::Sink)
 }
 
 /// Whether the error is that of the file that a retagging writes.
 fn is_of_target(fault: RetagFault) -> bool
-    ensures { result ≡ true → fault ≡ not_written }
+    ensures { (result ≡ true) ↔ (fault ≡ not_written) }
 {
     matches!((fault.at, fault.why), (None, Why::Write))
 }
@@ -258,6 +266,7 @@ fn run_decode<R: Source, W: Target, E: Target>(
         (parts : List Piece) × IsStream profile parts (R.coming source.old) (R.behind source.old) × (W.sent target.new ≡ W.sent target.old ++ all_samples 0 parts) }
     ensures reported { Tells R.Source source.old source.new → Serves W.Target target.old target.new → Serves E.Target err.old err.new →
         ReportsOf IsOutOfMemory (Reads profile (R.coming source.old) (R.behind source.old)) paths.now.input.now result (E.sent err.old) (E.sent err.new) }
+    ensures named { result ≡ 1 → E.known err.old ≡ true → E.errors err.new ≡ E.errors err.old → NamesDecoding paths.now.input.now paths.now.output.now (E.sent err.old) (E.sent err.new) }
 {
     match decode_samples(alloc, source, profile, target) {
         Ok(()) => 0,
@@ -265,6 +274,91 @@ fn run_decode<R: Source, W: Target, E: Target>(
             let path = paths.at_fault(is_of_samples(fault.why));
             refuse(err, path, Some(fault.at), fault.why)
         }
+    }
+}
+
+/// Where in a WAV file a fault is.
+fn chunk_at(chunk: Option<u64>) -> At
+    ensures { result ≡ at_chunk chunk }
+{
+    match chunk {
+        Some(number) => At::Chunk(number),
+        None => At::Whole,
+    }
+}
+
+/// Writes the line of a WAV file that is refused, and returns the status 1.
+fn refuse_wave<E: Target>(err: &mut E, path: &str, fault: WaveFault) -> u8
+    ensures status { result ≡ 1 }
+    ensures line { E.known err.old ≡ true → E.errors err.new ≡ E.errors err.old → E.sent err.new ≡ E.sent err.old ++ fault_line path.now (wave_text (WaveRefusal.Wave fault)) }
+{
+    // If it cannot be written, there is no one left to report it to.
+    let _ = write_line(err, path, chunk_at(fault.chunk), fault.why.as_str());
+    1
+}
+
+/// Writes the line of a stream whose blocks keep no WAV file of its samples, and returns the status 1.
+fn refuse_kept<E: Target>(err: &mut E, path: &str, fault: KeptFault) -> u8
+    ensures status { result ≡ 1 }
+    ensures line { E.known err.old ≡ true → E.errors err.new ≡ E.errors err.old → E.sent err.new ≡ E.sent err.old ++ fault_line path.now (text_of_kept fault) }
+{
+    // If it cannot be written, there is no one left to report it to.
+    let _ = write_line(err, path, At::Whole, fault.as_str());
+    1
+}
+
+/// Encodes a WAV file. Returns the status.
+fn run_encode_wave<R: Source, W: Target, E: Target>(
+    alloc: Global,
+    job: &Job<'_>,
+    encoding: &Encoding<'_>,
+    source: &mut R,
+    target: &mut W,
+    err: &mut E,
+) -> u8
+    ensures status { result ≤ 1 }
+    ensures encoded { result ≡ 0 → R.known source.old ≡ true → W.known target.old ≡ true → EncodesWave (asked_of encoding.now) (R.coming source.old) (bits_of (W.sent target.old)) (bits_of (W.sent target.new)) }
+    ensures accepted { result ≡ 0 → R.known source.old ≡ true → IsWaveReason (asked_of encoding.now) (R.coming source.old) None }
+    ensures begun { result ≡ 1 → R.known source.old ≡ true → W.known target.old ≡ true → (bits_of (W.sent target.new) ≡ bits_of (W.sent target.old))
+        ⊎ BeginsWave (asked_of encoding.now) (R.coming source.old) (bits_of (W.sent target.old)) (bits_of (W.sent target.new)) }
+    ensures refused { Tells R.Source source.old source.new → Serves W.Target target.old target.new → Serves E.Target err.old err.new →
+        IsWaveReport (asked_of encoding.now) (R.coming source.old) (files_of job.now) result (E.sent err.old) (E.sent err.new) }
+{
+    match encode_wave(alloc, encoding, source, target) {
+        Ok(()) => 0,
+        Err(refusal) => match refusal {
+            WaveRefusal::Wave(fault) => refuse_wave(err, job.input(), fault),
+            WaveRefusal::Refused(reason) => refuse_encoding(err, job, reason),
+        },
+    }
+}
+
+/// Decodes a stream to the WAV file that it keeps. Returns the status.
+fn run_decode_wave<R: Source, W: Target, E: Target>(
+    alloc: Global,
+    paths: &Paths<'_>,
+    source: &mut R,
+    profile: Profile,
+    target: &mut W,
+    err: &mut E,
+) -> u8
+    ensures status { result ≤ 1 }
+    ensures decoded { result ≡ 0 → Tells R.Source source.old source.new → W.known target.old ≡ true →
+        (parts : List Piece) × (input_reading profile (R.coming source.old) (R.behind source.old)).whole parts × (W.sent target.new ≡ W.sent target.old ++ wave_in parts) }
+    ensures reported { Tells R.Source source.old source.new → Serves W.Target target.old target.new → Serves E.Target err.old err.new →
+        ReportsWaveDecoding profile (R.coming source.old) (R.behind source.old) paths.now.input.now result (E.sent err.old) (E.sent err.new) }
+{
+    match decode_wave(alloc, source, profile, target) {
+        Ok(()) => 0,
+        Err(failure) => match failure {
+            WaveFailure::Stream(fault) => {
+                let is_output = is_of_samples(fault.why);
+                let path = paths.at_fault(is_output);
+                refuse(err, path, Some(fault.at), fault.why)
+            }
+            WaveFailure::Kept(fault) => refuse_kept(err, paths.input, fault),
+            WaveFailure::Write => refuse(err, paths.output, None, Why::Write),
+        },
     }
 }
 
@@ -302,6 +396,7 @@ fn run_retag<R: Source, W: Target, E: Target>(
         RetagsWith (map (λ word. word.now) words.now) (R.coming source.old) (R.behind source.old) (bits_of (W.sent target.old)) (bits_of (W.sent target.new)) }
     ensures reported { Tells R.Source source.old source.new → Serves W.Target target.old target.new → Serves E.Target err.old err.new →
         ReportsOf IsRetagOutOfMemory (IsRetagged (map (λ word. word.now) words.now) (R.coming source.old) (R.behind source.old)) paths.now.input.now result (E.sent err.old) (E.sent err.new) }
+    ensures named { result ≡ 1 → E.known err.old ≡ true → E.errors err.new ≡ E.errors err.old → NamesRetagging paths.now.input.now paths.now.output.now (E.sent err.old) (E.sent err.new) }
 {
     match retag_with(alloc, source, words, target) {
         Ok(()) => 0,
@@ -358,14 +453,34 @@ pub fn run<R: Source, W: Target, O: Target, E: Target>(
     // After status 0, a retagging has added to the file the same STREAMINFO, the comments, the other blocks and the
     // rest of the input.
     ensures retagged { result ≡ 0 → R.known source.old ≡ true → W.known target.old ≡ true → HasRetagged task.now.job.now (R.coming source.old) (R.behind source.old) (bits_of (W.sent target.old)) (bits_of (W.sent target.new)) }
+    // After status 0, the encoding of a WAV file has added to the file a stream of its samples that keeps all of it: the WAV
+    // file of this stream is the input, byte for byte.
+    ensures wave_encoded { result ≡ 0 → R.known source.old ≡ true → W.known target.old ≡ true → HasEncodedWave (asked_for_wave task.now.job.now task.now.list.now) (R.coming source.old) (bits_of (W.sent target.old)) (bits_of (W.sent target.new)) }
+    // After status 0 the input is a WAV file, and there was no reason to refuse its encoding.
+    ensures wave_accepted { result ≡ 0 → R.known source.old ≡ true → CanBeKept (asked_for_wave task.now.job.now task.now.list.now) (R.coming source.old) }
+    // After status 1, such an encoding has added nothing, or a prefix of such a stream.
+    ensures wave_begun { result ≡ 1 → R.known source.old ≡ true → W.known target.old ≡ true → HasBegunWave (asked_for_wave task.now.job.now task.now.list.now) (R.coming source.old) (bits_of (W.sent target.old)) (bits_of (W.sent target.new)) }
+    // If no device fails: if there is a reason to refuse the encoding of the WAV file, the status is 1, and the line of the
+    // first one was added to standard error; if there is none, the status is 0, and nothing was added. Or memory ran out:
+    // then the status is 1, and the line says that.
+    ensures wave_refused { Tells R.Source source.old source.new → Serves W.Target target.old target.new → Serves E.Target err.old err.new →
+        ReportsWaveEncoding (asked_for_wave task.now.job.now task.now.list.now) (R.coming source.old) (files_of task.now.job.now) result (E.sent err.old) (E.sent err.new) }
+    // After status 0, a decoding to a WAV file has added to the file exactly the WAV file of the stream.
+    ensures wave_decoded { AsksDecodeWave task.now.job.now → result ≡ 0 → Tells R.Source source.old source.new → W.known target.old ≡ true →
+        (parts : List Piece) × (input_reading (profile_of (asks_lax task.now.job.now)) (R.coming source.old) (R.behind source.old)).whole parts × (W.sent target.new ≡ W.sent target.old ++ wave_in parts) }
     // The status is 0 or 1.
     ensures status { result ≤ 1 }
     // If no device that the job uses fails: if the input is a stream, test, decode and list return 0 and add nothing to
     // standard error; if it is refused, they return 1 and add exactly the line of its place and reason. So does retag
-    // for the marker, the blocks and comments that are too long. Or memory ran out, or standard output failed while
-    // blocks were listed: then the line says that.
+    // for the marker, the blocks and comments that are too long. So does a decoding to a WAV file, which also refuses a
+    // stream that keeps no WAV file of its samples. Or memory ran out, or standard output failed while blocks were
+    // listed: then the line says that.
     ensures reported { Tells R.Source source.old source.new → Serves E.Target err.old err.new →
         ReportsInput task.now.job.now (R.coming source.old) (R.behind source.old) (Serves W.Target target.old target.new) (Serves O.Target out.old out.new) result (E.sent err.old) (E.sent err.new) }
+    // After status 1 of a decoding, an encoding or a retagging, whatever failed, its line was added to standard error, if
+    // that did not fail. It names the output if that could not be written (30 of a decoding, 39), and else the file at
+    // fault.
+    ensures named { result ≡ 1 → E.known err.old ≡ true → E.errors err.new ≡ E.errors err.old → NamesFault task.now.job.now (E.sent err.old) (E.sent err.new) }
 {
     match task.job {
         Job::Test { input, lax } => run_test(alloc, input, source, profile_of(*lax), out, err),
@@ -379,6 +494,7 @@ pub fn run<R: Source, W: Target, O: Target, E: Target>(
             container,
             comments,
             lax,
+            raw,
             ..
         } => {
             let encoding = Encoding {
@@ -387,11 +503,42 @@ pub fn run<R: Source, W: Target, O: Target, E: Target>(
                 container: *container,
                 comments: comments.as_slice(),
                 list: task.list,
+                any: *raw,
             };
             match encode_raw(alloc, &encoding, source, target) {
                 Ok(()) => 0,
                 Err(refusal) => refuse_encoding(err, task.job, refusal),
             }
+        }
+        Job::DecodeWave { input, output, lax } => {
+            let paths = Paths { input, output };
+            run_decode_wave(alloc, &paths, source, profile_of(*lax), target, err)
+        }
+        Job::EncodeWave {
+            block,
+            seek_every,
+            container,
+            comments,
+            lax,
+            ..
+        } => {
+            let profile = profile_of(*lax);
+            let list = task.list;
+            let encoding = Encoding {
+                profile,
+                format: RawFormat {
+                    rate: 0,
+                    channels: 0,
+                    bits: 0,
+                    block: *block,
+                    seek_every: *seek_every,
+                },
+                container: *container,
+                comments: comments.as_slice(),
+                list,
+                any: true,
+            };
+            run_encode_wave(alloc, task.job, &encoding, source, target, err)
         }
         Job::Retag {
             input,

@@ -1,16 +1,22 @@
 //! The files of a job.
 
+ghost use Rattle.std.specs.Prelude.{◌≤◌, length, IfOk};
+
+use crate::replacing::{FRONT, begins_native, may_replace};
+use flac_jobs::Job;
 use std::fs::{File, Metadata, OpenOptions};
 use std::io;
 use std::io::{ErrorKind, Stdout, Write};
-use std::os::unix::fs::MetadataExt;
+use std::os::unix::fs::{FileExt, MetadataExt, OpenOptionsExt};
 use std::path::PathBuf;
 
 /// What a job writes to.
 #[derive(Drop)]
 pub enum Output {
-    /// A file or a device, opened for the job.
+    /// A regular file, opened for the job.
     File(File),
+    /// A device or a pipe, opened for the job.
+    Device(File),
     /// Standard output, from its current position on.
     Standard(Stdout),
     /// The job writes nothing.
@@ -18,7 +24,7 @@ pub enum Output {
 }
 
 impl Output {
-    /// Makes the system store what was written to a file.
+    /// Makes the system store what was written to a regular file.
     ///
     /// # Errors
     /// That of the system; some file systems report only now that a write failed.
@@ -28,12 +34,23 @@ impl Output {
             _ => Ok(()),
         }
     }
+
+    /// Ends a job of this status that replaces no file: what it wrote is stored if the status is 0.
+    ///
+    /// # Errors
+    /// Those of [`Output::store`].
+    pub(crate) fn end(self, status: u8) -> io::Result<()> {
+        if status != 0 {
+            return Ok(());
+        }
+        self.store()
+    }
 }
 
 impl Write for Output {
     fn write(&mut self, bytes: &[u8]) -> io::Result<usize> {
         match self {
-            Output::File(file) => file.write(bytes),
+            Output::File(file) | Output::Device(file) => file.write(bytes),
             Output::Standard(out) => out.write(bytes),
             Output::None => Ok(bytes.len()),
         }
@@ -41,7 +58,7 @@ impl Write for Output {
 
     fn flush(&mut self) -> io::Result<()> {
         match self {
-            Output::File(file) => file.flush(),
+            Output::File(file) | Output::Device(file) => file.flush(),
             Output::Standard(out) => out.flush(),
             Output::None => Ok(()),
         }
@@ -54,6 +71,8 @@ impl Write for Output {
 pub(crate) struct Replacement {
     part: String,
     path: PathBuf,
+    /// Whether it may take that place.
+    is_allowed: bool,
 }
 
 impl Replacement {
@@ -61,12 +80,19 @@ impl Replacement {
     /// what was written; it is removed if that is nothing.
     ///
     /// # Errors
-    /// The new file cannot be stored, or cannot take the place of the old one: it stays beside it. After a job that
-    /// failed: an empty new file cannot be removed.
+    /// The new file cannot be stored, or cannot or may not take the place of the old one: it stays beside it. After a
+    /// job that failed: an empty new file cannot be removed.
     pub(crate) fn end(self, rt: &HostRuntime, output: Output, status: u8) -> io::Result<()> {
-        let Replacement { part, path } = self;
+        let Replacement {
+            part,
+            path,
+            is_allowed,
+        } = self;
         if status == 0 {
             output.store()?;
+            if !is_allowed {
+                return Err(io::Error::from(ErrorKind::AlreadyExists));
+            }
             return std::fs::rename(rt, part.as_str(), path.as_str());
         }
         if std::fs::metadata(rt, part.as_str())?.len() == 0 {
@@ -107,7 +133,87 @@ impl<'a> Known<'a> {
     }
 }
 
-/// Opens what a job writes to. A file that has bytes is not touched: a new one is opened beside it.
+/// What a job may replace.
+#[derive(Clone, Copy)]
+pub(crate) struct Rule<'a> {
+    /// The job.
+    pub(crate) job: &'a Job<'a>,
+    /// The file that it reads, opened.
+    pub(crate) input: &'a File,
+    /// Whether it may replace any file.
+    pub(crate) force: bool,
+}
+
+impl Rule<'_> {
+    /// Whether the job may replace the file of this path, which has bytes ([`may_replace`]). False if a retagging
+    /// reads no native stream, which the job reports: nothing is replaced then.
+    ///
+    /// # Errors
+    /// `AlreadyExists` if it may not. The file cannot be read; or a retagging reads a pipe, which has no first bytes to
+    /// compare.
+    fn allows(&self, rt: &HostRuntime, path: &str) -> io::Result<bool> {
+        if self.force {
+            return Ok(true);
+        }
+        let mut old = [0; FRONT];
+        let count = read_front(&File::open(rt, path)?, &mut old)?;
+        let mut input = [0; FRONT];
+        let is_retag = matches!(self.job, Job::Retag { .. });
+        let known = if is_retag {
+            front_of_input(self.input, &mut input)?
+        } else {
+            0
+        };
+        if may_replace(self.job, &input[..known], &old[..count]) {
+            return Ok(true);
+        }
+        if is_retag && !begins_native(&input[..known]) {
+            return Ok(false);
+        }
+        Err(io::Error::from(ErrorKind::AlreadyExists))
+    }
+}
+
+/// Reads the first bytes of what a retagging reads, and returns how many: none if it cannot be read, which the job
+/// reports.
+///
+/// # Errors
+/// It is a pipe: its bytes could not be read again.
+fn front_of_input(file: &File, places: &mut [u8]) -> io::Result<usize>
+    ensures { IfOk result (λ n. n ≤ length places.new) }
+{
+    match read_front(file, places) {
+        Ok(count) => Ok(count),
+        Err(error) if error.kind() == ErrorKind::NotSeekable => Err(error),
+        Err(_) => Ok(0),
+    }
+}
+
+/// Reads the first bytes of a file, as many as there are places or as it has, and returns how many. The position of
+/// later reads stays.
+///
+/// # Errors
+/// That of the system; `Interrupted` if signals interrupt it again and again.
+fn read_front(file: &File, places: &mut [u8]) -> io::Result<usize>
+    ensures { IfOk result (λ n. n ≤ length places.new) }
+{
+    let mut count = 0;
+    'places: for _ in 0..places.len() {
+        match file.read_at(&mut places[count..], count as u64) {
+            Ok(0) => return Ok(count),
+            Ok(more) => count += more,
+            Err(error) if error.kind() == ErrorKind::Interrupted => {}
+            Err(error) => return Err(error),
+        }
+    }
+    if count < places.len() {
+        return Err(io::Error::from(ErrorKind::Interrupted));
+    }
+    Ok(count)
+}
+
+/// Opens what a job writes to. A file that has bytes is not touched: a new one is opened beside it, if the rule lets
+/// the job replace it.
 ///
 /// The files that the job reads are refused. First the paths are compared, with `.`, `..` and symbolic links resolved.
 /// Then the file is opened, and its device and inode are compared with those of each, so that a hard link is seen too.
@@ -115,12 +221,13 @@ impl<'a> Known<'a> {
 /// caller appends to.
 ///
 /// # Errors
-/// The file cannot be created, or it is one that the job reads.
+/// The file cannot be created, it is one that the job reads, or one that it may not replace.
 pub(crate) fn create(
     rt: &HostRuntime,
     path: &str,
     input: &Known<'_>,
     list: Option<&Known<'_>>,
+    rule: Rule<'_>,
 ) -> io::Result<(Output, Option<Replacement>)> {
     input.refuse_path(rt, path)?;
     if let Some(list) = list {
@@ -133,15 +240,19 @@ pub(crate) fn create(
     let file = OpenOptions::new().write(true).create(true).open(rt, path)?;
     let found = file.metadata()?;
     differ_from_all(&found, input, list)?;
-    if !found.is_file() || found.len() == 0 {
+    if !found.is_file() {
+        return Ok((Output::Device(file), None));
+    }
+    if found.len() == 0 {
         return Ok((Output::File(file), None));
     }
-    let (file, replacement) = create_beside(rt, path, &found)?;
+    let is_allowed = rule.allows(rt, path)?;
+    let (file, replacement) = create_beside(rt, path, &found, is_allowed)?;
     Ok((Output::File(file), Some(replacement)))
 }
 
-/// Creates a new file beside another, with the same permissions. Its path is that of the other followed by `.part`, or
-/// by `.part2` to `.part99` if that is taken.
+/// Creates a new file beside another, with the same permissions; at no time has it more. Its path is that of the other
+/// followed by `.part`, or by `.part2` to `.part99` if that is taken.
 ///
 /// # Errors
 /// The file cannot be created.
@@ -149,15 +260,26 @@ fn create_beside(
     rt: &HostRuntime,
     path: &str,
     found: &Metadata,
+    is_allowed: bool,
 ) -> io::Result<(File, Replacement)> {
     let path = std::fs::canonicalize(rt, path)?;
     for n in 1..100u32 {
         let part = part_name(rt, path.as_str(), n)?;
-        match File::create_new(rt, part.as_str()) {
+        let created = OpenOptions::new()
+            .write(true)
+            .create_new(true)
+            .mode(found.mode() & 0o777)
+            .open(rt, part.as_str());
+        match created {
             Ok(file) => {
-                // not every file system has permissions
+                // The system took some of them away. Not every file system has permissions.
                 let _ = file.set_permissions(found.permissions());
-                return Ok((file, Replacement { part, path }));
+                let replacement = Replacement {
+                    part,
+                    path,
+                    is_allowed,
+                };
+                return Ok((file, replacement));
             }
             Err(error) if error.kind() == ErrorKind::AlreadyExists => {}
             Err(error) => return Err(error),

@@ -3,7 +3,7 @@
 ghost use Rattle.std.specs.Prelude.{◌≡◌, ◌≤◌, ◌⊎◌, [], Some, None, length, IfOk, IfErr, OnErr};
 ghost use Rattle.flac_jobs.specs.Asks.{input_of, list_of, output_of};
 
-use crate::files::{Known, Output, Replacement, create};
+use crate::files::{Known, Output, Replacement, Rule, create};
 use crate::list::List;
 use flac_jobs::Job;
 use std::fs::File;
@@ -22,11 +22,16 @@ pub struct JobFiles<'a> {
 }
 
 impl<'a> JobFiles<'a> {
-    /// Opens the files of a job: what it reads, its list of predictors if it has one, and what it writes.
+    /// Opens the files of a job: what it reads, its list of predictors if it has one, and what it writes. With `force`
+    /// it may replace any file that it does not read, else those that [`crate::may_replace`] lets it.
     ///
     /// # Errors
-    /// A file cannot be opened, read or created, or what the job writes is a file that it reads.
-    pub fn open(rt: &HostRuntime, job: &Job<'a>) -> Result<JobFiles<'a>, FileRefused<'a>>
+    /// A file cannot be opened, read or created, or what the job writes is a file that it reads, or may not replace.
+    pub fn open(
+        rt: &HostRuntime,
+        job: &Job<'a>,
+        force: bool,
+    ) -> Result<JobFiles<'a>, FileRefused<'a>>
         ensures few { IfOk result (λ files. length files.list.text.items ≤ 1048576) }
         ensures none { list_of job.now ≡ None → IfOk result (λ files. files.list.text.items ≡ []) }
         ensures refused { IfErr result (λ refused. (refused.path.now ≡ input_of job.now) ⊎ ((list_of job.now ≡ Some refused.path.now) ⊎ (output_of job.now ≡ Some refused.path.now))) }
@@ -40,7 +45,12 @@ impl<'a> JobFiles<'a> {
             });
         };
         let list = List::of(rt, job)?;
-        let (output, replacement) = created(rt, job, &input, &list)?;
+        let rule = Rule {
+            job: &*job,
+            input: &input,
+            force,
+        };
+        let (output, replacement) = created(rt, job, &list, rule)?;
         let ending = Ending {
             path: job.output(),
             replacement,
@@ -58,12 +68,12 @@ impl<'a> JobFiles<'a> {
 /// Opens what a job writes to.
 ///
 /// # Errors
-/// The file cannot be created, or it is one that the job reads.
+/// The file cannot be created, it is one that the job reads, or one that it may not replace.
 fn created<'a>(
     rt: &HostRuntime,
     job: &Job<'a>,
-    input: &File,
     list: &List<'a>,
+    rule: Rule<'_>,
 ) -> Result<(Output, Option<Replacement>), FileRefused<'a>>
     ensures { IfErr result (λ refused. output_of job.now ≡ Some refused.path.now) }
 {
@@ -74,10 +84,10 @@ fn created<'a>(
         path,
         what: "created",
     };
-    let Ok(input) = Known::of(job.input(), input) else {
+    let Ok(input) = Known::of(job.input(), rule.input) else {
         return Err(refused);
     };
-    match create(rt, path, &input, list.file.as_ref()) {
+    match create(rt, path, &input, list.file.as_ref(), rule) {
         Ok(made) => Ok(made),
         Err(_) => Err(refused),
     }
@@ -92,12 +102,12 @@ pub struct Ending<'a> {
 }
 
 impl<'a> Ending<'a> {
-    /// Ends a job of this status, which wrote to `output`. If that is a new file beside one that has bytes, and the status
-    /// is 0, it is stored and takes the place of the old one. If the job failed, it keeps what was written, and the old
-    /// file stays as it was.
+    /// Ends a job of this status, which wrote to `output`. If that is a regular file and the status is 0, it is
+    /// stored. A new file beside one that has bytes then takes the place of the old one. If the job failed, the new
+    /// file keeps what was written, and the old one stays as it was.
     ///
     /// # Errors
-    /// The job is done, but the new file cannot be stored, or cannot take the place of the old one.
+    /// The job is done, but the file cannot be stored, or cannot take the place of the old one.
     pub fn end(self, rt: &HostRuntime, output: Output, status: u8) -> Result<(), FileRefused<'a>>
         ensures { OnErr result (status ≡ 0) }
     {
@@ -106,14 +116,15 @@ impl<'a> Ending<'a> {
             replacement,
             standard: _standard,
         } = self;
-        let (Some(path), Some(replacement)) = (path, replacement) else {
+        let Some(path) = path else {
             return Ok(());
         };
-        match replacement.end(rt, output, status) {
-            Err(_) if status == 0 => Err(FileRefused {
-                path,
-                what: "replaced",
-            }),
+        let (ended, what) = match replacement {
+            Some(replacement) => (replacement.end(rt, output, status), "replaced"),
+            None => (output.end(status), "stored"),
+        };
+        match ended {
+            Err(_) if status == 0 => Err(FileRefused { path, what }),
             _ => Ok(()),
         }
     }
@@ -144,7 +155,7 @@ fn stand_in(rt: &HostRuntime) -> Option<File> {
 pub struct FileRefused<'a> {
     /// The path of the file.
     pub path: &'a str,
-    /// What cannot be done with it: `opened`, `read`, `created` or `replaced`.
+    /// What cannot be done with it: `opened`, `read`, `created`, `stored` or `replaced`.
     pub what: &'static str,
 }
 

@@ -1,13 +1,16 @@
 //! The files of a job of the program `flac`: what it reads, and what it writes to.
 //!
-//! What a system does with files cannot be claimed. So but for [`List::of`] the calls of this library have no clauses:
-//! they are proved to be safe and to return. What the program does with the bytes is stated by `flac_cli`.
+//! What a system does with files cannot be claimed. So but for [`List::of`] and [`may_replace`] the calls of this
+//! library have few clauses: they are proved to be safe and to return. What the program does with the bytes is stated
+//! by `flac_cli`.
 #![tactic(auto)]
 
 mod files;
 mod job_files;
 mod list;
+mod replacing;
 
 pub use files::{Known, Output};
 pub use job_files::{Ending, FileRefused, JobFiles};
 pub use list::List;
+pub use replacing::may_replace;

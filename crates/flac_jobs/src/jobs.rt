@@ -30,10 +30,34 @@ pub enum Job<'a> {
     /// Encodes raw samples of this format to a native or an Ogg stream with these comments.
     ///
     /// `predictors` is the path of a list of linear predictors, which the encoder tries too; `None` if there is none.
+    /// With `raw` any bytes are samples, also those that begin as a file of another kind ([`file_kind`]).
+    ///
+    /// [`file_kind`]: crate::file_kind
     Encode {
         input: &'a str,
         output: &'a str,
         format: RawFormat,
+        container: ContainerKind,
+        comments: Vec<&'a str>,
+        lax: bool,
+        predictors: Option<&'a str>,
+        raw: bool,
+    },
+    /// Decodes a stream, and writes the WAV file that its blocks keep.
+    DecodeWave {
+        input: &'a str,
+        output: &'a str,
+        lax: bool,
+    },
+    /// Encodes a WAV file to a native or an Ogg stream with these comments, which keeps all of the file.
+    ///
+    /// `block` is the block size in inter-channel samples; `seek_every` the inter-channel samples from one seek point to
+    /// the next, 0 for no seek table; `predictors` as for `Encode`.
+    EncodeWave {
+        input: &'a str,
+        output: &'a str,
+        block: u32,
+        seek_every: u32,
         container: ContainerKind,
         comments: Vec<&'a str>,
         lax: bool,
@@ -47,6 +71,15 @@ pub enum Job<'a> {
     },
 }
 
+/// What a command line asks for.
+#[derive(Debug, Drop)]
+pub struct CommandLine<'a> {
+    /// The job.
+    pub job: Job<'a>,
+    /// Whether it replaces the file that it writes, whatever that is.
+    pub force: bool,
+}
+
 impl<'a> Job<'a> {
     /// The path of the file that is read.
     pub fn input(&self) -> &'a str
@@ -55,6 +88,7 @@ impl<'a> Job<'a> {
         match self {
             Job::Test { input, .. } | Job::List { input, .. } => input,
             Job::Decode { input, .. } | Job::Encode { input, .. } => input,
+            Job::DecodeWave { input, .. } | Job::EncodeWave { input, .. } => input,
             Job::Retag { input, .. } => input,
         }
     }
@@ -66,6 +100,7 @@ impl<'a> Job<'a> {
         match self {
             Job::Test { .. } | Job::List { .. } => None,
             Job::Decode { output, .. } | Job::Encode { output, .. } => Some(output),
+            Job::DecodeWave { output, .. } | Job::EncodeWave { output, .. } => Some(output),
             Job::Retag { output, .. } => Some(output),
         }
     }
@@ -75,7 +110,7 @@ impl<'a> Job<'a> {
         ensures { option_map (λ path. path.now) result ≡ list_of self.now }
     {
         match self {
-            Job::Encode { predictors, .. } => *predictors,
+            Job::Encode { predictors, .. } | Job::EncodeWave { predictors, .. } => *predictors,
             _ => None,
         }
     }

@@ -1,6 +1,6 @@
 //! Why a command line gives no job.
 
-ghost use Rattle.std.specs.Prelude.{◌≡◌, ◌≢◌, ◌≤◌};
+ghost use Rattle.std.specs.Prelude.{◌≡◌, ◌≢◌, ◌≤◌, ◌⊎◌};
 
 use std::alloc::Global;
 use std::borrow::CowStr;
@@ -36,6 +36,22 @@ impl LineFault {
         LineFault {
             text: CowStr::Borrowed("flac: command: comment without =\n"),
             status: 2,
+        }
+    }
+
+    /// The path of the file to write has the form of a comment, so that the path may be missing: status 2, or 1 if an
+    /// allocation fails.
+    pub fn comment_as_path(alloc: Global, path: &str) -> LineFault
+        ensures { (result.status ≡ 1) ⊎ (result.status ≡ 2) }
+    {
+        match format!(in alloc;
+            "flac: command: OUT has the form of a comment; a file of that name is ./{path}\n"
+        ) {
+            Ok(text) => LineFault {
+                text: CowStr::Owned(text),
+                status: 2,
+            },
+            Err(_) => LineFault::no_memory(),
         }
     }
 

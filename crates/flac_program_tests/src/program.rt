@@ -2,15 +2,16 @@
 
 use crate::tables::{
     CHANGES, COME_BACK, ENCODINGS, JOBS, LAST_BYTE, LAX, LISTS, NATIVE, OGG, PIECES, PREDICTED,
-    PREFIXES, RETAGGINGS, SWEPT,
+    PREFIXES, REPLACED, RETAGGINGS, SWEPT,
 };
 use flac_bits::{Collected, Counted, Memory, Pieces, Source, Target};
 use flac_cli::{ContainerKind, Job, LineFault, RawFormat, Task, run};
+use flac_files::may_replace;
 use flac_vectors::{
     ALTERNATING, EXAMPLE, EXAMPLE_INFO, EXAMPLE_TAGGED, LEFT_SIDE, NO_SAMPLES, ONE_SAMPLE, PAGES,
     RISING_ALONE, SILENT_ALONE, TWO_INFOS, append_word,
 };
-use flac_words::{given_words, job};
+use flac_words::{command_line, given_words, job};
 use std::alloc::Global;
 use std::borrow::CowStr;
 use std::io;
@@ -530,11 +531,13 @@ fn refusal_of(alloc: Global, status: u8, text: &str) -> Result<String, Fail> {
     Ok(format!(in alloc; "{status} {text}")?)
 }
 
-/// What a command line is read as: the job, or the status and the text of the refusal, its lines ended by `;`.
+/// What a command line is read as: the job, after `force` if it may replace any file; or the status and the text of the
+/// refusal, its lines ended by `;`.
 fn read_as(alloc: Global, line: &str) -> Result<String, Fail> {
     let words = words_of(alloc, line)?;
-    match job(alloc, words.as_slice()) {
-        Ok(job) => Ok(format!(in alloc; "{job:?}")?),
+    match command_line(alloc, words.as_slice()) {
+        Ok(line) if line.force => Ok(format!(in alloc; "force {:?}", line.job)?),
+        Ok(line) => Ok(format!(in alloc; "{:?}", line.job)?),
         Err(fault) => refusal_of(alloc, fault.status, &fault.text),
     }
 }
@@ -554,6 +557,37 @@ fn words(rt: HostRuntime) -> Result<(), Fail> {
         let (line, answer) = split_row(row);
         let found = read_as(rt.alloc(), line)?;
         assert!(rt; is_answer(&found, answer), "{line}: {found}");
+    }
+    Ok(())
+}
+
+/// Whether the job of a command line may replace a file that begins with the bytes `old`, if its input begins with
+/// `input`; `None` if the words are refused.
+fn replaces(alloc: Global, line: &str, input: &[u8], old: &[u8]) -> Result<Option<bool>, Fail> {
+    let words = words_of(alloc, line)?;
+    match job(alloc, words.as_slice()) {
+        Ok(job) => Ok(Some(may_replace(&job, input, old))),
+        Err(_) => Ok(None),
+    }
+}
+
+/// Whether the row says what its command may replace.
+fn replaced_holds(alloc: Global, row: &str) -> Result<bool, Fail> {
+    let (command, rest) = split_row(row);
+    let (input, rest) = split_row(rest);
+    let (old, answer) = split_row(rest);
+    let line = format!(in alloc; "flac {command}")?;
+    let input = bytes_of(alloc, input)?;
+    let old = bytes_of(alloc, old)?;
+    Ok(replaces(alloc, &line, &input, &old)? == Some(answer == "yes"))
+}
+
+#[test]
+fn replaced(rt: HostRuntime) -> Result<(), Fail> {
+    for row in REPLACED.lines() {
+        if !row.starts_with('#') {
+            assert!(rt; replaced_holds(rt.alloc(), row)?, "{row}");
+        }
     }
     Ok(())
 }
@@ -659,6 +693,7 @@ fn no_table_in_ogg(rt: HostRuntime) {
         comments: Vec::new(alloc),
         lax: false,
         predictors: None,
+        raw: false,
     };
     let found = perform(alloc, &job, &[0xF4, 0x63, 0xB0, 0x28], 4096);
     assert!(rt; found.is(1, &[], "", "flac: a.raw: 37 BadMapping\n"));

@@ -289,6 +289,22 @@ encode a.raw a.flac --rate 44100 --channels 9 --bits 16 --block 4096 | 000000080
 encode a.raw a.flac --rate 44100 --channels 2 --bits 16 --block 4096 | 000000080000 | 1 |  |  | flac: a.raw: 48 RawLength;
 encode a.raw a.flac --rate 44100 --channels 1 --bits 12 --block 4096 | 000000080000 | 1 |  |  | flac: a.raw: 44 SampleTooLarge;
 encode a.raw a.flac --rate 44100 --channels 1 --bits 16 --block 15 | 000000080000 | 1 |  |  | flac: a.raw: 46 BadBlockSize;
+# Files of sound are no raw samples: a stream, a page of Ogg, WAV files, an AIFF file, an ID3v2 tag. Other bytes are, and with --raw these.
+encode a.raw a.flac --rate 44100 --channels 2 --bits 16 | 664c6143 | 1 |  |  | flac: a.raw: 56 NotRaw;
+encode a.raw a.flac --rate 44100 --channels 2 --bits 16 | 4f676753 | 1 |  |  | flac: a.raw: 56 NotRaw;
+encode a.raw a.flac --rate 44100 --channels 2 --bits 16 | 52494646 | 1 |  |  | flac: a.raw: 56 NotRaw;
+encode a.raw a.flac --rate 44100 --channels 2 --bits 16 | 52463634 | 1 |  |  | flac: a.raw: 56 NotRaw;
+encode a.raw a.flac --rate 44100 --channels 2 --bits 16 | 42573634 | 1 |  |  | flac: a.raw: 56 NotRaw;
+encode a.raw a.flac --rate 44100 --channels 2 --bits 16 | 464f524d | 1 |  |  | flac: a.raw: 56 NotRaw;
+encode a.raw a.flac --rate 44100 --channels 2 --bits 16 | 4944330400000000 | 1 |  |  | flac: a.raw: 56 NotRaw;
+encode a.raw a.flac --rate 44100 --channels 2 --bits 16 --ogg | 664c6143 00*40000 | 1 |  |  | flac: a.raw: 56 NotRaw;
+encode a.raw a.flac --rate 44100 --channels 2 --bits 16 --raw | 664c6143 | 0 | 664c6143000000221000100000000f00000f0ac442f000000001b9352a6d56387967644df531f187bd44 COMMENTS fff869180000bf01a6330043614eae
+# The format goes before, the number of bytes after. No file of sound begins so.
+encode a.raw a.flac --rate 44100 --channels 9 --bits 16 | 664c6143 | 1 |  |  | flac: a.raw: 42 BadChannels;
+encode a.raw a.flac --rate 44100 --channels 2 --bits 16 | 494433 | 1 |  |  | flac: a.raw: 56 NotRaw;
+encode a.raw a.flac --rate 44100 --channels 2 --bits 16 --raw | 494433 | 1 |  |  | flac: a.raw: 48 RawLength;
+encode a.raw a.flac --rate 44100 --channels 2 --bits 16 | 664c61 | 1 |  |  | flac: a.raw: 48 RawLength;
+encode a.raw a.flac --rate 44100 --channels 2 --bits 16 | 4944 | 1 |  |  | flac: a.raw: 48 RawLength;
 # Ten thousand zeros in blocks of 4096: a seek point for each frame that holds a multiple, and one only.
 encode a.raw a.flac --rate 44100 --channels 1 --bits 16 --seek-every 0 | 00*20000 | 0 | 664c6143000000221000100000000b00000d0ac440f000002710b2fe457348de243a579a1591d3815170 COMMENTS fff8c90800951003c0a87efff8c90801921003c0c406fff8790802070ff11003c0f27e
 list a.flac | 664c6143000000221000100000000b00000d0ac440f000002710b2fe457348de243a579a1591d3815170 COMMENTS fff8c90800951003c0a87efff8c90801921003c0c406fff8790802070ff11003c0f27e | 0 |  | block 0 STREAMINFO 34;  blocks 4096 4096 frames 11 13 rate 44100 channels 1 depth 16 samples 10000;  md5 b2fe457348de243a579a1591d3815170;block 1 VORBIS_COMMENT 22;  vendor flac profile 1;
@@ -422,21 +438,106 @@ test a.flac | MAPPING 4e67675300000000000000000000010000000100000060d1f601010c84
 # A page whose 255 lacing values are 255, and whose body is cut.
 test a.flac | MAPPING COMMENT 4f6767530000 ff*8 010000000200000000000000ff ff*255 fff869180000bf0158fd01128b5ab2 00*65009 | 1 |  |  | flac: a.flac: page 2: 3 Truncated;";
 
+/// Command lines, what IN and what OUT begins with, and whether OUT may be replaced.
+pub(crate) const REPLACED: &str = "# A stream, a page of Ogg, WAV files, an AIFF file, an ID3v2 tag.
+decode a.flac a.raw |  | 664c6143 00*8 | no
+decode a.flac a.raw |  | 4f676753 00*8 | no
+decode a.flac a.raw |  | 52494646 00*8 | no
+decode a.flac a.raw |  | 52463634 00*8 | no
+decode a.flac a.raw |  | 42573634 00*8 | no
+decode a.flac a.raw |  | 464f524d 00*8 | no
+decode a.flac a.raw |  | 494433 00*8 | no
+decode a.flac a.wav |  | 664c6143 00*8 | no
+decode a.flac a.wav |  | 4f676753 00*8 | no
+decode a.flac a.wav |  | 52494646 00*8 | yes
+decode a.flac a.wav |  | 52463634 00*8 | yes
+decode a.flac a.wav |  | 42573634 00*8 | yes
+decode a.flac a.wav |  | 464f524d 00*8 | no
+decode a.flac a.wav |  | 494433 00*8 | no
+encode a.wav a.flac |  | 664c6143 00*8 | yes
+encode a.wav a.flac |  | 4f676753 00*8 | yes
+encode a.wav a.flac |  | 52494646 00*8 | no
+encode a.wav a.flac |  | 52463634 00*8 | no
+encode a.wav a.flac |  | 42573634 00*8 | no
+encode a.wav a.flac |  | 464f524d 00*8 | no
+encode a.wav a.flac |  | 494433 00*8 | no
+encode a.raw a.flac --rate 44100 --channels 2 --bits 16 |  | 664c6143 00*8 | yes
+encode a.raw a.flac --rate 44100 --channels 2 --bits 16 |  | 4f676753 00*8 | yes
+encode a.raw a.flac --rate 44100 --channels 2 --bits 16 |  | 52494646 00*8 | no
+encode a.raw a.flac --rate 44100 --channels 2 --bits 16 |  | 52463634 00*8 | no
+encode a.raw a.flac --rate 44100 --channels 2 --bits 16 |  | 42573634 00*8 | no
+encode a.raw a.flac --rate 44100 --channels 2 --bits 16 |  | 464f524d 00*8 | no
+encode a.raw a.flac --rate 44100 --channels 2 --bits 16 |  | 494433 00*8 | no
+# No file of sound begins so.
+decode a.flac a.raw |  | 664c6144 | yes
+decode a.flac a.raw |  | 4944 | yes
+decode a.flac a.raw |  | 524946 | yes
+decode a.flac a.raw |  | 00 | yes
+decode a.flac a.raw |  | 20664c6143 | yes
+decode a.flac a.wav |  | 664c6144 | yes
+decode a.flac a.wav |  | 4944 | yes
+decode a.flac a.wav |  | 524946 | yes
+decode a.flac a.wav |  | 00 | yes
+decode a.flac a.wav |  | 20664c6143 | yes
+encode a.wav a.flac |  | 664c6144 | yes
+encode a.wav a.flac |  | 4944 | yes
+encode a.wav a.flac |  | 524946 | yes
+encode a.wav a.flac |  | 00 | yes
+encode a.wav a.flac |  | 20664c6143 | yes
+encode a.raw a.flac --rate 44100 --channels 2 --bits 16 |  | 664c6144 | yes
+encode a.raw a.flac --rate 44100 --channels 2 --bits 16 |  | 4944 | yes
+encode a.raw a.flac --rate 44100 --channels 2 --bits 16 |  | 524946 | yes
+encode a.raw a.flac --rate 44100 --channels 2 --bits 16 |  | 00 | yes
+encode a.raw a.flac --rate 44100 --channels 2 --bits 16 |  | 20664c6143 | yes
+# Jobs that write nothing replace nothing.
+test a.flac |  | 664c6143 | yes
+list a.flac |  | 664c6143 | yes
+# A native stream of the same STREAMINFO, with the other flag, and with more after it; another digest; a cut one; no stream; IN that is none.
+retag a.flac b.flac | EXAMPLE | EXAMPLE | yes
+retag a.flac b.flac | EXAMPLE | EXAMPLE_TAGGED | yes
+retag a.flac b.flac | EXAMPLE_TAGGED | EXAMPLE 00*100 | yes
+retag a.flac b.flac | EXAMPLE | ONE_INFO | no
+retag a.flac b.flac | EXAMPLE | 664c61438000002210001000 | no
+retag a.flac b.flac | EXAMPLE | PAGES | no
+retag a.flac b.flac | EXAMPLE | 00*42 | no
+retag a.flac b.flac | 00*42 | 00*42 | no
+retag a.flac b.flac | PAGES | PAGES | no";
+
 /// Command lines, and the jobs that they are read as, or the status and the text of the refusal, of which `;` ends a
 /// line.
 pub(crate) const JOBS: &str = r#"flac test a.flac | Test { input: "a.flac", lax: false }
 flac test --lax a.flac | Test { input: "a.flac", lax: true }
 flac decode a.flac a.raw | Decode { input: "a.flac", output: "a.raw", lax: false }
 flac decode a.flac a.raw --lax | Decode { input: "a.flac", output: "a.raw", lax: true }
+flac decode a.flac a.raw --force | force Decode { input: "a.flac", output: "a.raw", lax: false }
+flac decode a.flac a.wav | DecodeWave { input: "a.flac", output: "a.wav", lax: false }
+flac decode --wav a.flac a.raw --force | force DecodeWave { input: "a.flac", output: "a.raw", lax: false }
 flac list a.flac | List { input: "a.flac", lax: false }
 flac list a.flac --lax | List { input: "a.flac", lax: true }
 flac retag a.flac b.flac A=b | Retag { input: "a.flac", output: "b.flac", comments: ["A=b"] }
-flac encode a.raw a.flac --rate 44100 --channels 2 --bits 16 --seek-every 5 A=b | Encode { input: "a.raw", output: "a.flac", format: RawFormat { rate: 44100, channels: 2, bits: 16, block: 4096, seek_every: 5 }, container: Native, comments: ["A=b"], lax: false, predictors: None }
-flac encode a.raw a.oga --rate 44100 --channels 2 --bits 16 --ogg --serial 7 | Encode { input: "a.raw", output: "a.oga", format: RawFormat { rate: 44100, channels: 2, bits: 16, block: 4096, seek_every: 0 }, container: Ogg { serial: 7 }, comments: [], lax: false, predictors: None }
-flac encode a.raw a.oga --rate 44100 --channels 2 --bits 16 --ogg --block 4096 | Encode { input: "a.raw", output: "a.oga", format: RawFormat { rate: 44100, channels: 2, bits: 16, block: 4096, seek_every: 0 }, container: Ogg { serial: 1 }, comments: [], lax: false, predictors: None }
-flac encode a.raw a.oga --rate 44100 --channels 2 --bits 16 --seek-every=0 --serial 7 | Encode { input: "a.raw", output: "a.oga", format: RawFormat { rate: 44100, channels: 2, bits: 16, block: 4096, seek_every: 0 }, container: Native, comments: [], lax: false, predictors: None }
-flac encode a.raw a.flac --rate 44100 --channels 2 --bits 5 --lax | Encode { input: "a.raw", output: "a.flac", format: RawFormat { rate: 44100, channels: 2, bits: 5, block: 4096, seek_every: 0 }, container: Native, comments: [], lax: true, predictors: None }
-flac encode a.raw a.flac --rate 44100 --channels 2 --bits 16 --predictors a.txt | Encode { input: "a.raw", output: "a.flac", format: RawFormat { rate: 44100, channels: 2, bits: 16, block: 4096, seek_every: 0 }, container: Native, comments: [], lax: false, predictors: Some("a.txt") }
+flac retag --force a.flac b.flac A=b | force Retag { input: "a.flac", output: "b.flac", comments: ["A=b"] }
+flac retag a.flac ./TITLE=New | Retag { input: "a.flac", output: "./TITLE=New", comments: [] }
+flac retag a.flac b/TITLE=New A=b | Retag { input: "a.flac", output: "b/TITLE=New", comments: ["A=b"] }
+flac retag a.flac TITLE=New | 2 flac: command: OUT has the form of a comment; a file of that name is ./TITLE=New;
+flac retag a.flac TITLE=New/b A=b --force | 2 flac: command: OUT has the form of a comment; a file of that name is ./TITLE=New/b;
+flac retag a.flac =b | 2 flac: command: OUT has the form of a comment; a file of that name is ./=b;
+flac retag a.flac TITLE=New none | 2 flac: command: comment without =;
+flac decode a.flac A=b | Decode { input: "a.flac", output: "A=b", lax: false }
+flac encode a.raw a.flac --rate 44100 --channels 2 --bits 16 --seek-every 5 A=b | Encode { input: "a.raw", output: "a.flac", format: RawFormat { rate: 44100, channels: 2, bits: 16, block: 4096, seek_every: 5 }, container: Native, comments: ["A=b"], lax: false, predictors: None, raw: false }
+flac encode a.raw a.oga --rate 44100 --channels 2 --bits 16 --ogg --serial 7 | Encode { input: "a.raw", output: "a.oga", format: RawFormat { rate: 44100, channels: 2, bits: 16, block: 4096, seek_every: 0 }, container: Ogg { serial: 7 }, comments: [], lax: false, predictors: None, raw: false }
+flac encode a.raw a.oga --rate 44100 --channels 2 --bits 16 --ogg --block 4096 | Encode { input: "a.raw", output: "a.oga", format: RawFormat { rate: 44100, channels: 2, bits: 16, block: 4096, seek_every: 0 }, container: Ogg { serial: 1 }, comments: [], lax: false, predictors: None, raw: false }
+flac encode a.raw a.oga --rate 44100 --channels 2 --bits 16 --seek-every=0 --serial 7 | Encode { input: "a.raw", output: "a.oga", format: RawFormat { rate: 44100, channels: 2, bits: 16, block: 4096, seek_every: 0 }, container: Native, comments: [], lax: false, predictors: None, raw: false }
+flac encode a.raw a.flac --rate 44100 --channels 2 --bits 5 --lax | Encode { input: "a.raw", output: "a.flac", format: RawFormat { rate: 44100, channels: 2, bits: 5, block: 4096, seek_every: 0 }, container: Native, comments: [], lax: true, predictors: None, raw: false }
+flac encode a.raw a.flac --rate 44100 --channels 2 --bits 16 --predictors a.txt | Encode { input: "a.raw", output: "a.flac", format: RawFormat { rate: 44100, channels: 2, bits: 16, block: 4096, seek_every: 0 }, container: Native, comments: [], lax: false, predictors: Some("a.txt"), raw: false }
+flac encode a.raw a.flac --rate 44100 --channels 2 --bits 16 --raw | Encode { input: "a.raw", output: "a.flac", format: RawFormat { rate: 44100, channels: 2, bits: 16, block: 4096, seek_every: 0 }, container: Native, comments: [], lax: false, predictors: None, raw: true }
+flac encode a.raw a.flac --rate 44100 --channels 2 --bits 16 --force | force Encode { input: "a.raw", output: "a.flac", format: RawFormat { rate: 44100, channels: 2, bits: 16, block: 4096, seek_every: 0 }, container: Native, comments: [], lax: false, predictors: None, raw: false }
+flac encode a.wav a.flac --force A=b | force EncodeWave { input: "a.wav", output: "a.flac", block: 4096, seek_every: 0, container: Native, comments: ["A=b"], lax: false, predictors: None }
+flac encode a.wav a.oga --ogg --block 16 --lax | EncodeWave { input: "a.wav", output: "a.oga", block: 16, seek_every: 0, container: Ogg { serial: 1 }, comments: [], lax: true, predictors: None }
+flac encode a.wav a.flac none | 2 flac: command: comment without =;
+flac encode a.wav a.oga --ogg --seek-every 5 | 2 flac: command: --ogg with --seek-every;
+flac encode a.raw a.flac --rate 44100 --channels 2 | 2 flac: command: a word is missing;
+flac encode a.raw a.flac --bits 16 | 2 flac: command: a word is missing;
+flac encode a.raw a.flac --raw | 2 flac: command: a word is missing;
 flac encode a.raw a.flac --rate 44100 --channels 2 --bits 16 none | 2 flac: command: comment without =;
 flac encode a.raw a.flac --rate 44100 --channels 2 --bits 16 --ogg --seek-every 5 | 2 flac: command: --ogg with --seek-every;
 flac encode a.raw a.flac --rate 44100 --channels 2 --bits 16 --ogg --seek-every 5 none | 2 flac: command: comment without =;
@@ -444,11 +545,13 @@ flac | 2 error: 'flac' requires a subcommand but one was not provided;  [subcomm
 flac test | 2 error: the following required arguments were not provided:;  <IN>;;Usage: flac test <IN>;;For more information, try '--help'.;
 flac list | 2 error: the following required arguments were not provided:;  <IN>;;Usage: flac list <IN>;;For more information, try '--help'.;
 flac retag a.flac b.flac --lax | 2 error: unexpected argument '--lax' found*
+flac test a.flac --force | 2 error: unexpected argument '--force' found*
+flac retag a.flac b.flac --raw | 2 error: unexpected argument '--raw' found*
 flac decode a.flac | 2 error: the following required arguments were not provided:;  <OUT>;;Usage: flac decode <IN> <OUT>;;For more information, try '--help'.;
 flac play a.flac | 2 error: unrecognized subcommand 'play';;Usage: flac <COMMAND>;;For more information, try '--help'.;
 flac --help | 0 Tests*
 flac test --help | 0 Decodes a stream, and prints how many frames*
 flac decode --help | 0 Decodes a stream to raw samples*
 flac list --help | 0 Decodes a stream, and lists its metadata blocks;*
-flac encode --help | 0 Encodes raw samples*
+flac encode --help | 0 Encodes a WAV file, or raw samples*
 flac retag --help | 0 Writes a stream with other comments;*"#;

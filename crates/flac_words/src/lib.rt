@@ -1,6 +1,6 @@
-//! The command line of the program, read as a job.
+//! The command line of the program.
 #![tactic(auto)]
 
 mod words;
 
-pub use words::{given_words, job};
+pub use words::{command_line, given_words, job};

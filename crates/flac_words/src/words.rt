@@ -1,11 +1,11 @@
 //! Reading of the command line.
 
-ghost use Rattle.std.specs.Prelude.{◌≤◌, IfErr};
+ghost use Rattle.std.specs.Prelude.{◌≤◌, IfErr, IfSome};
 
 use clap::builder::ValueParser;
 use clap::error::ErrorKind;
 use clap::{Arg, ArgAction, ArgMatches, Command};
-use flac_jobs::{ContainerKind, Job, LineFault, RawFormat};
+use flac_jobs::{CommandLine, ContainerKind, Job, LineFault, RawFormat};
 use std::alloc::{AllocError, Global};
 use std::borrow::CowStr;
 
@@ -13,6 +13,7 @@ const EXAMPLES: &str = "Examples:
   flac test song.flac             is the stream whole and right?
   flac list song.flac             its metadata
   flac decode song.flac song.raw  its samples
+  flac encode song.wav song.flac  encodes a WAV file, and keeps all of it
   flac encode song.raw song.flac --rate 44100 --channels 2 --bits 16
   flac encode song.raw song.oga --ogg --rate 44100 --channels 2 --bits 16
   flac retag song.flac other.flac TITLE=Song
@@ -36,11 +37,18 @@ const DECODE_EXAMPLE: &str = "Example, of a stream of 44100 Hz with two channels
 
 OUT has to be another file than IN: else it cannot be created, and IN stays as it is. If
 decoding fails, the samples written before stay in OUT. But if OUT was a file with
-bytes, it stays as it was, and these samples are in OUT.part beside it.";
+bytes, it stays as it was, and these samples are in OUT.part beside it.
+
+OUT is not replaced if it is a file of sound: a stream, or one that begins with RIFF,
+RF64, BW64, FORM or ID3. A WAV file that is written may replace another. With --force
+any file is replaced.";
 
 const ENCODE_EXAMPLE: &str =
     "Example, of raw samples of 44100 Hz, two interleaved channels, 16 bits, little-endian:
   $ flac encode song.raw song.flac --rate 44100 --channels 2 --bits 16 TITLE=Song
+
+Raw samples that begin as a file of sound are refused, since the file would become
+noise: with fLaC, OggS, RIFF, RF64, BW64, FORM or ID3. With --raw they are taken.
 
 A sample takes whole bytes: two for 12 bits, three for 20 bits. With --seek-every 441000
 the stream has a seek table with a point every ten seconds. With --ogg it is an Ogg
@@ -58,7 +66,10 @@ refuse them.
 
 OUT has to be another file than IN and LIST: else it cannot be created, and these stay
 as they are. If encoding fails, what was written before stays in OUT. But if OUT was a
-file with bytes, it stays as it was, and what was written is in OUT.part beside it.";
+file with bytes, it stays as it was, and what was written is in OUT.part beside it.
+
+OUT may replace a stream, but no other file of sound: none that begins with RIFF, RF64,
+BW64, FORM or ID3. With --force any file is replaced.";
 
 const RETAG_EXAMPLE: &str = "Example:
   $ flac retag song.flac other.flac TITLE=Song ARTIST=Someone
@@ -71,7 +82,11 @@ zeros. The frames are not verified. If the metadata is refused, nothing is writt
 
 OUT has to be another file than IN: else it cannot be created, and IN stays as it is. If
 the job fails later, what was written before stays in OUT. But if OUT was a file with
-bytes, it stays as it was, and what was written is in OUT.part beside it.";
+bytes, it stays as it was, and what was written is in OUT.part beside it.
+
+A file with bytes is replaced only if it is a native stream with the STREAMINFO of IN,
+and not if IN is a pipe. With --force any file is replaced. A word such as TITLE=Song is
+no name of OUT: write ./TITLE=Song.";
 
 const LIST_EXAMPLE: &str = "Example:
   $ flac list song.flac
@@ -85,23 +100,63 @@ const LIST_EXAMPLE: &str = "Example:
 Bytes of a text outside 20 to 7E (hexadecimal), and the backslash, are shown as \\x and
 two digits.";
 
-/// Reads the command line as a job. `words` are its words, the program's name first.
+/// Reads the command line. `words` are its words, the program's name first.
 ///
 /// # Errors
 /// What to print in place of a job: the help that was asked for (status 0), that memory ran out (1), or why the command
 /// line is refused (2).
-pub fn job<'a>(alloc: Global, words: &'a [String]) -> Result<Job<'a>, LineFault>
+pub fn command_line<'a>(alloc: Global, words: &'a [String]) -> Result<CommandLine<'a>, LineFault>
     ensures { IfErr result (λ fault. fault.status ≤ 2) }
 {
     match parsed(alloc, words) {
-        Ok(Some(job)) if lacks_equals(&job) => Err(LineFault::no_equals()),
-        Ok(Some(job)) if has_table_in_ogg(&job) => Err(LineFault::table_in_ogg()),
-        Ok(Some(job)) => Ok(job),
+        Ok(Some(line)) => match fault_of(alloc, &line.job) {
+            Some(fault) => Err(fault),
+            None => Ok(line),
+        },
         Ok(None) => Err(LineFault {
             text: CowStr::Borrowed("flac: command: a word is missing\n"),
             status: 2,
         }),
         Err(error) => Err(refused(alloc, &error)),
+    }
+}
+
+/// Reads the command line as [`command_line`] does, and returns the job alone.
+///
+/// # Errors
+/// Those of [`command_line`].
+pub fn job<'a>(alloc: Global, words: &'a [String]) -> Result<Job<'a>, LineFault>
+    ensures { IfErr result (λ fault. fault.status ≤ 2) }
+{
+    match command_line(alloc, words) {
+        Ok(CommandLine { job, force: _ }) => Ok(job),
+        Err(refusal) => Err(refusal),
+    }
+}
+
+/// Why a job is refused whose words were all read; `None` if it is not.
+fn fault_of(alloc: Global, job: &Job<'_>) -> Option<LineFault>
+    ensures { IfSome result (λ fault. fault.status ≤ 2) }
+{
+    if lacks_equals(job) {
+        return Some(LineFault::no_equals());
+    }
+    if has_table_in_ogg(job) {
+        return Some(LineFault::table_in_ogg());
+    }
+    match job {
+        Job::Retag { output, .. } if is_comment(output) => {
+            Some(LineFault::comment_as_path(alloc, output))
+        }
+        _ => None,
+    }
+}
+
+/// Whether a path has the form of a comment, NAME=VALUE, without a folder before its `=`.
+fn is_comment(path: &str) -> bool {
+    match path.split_once('=') {
+        Some((name, _)) => !name.contains('/'),
+        None => false,
     }
 }
 
@@ -125,9 +180,9 @@ pub fn given_words(rt: &HostRuntime) -> Result<Vec<String>, LineFault>
 /// Whether a comment of the job has no `=`.
 fn lacks_equals(job: &Job<'_>) -> bool {
     match job {
-        Job::Encode { comments, .. } | Job::Retag { comments, .. } => {
-            !comments.iter().all(|word| word.contains('='))
-        }
+        Job::Encode { comments, .. }
+        | Job::EncodeWave { comments, .. }
+        | Job::Retag { comments, .. } => { !comments.iter().all(|word| word.contains('=')) }
         _ => false,
     }
 }
@@ -140,6 +195,11 @@ fn has_table_in_ogg(job: &Job<'_>) -> bool {
             container,
             ..
         } => format.seek_every != 0 && *container != ContainerKind::Native,
+        Job::EncodeWave {
+            seek_every,
+            container,
+            ..
+        } => *seek_every != 0 && *container != ContainerKind::Native,
         _ => false,
     }
 }
@@ -159,11 +219,15 @@ fn refused(alloc: Global, error: &clap::Error) -> LineFault
     LineFault::no_memory()
 }
 
-/// The job of the command line, or `None` if a word is missing.
-fn parsed<'a>(alloc: Global, words: &'a [String]) -> Result<Option<Job<'a>>, clap::Error> {
+/// What the command line asks for, or `None` if a word is missing.
+fn parsed<'a>(alloc: Global, words: &'a [String]) -> Result<Option<CommandLine<'a>>, clap::Error> {
     let matches = command(alloc)?.try_get_matches_from(words)?;
-    match matches.subcommand() {
-        Some((name, given)) => job_of(alloc, name, given),
+    let Some((name, given)) = matches.subcommand() else {
+        return Ok(None);
+    };
+    let force = given.get_flag("force");
+    match job_of(alloc, name, given)? {
+        Some(job) => Ok(Some(CommandLine { job, force })),
         None => Ok(None),
     }
 }
@@ -199,11 +263,13 @@ fn test_job<'a>(given: &ArgMatches<'a>) -> Option<Job<'a>> {
 
 /// The job of `decode`.
 fn decode_job<'a>(given: &ArgMatches<'a>) -> Option<Job<'a>> {
-    Some(Job::Decode {
-        input: given.get_str("IN")?,
-        output: given.get_str("OUT")?,
-        lax: given.get_flag("lax"),
-    })
+    let input = given.get_str("IN")?;
+    let output = given.get_str("OUT")?;
+    let lax = given.get_flag("lax");
+    if given.get_flag("wav") || output.ends_with(".wav") {
+        return Some(Job::DecodeWave { input, output, lax });
+    }
+    Some(Job::Decode { input, output, lax })
 }
 
 /// The job of `list`.
@@ -219,10 +285,30 @@ fn encode_job<'a>(alloc: Global, given: &ArgMatches<'a>) -> Result<Option<Job<'a
     let (Some(input), Some(output)) = (given.get_str("IN"), given.get_str("OUT")) else {
         return Ok(None);
     };
-    let (Some(format), Some(container)) = (format_of(given), container_of(given)) else {
+    let (Some(block), Some(seek_every), Some(container)) = (
+        given.get_one("block"),
+        given.get_one("seek-every"),
+        container_of(given),
+    ) else {
         return Ok(None);
     };
     let comments = comments_of(alloc, given)?;
+    let raw = given.get_flag("raw");
+    let Some(format) = format_of(given) else {
+        if raw || has_part_of_format(given) {
+            return Ok(None);
+        }
+        return Ok(Some(Job::EncodeWave {
+            input,
+            output,
+            block,
+            seek_every,
+            container,
+            comments,
+            lax: given.get_flag("lax"),
+            predictors: given.get_str("predictors"),
+        }));
+    };
     Ok(Some(Job::Encode {
         input,
         output,
@@ -231,6 +317,7 @@ fn encode_job<'a>(alloc: Global, given: &ArgMatches<'a>) -> Result<Option<Job<'a
         comments,
         lax: given.get_flag("lax"),
         predictors: given.get_str("predictors"),
+        raw,
     }))
 }
 
@@ -265,6 +352,16 @@ fn format_of(given: &ArgMatches<'_>) -> Option<RawFormat> {
         block: given.get_one("block")?,
         seek_every: given.get_one("seek-every")?,
     })
+}
+
+/// Whether one of the options of a format is given.
+fn has_part_of_format(given: &ArgMatches<'_>) -> bool {
+    let one: [Option<u32>; 3] = [
+        given.get_one("rate"),
+        given.get_one("channels"),
+        given.get_one("bits"),
+    ];
+    one[0].is_some() || one[1].is_some() || one[2].is_some()
 }
 
 /// The container that the options give.
@@ -304,8 +401,8 @@ enum WordKind {
     Flag,
     /// An option whose value is the path of a list.
     List,
-    /// An option whose value is a whole number below 2^32, and which has to be given.
-    Needed,
+    /// An option whose value is a whole number below 2^32.
+    Wanted,
     /// An option with this default, whose value is such a number.
     Number(&'static str),
 }
@@ -333,7 +430,7 @@ static LIST: Usage = Usage {
 
 static ENCODE: Usage = Usage {
     name: "encode",
-    about: "Encodes raw samples: interleaved, signed little-endian, whole bytes a sample",
+    about: "Encodes a WAV file, or raw samples: interleaved, signed little-endian, whole bytes a sample",
     words: &ENCODE_WORDS,
     example: ENCODE_EXAMPLE,
 };
@@ -349,41 +446,47 @@ static RETAG: Usage = Usage {
 const TEST_WORDS: [Word; 2] = [STREAM, LAX];
 
 /// The arguments of `decode`.
-const DECODE_WORDS: [Word; 3] = [
+const DECODE_WORDS: [Word; 5] = [
     STREAM,
     Word {
         name: "OUT",
         kind: WordKind::File,
-        help: "The file that the samples are written to",
+        help: "The file that the samples are written to; if it ends in .wav, as a WAV file",
+    },
+    Word {
+        name: "wav",
+        kind: WordKind::Flag,
+        help: "Writes the WAV file that the stream was encoded of",
     },
     LAX,
+    FORCE,
 ];
 
 /// The arguments of `retag`.
-const RETAG_WORDS: [Word; 3] = [STREAM, STREAM_OUT, COMMENTS];
+const RETAG_WORDS: [Word; 4] = [STREAM, STREAM_OUT, COMMENTS, FORCE];
 
 /// The arguments of `encode`.
-const ENCODE_WORDS: [Word; 12] = [
+const ENCODE_WORDS: [Word; 14] = [
     Word {
         name: "IN",
         kind: WordKind::File,
-        help: "The raw samples",
+        help: "A WAV file, or raw samples if --rate, --channels and --bits are given",
     },
     STREAM_OUT,
     COMMENTS,
     Word {
         name: "rate",
-        kind: WordKind::Needed,
-        help: "Samples a second",
+        kind: WordKind::Wanted,
+        help: "Samples a second; of raw samples, with --channels and --bits",
     },
     Word {
         name: "channels",
-        kind: WordKind::Needed,
+        kind: WordKind::Wanted,
         help: "Channels, 1 to 8",
     },
     Word {
         name: "bits",
-        kind: WordKind::Needed,
+        kind: WordKind::Wanted,
         help: "Bits of a sample: 8, 12, 16, 20, 24 or 32; with --lax 4 to 32",
     },
     Word {
@@ -416,6 +519,12 @@ const ENCODE_WORDS: [Word; 12] = [
         kind: WordKind::Flag,
         help: "Writes streams outside the streamable subset too, which other players may refuse",
     },
+    Word {
+        name: "raw",
+        kind: WordKind::Flag,
+        help: "Takes any bytes as raw samples, also those of a stream or a WAV file",
+    },
+    FORCE,
 ];
 
 const STREAM: Word = Word {
@@ -434,6 +543,13 @@ const COMMENTS: Word = Word {
     name: "COMMENT",
     kind: WordKind::Comments,
     help: "Comments, each NAME=VALUE",
+};
+
+/// The option `--force` of `decode`, `encode` and `retag`.
+const FORCE: Word = Word {
+    name: "force",
+    kind: WordKind::Flag,
+    help: "Replaces OUT whatever it is, but never a file that is read",
 };
 
 /// The option `--lax` of `test`, `decode` and `list`.
@@ -498,7 +614,7 @@ fn argument<'a>(alloc: Global, word: &Word) -> Arg<'a> {
         WordKind::Comments => argument.num_args(0..),
         WordKind::Flag => argument.long(word.name).action(ArgAction::SetTrue),
         WordKind::List => option(argument, word.name, "LIST"),
-        WordKind::Needed => number(argument, word.name).required(true),
+        WordKind::Wanted => number(argument, word.name),
         WordKind::Number(default) => number(argument, word.name).default_value(default),
     }
 }

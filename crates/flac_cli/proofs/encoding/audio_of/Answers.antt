@@ -20,6 +20,7 @@ returns-in-Some g c = record {
   accepted = tt;
   refused = λ known same. inr (bad_format c.args.profile c.args.format (g.R.Source.coming c.args.source.now) c.in-Some.fault c.in-Some.ensures.fault);
   unwritten = not_setup c.in-Some.fault _;
+  names = refl;
 }
 
 pub returns-in_err-lists : goal.returns-in_err-lists
@@ -31,6 +32,7 @@ returns-in_err-lists g c =
       accepted = tt;
       refused = λ known same. inl (inl (ap Input (c.in_err-lists.ensures.memory known same)));
       unwritten = not_input _ _;
+      names = c.in_err-lists.ensures.names;
     })
 
 pub returns-in_default-2 : goal.returns-in_default-2
@@ -42,6 +44,7 @@ returns-in_default-2 g c =
       accepted = tt;
       refused = λ known same. inr (bad_length c.args.profile c.args.format bytes (length bytes) c.in_default.ensures.fault refl (rw c.sample_width-width.ensures at (c.in_ok-lists.ensures.part c.in_default-2.is known)));
       unwritten = not_length _;
+      names = c.in_ok-lists.ensures.names;
     }
 
 pub returns-in_err-audio : goal.returns-in_err-audio
@@ -58,6 +61,7 @@ returns-in_err-audio g c =
       accepted = tt;
       refused = λ known same. inr (bad_samples c.args.profile c.args.format bytes (length bytes) c.in_err-audio.field-0.0 bytes _ c.in_default.ensures.fault refl (whole known) (are known) refl c.in_err-audio.ensures);
       unwritten = not_setup _ _;
+      names = c.in_ok-lists.ensures.names;
     })
 
 pub returns : goal.returns
@@ -75,4 +79,5 @@ returns g c =
           good_samples c.args.profile c.args.format bytes (length bytes) c.in_ok-audio.audio c.in_default.ensures.fault refl (whole known) sound c.channels-channels.ensures.sound;
       refused = tt;
       unwritten = tt;
+      names = c.in_ok-lists.ensures.names;
     }

@@ -19,7 +19,7 @@ rises_on : (began before now : ℕ) → before < now → before ≡ began → be
 rises_on began before now more same = omega (arith, more, same)
 
 pub loop-count-init : goal.loop-count-init
-loop-count-init g c = record { few = least _; long = refl; known = λ known. known; bytes = λ known. refl; raised = refl; most = none_more _ }
+loop-count-init g c = record { few = least _; long = refl; known = λ known. known; bytes = λ known. refl; raised = refl; names = refl; most = none_more _ }
 
 pub returns : goal.returns
 returns g c =
@@ -32,6 +32,7 @@ returns g c =
       counted = inv.raised;
       most = inv.most;
       failed = tt;
+      names = inv.names;
     }
 
 -- of no bytes that were read nothing is left
@@ -70,6 +71,7 @@ returns-then-more-eq0 g c =
       counted = e.counted.1 ∙ inv.raised;
       most = fewer _ _ _ _ _ none e.most inv.most;
       failed = tt;
+      names = e.names ∙ inv.names;
     }
 
 pub returns-in_default : goal.returns-in_default
@@ -81,6 +83,7 @@ returns-in_default g c = record {
   counted = tt;
   most = tt;
   failed = λ known. rises_on _ _ _ (c.in_default.ensures.rises (c.loop-count.invariant.known known)) c.loop-count.invariant.raised;
+  names = c.in_default.ensures.names ∙ c.loop-count.invariant.names;
 }
 
 pub loop-count-preserved : goal.loop-count-preserved
@@ -100,5 +103,6 @@ loop-count-preserved g c =
           inv.bytes known ∙ ap (λ l. take count xs ++ l) (e.bytes (inv.known known)) ∙ sym (append_assoc (take count xs) (take c.in-Ok.more ys) later)
           ∙ ap (λ l. l ++ later) (sym (put_taken count (c.args.most - count) c.in-Ok.more xs ys within e.bound.0));
       raised = e.counted.1 ∙ inv.raised;
+      names = e.names ∙ inv.names;
       most = omega (arith, e.most, inv.most);
     }

@@ -8,6 +8,7 @@ invariant-loop-count g l = record {
   known : g.R.Source.known l.fn.source ≡ true → g.R.Source.known l.source ≡ true;
   bytes : g.R.Source.known l.fn.source ≡ true → g.R.Source.coming l.fn.source ≡ take l.count l.places ++ g.R.Source.coming l.source;
   raised : g.R.Source.raised l.source ≡ g.R.Source.raised l.fn.source;
+  names : g.R.Source.names l.source ≡ g.R.Source.names l.fn.source;
   most : g.R.Source.most l.source + l.count ≤ g.R.Source.most l.fn.source;
 }
 

@@ -72,24 +72,25 @@ pieces-smaller g c =
 pub returns-in_err-lists : goal.returns-in_err-lists
 returns-in_err-lists g c =
     let p = err_from_is_err_and c.from_residual.result c.from_residual.ensures.1 in
-    rw (p.1, p.2) (record { whole = tt; channels = tt; part = tt; memory = λ known same. c.in_err-lists.ensures.memory })
+    rw (p.1, p.2) (record { whole = tt; channels = tt; part = tt; memory = λ known same. c.in_err-lists.ensures.memory; names = refl })
 
 pub returns-in_err-count : goal.returns-in_err-count
 returns-in_err-count g c =
     let p = err_from_is_err_and c.from_residual-in_err-count.result c.from_residual-in_err-count.ensures.1 in
     let inv = c.pieces.invariant in
-    rw (p.1, p.2) (record { whole = tt; channels = tt; part = tt; memory = λ known same. rose _ _ _ (c.in_err-count.ensures.failed (inv.known known)) inv.raised same })
+    rw (p.1, p.2) (record { whole = tt; channels = tt; part = tt; memory = λ known same. rose _ _ _ (c.in_err-count.ensures.failed (inv.known known)) inv.raised same; names = c.in_err-count.ensures.names ∙ inv.names })
 
 pub returns-in_err-push_piece : goal.returns-in_err-push_piece
 returns-in_err-push_piece g c =
     let p = err_from_is_err_and c.from_residual-in_err-push_piece.result c.from_residual-in_err-push_piece.ensures.1 in
-    rw (p.1, p.2) (record { whole = tt; channels = tt; part = tt; memory = λ known same. c.in_err-push_piece.ensures.memory })
+    rw (p.1, p.2) (record { whole = tt; channels = tt; part = tt; memory = λ known same. c.in_err-push_piece.ensures.memory; names = c.in_ok-count.ensures.names ∙ c.pieces.invariant.names })
 
 pub pieces-init : goal.pieces-init
 pieces-init g c = record {
   known = λ known. known;
   read = λ known. none_read (g.R.Source.coming c.args.source.now) c.args.channels c.args.width (map (λ v. v.items) c.in_ok-lists.lists.items) (length-map c.in_ok-lists.lists.items (λ v. v.items) ∙ c.in_ok-lists.ensures.many) c.in_ok-lists.ensures.none;
   raised = refl;
+  names = refl;
   many = c.in_ok-lists.ensures.many;
 }
 
@@ -109,6 +110,7 @@ returns-then-count-stride-ne0 g c =
           part_read (g.R.Source.coming c.args.source.now) (g.R.Source.coming c.pieces.source) (take count c.fill.new.places) (g.R.Source.coming c.fill.new.source) c.args.channels c.args.width count (map (λ v. v.items) c.pieces.lists.items)
           (inv.read known) (e.bytes (inv.known known)) (e.end lt (inv.known known)) long c.if-count-stride-ne0.true;
       memory = tt;
+      names = e.names ∙ inv.names;
     }
 
 pub returns-then-count-size : goal.returns-then-count-size
@@ -131,6 +133,7 @@ returns-then-count-size g c =
       channels = λ known. rw back (all known).1;
       part = some_none _;
       memory = tt;
+      names = e.names ∙ inv.names;
     }
 
 pub pieces-preserved : goal.pieces-preserved
@@ -150,5 +153,6 @@ pieces-preserved g c =
           more_read (g.R.Source.coming c.args.source.now) (g.R.Source.coming c.pieces.source) (g.R.Source.coming c.fill.new.source) (take count c.fill.new.places) c.args.channels c.args.width (count / stride) (map items c.pieces.lists.items) (map items c.push_piece.new.lists)
           (inv.read known) (e.bytes (inv.known known)) (long ∙ whole_rows count stride c.if-count-stride-ne0.false) more;
       raised = e.counted ∙ inv.raised;
+      names = e.names ∙ inv.names;
       many = same ∙ inv.many;
     })

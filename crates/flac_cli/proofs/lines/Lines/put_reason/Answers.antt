@@ -22,3 +22,11 @@ returns-in_err-put_counted-in-Line g c =
 
 pub returns-in_ok-put_counted-in-Line : goal.returns-in_ok-put_counted-in-Line
 returns-in_ok-put_counted-in-Line g c = adds_same g.W.Target _ (adds_then g.W.Target _ c.in_ok-put_counted-in-Line.ensures c.put_both-in-Line.ensures) (ap (λ at. text_at at c.args.text.now) (sym c.in-Line.is))
+
+pub returns-in_err-put_counted-in-Chunk : goal.returns-in_err-put_counted-in-Chunk
+returns-in_err-put_counted-in-Chunk g c =
+    let p = err_from_is_err_and c.from_residual-in_err-put_counted-in-Chunk.result c.from_residual-in_err-put_counted-in-Chunk.ensures.1 in
+    rw p.1 (adds_lost g.W.Target (lost g.W.Target c.in_err-put_counted-in-Chunk.ensures))
+
+pub returns-in_ok-put_counted-in-Chunk : goal.returns-in_ok-put_counted-in-Chunk
+returns-in_ok-put_counted-in-Chunk g c = adds_same g.W.Target _ (adds_then g.W.Target _ c.in_ok-put_counted-in-Chunk.ensures c.put_both-in-Chunk.ensures) (ap (λ at. text_at at c.args.text.now) (sym c.in-Chunk.is))

@@ -1,0 +1,168 @@
+-- A WAV file that a stream keeps comes back.
+use Rattle.std.proofs.Common.{◌≡◌, ◌+◌, ◌*◌, ◌/◌, ℕ, Bool, true, false, cond, List, [], ◌∷◌, ◌++◌, map, Some, None, refl, ap, sym, subst, ◌∙◌, ◌⊎◌, inl, inr}
+use Rattle.std.specs.Prelude.{nat_lt}
+use Rattle.std.proofs.lemmas.Bool.{eq-eqb}
+use Rattle.std.specs.Int.Bits.{xor_assoc, xor_zero_r}
+use Rattle.std.proofs.lemmas.List.{append-nil}
+use Rattle.flac_meta.specs.declared.block.Block.{Block}
+use Rattle.flac_meta.specs.declared.seek_table.SeekPoint.{SeekPoint}
+use Rattle.flac_frame.specs.Audio.{Sound}
+use Rattle.flac_frame.specs.Frame.{Frame}
+use Rattle.flac_native.specs.Stream.{Piece, framed}
+use Rattle.flac_native.specs.Given.{Cut, plan_fault, sound_message, closing, given, frames_of}
+use Rattle.flac_native.specs.Samples.{samples_from}
+use Rattle.flac_native.specs.Seeking.{points_of, table_of}
+use Rattle.flac_cli.specs.Asked.{Asked}
+use Rattle.flac_cli.specs.Encoded.{EncodesIn, BeginsIn, parts_in, cut_as}
+use Rattle.flac_cli.specs.Predictors.{AreListed}
+use Rattle.flac_cli.specs.Waves.{turned, wave_samples, depth_for, riff_block, pieces_in, depth_of, wave_in, kept_list, piece_fault, kept_fault, Keeps, BeginsWave}
+use Rattle.flac_cli.specs.declared.held_wave.KeptFault.TheVariants as kept
+use Rattle.flac_cli.proofs.Back.{given_back}
+use Rattle.flac_jobs.specs.declared.formats.ContainerKind.{ContainerKind}
+use Rattle.flac_jobs.specs.declared.formats.ContainerKind.TheVariants as container
+use Rattle.flac_jobs.specs.declared.formats.RawFormat.{RawFormat}
+use Rattle.flac_subframe.specs.declared.linear.LinearPredictor.{LinearPredictor}
+use Rattle.flac_wave.specs.Wave.{restored}
+use Rattle.flac_wave.specs.Kept.{has_head, bits_in}
+use Rattle.flac_wave.proofs.Files.{comes_back}
+use Rattle.flac_wave.proofs.Formats.{wave_tells}
+
+-- ---- samples
+
+turned_twice : (b : ℕ) → turned (turned b) ≡ b
+turned_twice b = xor_assoc b 128 128 ∙ xor_zero_r b
+
+all_turned : (xs : List ℕ) → map turned (map turned xs) ≡ xs
+all_turned [] = refl
+all_turned (x ∷ xs) = ap (λ y. y ∷ map turned (map turned xs)) (turned_twice x) ∙ ap (λ ys. x ∷ ys) (all_turned xs)
+
+turned_by : (b : Bool) (xs : List ℕ) → cond b (map turned (cond b (map turned xs) xs)) (cond b (map turned xs) xs) ≡ xs
+turned_by true xs = all_turned xs
+turned_by false xs = refl
+
+pub wave_again : (depth : ℕ) (xs : List ℕ) → wave_samples depth (wave_samples depth xs) ≡ xs
+wave_again depth xs = turned_by (nat_lt depth 9) xs
+
+-- ---- blocks that keep pieces
+
+no_pieces : (fs : List Frame) → pieces_in (map framed fs) ≡ []
+no_pieces [] = refl
+no_pieces (f ∷ fs) = no_pieces fs
+
+same_depth : (d : ℕ) (fs : List Frame) → depth_of d (map framed fs) ≡ d
+same_depth d [] = refl
+same_depth d (f ∷ fs) = same_depth d fs
+
+pieces_kept : (qs : List (List ℕ)) (ts : List Block) (xs : List Piece) → pieces_in (closing (map riff_block qs ++ ts) ++ xs) ≡ qs ++ pieces_in (closing ts ++ xs)
+pieces_kept [] ts xs = refl
+pieces_kept (q ∷ qs) ts xs = ap (λ l. q ∷ l) (pieces_kept qs ts xs)
+
+depth_kept : (d : ℕ) (qs : List (List ℕ)) (ts : List Block) (xs : List Piece) → depth_of d (closing (map riff_block qs ++ ts) ++ xs) ≡ depth_of d (closing ts ++ xs)
+depth_kept d [] ts xs = refl
+depth_kept d (q ∷ qs) ts xs = depth_kept d qs ts xs
+
+samples_kept : (d : ℕ) (qs : List (List ℕ)) (ts : List Block) (xs : List Piece) → samples_from 0 d (closing (map riff_block qs ++ ts) ++ xs) ≡ samples_from 0 d (closing ts ++ xs)
+samples_kept d [] ts xs = refl
+samples_kept d (q ∷ qs) ts xs = samples_kept d qs ts xs
+
+-- ---- the parts of a stream
+
+-- what a seek table changes: nothing
+record Quiet (ts : List Block) : Type 0 where
+  pieces : (xs : List Piece) → pieces_in (closing ts ++ xs) ≡ pieces_in xs
+  depth : (d : ℕ) (xs : List Piece) → depth_of d (closing ts ++ xs) ≡ depth_of d xs
+  samples : (d : ℕ) (xs : List Piece) → samples_from 0 d (closing ts ++ xs) ≡ samples_from 0 d xs
+
+quiet : (points : List SeekPoint) → Quiet (table_of points)
+quiet [] = record { pieces = λ xs. refl; depth = λ d xs. refl; samples = λ d xs. refl }
+quiet (p ∷ ps) = record { pieces = λ xs. refl; depth = λ d xs. refl; samples = λ d xs. refl }
+
+-- the pieces and the depth of what is given
+record Told (parts : List Piece) (qs : List (List ℕ)) (bits : ℕ) : Type 0 where
+  pieces : pieces_in parts ≡ qs
+  depth : depth_of 0 parts ≡ bits
+
+given_told : (p : Cut) (a : Sound) (words qs : List (List ℕ)) (points : List SeekPoint) (least greatest : ℕ) → Told (given p (kept_list words qs ++ table_of points) a least greatest) qs a.bits
+given_told p a words qs points least greatest =
+    let fs = map framed (frames_of p.block_size a) in
+    let ts = table_of points in
+    let q = quiet points in
+    record {
+      pieces = pieces_kept qs ts fs ∙ (ap (λ l. qs ++ l) (q.pieces fs ∙ no_pieces (frames_of p.block_size a)) ∙ append-nil qs);
+      depth = depth_kept a.bits qs ts fs ∙ (q.depth a.bits fs ∙ same_depth a.bits (frames_of p.block_size a));
+    }
+
+parts_told : (c : ContainerKind) (p : Cut) (a : Sound) (list : List Block) (words qs : List (List ℕ)) → list ≡ kept_list words qs → (before after : List Bool) (e : EncodesIn c p list a before after)
+    → Told (parts_in c p list a before after e) qs a.bits
+parts_told container.Native p a list words qs h before after e =
+    subst (λ l. Told (given p (l ++ table_of (points_of p e.frames)) a e.least e.greatest) qs a.bits) (sym h) (given_told p a words qs (points_of p e.frames) e.least e.greatest)
+parts_told (container.Ogg serial) p a list words qs h before after e =
+    let t : Told (given p list a e.are.least e.are.greatest) qs a.bits =
+    subst (λ l. Told (given p l a e.are.least e.are.greatest) qs a.bits) (append-nil (kept_list words qs) ∙ sym h) (given_told p a words qs [] e.are.least e.are.greatest) in
+    record { pieces = t.pieces; depth = t.depth }
+
+-- the file of what is given
+given_wave : (p : Cut) (a : Sound) (words qs : List (List ℕ)) (points : List SeekPoint) (least greatest : ℕ) → plan_fault p ≡ None
+    → wave_in (given p (kept_list words qs ++ table_of points) a least greatest) ≡ restored qs (wave_samples a.bits (sound_message a))
+given_wave p a words qs points least greatest good =
+    let fs = map framed (frames_of p.block_size a) in
+    let ts = table_of points in
+    let q = quiet points in
+    let pieces : pieces_in (closing (map riff_block qs ++ ts) ++ fs) ≡ qs = pieces_kept qs ts fs ∙ (ap (λ l. qs ++ l) (q.pieces fs ∙ no_pieces (frames_of p.block_size a)) ∙ append-nil qs) in
+    let depth : depth_of a.bits (closing (map riff_block qs ++ ts) ++ fs) ≡ a.bits = depth_kept a.bits qs ts fs ∙ (q.depth a.bits fs ∙ same_depth a.bits (frames_of p.block_size a)) in
+    let samples : samples_from 0 a.bits (closing (map riff_block qs ++ ts) ++ fs) ≡ sound_message a = samples_kept a.bits qs ts fs ∙ (q.samples a.bits fs ∙ given_back p a [] [] least greatest good) in
+    ap (λ l. restored l (wave_samples (depth_of a.bits (closing (map riff_block qs ++ ts) ++ fs)) (samples_from 0 a.bits (closing (map riff_block qs ++ ts) ++ fs)))) pieces
+    ∙ (ap (λ d. restored qs (wave_samples d (samples_from 0 a.bits (closing (map riff_block qs ++ ts) ++ fs)))) depth
+    ∙ ap (λ l. restored qs (wave_samples a.bits l)) samples)
+
+-- native or in Ogg, where no seek table stands
+parts_wave : (c : ContainerKind) (p : Cut) (a : Sound) (list : List Block) (words qs : List (List ℕ)) → list ≡ kept_list words qs → (before after : List Bool) (e : EncodesIn c p list a before after)
+    → plan_fault p ≡ None → wave_in (parts_in c p list a before after e) ≡ restored qs (wave_samples a.bits (sound_message a))
+parts_wave container.Native p a list words qs h before after e good =
+    ap (λ l. wave_in (given p (l ++ table_of (points_of p e.frames)) a e.least e.greatest)) h ∙ given_wave p a words qs (points_of p e.frames) e.least e.greatest good
+parts_wave (container.Ogg serial) p a list words qs h before after e good =
+    ap (λ l. wave_in (given p l a e.are.least e.are.greatest)) (h ∙ sym (append-nil (kept_list words qs))) ∙ given_wave p a words qs [] e.are.least e.are.greatest good
+
+-- the file that is kept comes back
+pub kept_back : (asked : Asked) (bytes : List ℕ) (format : RawFormat) (a : Sound) (list : List Block) (ps : List LinearPredictor) (before after : List Bool) (k : Keeps asked bytes format a list)
+    (e : EncodesIn asked.container (cut_as (record asked { format = format }) a ps) list a before after) → plan_fault (cut_as (record asked { format = format }) a ps) ≡ None
+    → wave_in (parts_in asked.container (cut_as (record asked { format = format }) a ps) list a before after e) ≡ bytes
+kept_back asked bytes format a list ps before after k e good =
+    let qs = k.file.pieces ++ k.pieces in
+    let raw = k.raw in
+    parts_wave asked.container (cut_as (record asked { format = format }) a ps) a list asked.words qs k.blocks before after e good
+    ∙ (ap (λ d. restored qs (wave_samples d (sound_message a))) raw.bits
+    ∙ (ap (λ l. restored qs (wave_samples (depth_for k.file.format) l)) raw.samples
+    ∙ (ap (λ l. restored qs l) (wave_again (depth_for k.file.format) k.file.samples)
+    ∙ comes_back bytes k.file k.pieces k.wave k.cut)))
+
+fits_by : (head : Bool) (bits width depth : ℕ) → head ≡ true → bits ≡ width → depth ≡ 8 * ((width + 7) / 8) → piece_fault head bits depth ≡ None
+fits_by head bits width depth h b d =
+    ap (λ c. piece_fault c bits depth) h ∙ (ap (λ n. piece_fault true n depth) b ∙ (ap (λ n. piece_fault true width n) d
+    ∙ ap (λ c. cond c None (Some kept.OtherBits)) (eq-eqb (8 * ((width + 7) / 8)) (8 * ((width + 7) / 8)) refl)))
+
+-- what is kept is a file of the samples
+pub kept_fits : (asked : Asked) (bytes : List ℕ) (format : RawFormat) (a : Sound) (list : List Block) (p : Cut) (before after : List Bool) (k : Keeps asked bytes format a list) (e : EncodesIn asked.container p list a before after)
+    → kept_fault (parts_in asked.container p list a before after e) ≡ None
+kept_fits asked bytes format a list p before after k e =
+    let qs = k.file.pieces ++ k.pieces in
+    let t = parts_told asked.container p a list asked.words qs k.blocks before after e in
+    let w = wave_tells bytes k.file k.pieces k.wave in
+    ap (λ l. piece_fault (has_head l) (bits_in 0 l) (depth_of 0 (parts_in asked.container p list a before after e))) t.pieces
+    ∙ (ap (λ d. piece_fault (has_head qs) (bits_in 0 qs) d) t.depth
+    ∙ fits_by (has_head qs) (bits_in 0 qs) k.file.format.bits a.bits w.head w.bits k.raw.bits)
+
+-- what a call that writes a stream has begun, it has begun of the file that these bytes are
+pub begun_wave : {X : Type 0} (asked : Asked) (ps : List LinearPredictor) (bytes all : List ℕ) (format : RawFormat) (p : Cut) (l : List Block) (a : Sound) (before after : List Bool)
+    → bytes ≡ all → Keeps asked bytes format a l → AreListed asked.list ps → p ≡ cut_as (record asked { format = format }) a ps → (X → after ≡ before)
+    → X ⊎ BeginsIn asked.container p l a before after → (after ≡ before) ⊎ BeginsWave asked all before after
+begun_wave asked ps bytes all format p l a before after is keeps listed plan same (inl x) = inl (same x)
+begun_wave asked ps bytes all format p l a before after is keeps listed plan same (inr b) = inr (record {
+  format = format;
+  audio = a;
+  list = l;
+  predictors = ps;
+  keeps = subst (λ bs. Keeps asked bs format a l) is keeps;
+  listed = listed;
+  begins = subst (λ k. BeginsIn asked.container k l a before after) plan b;
+})

@@ -1,0 +1,365 @@
+-- What a writer of a WAV file has written.
+use Rattle.std.proofs.Common.{◌≡◌, ◌≤◌, ◌<◌, ◌+◌, ◌%◌, ℕ, zero, suc, Bool, true, false, cond, List, [], ◌∷◌, ◌++◌, length, take, drop, map, refl, ap, sym, ◌∙◌, subst, append_assoc, append-nil, arith, length-append}
+use Rattle.std.specs.Prelude.{nat_lt, nat_eq, ◌&&◌, None, is_none}
+use Rattle.std.proofs.Math.Nat.{mod-lt}
+use Rattle.std.proofs.lemmas.Bool.{false≢true, ltb-true, ltb-false, eqb-true, eqb-false}
+use Rattle.std.proofs.lemmas.List.{take_all, take-append-le, drop-append-le, length-map}
+use Rattle.flac_bits.specs.Handing.{TakesAll}
+use Rattle.flac_meta.specs.declared.block.Block.{Block}
+use Rattle.flac_meta.specs.declared.block.Block.TheVariants as block_of
+use Rattle.flac_native.specs.Stream.{Piece, marked, block, framed}
+use Rattle.flac_native.specs.Item.{Item, metadata, frame}
+use Rattle.flac_native.specs.Decoding.{taken}
+use Rattle.flac_native.specs.Samples.{samples_from, frame_bytes, depth_after}
+use Rattle.flac_wave.specs.Kept.{has_head, bits_after, bits_in}
+use Rattle.flac_wave.specs.Wave.{is_head, front_of, pieces_after, all_of, restored}
+use Rattle.flac_cli.specs.Waves.{turned, is_riff, wave_samples, piece_of, pieces_in, depth_of, piece_fault, kept_fault, wave_in}
+use Rattle.flac_cli.specs.inner.Waving.{Held, nothing_held, with_piece, with_depth, with_block, with_samples, with_frame, held_after, held_fault, writes, front_left, adds, end_pad, ending}
+use Rattle.flac_cli.proofs.Waved.{joined_push, wave_append, wave_none}
+
+-- ---- runs
+
+abbrev pub after_parts : Held → List Piece → Held
+after_parts s [] = s
+after_parts s (marked ∷ xs) = after_parts s xs
+after_parts s (block last b ∷ xs) = after_parts (held_after s (metadata b)) xs
+after_parts s (framed f ∷ xs) = after_parts (held_after s (frame f)) xs
+
+abbrev pub added : Held → List Piece → List ℕ
+added s [] = []
+added s (marked ∷ xs) = added s xs
+added s (block last b ∷ xs) = added (held_after s (metadata b)) xs
+added s (framed f ∷ xs) = adds s (frame f) ++ added (held_after s (frame f)) xs
+
+-- no block comes after a frame
+abbrev pub Ordered : (begun : Bool) → List Piece → Type 0
+Ordered begun [] = Unit {0}
+Ordered begun (marked ∷ xs) = Ordered begun xs
+Ordered begun (block last b ∷ xs) = (begun ≡ false) × Ordered begun xs
+Ordered begun (framed f ∷ xs) = Ordered true xs
+
+module _ {S : Type 0} (is_known : S → Bool) (bytes : S → List ℕ) (view : S → Held) where
+  -- what such a sink makes of an item
+  abbrev pub Takes : S → Item → S → Type 0
+  Takes s x t = record {
+    held : view t ≡ held_after (view s) x;
+    known : is_known s ≡ true → is_known t ≡ true;
+    sent : is_known s ≡ true → bytes t ≡ bytes s ++ adds (view s) x;
+  }
+
+  pub all_held : (old : S) (xs : List Piece) (new : S) → TakesAll (taken Takes) old xs new → view new ≡ after_parts (view old) xs
+  all_held old [] new h = ap view (sym h)
+  all_held old (marked ∷ xs) new h = all_held h.0 xs new h.2 ∙ ap (λ s. after_parts (view s) xs) (sym h.1)
+  all_held old (block last b ∷ xs) new h = let k = h.1 in all_held h.0 xs new h.2 ∙ ap (λ s. after_parts s xs) k.held
+  all_held old (framed f ∷ xs) new h = let k = h.1 in all_held h.0 xs new h.2 ∙ ap (λ s. after_parts s xs) k.held
+
+  pub all_known : (old : S) (xs : List Piece) (new : S) → TakesAll (taken Takes) old xs new → is_known old ≡ true → is_known new ≡ true
+  all_known old [] new h t = ap is_known (sym h) ∙ t
+  all_known old (marked ∷ xs) new h t = all_known h.0 xs new h.2 (ap is_known (sym h.1) ∙ t)
+  all_known old (block last b ∷ xs) new h t = let k = h.1 in all_known h.0 xs new h.2 (k.known t)
+  all_known old (framed f ∷ xs) new h t = let k = h.1 in all_known h.0 xs new h.2 (k.known t)
+
+  pub all_added : (old : S) (xs : List Piece) (new : S) → TakesAll (taken Takes) old xs new → is_known old ≡ true → bytes new ≡ bytes old ++ added (view old) xs
+  all_added old [] new h t = ap bytes (sym h) ∙ sym (append-nil (bytes old))
+  all_added old (marked ∷ xs) new h t = all_added h.0 xs new h.2 (ap is_known (sym h.1) ∙ t) ∙ ap (λ s. bytes s ++ added (view s) xs) (sym h.1)
+  all_added old (block last b ∷ xs) new h t =
+      let k = h.1 in
+      all_added h.0 xs new h.2 (k.known t) ∙ (ap (λ l. l ++ added (view h.0) xs) (k.sent t ∙ append-nil (bytes old)) ∙ ap (λ s. bytes old ++ added s xs) k.held)
+  all_added old (framed f ∷ xs) new h t =
+      let k = h.1 in
+      all_added h.0 xs new h.2 (k.known t) ∙ (ap (λ l. l ++ added (view h.0) xs) (k.sent t) ∙ (append_assoc (bytes old) (adds (view old) (frame f)) (added (view h.0) xs) ∙ ap (λ s. bytes old ++ (adds (view old) (frame f) ++ added s xs)) k.held))
+
+-- ---- the header of the samples among the pieces
+
+pub record Headed (s : Held) : Type 0 where
+  pub within : s.head ≤ length s.pieces
+  pub front_none : s.head ≡ 0 → (ps : List (List ℕ)) → front_of (s.pieces ++ ps) ≡ all_of s.pieces ++ front_of ps
+  pub after_none : s.head ≡ 0 → (ps : List (List ℕ)) → pieces_after (s.pieces ++ ps) ≡ pieces_after ps
+  pub front_some : 0 < s.head → (ps : List (List ℕ)) → front_of (s.pieces ++ ps) ≡ all_of (take s.head s.pieces)
+  pub after_some : 0 < s.head → (ps : List (List ℕ)) → pieces_after (s.pieces ++ ps) ≡ drop s.head s.pieces ++ ps
+  pub has_none : s.head ≡ 0 → (ps : List (List ℕ)) → has_head (s.pieces ++ ps) ≡ has_head ps
+  pub has_some : 0 < s.head → (ps : List (List ℕ)) → has_head (s.pieces ++ ps) ≡ true
+  pub bits_none : s.head ≡ 0 → (ps : List (List ℕ)) → bits_in 0 (s.pieces ++ ps) ≡ bits_in s.bits ps
+  pub bits_some : 0 < s.head → (ps : List (List ℕ)) → bits_in 0 (s.pieces ++ ps) ≡ s.bits
+
+headed_nothing : Headed nothing_held
+headed_nothing = record {
+  within = omega arith;
+  front_none = λ none ps. refl;
+  after_none = λ none ps. refl;
+  front_some = λ some ps. absurd (omega (arith, some));
+  after_some = λ some ps. absurd (omega (arith, some));
+  has_none = λ none ps. refl;
+  has_some = λ some ps. absurd (omega (arith, some));
+  bits_none = λ none ps. refl;
+  bits_some = λ some ps. absurd (omega (arith, some));
+}
+
+-- the head after one more piece, by tests
+headed_by : (s : Held) (p : List ℕ) (none here : Bool) → nat_eq s.head 0 ≡ none → is_head p ≡ here → Headed s
+    → Headed (record { pieces = s.pieces ++ p ∷ []; head = cond (none && here) (length s.pieces + 1) s.head; bits = cond none (cond here s.bits (bits_after s.bits p)) s.bits; depth = s.depth; begun = s.begun; odd = s.odd })
+headed_by s p true true n e h =
+    let empty : s.head ≡ 0 = eqb-true s.head 0 n in
+    let long : length (s.pieces ++ p ∷ []) ≡ length s.pieces + 1 = length-append s.pieces (p ∷ []) in
+    record {
+      within = omega (arith, long);
+      front_none = λ none ps. absurd (omega (arith, none));
+      after_none = λ none ps. absurd (omega (arith, none));
+      front_some = λ some ps.
+          ap front_of (append_assoc s.pieces (p ∷ []) ps) ∙ (h.front_none empty (p ∷ ps) ∙ (ap (λ b. all_of s.pieces ++ cond b p (p ++ front_of ps)) e
+          ∙ (sym (joined_push s.pieces p) ∙ ap all_of (sym (take_all (length s.pieces + 1) (s.pieces ++ p ∷ []) (omega (arith, long)))))));
+      after_some = λ some ps.
+          ap pieces_after (append_assoc s.pieces (p ∷ []) ps) ∙ (h.after_none empty (p ∷ ps) ∙ (ap (λ b. cond b ps (pieces_after ps)) e
+          ∙ ap (λ l. l ++ ps) (sym (drop_whole (length s.pieces + 1) (s.pieces ++ p ∷ []) (omega (arith, long))))));
+      has_none = λ none ps. absurd (omega (arith, none));
+      has_some = λ some ps. ap has_head (append_assoc s.pieces (p ∷ []) ps) ∙ (h.has_none empty (p ∷ ps) ∙ ap (λ b. cond b true (has_head ps)) e);
+      bits_none = λ none ps. absurd (omega (arith, none));
+      bits_some = λ some ps. ap (bits_in 0) (append_assoc s.pieces (p ∷ []) ps) ∙ (h.bits_none empty (p ∷ ps) ∙ ap (λ b. cond b s.bits (bits_in (bits_after s.bits p) ps)) e);
+    }
+  where
+    drop_whole : (n : ℕ) (xs : List (List ℕ)) → length xs ≤ n → drop n xs ≡ []
+    drop_whole zero [] few = refl
+    drop_whole zero (x ∷ xs) few = absurd (omega (arith, few))
+    drop_whole (suc n) [] few = refl
+    drop_whole (suc n) (x ∷ xs) few = drop_whole n xs (omega (arith, few))
+headed_by s p true false n e h =
+    let empty : s.head ≡ 0 = eqb-true s.head 0 n in
+    let long : length (s.pieces ++ p ∷ []) ≡ length s.pieces + 1 = length-append s.pieces (p ∷ []) in
+    record {
+      within = omega (arith, empty);
+      front_none = λ none ps.
+          ap front_of (append_assoc s.pieces (p ∷ []) ps) ∙ (h.front_none empty (p ∷ ps) ∙ (ap (λ b. all_of s.pieces ++ cond b p (p ++ front_of ps)) e
+          ∙ (sym (append_assoc (all_of s.pieces) p (front_of ps)) ∙ ap (λ l. l ++ front_of ps) (sym (joined_push s.pieces p)))));
+      after_none = λ none ps. ap pieces_after (append_assoc s.pieces (p ∷ []) ps) ∙ (h.after_none empty (p ∷ ps) ∙ ap (λ b. cond b ps (pieces_after ps)) e);
+      front_some = λ some ps. absurd (omega (arith, some, empty));
+      after_some = λ some ps. absurd (omega (arith, some, empty));
+      has_none = λ none ps. ap has_head (append_assoc s.pieces (p ∷ []) ps) ∙ (h.has_none empty (p ∷ ps) ∙ ap (λ b. cond b true (has_head ps)) e);
+      has_some = λ some ps. absurd (omega (arith, some, empty));
+      bits_none = λ none ps. ap (bits_in 0) (append_assoc s.pieces (p ∷ []) ps) ∙ (h.bits_none empty (p ∷ ps) ∙ ap (λ b. cond b s.bits (bits_in (bits_after s.bits p) ps)) e);
+      bits_some = λ some ps. absurd (omega (arith, some, empty));
+    }
+headed_by s p false here n e h =
+    let other = eqb-false s.head 0 n in
+    let long : length (s.pieces ++ p ∷ []) ≡ length s.pieces + 1 = length-append s.pieces (p ∷ []) in
+    record {
+      within = omega (arith, long, h.within);
+      front_none = λ none ps. absurd (other none);
+      after_none = λ none ps. absurd (other none);
+      front_some = λ some ps.
+          ap front_of (append_assoc s.pieces (p ∷ []) ps) ∙ (h.front_some some (p ∷ ps) ∙ ap all_of (sym (take-append-le s.head s.pieces (p ∷ []) h.within)));
+      after_some = λ some ps.
+          ap pieces_after (append_assoc s.pieces (p ∷ []) ps) ∙ (h.after_some some (p ∷ ps) ∙ (sym (append_assoc (drop s.head s.pieces) (p ∷ []) ps)
+          ∙ ap (λ l. l ++ ps) (sym (drop-append-le s.head s.pieces (p ∷ []) h.within))));
+      has_none = λ none ps. absurd (other none);
+      has_some = λ some ps. ap has_head (append_assoc s.pieces (p ∷ []) ps) ∙ h.has_some some (p ∷ ps);
+      bits_none = λ none ps. absurd (other none);
+      bits_some = λ some ps. ap (bits_in 0) (append_assoc s.pieces (p ∷ []) ps) ∙ h.bits_some some (p ∷ ps);
+    }
+
+headed_piece : (s : Held) (p : List ℕ) → Headed s → Headed (with_piece s p)
+headed_piece s p h = headed_by s p _ _ refl refl h
+
+-- what a block makes of what is held
+record Blocked (s t : Held) (b : Block) : Type 0 where
+  pieces : t.pieces ≡ s.pieces ++ piece_of b
+  depth : t.depth ≡ depth_after s.depth b
+  begun : t.begun ≡ s.begun
+  odd : t.odd ≡ s.odd
+  headed : Headed s → Headed t
+
+same_held : (s : Held) (b : Block) → piece_of b ≡ [] → depth_after s.depth b ≡ s.depth → Blocked s s b
+same_held s b none depth = record { pieces = sym (append-nil s.pieces) ∙ ap (λ l. s.pieces ++ l) (sym none); depth = sym depth; begun = refl; odd = refl; headed = λ h. h }
+
+deeper : (s : Held) (d : ℕ) → Headed s → Headed (with_depth s d)
+deeper s d h = record {
+  within = h.within;
+  front_none = h.front_none;
+  after_none = h.after_none;
+  front_some = h.front_some;
+  after_some = h.after_some;
+  has_none = h.has_none;
+  has_some = h.has_some;
+  bits_none = h.bits_none;
+  bits_some = h.bits_some;
+}
+
+riff_by : (s : Held) (id bytes : List ℕ) (b : Bool) → is_riff id ≡ b → Blocked s (cond b (with_piece s bytes) s) (block_of.Application id bytes)
+riff_by s id bytes true e = record { pieces = ap (λ b. s.pieces ++ cond b (bytes ∷ []) []) (sym e); depth = refl; begun = refl; odd = refl; headed = headed_piece s bytes }
+riff_by s id bytes false e = record { pieces = sym (append-nil s.pieces) ∙ ap (λ b. s.pieces ++ cond b (bytes ∷ []) []) (sym e); depth = refl; begun = refl; odd = refl; headed = λ h. h }
+
+blocked : (s : Held) (b : Block) → Blocked s (with_block s b) b
+blocked s (block_of.StreamInfo info) = record { pieces = sym (append-nil s.pieces); depth = refl; begun = refl; odd = refl; headed = deeper s info.depth }
+blocked s (block_of.Application id bytes) = riff_by s id bytes _ refl
+blocked s (block_of.Padding n) = same_held s (block_of.Padding n) refl refl
+blocked s (block_of.SeekTable points) = same_held s (block_of.SeekTable points) refl refl
+blocked s (block_of.VorbisComment comments) = same_held s (block_of.VorbisComment comments) refl refl
+blocked s (block_of.CueSheet sheet) = same_held s (block_of.CueSheet sheet) refl refl
+blocked s (block_of.Picture picture) = same_held s (block_of.Picture picture) refl refl
+blocked s (block_of.Other kind bytes) = same_held s (block_of.Other kind bytes) refl refl
+
+-- ---- after the first frame
+
+length_by : (b : Bool) (xs : List ℕ) → length (cond b (map turned xs) xs) ≡ length xs
+length_by true xs = length-map xs turned
+length_by false xs = refl
+
+wave_length : (depth : ℕ) (xs : List ℕ) → length (wave_samples depth xs) ≡ length xs
+wave_length depth xs = length_by (nat_lt depth 9) xs
+
+record Framed (t u : Held) (xs : List Piece) (text : List ℕ) : Type 0 where
+  none : pieces_in xs ≡ []
+  same : (d : ℕ) → depth_of d xs ≡ d
+  sent : text ≡ wave_samples t.depth (samples_from 0 t.depth xs)
+  pieces : u.pieces ≡ t.pieces
+  head : u.head ≡ t.head
+  begun : u.begun ≡ true
+  odd : u.odd ≡ (t.odd + length (samples_from 0 t.depth xs)) % 2
+
+odd_same : (o : ℕ) → o < 2 → o ≡ (o + 0) % 2
+odd_same o few = omega (arith, few)
+
+zero_sum : (m : ℕ) → (0 + m) % 2 ≡ m % 2
+zero_sum m = omega arith
+
+odd_twice : (o n m : ℕ) → ((o + n) % 2 + m) % 2 ≡ (o + (n + m)) % 2
+odd_twice o n m = omega arith
+
+-- what frames leave as it was
+record Quiet (t u : Held) (xs : List Piece) : Type 0 where
+  none : pieces_in xs ≡ []
+  same : (d : ℕ) → depth_of d xs ≡ d
+  fault : held_fault u ≡ held_fault t
+
+fault_after : (b : Bool) (t : Held) (n : ℕ) → held_fault (with_frame b t n) ≡ held_fault t
+fault_after true t n = refl
+fault_after false t n = refl
+
+quiet : (t : Held) (xs : List Piece) → Ordered true xs → Quiet t (after_parts t xs) xs
+quiet t [] o = record { none = refl; same = λ d. refl; fault = refl }
+quiet t (marked ∷ xs) o = let k = quiet t xs o in record { none = k.none; same = k.same; fault = k.fault }
+quiet t (block last x ∷ xs) o = absurd (false≢true (sym o.0))
+quiet t (framed f ∷ xs) o =
+    let n = length (frame_bytes 0 t.depth f) in
+    let k = quiet (with_frame (writes t) t n) xs o in
+    record { none = k.none; same = k.same; fault = k.fault ∙ fault_after (writes t) t n }
+
+framed_only : (t : Held) (xs : List Piece) → t.begun ≡ true → t.odd < 2 → writes t ≡ true → Ordered true xs → Framed t (after_parts t xs) xs (added t xs)
+framed_only t [] b few w o = record { none = refl; same = λ d. refl; sent = sym (wave_none t.depth [] refl); pieces = refl; head = refl; begun = b; odd = odd_same t.odd few }
+framed_only t (marked ∷ xs) b few w o =
+    let k = framed_only t xs b few w o in
+    record { none = k.none; same = k.same; sent = k.sent; pieces = k.pieces; head = k.head; begun = k.begun; odd = k.odd }
+framed_only t (block last x ∷ xs) b few w o = absurd (false≢true (sym o.0))
+framed_only t (framed f ∷ xs) b few w o =
+    let n = length (frame_bytes 0 t.depth f) in
+    let text = front_left t ++ wave_samples t.depth (frame_bytes 0 t.depth f) in
+    let k = framed_only (with_samples t n) xs refl (mod-lt (t.odd + n) {m = 2} (omega arith)) w o in
+    let all : Framed t (after_parts (with_samples t n) xs) (framed f ∷ xs) (text ++ added (with_samples t n) xs) = record {
+      none = k.none;
+      same = k.same;
+      sent = ap (λ c. (cond c [] (all_of (take t.head t.pieces)) ++ wave_samples t.depth (frame_bytes 0 t.depth f)) ++ added (with_samples t n) xs) b
+          ∙ (ap (λ l. wave_samples t.depth (frame_bytes 0 t.depth f) ++ l) k.sent ∙ sym (wave_append t.depth (frame_bytes 0 t.depth f) (samples_from 0 t.depth xs)));
+      pieces = k.pieces;
+      head = k.head;
+      begun = k.begun;
+      odd = k.odd ∙ (odd_twice t.odd n (length (samples_from 0 t.depth xs)) ∙ ap (λ m. (t.odd + m) % 2) (sym (length-append (frame_bytes 0 t.depth f) (samples_from 0 t.depth xs))));
+    } in
+    subst (λ c. Framed t (after_parts (with_frame c t n) xs) (framed f ∷ xs) (cond c text [] ++ added (with_frame c t n) xs)) (sym w) all
+
+-- ---- the whole file
+
+-- what comes before the samples, these, and what follows them
+closed : (s : Held) (h : Headed s) (samples : List ℕ) (odd : ℕ) → 0 < s.head → odd ≡ length samples % 2
+    → all_of (take s.head s.pieces) ++ (samples ++ (end_pad odd (drop s.head s.pieces) ++ all_of (drop s.head s.pieces))) ≡ restored (s.pieces ++ []) samples
+closed s h samples odd some is =
+    let after : drop s.head s.pieces ≡ pieces_after (s.pieces ++ []) = sym (append-nil (drop s.head s.pieces)) ∙ sym (h.after_some some []) in
+    ap (λ l. l ++ (samples ++ (end_pad odd (drop s.head s.pieces) ++ all_of (drop s.head s.pieces)))) (sym (h.front_some some []))
+    ∙ (ap (λ qs. front_of (s.pieces ++ []) ++ (samples ++ (end_pad odd qs ++ all_of qs))) after
+    ∙ ap (λ o. front_of (s.pieces ++ []) ++ (samples ++ (end_pad o (pieces_after (s.pieces ++ [])) ++ all_of (pieces_after (s.pieces ++ []))))) is)
+
+head_there : (b : Bool) (bits depth : ℕ) → piece_fault b bits depth ≡ None → b ≡ true
+head_there true bits depth e = refl
+head_there false bits depth e = absurd cc
+
+some_head : (s : Held) → held_fault s ≡ None → 0 < s.head
+some_head s e = ltb-true 0 s.head (head_there (nat_lt 0 s.head) s.bits s.depth e)
+
+pub whole_wave : (s : Held) (xs : List Piece) → s.begun ≡ false → s.odd ≡ 0 → Headed s → Ordered false xs → held_fault (after_parts s xs) ≡ None
+    → added s xs ++ ending (after_parts s xs) ≡ restored (s.pieces ++ pieces_in xs) (wave_samples (depth_of s.depth xs) (samples_from 0 s.depth xs))
+whole_wave s [] b o h order good =
+    ap (λ c. cond c [] (all_of (take s.head s.pieces)) ++ (end_pad s.odd (drop s.head s.pieces) ++ all_of (drop s.head s.pieces))) b
+    ∙ (closed s h [] s.odd (some_head s good) o ∙ ap (λ l. restored (s.pieces ++ []) l) (sym (wave_none s.depth [] refl)))
+whole_wave s (marked ∷ xs) b o h order good = whole_wave s xs b o h order good
+whole_wave s (block last x ∷ xs) b o h order good =
+    let k = blocked s x in
+    let end = restored (s.pieces ++ (piece_of x ++ pieces_in xs)) (wave_samples (depth_of (depth_after s.depth x) xs) (samples_from 0 (depth_after s.depth x) xs)) in
+    let fine : held_fault (after_parts (with_block s x) xs) ≡ None = subst (λ c. held_fault (after_parts (cond c s (with_block s x)) xs) ≡ None) b good in
+    let all : added (with_block s x) xs ++ ending (after_parts (with_block s x) xs) ≡ end =
+    whole_wave (with_block s x) xs (k.begun ∙ b) (k.odd ∙ o) (k.headed h) order.1 fine
+    ∙ (ap (λ ps. restored (ps ++ pieces_in xs) (wave_samples (depth_of (with_block s x).depth xs) (samples_from 0 (with_block s x).depth xs))) k.pieces
+    ∙ (ap (λ ps. restored ps (wave_samples (depth_of (with_block s x).depth xs) (samples_from 0 (with_block s x).depth xs))) (append_assoc s.pieces (piece_of x) (pieces_in xs))
+    ∙ ap (λ d. restored (s.pieces ++ (piece_of x ++ pieces_in xs)) (wave_samples (depth_of d xs) (samples_from 0 d xs))) k.depth)) in
+    subst (λ c. added (cond c s (with_block s x)) xs ++ ending (after_parts (cond c s (with_block s x)) xs) ≡ end) (sym b) all
+whole_wave s (framed f ∷ xs) b o h order good =
+    let fb = frame_bytes 0 s.depth f in
+    let n = length fb in
+    let t = with_samples s n in
+    let q = quiet (with_frame (writes s) s n) xs order in
+    let fine : held_fault s ≡ None = sym (fault_after (writes s) s n) ∙ (sym q.fault ∙ good) in
+    let w : writes s ≡ true = ap is_none fine in
+    let k = framed_only t xs refl (mod-lt (s.odd + n) {m = 2} (omega arith)) w order in
+    let u = after_parts t xs in
+    let all = fb ++ samples_from 0 s.depth xs in
+    let front = all_of (take s.head s.pieces) in
+    let text = front_left s ++ wave_samples s.depth fb in
+    let odd : u.odd ≡ length (wave_samples s.depth all) % 2 =
+    k.odd ∙ (odd_twice s.odd n (length (samples_from 0 s.depth xs)) ∙ (ap (λ z. (z + (n + length (samples_from 0 s.depth xs))) % 2) o ∙ (zero_sum (n + length (samples_from 0 s.depth xs)) ∙ ap (λ m. m % 2) (sym (length-append fb (samples_from 0 s.depth xs)) ∙ sym (wave_length s.depth all))))) in
+    let last : ending u ≡ end_pad u.odd (drop s.head s.pieces) ++ all_of (drop s.head s.pieces) =
+    ap (λ c. cond c [] (all_of (take u.head u.pieces)) ++ (end_pad u.odd (drop u.head u.pieces) ++ all_of (drop u.head u.pieces))) k.begun
+    ∙ (ap (λ m. end_pad u.odd (drop m u.pieces) ++ all_of (drop m u.pieces)) k.head ∙ ap (λ ps. end_pad u.odd (drop s.head ps) ++ all_of (drop s.head ps)) k.pieces) in
+    let sent : text ++ added t xs ≡ front ++ wave_samples s.depth all =
+    ap (λ c. (cond c [] front ++ wave_samples s.depth fb) ++ added t xs) b ∙ (append_assoc front (wave_samples s.depth fb) (added t xs)
+    ∙ ap (λ l. front ++ l) (ap (λ l. wave_samples s.depth fb ++ l) k.sent ∙ sym (wave_append s.depth fb (samples_from 0 s.depth xs)))) in
+    let end = restored (s.pieces ++ pieces_in xs) (wave_samples (depth_of s.depth xs) all) in
+    let whole : (text ++ added t xs) ++ ending u ≡ end =
+    ap (λ l. l ++ ending u) sent ∙ (append_assoc front (wave_samples s.depth all) (ending u) ∙ (ap (λ l. front ++ (wave_samples s.depth all ++ l)) last
+    ∙ (closed s h (wave_samples s.depth all) u.odd (some_head s fine) odd
+    ∙ (ap (λ ps. restored (s.pieces ++ ps) (wave_samples s.depth all)) (sym k.none) ∙ ap (λ d. restored (s.pieces ++ pieces_in xs) (wave_samples d all)) (sym (k.same s.depth)))))) in
+    subst (λ c. (cond c text [] ++ added (with_frame c s n) xs) ++ ending (after_parts (with_frame c s n) xs) ≡ end) (sym w) whole
+
+-- from nothing
+pub wave_written : (xs : List Piece) → Ordered false xs → held_fault (after_parts nothing_held xs) ≡ None → added nothing_held xs ++ ending (after_parts nothing_held xs) ≡ wave_in xs
+wave_written xs order good = whole_wave nothing_held xs refl refl headed_nothing order good
+
+-- ---- why there is no file
+
+fault_at_end : (s : Held) (b : Bool) → nat_lt 0 s.head ≡ b → Headed s → piece_fault b s.bits s.depth ≡ piece_fault (has_head (s.pieces ++ [])) (bits_in 0 (s.pieces ++ [])) s.depth
+fault_at_end s true e h =
+    let some = ltb-true 0 s.head e in
+    sym (ap (λ c. piece_fault c (bits_in 0 (s.pieces ++ [])) s.depth) (h.has_some some []) ∙ ap (λ n. piece_fault true n s.depth) (h.bits_some some []))
+fault_at_end s false e h =
+    let none : s.head ≡ 0 = omega (arith, ltb-false 0 s.head e) in
+    sym (ap (λ c. piece_fault c (bits_in 0 (s.pieces ++ [])) s.depth) (h.has_none none []))
+
+judged : (s : Held) (xs : List Piece) → s.begun ≡ false → Headed s → Ordered false xs
+    → held_fault (after_parts s xs) ≡ piece_fault (has_head (s.pieces ++ pieces_in xs)) (bits_in 0 (s.pieces ++ pieces_in xs)) (depth_of s.depth xs)
+judged s [] b h order = fault_at_end s _ refl h
+judged s (marked ∷ xs) b h order = judged s xs b h order
+judged s (block last x ∷ xs) b h order =
+    let k = blocked s x in
+    let ps = s.pieces ++ (piece_of x ++ pieces_in xs) in
+    let end = piece_fault (has_head ps) (bits_in 0 ps) (depth_of (depth_after s.depth x) xs) in
+    let all : held_fault (after_parts (with_block s x) xs) ≡ end =
+    judged (with_block s x) xs (k.begun ∙ b) (k.headed h) order.1
+    ∙ (ap (λ qs. piece_fault (has_head (qs ++ pieces_in xs)) (bits_in 0 (qs ++ pieces_in xs)) (depth_of (with_block s x).depth xs)) k.pieces
+    ∙ (ap (λ qs. piece_fault (has_head qs) (bits_in 0 qs) (depth_of (with_block s x).depth xs)) (append_assoc s.pieces (piece_of x) (pieces_in xs))
+    ∙ ap (λ d. piece_fault (has_head ps) (bits_in 0 ps) (depth_of d xs)) k.depth)) in
+    subst (λ c. held_fault (after_parts (cond c s (with_block s x)) xs) ≡ end) (sym b) all
+judged s (framed f ∷ xs) b h order =
+    let n = length (frame_bytes 0 s.depth f) in
+    let q = quiet (with_frame (writes s) s n) xs order in
+    q.fault ∙ (fault_after (writes s) s n ∙ (fault_at_end s _ refl h
+    ∙ (ap (λ ps. piece_fault (has_head (s.pieces ++ ps)) (bits_in 0 (s.pieces ++ ps)) s.depth) (sym q.none)
+    ∙ ap (λ d. piece_fault (has_head (s.pieces ++ pieces_in xs)) (bits_in 0 (s.pieces ++ pieces_in xs)) d) (sym (q.same s.depth)))))
+
+pub wave_judged : (xs : List Piece) → Ordered false xs → held_fault (after_parts nothing_held xs) ≡ kept_fault xs
+wave_judged xs order = judged nothing_held xs refl headed_nothing order

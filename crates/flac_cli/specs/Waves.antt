@@ -1,0 +1,153 @@
+-- WAV files: which stream keeps one, and which file a stream keeps.
+use Rattle.std.specs.Prelude.{◌≡◌, ℕ, ◌+◌, ◌*◌, ◌/◌, Bool, true, cond, nat_lt, nat_eq, List, [], ◌∷◌, ◌++◌, ◌⊎◌, map, bit_xor, Option, Some, None}
+use Rattle.byteorder.specs.Endian.{little_number}
+use Rattle.flac_bits.specs.Bits.{bits_of}
+use Rattle.flac_bits.specs.Forms.{AreBytes}
+use Rattle.flac_meta.specs.declared.block.Block.{Block}
+use Rattle.flac_meta.specs.declared.block.Block.TheVariants as block_of
+use Rattle.flac_frame.specs.Audio.{Sound}
+use Rattle.flac_subframe.specs.declared.linear.LinearPredictor.{LinearPredictor}
+use Rattle.flac_native.specs.Samples.{depth_after}
+use Rattle.flac_native.specs.Stream.{Piece, marked, block, framed}
+use Rattle.flac_ogg.specs.Verifying.{bytes_reading}
+use Rattle.flac_wave.specs.Kept.{has_head, bits_in}
+use Rattle.flac_wave.specs.Wave.{Parts, IsWave, ArePiecesAfter, restored}
+use Rattle.flac_wave.specs.declared.format.WaveFormat.{WaveFormat}
+use Rattle.flac_cli.specs.Asked.{Asked}
+use Rattle.flac_cli.specs.Encoded.{EncodesIn, BeginsIn, comment_list, cut_as, parts_in}
+use Rattle.flac_cli.specs.Predictors.{AreListed}
+use Rattle.flac_cli.specs.Raw.{IsRaw}
+use Rattle.flac_cli.specs.Samples.{all_samples}
+use Rattle.flac_cli.specs.Streams.{profile_of}
+use Rattle.flac_cli.specs.declared.held_wave.KeptFault.{KeptFault}
+use Rattle.flac_cli.specs.declared.held_wave.KeptFault.TheVariants as kept
+use Rattle.flac_jobs.specs.declared.formats.RawFormat.{RawFormat}
+use Rattle.flac_jobs.specs.declared.jobs.Job.{Job}
+use Rattle.flac_jobs.specs.declared.jobs.Job.TheVariants as job
+
+-- ---- samples
+
+-- the other form of a byte: as unsigned number, or in two's complement, which differ in the highest bit
+abbrev pub turned : ℕ → ℕ
+turned byte = bit_xor byte 128
+
+-- The samples of a WAV file as raw samples of this depth, or raw samples as those of a file: samples of up to 8 bits are
+-- unsigned in a WAV file, and the others the same.
+abbrev pub wave_samples : (depth : ℕ) → List ℕ → List ℕ
+wave_samples depth samples = cond (nat_lt depth 9) (map turned samples) samples
+
+-- how many bits of a stream's samples hold those of a file: all of their bytes
+abbrev pub depth_for : WaveFormat → ℕ
+depth_for format = 8 * ((format.bits + 7) / 8)
+
+-- ---- the file that a stream keeps
+
+-- the identifier `riff` of an APPLICATION block (RFC 9639, section 8.4)
+abbrev pub riff : List ℕ
+riff = 114 ∷ 105 ∷ 102 ∷ 102 ∷ []
+
+abbrev pub is_riff : List ℕ → Bool
+is_riff id = nat_eq (little_number 4 id) 1717987698
+
+-- the piece of a WAV file that a block keeps, if it keeps one
+abbrev pub piece_of : Block → List (List ℕ)
+piece_of (block_of.Application id bytes) = cond (is_riff id) (bytes ∷ []) []
+piece_of other = []
+
+-- those of all blocks
+abbrev pub pieces_in : List Piece → List (List ℕ)
+pieces_in [] = []
+pieces_in (marked ∷ xs) = pieces_in xs
+pieces_in (block last b ∷ xs) = piece_of b ++ pieces_in xs
+pieces_in (framed f ∷ xs) = pieces_in xs
+
+-- the depth after all blocks
+abbrev pub depth_of : ℕ → List Piece → ℕ
+depth_of depth [] = depth
+depth_of depth (marked ∷ xs) = depth_of depth xs
+depth_of depth (block last b ∷ xs) = depth_of (depth_after depth b) xs
+depth_of depth (framed f ∷ xs) = depth_of depth xs
+
+-- Why pieces are no WAV file of samples of this depth: the header of the samples is not there; or the bytes of a sample
+-- are others than the stream's samples have.
+abbrev pub piece_fault : (head : Bool) (bits depth : ℕ) → Option KeptFault
+piece_fault head bits depth = cond head (cond (nat_eq (8 * ((bits + 7) / 8)) depth) None (Some kept.OtherBits)) (Some kept.NotKept)
+
+-- why the blocks of a stream keep no WAV file of its samples
+abbrev pub kept_fault : List Piece → Option KeptFault
+kept_fault parts = piece_fault (has_head (pieces_in parts)) (bits_in 0 (pieces_in parts)) (depth_of 0 parts)
+
+-- the WAV file of a stream: the pieces that its blocks keep, and its samples
+abbrev pub wave_in : List Piece → List ℕ
+wave_in parts = restored (pieces_in parts) (wave_samples (depth_of 0 parts) (all_samples 0 parts))
+
+-- ---- encoding
+
+-- the block that keeps a piece
+abbrev pub riff_block : List ℕ → Block
+riff_block piece = block_of.Application riff piece
+
+-- the blocks after STREAMINFO: the words as comments, and the pieces
+abbrev pub kept_list : (words pieces : List (List ℕ)) → List Block
+kept_list words pieces = comment_list words ++ map riff_block pieces
+
+-- what is asked for of the samples of a file: their own format
+abbrev pub format_as : RawFormat → WaveFormat → RawFormat
+format_as asked format = record { rate = format.rate; channels = format.channels; bits = depth_for format; block = asked.block; seek_every = asked.seek_every }
+
+abbrev pub asked_of_wave : Asked → WaveFormat → Asked
+asked_of_wave asked format = record asked { format = format_as asked.format format }
+
+-- This is a WAV file of these samples, and these are the blocks that keep it.
+pub record Keeps (asked : Asked) (bytes : List ℕ) (format : RawFormat) (a : Sound) (list : List Block) : Type 0 where
+  pub file : Parts
+  pub pieces : List (List ℕ)
+  pub wave : IsWave bytes file
+  pub cut : ArePiecesAfter file.samples file.back pieces
+  pub form : format ≡ format_as asked.format file.format
+  pub raw : IsRaw asked.profile (format_as asked.format file.format) (wave_samples (depth_for file.format) file.samples) a
+  pub blocks : list ≡ kept_list asked.words (file.pieces ++ pieces)
+
+-- After the bits that were there, a stream was written of the samples of the WAV file that these bytes are, each frame a
+-- shortest one over the fixed predictors and those of the list too, with the words as comments, the pieces of the file
+-- in blocks `riff`, and after them the seek table. The WAV file of its blocks and frames is these bytes, byte for byte.
+pub record EncodesWave (asked : Asked) (bytes : List ℕ) (before after : List Bool) : Type 0 where
+  pub format : RawFormat
+  pub audio : Sound
+  pub list : List Block
+  pub predictors : List LinearPredictor
+  pub keeps : Keeps asked bytes format audio list
+  pub listed : AreListed asked.list predictors
+  pub encodes : EncodesIn asked.container (cut_as (record asked { format = format }) audio predictors) list audio before after
+  pub back : wave_in (parts_in asked.container (cut_as (record asked { format = format }) audio predictors) list audio before after encodes) ≡ bytes
+
+-- After the bits that were there, a prefix of such a stream was written.
+pub record BeginsWave (asked : Asked) (bytes : List ℕ) (before after : List Bool) : Type 0 where
+  pub format : RawFormat
+  pub audio : Sound
+  pub list : List Block
+  pub predictors : List LinearPredictor
+  pub keeps : Keeps asked bytes format audio list
+  pub listed : AreListed asked.list predictors
+  pub begins : BeginsIn asked.container (cut_as (record asked { format = format }) audio predictors) list audio before after
+
+-- what a job asks for whose list has this text, if it is an encoding of a WAV file; the format is the file's own
+abbrev pub asked_for_wave : Job → (list : List ℕ) → Option Asked
+asked_for_wave (job.EncodeWave input output size seek_every c comments lax predictors) list =
+    Some (record { profile = profile_of lax; format = record { rate = 0; channels = 0; bits = 0; block = size; seek_every = seek_every }; container = c; words = map (λ w. w.now) comments.items; list = list; any = true })
+asked_for_wave other list = None
+
+-- this holds if the job is such an encoding
+abbrev pub HasEncodedWave : Option Asked → (bytes : List ℕ) → (before after : List Bool) → Type 0
+HasEncodedWave (Some asked) bytes before after = EncodesWave asked bytes before after
+HasEncodedWave None bytes before after = Unit {0}
+
+-- nothing was written, or such a prefix, if the job is such an encoding
+abbrev pub HasBegunWave : Option Asked → (bytes : List ℕ) → (before after : List Bool) → Type 0
+HasBegunWave (Some asked) bytes before after = (after ≡ before) ⊎ BeginsWave asked bytes before after
+HasBegunWave None bytes before after = Unit {0}
+
+-- The bytes of a stream that keeps a WAV file are a stream of blocks and frames whose file is that file, and of no other.
+abbrev pub KeptFilesComeBack : Type 0
+KeptFilesComeBack =
+    (asked : Asked) (bytes stream : List ℕ) → AreBytes stream → EncodesWave asked bytes [] (bits_of stream) → (parts : List Piece) → (bytes_reading asked.profile stream).whole parts → wave_in parts ≡ bytes

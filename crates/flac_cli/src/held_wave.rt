@@ -1,0 +1,201 @@
+//! What is held of a WAV file while its stream is decoded.
+
+ghost use Rattle.std.specs.Prelude.{◌≡◌, ◌<◌, ◌≤◌, ◌%◌, ◌+◌, ℕ, length, map, take, drop, OnOk};
+ghost use Rattle.flac_wave.specs.Kept.{bits_after};
+ghost use Rattle.flac_wave.specs.Wave.{is_head};
+ghost use Rattle.flac_cli.specs.Outcomes.{text_of_kept};
+ghost use Rattle.flac_cli.specs.Waves.{is_riff};
+ghost use Rattle.flac_cli.specs.inner.Waving.{Held, nothing_held, with_piece, with_block, with_samples, with_begun, held_fault};
+
+use byteorder::{ByteOrder, LittleEndian};
+use flac_meta::Block;
+use std::alloc::{AllocError, Global};
+use std::marker::Model;
+
+/// Why the blocks of a stream keep no WAV file of its samples.
+#[derive(Clone, Copy)]
+pub(crate) enum KeptFault {
+    /// They keep none.
+    NotKept,
+    /// They keep one whose samples have other bits than the stream's.
+    OtherBits,
+}
+
+impl KeptFault {
+    /// The number and the name of the reason, as `71 NotKept`.
+    pub(crate) fn as_str(self) -> &'static str
+        ensures { result.now ≡ text_of_kept self }
+    {
+        match self {
+            KeptFault::NotKept => "71 NotKept",
+            KeptFault::OtherBits => "72 OtherBits",
+        }
+    }
+}
+
+/// The pieces of a WAV file that came, and what is known of its samples.
+#[derive(Drop)]
+pub(crate) struct HeldWave {
+    pieces: Vec<Vec<u8>>,
+    /// How many pieces there are up to the header of the samples; 0 before it came.
+    head: usize,
+    depth: u8,
+    begun: bool,
+    odd: usize,
+    /// The bits of a sample of the file, as the piece `fmt ` states them; 0 before it.
+    bits: u16,
+}
+
+impl Model for HeldWave {
+    ghost use Rattle.std.specs.Prelude.{◌≤◌, ◌<◌, length, map};
+    ghost use Rattle.flac_cli.specs.inner.Waving.{Held};
+
+    ghost Value = { Held };
+
+    ghost view = { λ h. record { pieces = map (λ p. p.items) h.pieces.items; head = h.head; bits = h.bits; depth = h.depth; begun = h.begun; odd = h.odd } };
+
+    ghost invariant = { λ h. (h.depth ≤ 32) × (h.odd < 2) × (h.head ≤ length h.pieces.items) };
+}
+
+/// Whether a piece is the header of the samples, alone.
+fn is_head(piece: &[u8]) -> bool
+    ensures { result ≡ is_head piece.now }
+{
+    piece.len() == 8 && LittleEndian::read_u32(piece) == 0x6174_6164
+}
+
+/// Whether the identifier of an application is `riff`.
+fn is_riff(id: &[u8]) -> bool
+    requires { 4 ≤ length id.now }
+    ensures { result ≡ is_riff id.now }
+{
+    LittleEndian::read_u32(id) == 0x6666_6972
+}
+
+/// The bits of a sample that are known after a piece: a chunk `fmt ` states them.
+fn bits_after(bits: u16, piece: &[u8]) -> u16
+    ensures { result ≡ bits_after bits piece.now }
+{
+    if piece.len() >= 24 && LittleEndian::read_u32(piece) == 0x2074_6D66 {
+        return LittleEndian::read_u16(&piece[22..]);
+    }
+    bits
+}
+
+impl HeldWave {
+    /// Nothing came.
+    pub(crate) fn new(alloc: Global) -> HeldWave
+        ensures { result ≡ nothing_held }
+    {
+        HeldWave {
+            pieces: Vec::new(alloc),
+            head: 0,
+            depth: 0,
+            begun: false,
+            odd: 0,
+            bits: 0,
+        }
+    }
+
+    /// Adds a piece.
+    fn add(&mut self, alloc: Global, piece: &[u8]) -> Result<(), AllocError>
+        ensures ok { OnOk result (self.new ≡ with_piece self.old piece.now) }
+    {
+        let copy = Vec::from_slice(alloc, piece)?;
+        self.pieces.push(copy)?;
+        if self.head == 0 {
+            if is_head(piece) {
+                self.head = self.pieces.len();
+            } else {
+                self.bits = bits_after(self.bits, piece);
+            }
+        }
+        Ok(())
+    }
+
+    /// Takes what a block has of the file.
+    pub(crate) fn take_block(&mut self, alloc: Global, block: &Block) -> Result<(), AllocError>
+        ensures ok { OnOk result (self.new ≡ with_block self.old block.now) }
+    {
+        match block {
+            Block::StreamInfo(info) => {
+                self.depth = info.depth();
+                Ok(())
+            }
+            Block::Application { id, bytes } => {
+                if is_riff(id) {
+                    return self.add(alloc, bytes.as_slice());
+                }
+                Ok(())
+            }
+            _ => Ok(()),
+        }
+    }
+
+    /// Samples of this parity came.
+    pub(crate) fn count(&mut self, odd: usize)
+        requires { odd < 2 }
+        ensures { (n : ℕ) → odd ≡ (self.old.odd + n) % 2 → self.new ≡ with_samples self.old n }
+    {
+        self.begun = true;
+        self.odd = odd;
+    }
+
+    /// Samples came that are not written.
+    pub(crate) fn begin(&mut self)
+        ensures { self.new ≡ with_begun self.old }
+    {
+        self.begun = true;
+    }
+
+    /// Why the pieces are no WAV file of the stream's samples: the header of the samples did not come, or its samples
+    /// have other bits.
+    pub(crate) fn fault(&self) -> Option<KeptFault>
+        ensures { result ≡ held_fault self.now }
+    {
+        if self.head == 0 {
+            return Some(KeptFault::NotKept);
+        }
+        if 8 * ((u32::from(self.bits) + 7) / 8) != u32::from(self.depth) {
+            return Some(KeptFault::OtherBits);
+        }
+        None
+    }
+
+    /// Whether samples came.
+    pub(crate) fn begun(&self) -> bool
+        ensures { result ≡ self.now.begun }
+    {
+        self.begun
+    }
+
+    /// The bits of a sample.
+    pub(crate) fn depth(&self) -> u8
+        ensures value { result ≡ self.now.depth }
+        ensures few { result ≤ 32 }
+    {
+        self.depth
+    }
+
+    /// Whether the bytes of the samples are of odd number.
+    pub(crate) fn odd(&self) -> usize
+        ensures value { result ≡ self.now.odd }
+        ensures few { result < 2 }
+    {
+        self.odd
+    }
+
+    /// The pieces before the samples.
+    pub(crate) fn front(&self) -> &[Vec<u8>]
+        ensures { map (λ p. p.items) result.now ≡ take self.now.head self.now.pieces }
+    {
+        &self.pieces[..self.head]
+    }
+
+    /// The pieces after the samples.
+    pub(crate) fn back(&self) -> &[Vec<u8>]
+        ensures { map (λ p. p.items) result.now ≡ drop self.now.head self.now.pieces }
+    {
+        &self.pieces[self.head..]
+    }
+}

@@ -1,0 +1,5 @@
+pub mod Files
+pub mod Formats
+pub mod Pieces
+pub mod PlainFiles
+pub mod Walks

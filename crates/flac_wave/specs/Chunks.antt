@@ -1,0 +1,111 @@
+-- The chunks of a WAV file (RIFF: Microsoft and IBM, Multimedia Programming Interface and Data Specifications 1.0; RF64:
+-- EBU Tech 3306; BW64: ITU-R BS.2088). A chunk is an identifier of four bytes, the length of its content in four, the
+-- lowest first, the content, and a byte after content of odd length.
+use Rattle.std.specs.Prelude.{◌≡◌, ℕ, ◌+◌, ◌-◌, ◌%◌, ◌&&◌, ◌||◌, Bool, false, cond, nat_lt, nat_eq, List, [], ◌∷◌, length, take, drop, Option, Some, None, is_some, unwrap_or}
+use Rattle.byteorder.specs.Endian.{little_number}
+use Rattle.flac_wave.specs.Format.{long_at, format_fault, format_of, row_of}
+use Rattle.flac_wave.specs.declared.seen.Seen.{Seen}
+use Rattle.flac_wave.specs.declared.format.WaveFormat.{WaveFormat}
+use Rattle.flac_wave.specs.declared.why.WaveWhy.{WaveWhy}
+use Rattle.flac_wave.specs.declared.why.WaveWhy.TheVariants as why
+
+-- ---- one chunk
+
+-- the identifier as a number, the lowest byte first: `data` is 1635017060, `fmt ` 544501094, `ds64` 875983716
+abbrev pub id_of : List ℕ → ℕ
+id_of bytes = little_number 4 bytes
+
+abbrev pub is_data : List ℕ → Bool
+is_data bytes = nat_eq (id_of bytes) 1635017060
+
+abbrev pub is_format : List ℕ → Bool
+is_format bytes = nat_eq (id_of bytes) 544501094
+
+abbrev pub is_long_sizes : List ℕ → Bool
+is_long_sizes bytes = nat_eq (id_of bytes) 875983716
+
+-- the length of the content
+abbrev pub size_of : List ℕ → ℕ
+size_of bytes = long_at 4 bytes
+
+-- how many bytes the chunk has
+abbrev pub chunk_len : List ℕ → ℕ
+chunk_len bytes = 8 + size_of bytes + size_of bytes % 2
+
+-- the most bytes of a chunk that a block of metadata keeps: 16777215, without the four of the application's identifier
+abbrev pub most_kept : ℕ
+most_kept = 16777211
+
+-- ---- the header of a file
+
+-- `RIFF`, `RF64` or `BW64`; four bytes; `WAVE`
+unfoldable pub header_fault : List ℕ → Option WaveWhy
+header_fault bytes =
+    cond (nat_lt 11 (length bytes)
+    && ((nat_eq (id_of bytes) 1179011410 || (nat_eq (id_of bytes) 875972178 || nat_eq (id_of bytes) 875976514))
+    && nat_eq (long_at 8 bytes) 1163280727))
+    None (Some why.NotWave)
+
+-- ---- what was seen
+
+-- what is known before the first chunk: the length that the header states
+unfoldable pub seen_first : List ℕ → Seen
+seen_first bytes = record { riff = size_of bytes; long = None; format = None }
+
+-- what is known after a chunk before the samples
+unfoldable pub after : Seen → (bytes : List ℕ) → Seen
+after s bytes = record {
+  riff = s.riff;
+  -- the length of the samples, which `ds64` has in eight bytes
+  long = cond (is_long_sizes bytes && nat_lt 27 (size_of bytes)) (Some (little_number 8 (drop 16 bytes))) s.long;
+  format = cond (is_format bytes) (Some (format_of bytes)) s.format;
+}
+
+-- ---- the samples
+
+-- The number of bytes of the samples. `None`: they go to the end of the file, as its writer did not know better: the
+-- length is FFFFFFFF (and no `ds64` states it), or 7FFFF000, which sox writes to a pipe, or 0 in a file whose header
+-- states 0 or FFFFFFFF.
+unfoldable pub stated : Seen → (size : ℕ) → Option ℕ
+stated s size =
+    cond (nat_eq size 4294967295) s.long
+    (cond (nat_eq size 2147479552 || (nat_eq size 0 && (nat_eq s.riff 0 || nat_eq s.riff 4294967295))) None (Some size))
+
+-- how many bytes the samples have; `bytes` begins with the header of their chunk
+abbrev pub data_len : Seen → (bytes : List ℕ) → ℕ
+data_len s bytes = unwrap_or (stated s (size_of bytes)) (length bytes - 8)
+
+-- why these are no samples of a format
+unfoldable pub samples_fault : WaveFormat → (size room : ℕ) → Option WaveWhy
+samples_fault format size room =
+    cond (nat_lt room size) (Some why.DataCut)
+    (cond (nat_lt 0 (row_of format) && nat_eq (size % row_of format) 0) None (Some why.PartSample))
+
+-- why these are no samples
+unfoldable pub data_fault : Seen → (bytes : List ℕ) → Option WaveWhy
+data_fault s bytes = elim s.format [ None ↦ Some why.NoFormat | Some format ↦ samples_fault format (data_len s bytes) (length bytes - 8) ]
+
+-- ---- the next chunk
+
+-- why a chunk that is there is refused
+unfoldable pub content_fault : Seen → (bytes : List ℕ) → Option WaveWhy
+content_fault s bytes = cond (is_format bytes) (cond (is_some s.format) (Some why.RepeatedFormat) (format_fault bytes)) None
+
+-- why a chunk before the samples is refused
+unfoldable pub chunk_fault : Seen → (bytes : List ℕ) → Option WaveWhy
+chunk_fault s bytes =
+    cond (nat_lt (length bytes) (chunk_len bytes)) (Some why.ChunkCut)
+    (cond (nat_lt most_kept (chunk_len bytes)) (Some why.ChunkLength)
+    (content_fault s bytes))
+
+-- why neither a chunk nor the samples are here
+unfoldable pub fault_at : Seen → (bytes : List ℕ) → Option WaveWhy
+fault_at s bytes =
+    cond (nat_lt (length bytes) 8) (Some (cond (nat_eq (length bytes) 0) why.NoData why.ChunkCut))
+    (cond (is_data bytes) (data_fault s bytes) (chunk_fault s bytes))
+
+-- These chunks come one after another, and then the rest; after them this is known.
+abbrev pub Leads : Seen → (chunks : List (List ℕ)) → (bytes rest : List ℕ) → Seen → Type 0
+Leads s [] bytes rest t = (bytes ≡ rest) × (s ≡ t)
+Leads s (c ∷ cs) bytes rest t =
+    (fault_at s bytes ≡ None) × (is_data bytes ≡ false) × (c ≡ take (chunk_len bytes) bytes) × Leads (after s bytes) cs (drop (chunk_len bytes) bytes) rest t

@@ -1,0 +1,24 @@
+//! Laws of WAV files.
+
+ghost use Rattle.std.specs.Prelude.{◌≡◌, ◌++◌, ℕ, List, Option};
+ghost use Rattle.flac_wave.specs.Wave.{Parts, IsWave, IsNoWave, ArePiecesAfter, restored};
+ghost use Rattle.flac_wave.specs.Plain.{IsPlain, plain_file, plain_parts};
+ghost use Rattle.flac_wave.specs.declared.format.WaveFormat.{WaveFormat};
+ghost use Rattle.flac_wave.specs.declared.why.WaveWhy.{WaveWhy};
+
+/// The pieces and the samples of a WAV file make the same file again, byte for byte.
+pub fn waves_come_back()
+    ensures { (bytes : List ℕ) (w : Parts) (after : List (List ℕ)) → IsWave bytes w → ArePiecesAfter w.samples w.back after → restored (w.pieces ++ after) w.samples ≡ bytes }
+{}
+
+/// Bytes are one WAV file, or none for one reason at one place, and not both.
+pub fn waves_are_read_once()
+    ensures one { (bytes : List ℕ) (v w : Parts) → IsWave bytes v → IsWave bytes w → v ≡ w }
+    ensures once { (bytes : List ℕ) (w : Parts) (chunk : Option ℕ) (why : WaveWhy) → IsWave bytes w → IsNoWave bytes chunk why → ⊥ }
+    ensures refused { (bytes : List ℕ) (chunk other : Option ℕ) (why reason : WaveWhy) → IsNoWave bytes chunk why → IsNoWave bytes other reason → (chunk ≡ other) × (why ≡ reason) }
+{}
+
+/// A plain WAV file is read as what it was made of.
+pub fn plain_files_are_read()
+    ensures { (format : WaveFormat) (samples : List ℕ) → IsPlain format samples → IsWave (plain_file format samples) (plain_parts format samples) }
+{}

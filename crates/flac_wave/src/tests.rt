@@ -1,0 +1,115 @@
+//! Each call as a program makes it.
+
+use crate::{WaveError, WaveFault, WaveFormat, WaveWhy, cut, plain_pieces, wave_of};
+use std::alloc::Global;
+use std::test::Fail;
+
+/// What the module `wave` of Python 3.11 writes of two inter-channel samples of two channels, 16 bits, 44100 Hz.
+const STEREO: [u8; 52] = [
+    0x52, 0x49, 0x46, 0x46, 0x2c, 0x00, 0x00, 0x00, 0x57, 0x41, 0x56, 0x45, 0x66, 0x6d, 0x74, 0x20,
+    0x10, 0x00, 0x00, 0x00, 0x01, 0x00, 0x02, 0x00, 0x44, 0xac, 0x00, 0x00, 0x10, 0xb1, 0x02, 0x00,
+    0x04, 0x00, 0x10, 0x00, 0x64, 0x61, 0x74, 0x61, 0x08, 0x00, 0x00, 0x00, 0x01, 0x02, 0x03, 0x04,
+    0x05, 0x06, 0x07, 0x08,
+];
+
+/// The format of [`STEREO`].
+const FORMAT: WaveFormat = WaveFormat {
+    rate: 44100,
+    channels: 2,
+    bits: 16,
+    valid: 16,
+    mask: None,
+};
+
+/// Pieces, one after another.
+fn joined(alloc: Global, pieces: &[Vec<u8>]) -> Result<Vec<u8>, Fail> {
+    let mut all = Vec::new(alloc);
+    for piece in pieces {
+        all.extend_from_slice(piece.as_slice())?;
+    }
+    Ok(all)
+}
+
+#[test]
+fn files_are_taken_apart(rt: HostRuntime) -> Result<(), Fail> {
+    let wave = wave_of(rt.alloc(), &STEREO)?;
+    let front = joined(rt.alloc(), wave.pieces.as_slice())?;
+    assert!(rt; wave.format == FORMAT && wave.format.row() == 4);
+    assert!(rt; wave.pieces.len() == 3 && front.as_slice() == &STEREO[..44]);
+    assert!(rt; wave.samples == &STEREO[44..] && wave.back.is_empty());
+    Ok(())
+}
+
+/// A file of three samples of one channel of 8 bits at 8000 Hz, with a chunk of odd length before them and one after
+/// them: the module `wave` writes the same chunks `fmt ` and `data`.
+const ODD: [u8; 84] = [
+    0x52, 0x49, 0x46, 0x46, 0x4c, 0x00, 0x00, 0x00, 0x57, 0x41, 0x56, 0x45, 0x4a, 0x55, 0x4e, 0x4b,
+    0x03, 0x00, 0x00, 0x00, 0x6f, 0x64, 0x64, 0x00, 0x66, 0x6d, 0x74, 0x20, 0x10, 0x00, 0x00, 0x00,
+    0x01, 0x00, 0x01, 0x00, 0x40, 0x1f, 0x00, 0x00, 0x40, 0x1f, 0x00, 0x00, 0x01, 0x00, 0x08, 0x00,
+    0x64, 0x61, 0x74, 0x61, 0x03, 0x00, 0x00, 0x00, 0x7f, 0x80, 0x81, 0x00, 0x4c, 0x49, 0x53, 0x54,
+    0x04, 0x00, 0x00, 0x00, 0x49, 0x4e, 0x46, 0x4f, 0x69, 0x64, 0x33, 0x20, 0x03, 0x00, 0x00, 0x00,
+    0x49, 0x44, 0x33, 0x00,
+];
+
+/// The pieces of a file before its samples, and those after them, each joined, with their number.
+fn kept(alloc: Global, file: &[u8]) -> Result<(usize, Vec<u8>, usize, Vec<u8>), Fail> {
+    let wave = wave_of(alloc, file)?;
+    let after = cut(alloc, wave.samples, wave.back)?;
+    let front = joined(alloc, wave.pieces.as_slice())?;
+    let back = joined(alloc, after.as_slice())?;
+    Ok((wave.pieces.len(), front, after.len(), back))
+}
+
+#[test]
+fn what_follows_is_cut(rt: HostRuntime) -> Result<(), Fail> {
+    // The samples are no piece, and neither is the zero after them.
+    let (before, front, after, back) = kept(rt.alloc(), &ODD)?;
+    assert!(rt; before == 4 && front.as_slice() == &ODD[..56]);
+    assert!(rt; after == 2 && back.as_slice() == &ODD[60..]);
+    Ok(())
+}
+
+#[test]
+fn what_is_no_chunk_is_kept(rt: HostRuntime) -> Result<(), Fail> {
+    // Without a zero after the samples one piece more comes first, of no byte.
+    let mut file = ODD;
+    file[59] = 7;
+    let (before, front, after, back) = kept(rt.alloc(), &file)?;
+    assert!(rt; before == 4 && front.as_slice() == &file[..56]);
+    assert!(rt; after == 2 && back.as_slice() == &file[59..]);
+    Ok(())
+}
+
+/// Whether a file is refused for this reason, after this number of chunks.
+fn is_refused(alloc: Global, file: &[u8], chunk: Option<u64>, why: WaveWhy) -> bool {
+    match wave_of(alloc, file) {
+        Ok(_) => false,
+        Err(error) => error == WaveError::Fault(WaveFault { chunk, why }),
+    }
+}
+
+#[test]
+fn what_is_no_file_is_refused(rt: HostRuntime) -> Result<(), Fail> {
+    let alloc = rt.alloc();
+    let mut file = STEREO;
+    assert!(rt; is_refused(alloc, &file[..11], None, WaveWhy::NotWave));
+    assert!(rt; is_refused(alloc, &file[..12], Some(0), WaveWhy::NoData));
+    assert!(rt; is_refused(alloc, &file[..35], Some(0), WaveWhy::ChunkCut));
+    assert!(rt; is_refused(alloc, &file[..50], Some(1), WaveWhy::DataCut));
+    file[40] = 6;
+    assert!(rt; is_refused(alloc, &file, Some(1), WaveWhy::PartSample));
+    file[20] = 3;
+    assert!(rt; is_refused(alloc, &file, Some(0), WaveWhy::Coding));
+    assert!(rt; WaveWhy::Coding.number() == 66 && WaveWhy::Coding.as_str() == "66 Coding");
+    file[0] = b'r';
+    assert!(rt; is_refused(alloc, &file, None, WaveWhy::NotWave));
+    Ok(())
+}
+
+#[test]
+fn plain_files_are_written(rt: HostRuntime) -> Result<(), Fail> {
+    let pieces = plain_pieces(rt.alloc(), &FORMAT, 8)?;
+    let all = joined(rt.alloc(), pieces.as_slice())?;
+    assert!(rt; pieces.len() == 3 && all.as_slice() == &STEREO[..44]);
+    Ok(())
+}
