@@ -4,6 +4,9 @@ Edits that change the bodies of different functions, on different lines, make a 
 An edit counts as refused if the prover has an error of its own in a function that this edit alone changes. The prover proves a
 function from its body and the contracts of what it calls, and no edit of a batch changes anything but bodies, so no other edit can
 have caused that error. Whatever else comes of a batch decides nothing: its edits are left to be tried alone, as the kit does it.
+
+That a refusal is the body's and not the check's is controlled in the same check: an error in what no edit changes, or a function that
+keeps its own body and proof and is not proved, is no result but a Fault.
 """
 import contextlib
 import copy
@@ -19,13 +22,19 @@ from dataclasses import dataclass, field
 
 # More make a batch so long that nothing is left to run beside its end.
 MOST = 32
+# how many functions of each kind, of those that no edit changes, keep their body and their proof in a check from nothing
+CONTROLS = 2
 # the files of a function's proof
 PROOFS = {"Answers.antt", "Invariants.antt", "Proof.antt"}
 ITEMS = {"fn", "impl", "trait", "struct", "enum", "union", "mod", "static", "const", "macro_rules"}
 NOTE = re.compile(r"note: (?:\./)?(src/\S+?):(\d+):\d+: .* \(`[^`]+`\)")
 ERROR = re.compile(r"(?:\./)?proofs/(\S+)/(?:Answers|Invariants|Proof)\.antt:\d+:\d+: error: ")
 PLACE = re.compile(r"(?:note: )?(?:\./)?(src/\S+?|proofs/\S+?):(\d+):\d+: ")
+# an error in any file that the check reads
+ANY_ERROR = re.compile(r"(?:\./)?(?:proofs|specs|src)/\S+?:\d+:\d+: error")
 VERDICT = re.compile(r"(\w+) (\S+::\S+): (.+)")
+# said of a function whose goals are all proved
+WELL = re.compile(r"proved|(?:not proved; |no proof: )it calls `.+`, which (?:is|are) not proved")
 # the last line of a check that came to a verdict
 VERDICTS = re.compile(r"^logic=\S.*\n?\Z", re.MULTILINE)
 # the prover has a proof of its own there, and stops
@@ -35,8 +44,14 @@ NAMES = re.compile(r"has no field|is not in scope|has no `|was not admitted")
 # what a derive writes that is proved as a function is (of a type that is Copy, Clone writes none)
 DERIVES = re.compile(r"#\[derive\(([^)]*)\)\]\s*(?:(?:#\[[^\]]*\]|//[^\n]*)\s*)*(?:pub(?:\([a-z]+\))? )?(?:struct|enum) (\w+)")
 DERIVED = {"Clone": "clone", "Debug": "fmt", "PartialEq": "eq"}
+# the name of a type that is declared
+TYPE = re.compile(r"^\s*(?:pub(?:\([a-z]+\))? )?(?:struct|enum|union) (\w+)", re.MULTILINE)
 # what is taken of the kit's script: with another kit each edit is tried alone
 USES = ("KIT", "LIMITS", "REFUSED", "checked", "linked", "read_edit", "unread")
+
+
+class Fault(Exception):
+    """A check that refuses what no edit changes, so that its errors say nothing of the edits."""
 
 
 def suits(rt):
@@ -79,6 +94,11 @@ class File:
         self.heads = [[word for _, start, _, _, word in rows[path] if it.first <= start < it.start] for it in self.functions]
 
 
+def module_of(path):
+    folders = path.removeprefix("src/").removesuffix(".rt").split("/")
+    return [] if folders in (["lib"], ["main"]) else folders
+
+
 class Sources:
     """A crate's files and functions."""
 
@@ -89,18 +109,29 @@ class Sources:
         self.data, self.functions = source.data, [it for it in source.functions if it.has_body]
         self.files = {path: File(kit, folder, path) for path in self.data}
         self.lines = {it: [self.data[it.file].count(b"\n", 0, at) + 1 for at in (it.first, it.end - 1)] for it in self.functions}
+        self.homes = {name: module_of(path) for path, data in self.data.items() for name in TYPE.findall(data.decode())}
 
     def of_file(self, path):
         return [it for it in self.functions if it.file == path]
 
     def names(self, block):
-        """The names of an impl's type and of its trait, as the prover has them: that of a reference begins with Ref or RefMut."""
+        """The names of an impl's type and of its trait, as the prover has them: that of a reference begins with Ref or RefMut, and ends there
+        if it is one to a parameter; that of a type of which the impl fixes an argument has the words of all its arguments after it, as
+        Decoder+BitReader+R; and that of a trait has the names of its arguments, as FromAllocError."""
         words, references = [it for it in block.ty or [] if not it.startswith("'")], ""
         while words[:1] == ["&"]:
             is_mut = words[1:2] == ["mut"]
             words, references = words[1 + is_mut :], references + ("RefMut" if is_mut else "Ref")
-        own, of = (self.made.named(it)[0] for it in (words, block.trait or ["Self"]))
-        return own and references + own, of
+        (own, _, given), (of, _, arguments) = (self.made.named(it) for it in (words, block.trait or ["Self"]))
+        own = "" if own in block.generics else own
+        if any(it not in [[name] for name in block.generics] for it in given):
+            own = "+".join([own, *(word for it in given for word in it if word.isidentifier())])
+        return references + own, of + "".join(self.made.named(it)[0] for it in arguments)
+
+    def owner(self, function):
+        """The name by which the prover has a method's impl, or nothing. A drop goes by its type's name alone."""
+        own, of = self.names(function.block)
+        return own and of and own + of * (function.in_trait and of != "Drop")
 
     def may_be(self, function, name, symbol):
         """Whether the prover's symbol may be this function's."""
@@ -109,31 +140,28 @@ class Sources:
             return False
         if not function.block:
             return parts == [name, *function.module, function.name]
-        # (a trait's impl goes by both names)
-        own, of = self.names(function.block)
-        # (an impl for some of the type's arguments alone adds these, as Decoder+BitReader+R)
-        return bool(own and of) and (parts[-2] == own + of * function.in_trait or parts[-2].startswith(f"{own}+") and not function.in_trait)
+        own = self.owner(function)
+        return bool(own) and (parts[-2] == own or parts[-2].startswith(f"{own}+") and not function.in_trait)
 
     def place(self, function):
         """Where below proofs/ the prover looks for this function's proof; where it looks elsewhere, it says that there is no such function,
         and goes on. None for a trait's own method."""
-        names = [*function.module]
-        if function.block:
-            own, of = self.names(function.block)
-            if function.block.is_trait or not own:
-                return None
-            names.append(own + of * function.in_trait)
-        return "/".join([*names, function.name])
+        if not function.block:
+            return "/".join([*function.module, function.name])
+        own = self.owner(function)
+        if function.block.is_trait or not own:
+            return None
+        # (methods of no trait are with their type, wherever their impl is)
+        module = function.module if function.in_trait else self.homes.get(own, function.module)
+        return "/".join([*module, own, function.name])
 
     def derived(self):
         """Where below proofs/ the prover looks for the proofs of what the derives of this crate write."""
         for path, data in self.data.items():
-            folders = path.removeprefix("src/").removesuffix(".rt").split("/")
-            module = [] if folders in (["lib"], ["main"]) else folders
             for derives, name in DERIVES.findall(data.decode()):
                 traits = {it.strip() for it in derives.split(",")}
                 for trait in traits & DERIVED.keys() - ({"Clone"} if "Copy" in traits else set()):
-                    yield "/".join([*module, name + trait, DERIVED[trait]])
+                    yield "/".join([*module_of(path), name + trait, DERIVED[trait]])
 
     def changed(self, path, text):
         """The functions whose bodies this text of the file changes, or None if it changes more than bodies, or a body that has items of
@@ -256,6 +284,38 @@ def own_error(sources, name, function, said, errors):
     return next(iter(of_answers + of_goals), None)
 
 
+def errors_of(lines):
+    """The errors in the files of functions' proofs, by their folder."""
+    errors = {}
+    for line in lines:
+        at = ERROR.match(line)
+        if at:
+            errors.setdefault(at[1], []).append(line)
+    return errors
+
+
+def stray(crate, sources, changed, whole, lines, said):
+    """The first line of the check that refuses what is not changed, or says nothing of a function that was left whole; None if there is
+    none."""
+    places = [(it.file, *sources.lines[it]) for it in changed]
+
+    def is_expected(line):
+        of_proof, of_goal = ERROR.match(line), NOTE.match(line)
+        if of_proof:
+            symbol = "::".join([crate.name, *of_proof[1].split("/")])
+            return any(sources.may_be(it, crate.name, symbol) for it in changed)
+        if of_goal:
+            return any(of_goal[1] == path and first <= int(of_goal[2]) <= last for path, first, last in places)
+        return not ANY_ERROR.match(line)
+
+    found = [it for it in lines if not is_expected(it)]
+    for it in whole:
+        symbol = "::".join([crate.name, *sources.place(it).split("/")])
+        words, notes = said.get(symbol, ("no verdict", []))
+        found += notes if WELL.fullmatch(words) else [f"fn {symbol}: {words}"]
+    return next(iter(found), None)
+
+
 def at_fault(sources, edits, lines):
     """The edits that a check without a verdict may have stopped at, by the places that these lines begin with."""
     found = []
@@ -306,13 +366,36 @@ def emptied(text, functions):
     return b"".join([*parts, text[end:]])
 
 
+def changed_by(edits):
+    return {it for edit in edits for it in edit.functions}
+
+
+def controls(crate, sources, changed):
+    """The functions that no edit changes and that keep their body and their proof all the same: of those that call another of the crate, and
+    of those that call none, the ones with the least to prove. Their goals have answers, so that the check reads a file for them as it
+    does for the functions that are changed."""
+    found, names = {True: [], False: []}, {it.name for it in sources.functions}
+    for path, text in sources.data.items():
+        for it, body in zip(sources.of_file(path), sources.files[path].bodies):
+            place = sources.place(it)
+            answers = f"{crate.folder}/proofs/{place}/Answers.antt"
+            if it in changed or has_own_use(it, text) or not os.path.isfile(answers):
+                continue
+            symbol = "::".join([crate.name, *place.split("/")])
+            if sum(sources.may_be(other, crate.name, symbol) for other in sources.functions) == 1:
+                calls = any(word in names and after == "(" for word, after in zip(body, body[1:]))
+                found[calls].append((os.path.getsize(answers) + it.end - it.first, symbol, it))
+    return {it for kind in found.values() for _, _, it in sorted(kind, key=lambda row: row[:2])[:CONTROLS]}
+
+
 @contextlib.contextmanager
 def without_proofs(rt, crate, sources, edits, taken=(), bare=True):
     """A copy of the crate in which the functions that no edit changes have no proof, so that a check from nothing does not spend its time
     on them: in place of the files of their proofs, or where they have none, stands one with no proof, and they have no body if it is to be
     bare. The check says nothing of them, and of the others what it says with these: they are proved from contracts alone, but for those that
-    cite the proof of another, which keeps it. Nothing is put into the places that are taken."""
-    changed = {it for edit in edits for it in edit.functions}
+    cite the proof of another, which keeps it, and for the controls. Nothing is put into the places that are taken."""
+    changed = changed_by(edits)
+    changed |= controls(crate, sources, changed)
 
     def is_changed(symbol):
         return any(sources.may_be(it, crate.name, symbol) for it in changed)
@@ -377,11 +460,12 @@ def refused(rt, crate, sources, edits, flags, kept):
         rest = [it for it in edits if it not in found and len(edits) > 1]
         halves = [rest] if found or len(edits) == 1 else [edits[: len(edits) // 2], edits[len(edits) // 2 :]]
         return {file: it for half in halves for file, it in refused(rt, crate, sources, half, flags, kept).items()}
-    said, errors, told = verdicts(ran.stdout), {}, {}
-    for line in lines:
-        at = ERROR.match(line)
-        if at:
-            errors.setdefault(at[1], []).append(line)
+    said, errors, told = verdicts(ran.stdout), errors_of(lines), {}
+    changed = changed_by(edits)
+    # (over kept work all that is not changed is proved already)
+    other = stray(crate, sources, changed, set() if folder else controls(crate, sources, changed), lines, said)
+    if other:
+        raise Fault(f"the check of {len(edits)} bodies of {crate.name} refuses what none of them changes: {other[:200]}")
     for edit in edits:
         found = [own_error(sources, crate.name, it, said, errors) for it in sorted(edit.functions, key=lambda it: it.first)]
         first = next((it for it in found if it), None)
