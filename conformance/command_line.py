@@ -38,8 +38,8 @@ def output_is_input(bench, data, words):
 
 
 def output_is_another(bench, data, words):
-    """A longer file that is there already is written anew, also through a symbolic link, and IN keeps its bytes."""
-    path, out, link = bench.put(data), bench.put(bytes(100000)), bench.path()
+    """A longer file that is there already is written anew, also through a symbolic link, and IN keeps its bytes. Of `retag` it has IN's STREAMINFO."""
+    path, out, link = bench.put(data), bench.put(data[:42] * (words[0] == "retag") + bytes(100000)), bench.path()
     os.symlink(out, link)
     program.succeeds(words[0], path, link, *words[1:])
     due = bench.path()
@@ -89,7 +89,7 @@ def cases(bench):
     yield "help", lambda: line(["--help"], 0, "")
     yield "no such file", lambda: line(["test", absent], 1, f"flac: {absent}: cannot be opened\n")
     yield "no such folder for OUT", lambda: line(["decode", good, absent], 1, f"flac: {absent}: cannot be created\n")
-    yield "encode without rate", lambda: line(["encode", good, bench.path(), *encode[2:]], 2, None)
+    yield "encode without rate", lambda: line(["encode", good, bench.path(), *encode[2:]], 2, "flac: command: a word is missing\n")
     yield "encode with a word for a rate", lambda: line(["encode", good, bench.path(), "--rate", "x", *encode[2:]], 2, None)
     yield "comment without =", lambda: line(["encode", good, bench.path(), *encode, "TITLE"], 2, "flac: command: comment without =\n")
     yield "retag without =", lambda: line(["retag", good, bench.path(), "TITLE"], 2, "flac: command: comment without =\n")

@@ -33,6 +33,7 @@ WRITING = [("decode", ["decode", "IN", "OUT"], NATIVE), ("decode of Ogg", ["deco
            ("encode outside the subset", ["encode", "IN", "OUT", *(word.replace("44100", "700001") for word in ENCODE), "--lax"], RAW),
            ("encode with a list", ["encode", "IN", "OUT", *LISTED], RAW)]
 BEFORE = b"what is in OUT before\n" * 30
+"""What OUT has before; of a retagging, which replaces a stream of the same STREAMINFO alone, NATIVE."""
 NOBODY = 65534
 
 
@@ -72,6 +73,11 @@ class Place:
 def writing_fault(name):
     """What is due if OUT takes nothing."""
     return "frame 0: 30 Sink" if name.startswith("decode") else "39 Write"
+
+
+def before_of(words):
+    """What OUT has before."""
+    return NATIVE if words[0] == "retag" else BEFORE
 
 
 def due_of(place, words, source):
@@ -163,7 +169,7 @@ def kept_cases():
 
 def replaced(place, words, source, linked=False):
     """The file has the new bytes and its old permissions, and nothing is left beside it."""
-    names, due = {"IN": place.put("in", source), "OUT": place.put("out", BEFORE)}, due_of(place, words, source)
+    names, due = {"IN": place.put("in", source), "OUT": place.put("out", before_of(words))}, due_of(place, words, source)
     os.chmod(names["OUT"], 0o640)
     if linked:
         os.symlink("out", place.path("link"))
@@ -176,19 +182,19 @@ def replaced(place, words, source, linked=False):
 
 def kept(place, words, source, name):
     """A full disk: what found room is beside OUT, each time in another file."""
-    due, names = due_of(place, words, source), {"IN": place.put("in", source), "OUT": place.put("out", BEFORE)}
+    due, names = due_of(place, words, source), {"IN": place.put("in", source), "OUT": place.put("out", before_of(words))}
     for part in ("out.part", "out.part2"):
         place.refused(words, names, f"{names['OUT']}: {writing_fault(name)}", ["env", "--ignore-signal=XFSZ", "prlimit", "--fsize=30"])
-        expect((read(names["OUT"]), read(place.path(part))), (BEFORE, due[:30]))
+        expect((read(names["OUT"]), read(place.path(part))), (before_of(words), due[:30]))
 
 
 def kept_without_rights(place, words, source):
     os.mkdir(place.path("below"))
-    names = {"IN": place.put("in", source), "OUT": place.put("below/out", BEFORE)}
+    names = {"IN": place.put("in", source), "OUT": place.put("below/out", before_of(words))}
     os.chmod(names["OUT"], 0o666)
     os.chmod(place.path("below"), 0o555)
     place.refused(words, names, f"{names['OUT']}: cannot be created", **other_user())
-    expect((read(names["OUT"]), os.listdir(place.path("below"))), (BEFORE, ["out"]))
+    expect((read(names["OUT"]), os.listdir(place.path("below"))), (before_of(words), ["out"]))
 
 
 def kept_beside(place, words, source):
@@ -212,10 +218,10 @@ def added(place, words, source, mode):
 
 
 def no_rights_to_write(place, words, source):
-    names = {"IN": place.put("in", source), "OUT": place.put("out", BEFORE)}
+    names = {"IN": place.put("in", source), "OUT": place.put("out", before_of(words))}
     os.chmod(names["OUT"], 0o444)
     place.refused(words, names, f"{names['OUT']}: cannot be created", **other_user())
-    expect(read(names["OUT"]), BEFORE)
+    expect(read(names["OUT"]), before_of(words))
 
 
 def no_rights_to_create(place, words, source):

@@ -2,7 +2,7 @@
 """Compares docs/errors.md with the errors in the sources. usage: conformance/errors_page.py
 
 The page has to list each number once, with the name that the sources give it. The numbers are those of `Why`
-(flac_bits), `SetupFault` (flac_frame), `EncodeFault` (flac_native) and of the program (flac_cli). The status is 1 if
+(flac_bits), `SetupFault` (flac_frame), `EncodeFault` (flac_native), `WaveWhy` (flac_wave) and of the program (flac_cli). The status is 1 if
 something differs."""
 import pathlib
 import re
@@ -70,7 +70,8 @@ def due():
     if encode != numbered():
         raise SystemExit("errors_page: EncodeFault::number and its text differ")
     reasons = printed("flac_bits/src/why.rt", "Why")
-    for number, name in reasons + printed("flac_frame/src/setup.rt", "SetupFault") + encode + own():
+    others = printed("flac_frame/src/setup.rt", "SetupFault") + printed("flac_wave/src/why.rt", "WaveWhy")
+    for number, name in reasons + others + encode + own():
         if names.setdefault(number, name) != name:
             raise SystemExit(f"errors_page: {number} is {names[number]} and {name} in the sources")
     return names
