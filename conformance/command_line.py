@@ -89,7 +89,7 @@ def cases(bench):
     yield "help", lambda: line(["--help"], 0, "")
     yield "no such file", lambda: line(["test", absent], 1, f"flac: {absent}: cannot be opened\n")
     yield "no such folder for OUT", lambda: line(["decode", good, absent], 1, f"flac: {absent}: cannot be created\n")
-    yield "encode without rate", lambda: line(["encode", good, bench.path(), *encode[2:]], 2, "flac: command: a word is missing\n")
+    yield "encode without rate", lambda: line(["encode", good, bench.path(), *encode[2:]], 2, "flac: command: raw samples need --rate, --channels and --bits\n")
     yield "encode with a word for a rate", lambda: line(["encode", good, bench.path(), "--rate", "x", *encode[2:]], 2, None)
     yield "comment without =", lambda: line(["encode", good, bench.path(), *encode, "TITLE"], 2, "flac: command: comment without =\n")
     yield "retag without =", lambda: line(["retag", good, bench.path(), "TITLE"], 2, "flac: command: comment without =\n")

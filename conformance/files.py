@@ -273,7 +273,7 @@ def taken(place, out):
 
 def missing(place, words):
     names = {"IN": place.put("in", RAW), "OUT": place.path("out")}
-    expect(place.call(["encode", "IN", "OUT", *words], names), (2, b"", "flac: command: a word is missing\n"))
+    expect(place.call(["encode", "IN", "OUT", *words], names), (2, b"", "flac: command: raw samples need --rate, --channels and --bits\n"))
     expect(os.path.exists(names["OUT"]), False)
 
 

@@ -535,9 +535,9 @@ flac encode a.wav a.flac --force A=b | force EncodeWave { input: "a.wav", output
 flac encode a.wav a.oga --ogg --block 16 --lax | EncodeWave { input: "a.wav", output: "a.oga", block: 16, seek_every: 0, container: Ogg { serial: 1 }, comments: [], lax: true, predictors: None }
 flac encode a.wav a.flac none | 2 flac: command: comment without =;
 flac encode a.wav a.oga --ogg --seek-every 5 | 2 flac: command: --ogg with --seek-every;
-flac encode a.raw a.flac --rate 44100 --channels 2 | 2 flac: command: a word is missing;
-flac encode a.raw a.flac --bits 16 | 2 flac: command: a word is missing;
-flac encode a.raw a.flac --raw | 2 flac: command: a word is missing;
+flac encode a.raw a.flac --rate 44100 --channels 2 | 2 flac: command: raw samples need --rate, --channels and --bits;
+flac encode a.raw a.flac --bits 16 | 2 flac: command: raw samples need --rate, --channels and --bits;
+flac encode a.raw a.flac --raw | 2 flac: command: raw samples need --rate, --channels and --bits;
 flac encode a.raw a.flac --rate 44100 --channels 2 --bits 16 none | 2 flac: command: comment without =;
 flac encode a.raw a.flac --rate 44100 --channels 2 --bits 16 --ogg --seek-every 5 | 2 flac: command: --ogg with --seek-every;
 flac encode a.raw a.flac --rate 44100 --channels 2 --bits 16 --ogg --seek-every 5 none | 2 flac: command: comment without =;

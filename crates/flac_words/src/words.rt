@@ -114,7 +114,9 @@ pub fn command_line<'a>(alloc: Global, words: &'a [String]) -> Result<CommandLin
             None => Ok(line),
         },
         Ok(None) => Err(LineFault {
-            text: CowStr::Borrowed("flac: command: a word is missing\n"),
+            text: CowStr::Borrowed(
+                "flac: command: raw samples need --rate, --channels and --bits\n",
+            ),
             status: 2,
         }),
         Err(error) => Err(refused(alloc, &error)),
@@ -219,7 +221,7 @@ fn refused(alloc: Global, error: &clap::Error) -> LineFault
     LineFault::no_memory()
 }
 
-/// What the command line asks for, or `None` if a word is missing.
+/// What the command line asks for, or `None` if an option of raw samples is missing.
 fn parsed<'a>(alloc: Global, words: &'a [String]) -> Result<Option<CommandLine<'a>>, clap::Error> {
     let matches = command(alloc)?.try_get_matches_from(words)?;
     let Some((name, given)) = matches.subcommand() else {
