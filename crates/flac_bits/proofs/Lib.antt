@@ -1,4 +1,5 @@
 pub mod Loops
+pub mod Needing
 pub mod Numbers
 pub mod Laws
 pub mod Meaning

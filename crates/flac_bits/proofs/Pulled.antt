@@ -20,11 +20,12 @@ module _ {S : Type 0} (g : source.Ghosts S) where
   held_pulls old new s same = record {
     names = refl;
     mark = same.1;
-    moved = record { known = λ known. known; errors = refl; raised = refl; most = omega (arith, same_most old new same); same = λ _. same_bits old new (g.coming s) same };
+    moved = record { known = λ known. known; errors = refl; raised = refl; most = omega (arith, same_most old new same); held = omega (arith, same_most old new same); same = λ _. same_bits old new (g.coming s) same };
     over = λ is. absurd cc;
     kept = omega arith;
     foretold = λ _ _. refl;
     read = tt;
+    none = tt;
     ended = tt;
     rises = tt;
     risen = tt;
@@ -42,12 +43,14 @@ module _ {S : Type 0} (g : source.Ghosts S) where
           errors = p.moved.errors;
           raised = p.moved.raised;
           most = omega (arith, p.moved.most, most);
+          held = omega (arith, p.moved.held, most);
           same = λ known. then_same old mid new _ _ _ bits (p.moved.same known);
         };
         over = λ is known. let over = p.over is known in (sym bits.left ∙ over.0, λ e. over.1 (reason_same old mid _ _ same ∙ e));
         kept = p.kept;
         foretold = p.foretold;
         read = tt;
+        none = tt;
         ended = tt;
         rises = tt;
         risen = tt;
@@ -62,6 +65,7 @@ module _ {S : Type 0} (g : source.Ghosts S) where
         kept = p.kept;
         foretold = p.foretold;
         read = p.read;
+        none = sym (same_most old mid same) ∙ p.none;
         ended = λ known errors. let ends = p.ended known errors in record {
           left = sym bits.left ∙ ends.left;
           reason = sym (reason_same old mid _ _ same) ∙ ends.reason;
@@ -82,12 +86,14 @@ module _ {S : Type 0} (g : source.Ghosts S) where
           errors = p.moved.errors;
           raised = p.moved.raised;
           most = omega (arith, p.moved.most, most);
+          held = omega (arith, p.moved.held, most);
           same = λ known. then_same old mid new _ _ _ (p.moved.same known) (same_bits mid new (g.coming after) same);
         };
         over = p.over;
         kept = p.kept;
         foretold = p.foretold;
         read = tt;
+        none = tt;
         ended = tt;
         rises = tt;
         risen = tt;

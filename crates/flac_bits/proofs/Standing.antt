@@ -10,7 +10,9 @@ use Rattle.flac_bits.specs.State.{State, Behind, short_of}
 use Rattle.flac_bits.specs.Layout.{number_at, zeros_at, run, and_then}
 use Rattle.flac_bits.specs.Lists.{list_of, behind as put_behind}
 use Rattle.flac_bits.specs.inner.Stretches.{IsRead}
-use Rattle.flac_bits.proofs.Stretches.{stretch_read}
+use Rattle.flac_bits.specs.Reading.{HeldEnds}
+use Rattle.flac_bits.specs.inner.Reading.{Draws}
+use Rattle.flac_bits.proofs.Stretches.{stretch_read, stretch_ends}
 use Rattle.flac_bits.specs.Meaning.{unary_bits}
 use Rattle.flac_bits.specs.Rice.{rice, rice_value}
 use Rattle.flac_bits.specs.Store.{Store, Fence, allowed, forbidden, reached, left_of, most_of, reason_of, state_of}
@@ -51,6 +53,35 @@ module _ (known : Bool) (errors raised most : ℕ) (behind : Behind) (names : Li
   values_took k text us vs i j passes read =
       let spent = ap (λ (bs : List Bool). length bs) passes.0 ∙ length-append text (new.word ++ bits_of new.bytes) in
       rw (← is, passes.2) ((omega (arith, spent), refl, refl, refl, refl, refl), stretch_read k text us vs i j _ old new _ passes read)
+
+  -- bits that were taken were held
+  held_left : (n : ℕ) → length (old.word ++ bits_of old.bytes) ≡ n + length (new.word ++ bits_of new.bytes) → new.fence ≡ old.fence → s.held + length t.cursor.left ≡ t.held + length s.cursor.left
+  held_left n spent same =
+      rw (← is, same) (omega (arith, spent, length-append (old.word ++ bits_of old.bytes) (bits_of (allowed old.fence.room coming)), length-append (new.word ++ bits_of new.bytes) (bits_of (allowed old.fence.room coming))))
+
+  pub number_held : (n v : ℕ) → Takes (unsigned n v) old new → t.held + n ≡ s.held
+  number_held n v takes =
+      let spent = taken_spends (unsigned n v) old new takes in
+      rw (← is, takes.3) (omega (arith, spent, length-unsigned n v))
+
+  pub zeros_held : (limit : ℕ) (o : Option ℕ) → IfSome o (λ q. (q ≤ limit) × Takes (unary_bits q) old new) → IfSome o (λ _. s.held + length t.cursor.left ≡ t.held + length s.cursor.left)
+  zeros_held limit None some = tt
+  zeros_held limit (Some q) (le, takes) = held_left (length (unary_bits q)) (taken_spends (unary_bits q) old new takes) takes.3
+
+  pub rice_held : (k limit : ℕ) (o : Option ℕ) → IfSome o (λ v. (q : ℕ) × (low : ℕ) × (q ≤ limit) × (low < 2 ^ k) × (v ≡ q * 2 ^ k + low) × Takes (unary_bits q ++ unsigned k low) old new)
+      → IfSome o (λ _. s.held + length t.cursor.left ≡ t.held + length s.cursor.left)
+  rice_held k limit None some = tt
+  rice_held k limit (Some v) (q, low, le, lt, e, takes) = held_left (length (unary_bits q ++ unsigned k low)) (taken_spends (unary_bits q ++ unsigned k low) old new takes) takes.3
+
+  pub values_drawn : (k : ℕ) (text : List Bool) (us vs : List ℤ) (i j : ℕ) → Passes text old new → IsRead k text us i vs j
+      → Draws s t (HeldEnds (list_of (length us - j) (rice_value k)) t) (HeldEnds (list_of (length us - i) (rice_value k)) s)
+  values_drawn k text us vs i j passes read =
+      let spent : length (old.word ++ bits_of old.bytes) ≡ length text + length (new.word ++ bits_of new.bytes) = ap (λ (bs : List Bool). length bs) passes.0 ∙ length-append text (new.word ++ bits_of new.bytes) in
+      let held = held_left (length text) spent passes.2 in
+      record {
+        held = λ _. omega (arith, held);
+        ends = λ _. rw (← is, passes.2) (λ e. stretch_ends k text us vs i j _ _ _ old new _ passes read (omega (arith, spent)) e);
+      }
 
   pub held_same : HoldsSame old new → t ≡ s
   held_same same = rw (← is, same.0, same.1, same.2) refl

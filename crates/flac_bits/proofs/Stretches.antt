@@ -1,16 +1,16 @@
 -- Values off a word and the bytes after it.
-use Rattle.std.proofs.Common.{◌≡◌, ℕ, ℤ, ◌+◌, ◌-◌, ◌*◌, ◌/◌, ◌^◌, ◌<◌, ◌≤◌, Bool, List, [], ◌∷◌, ◌++◌, length, take, drop, Some, Ok, refl, sym, ap, ◌∙◌, arith, append_assoc, set}
-use Rattle.std.proofs.lemmas.List.{length-take, length-drop, take-append-drop, take-take, take_all, drop-take}
+use Rattle.std.proofs.Common.{◌≡◌, ℕ, ℤ, ◌+◌, ◌-◌, ◌*◌, ◌/◌, ◌^◌, ◌<◌, ◌≤◌, Bool, List, [], ◌∷◌, ◌++◌, length, take, drop, Some, Ok, refl, sym, ap, ◌∙◌, arith, append_assoc, set, suc, subst, inl, inr}
+use Rattle.std.proofs.lemmas.List.{append_cancel_right, length-take, length-drop, take-append-drop, take-take, take_all, drop-take}
 use Rattle.std.proofs.lemmas.Grind.{take-set_at}
 use Rattle.std.proofs.lemmas.Nat.{shr_high}
-use Rattle.std.proofs.Math.Seq.{take-add}
+use Rattle.std.proofs.Math.Seq.{take-add, take-append-add}
 use Rattle.flac_bits.specs.Bits.{unsigned, bits_of}
 use Rattle.flac_bits.specs.State.{Mark, Cursor, past, with_short}
 use Rattle.flac_bits.specs.declared.why.Why.{Why}
 use Rattle.std.specs.List.{slice_range}
 use Rattle.flac_bits.specs.Layout.{run, and_then}
 use Rattle.flac_bits.specs.Lists.{list_of, behind}
-use Rattle.flac_bits.specs.Meaning.{unary_bits}
+use Rattle.flac_bits.specs.Meaning.{unary_bits, Spells, IsCut}
 use Rattle.flac_bits.specs.Rice.{rice, rice_value, unfolded}
 use Rattle.flac_bits.specs.Store.{Store, passed}
 use Rattle.flac_bits.specs.inner.Store.{Passes, four_at}
@@ -20,13 +20,14 @@ use Rattle.flac_bits.proofs.Fields.{cursor_of, past-with_short}
 use Rattle.flac_bits.proofs.Holding.{length-bits_of, bits_of-append, four_left, came_tie, came_passed, took_tie, took_mark}
 use Rattle.flac_bits.proofs.Laws.{at_, number_again, zeros_again, past-append, unsigned_low}
 use Rattle.flac_bits.proofs.Lists.{list_more}
+use Rattle.flac_bits.proofs.Meaning.{takes}
 use Rattle.flac_bits.proofs.Rices.{below_greatest, folded_small, ready_limit, value_read}
 use Rattle.flac_bits.proofs.Words.{split, length-unsigned}
 
 -- ---- values
 
 pub none_read : (k : ℕ) (vs : List ℤ) (i : ℕ) → IsRead k [] vs i vs i
-none_read k vs i = record { reads = λ rest m. refl }
+none_read k vs i = record { reads = λ rest m. refl; ends = λ rest m s. s }
 
 pub then_read : (k : ℕ) (a b : List Bool) (us vs ws : List ℤ) (i j l : ℕ) → length vs ≡ length us → IsRead k a us i vs j → IsRead k b vs j ws l → IsRead k (a ++ b) us i ws l
 then_read k a b us vs ws i j l long p q = record {
@@ -34,12 +35,26 @@ then_read k a b us vs ws i j l long p q = record {
       ∙ ap (λ n. and_then (run (list_of (n - j) (rice_value k)) (at_ (b ++ rest) (past a m))) (behind (take j vs))) (sym long) ∙ q.reads rest (past a m)
       ∙ ap (λ n. and_then (run (list_of (n - l) (rice_value k)) (at_ rest (past b (past a m)))) (behind (take l ws))) long
       ∙ ap (λ t. and_then (run (list_of (length us - l) (rice_value k)) (at_ rest t)) (behind (take l ws))) (sym (past-append a b m));
+  ends = λ rest m s.
+      let field = rice_value k in
+      let inner : IsCut (list_of (length vs - l) field) (past b (past a m)) rest = subst (λ t. IsCut (list_of (length vs - l) field) t rest) (past-append a b m) (subst (λ n. IsCut (list_of (n - l) field) (past (a ++ b) m) rest) (sym long) s) in
+      subst (IsCut (list_of (length us - i) field) m) (sym (append_assoc a b rest)) (p.ends (b ++ rest) m (subst (λ n. IsCut (list_of (n - j) field) (past a m) (b ++ rest)) long (q.ends rest (past a m) inner)));
 }
 
 code_read : (k limit q low : ℕ) (rest : List Bool) (m : Mark) → q ≤ limit → low < 2 ^ k → run (rice k limit) (at_ ((unary_bits q ++ unsigned k low) ++ rest) m) ≡ Ok (q * 2 ^ k + low, at_ rest (past (unary_bits q ++ unsigned k low) m))
 unfolding rice
 code_read k limit q low rest m le lt =
     rw (append_assoc (unary_bits q) (unsigned k low) rest, zeros_again limit (Some q) (unary_bits q ++ (unsigned k low ++ rest)) (unsigned k low ++ rest) m (le, refl), number_again k low rest (past (unary_bits q) m) lt, past-append (unary_bits q) (unsigned k low) m) refl
+
+-- one more value before bits that end inside the others
+value_ends : (k n i : ℕ) (z : ℤ) (text rest : List Bool) (m : Mark) → i < n → run (rice_value k) (at_ (text ++ rest) m) ≡ Ok (z, at_ rest (past text m)) → IsCut (list_of (n - (i + 1)) (rice_value k)) (past text m) rest → IsCut (list_of (n - i) (rice_value k)) m (text ++ rest)
+unfolding list_of
+value_ends k n i z text rest m lt ran s =
+    let e : suc (n - (i + 1)) ≡ n - i = omega (arith, lt) in
+    let t = takes (rice_value k) (text ++ rest) m z (at_ rest (past text m)) ran in
+    let same : text ≡ t.0 = append_cancel_right text t.0 rest t.1 in
+    let spelled : Spells (rice_value k) m text z = subst (λ b. Spells (rice_value k) m b z) (sym same) t.2 in
+    subst (λ j. IsCut (list_of j (rice_value k)) m (text ++ rest)) e (inr (z, text, rest, refl, spelled, inl s))
 
 pub one_read : (k q low v : ℕ) (z : ℤ) (vs : List ℤ) (i : ℕ) → q ≤ 62 → low < 2 ^ k → k ≤ 26 → v ≡ q * 2 ^ k + low → z ≡ unfolded v → i < length vs → IsRead k (unary_bits q ++ unsigned k low) vs i (set vs i z) (i + 1)
 one_read k q low v z vs i le lt few is value within = record {
@@ -53,6 +68,13 @@ one_read k q low v z vs i le lt few is value within = record {
       let read : run (rice k most) (at_ (text ++ rest) m) ≡ Ok (v, at_ rest (past text m)) = rw is (code_read k most q low rest m (below_greatest q 62 k le (ready_limit k few)) lt) in
       list_more n i field (at_ (text ++ rest) m) (take i vs) within ∙ ap (λ r. and_then r more) (value_read k v z (at_ (text ++ rest) m) (at_ rest (past text m)) read small value)
       ∙ ap (λ front. and_then (run (list_of (n - (i + 1)) field) (at_ rest (past text m))) (behind front)) (sym (take-set_at vs i (i + 1) z refl within));
+  ends = λ rest m s.
+      let n = length vs in
+      let text = unary_bits q ++ unsigned k low in
+      let most = (2 ^ 32 - 2) / 2 ^ k in
+      let small = folded_small q low 62 k v le lt is (ready_limit k few) in
+      let read : run (rice k most) (at_ (text ++ rest) m) ≡ Ok (v, at_ rest (past text m)) = rw is (code_read k most q low rest m (below_greatest q 62 k le (ready_limit k few)) lt) in
+      value_ends k n i z text rest m within (value_read k v z (at_ (text ++ rest) m) (at_ rest (past text m)) read small value) s;
 }
 
 -- ---- bytes
@@ -135,6 +157,17 @@ stretch_read k text us vs i j why old new rest passes read =
     let left : (old.word ++ bits_of old.bytes) ++ rest ≡ text ++ ((new.word ++ bits_of new.bytes) ++ rest) = ap (λ bs. bs ++ rest) passes.0 ∙ append_assoc text (new.word ++ bits_of new.bytes) rest in
     let marked : with_short why new.mark ≡ past text (with_short why old.mark) = ap (with_short why) passes.1 ∙ sym (past-with_short text why old.mark) in
     rw (left, marked) (read.reads ((new.word ++ bits_of new.bytes) ++ rest) (with_short why old.mark))
+
+-- and those of its bits that are held end inside the values before, if they end inside the values after
+pub stretch_ends : (k : ℕ) (text : List Bool) (us vs : List ℤ) (i j h h' : ℕ) (why : Why) (old new : Store) (rest : List Bool) → Passes text old new → IsRead k text us i vs j → h ≡ length text + h'
+    → IsCut (list_of (length us - j) (rice_value k)) (with_short why new.mark) (take h' ((new.word ++ bits_of new.bytes) ++ rest)) → IsCut (list_of (length us - i) (rice_value k)) (with_short why old.mark) (take h ((old.word ++ bits_of old.bytes) ++ rest))
+stretch_ends k text us vs i j h h' why old new rest passes read held s =
+    let after = (new.word ++ bits_of new.bytes) ++ rest in
+    let left : (old.word ++ bits_of old.bytes) ++ rest ≡ text ++ after = ap (λ bs. bs ++ rest) passes.0 ∙ append_assoc text (new.word ++ bits_of new.bytes) rest in
+    let marked : with_short why new.mark ≡ past text (with_short why old.mark) = ap (with_short why) passes.1 ∙ sym (past-with_short text why old.mark) in
+    let front : take h ((old.word ++ bits_of old.bytes) ++ rest) ≡ text ++ take h' after = ap (λ n. take n ((old.word ++ bits_of old.bytes) ++ rest)) held ∙ ap (take (length text + h')) left ∙ take-append-add text after h' in
+    subst (IsCut (list_of (length us - i) (rice_value k)) (with_short why old.mark)) (sym front)
+    (read.ends (take h' after) (with_short why old.mark) (subst (λ t. IsCut (list_of (length us - j) (rice_value k)) t (take h' after)) marked s))
 
 pub few_here : (k n : ℕ) → k ≡ n → k ≤ 26 → n ≤ 26
 few_here k n is few = rw (← is) few

@@ -1,5 +1,5 @@
 -- What a reading call does.
-use Rattle.std.specs.Prelude.{◌≡◌, ◌≢◌, ◌<◌, ◌≤◌, ◌+◌, ℕ, Bool, true, false, List, ◌++◌, Result, Ok, Err, OnOk, IfOk, IfErr, IsOkAnd, IsErrAnd, ◌⊎◌}
+use Rattle.std.specs.Prelude.{◌≡◌, ◌≢◌, ◌<◌, ◌≤◌, ◌+◌, ℕ, Bool, true, false, List, ◌++◌, length, take, Result, Ok, Err, OnOk, IfOk, IfErr, IsOkAnd, IsErrAnd, ◌⊎◌}
 use Rattle.flac_bits.specs.State.{Cursor, State, Rises, Consumes}
 use Rattle.flac_bits.specs.Reasons.{of_output}
 use Rattle.flac_bits.specs.Layout.{Layout, Reason, because, run}
@@ -13,6 +13,22 @@ use Rattle.flac_bits.specs.declared.why.Why.TheVariants.{Memory, Read}
 abbrev pub Counts : {X : Type 0} → State → State → Result X Why → Type 0
 Counts old new (Ok x) = (old.known ≡ true → new.known ≡ true) × (new.errors ≡ old.errors) × (new.raised ≡ old.raised) × (old.known ≡ true → new.behind ≡ old.behind) × (new.names ≡ old.names)
 Counts old new (Err e) = (old.errors ≤ new.errors) × (old.known ≡ true → new.errors ≡ old.errors → new.behind ≡ old.behind) × (old.known ≡ true → e ≡ Read → old.raised < new.raised) × (new.names ≡ old.names) × (e ≡ Read → Rises old.raised new.raised) × (of_output e ≡ false)
+
+-- The source is asked only for bits that are needed: a call that reads n bits returns an error of the source, foretold
+-- or not, only if fewer than n were held; and after a value all that were held are held but these.
+abbrev pub PullsFor : {X : Type 0} → ℕ → State → State → Result X Why → Type 0
+PullsFor n old new (Ok x) = old.held ≤ new.held + n
+PullsFor n old new (Err e) = e ≡ Read → old.held < n
+
+-- the bits that are held, which come first, are valid fields of a layout and end inside it
+abbrev pub HeldEnds : {Y : Type 0} → Layout Y → State → Type 0
+HeldEnds layout s = IsCut layout s.cursor.mark (take s.held s.cursor.left)
+
+-- The same of a call that reads a layout, if the bytes of the source are known. After a value no more are missing of
+-- those that were held than the value has bits.
+abbrev pub PullsInside : {X Y : Type 0} → Layout Y → State → State → Result X Why → Type 0
+PullsInside layout old new (Ok x) = old.known ≡ true → old.held + length new.cursor.left ≤ new.held + length old.cursor.left
+PullsInside layout old new (Err e) = e ≡ Read → old.known ≡ true → HeldEnds layout old
 
 -- What was returned, seen by view, and the position of the reader after the call are what is read.
 abbrev pub Answers : {X Y : Type 0} → (X → Y) → Result (Y × Cursor) Reason → Cursor → Result X Why → Type 0

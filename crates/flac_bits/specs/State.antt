@@ -97,6 +97,8 @@ pub record State : Type 0 where
   pub behind : Behind
   -- the most bits that can still come
   pub most : ℕ
+  -- how many bits were pulled from the source and not read yet, those past a fence too
+  pub held : ℕ
   -- the references that the source goes through
   pub names : List GName
   -- the position of the reader, if the bytes are known

@@ -58,6 +58,7 @@ abbrev pub reason_of : Bool → Behind → Why
 reason_of true behind = FrameTooLong
 reason_of false behind = short_of behind.fails
 
+-- how many bits it has, those past the fence too
 abbrev pub most_of : Store → ℕ
 most_of s = length (s.word ++ bits_of s.bytes) + 8 * length s.fence.hidden
 
@@ -68,6 +69,7 @@ state_of known errors raised most behind names coming s = record {
   raised = raised;
   behind = record behind { fenced = fenced_of s coming };
   most = 8 * most + most_of s;
+  held = most_of s;
   names = names;
   cursor = record { left = left_of s coming; mark = with_short (reason_of (reached s.fence.room coming) behind) s.mark };
 }

@@ -3,7 +3,7 @@
 ghost use Rattle.std.specs.Prelude.{◌*◌, length};
 ghost use Rattle.flac_bits.specs.Layout.{bits as number, run};
 ghost use Rattle.flac_bits.specs.Lists.{list_of};
-ghost use Rattle.flac_bits.specs.Reading.{Gives, Reads, CallInPlace};
+ghost use Rattle.flac_bits.specs.Reading.{Gives, Reads, CallInPlace, PullsFor};
 ghost use Rattle.flac_bits.specs.Unchecked.{begun_anew};
 
 use crate::reader::BitReader;
@@ -17,6 +17,7 @@ use crate::why::Why;
 /// at a fence, [`Why::Read`] if the source fails. What `out` has then is not specified.
 pub fn read_bytes<R: Source>(bits: &mut BitReader<R>, out: &mut [u8]) -> Result<(), Why>
     ensures reading { CallInPlace (8 * length out.old) (Reads (λ _. out.new) (list_of (length out.old) (number 8))) bits.old bits.new result }
+    ensures needed { PullsFor (8 * length out.old) bits.old bits.new result }
 {
     if bits.unread() > 0 {
         return read_each(bits, out);
@@ -37,6 +38,7 @@ pub fn read_bytes<R: Source>(bits: &mut BitReader<R>, out: &mut [u8]) -> Result<
 #[tactic(auto, using(crate::proofs::Lists::list_more, crate::proofs::Lists::list_end, crate::proofs::Lists::list_start))]
 fn read_each<R: Source>(bits: &mut BitReader<R>, out: &mut [u8]) -> Result<(), Why>
     ensures reading { CallInPlace (8 * length out.old) (Reads (λ _. out.new) (list_of (length out.old) (number 8))) bits.old bits.new result }
+    ensures needed { PullsFor (8 * length out.old) bits.old bits.new result }
 {
     for i in 0..out.len() {
         out[i] = bits.take(8)? as u8;
@@ -51,6 +53,7 @@ fn read_each<R: Source>(bits: &mut BitReader<R>, out: &mut [u8]) -> Result<(), W
 /// Those of [`read_bytes`].
 pub fn read_unchecked<R: Source>(bits: &mut BitReader<R>, out: &mut [u8]) -> Result<(), Why>
     ensures reading { CallInPlace (8 * length out.old) (Gives (λ _. out.new) (begun_anew (run (list_of (length out.old) (number 8)) bits.old.cursor))) bits.old bits.new result }
+    ensures needed { PullsFor (8 * length out.old) bits.old bits.new result }
 {
     if bits.unread() > 0 {
         read_each(bits, out)?;

@@ -2,7 +2,7 @@
 
 ghost use Rattle.std.specs.Prelude.{◌+◌};
 ghost use Rattle.flac_bits.specs.LittleEndian.{little_32, little_64, little_bits};
-ghost use Rattle.flac_bits.specs.Reading.{Reads, CallInPlace};
+ghost use Rattle.flac_bits.specs.Reading.{Reads, CallInPlace, PullsFor};
 ghost use Rattle.flac_bits.specs.Written.{Writes};
 
 use crate::bytes::read_bytes;
@@ -20,6 +20,7 @@ use byteorder::{ByteOrder, LittleEndian};
 #[tactic(auto, using(crate::proofs::LittleNumbers::bytes_are_little_32))]
 pub fn read_little_32<R: Source>(bits: &mut BitReader<R>) -> Result<u32, Why>
     ensures reading { CallInPlace 32 (Reads (λ v. v) little_32) bits.old bits.new result }
+    ensures needed { PullsFor 32 bits.old bits.new result }
 {
     let mut bytes = [0; 4];
     read_bytes(bits, &mut bytes)?;
@@ -33,6 +34,7 @@ pub fn read_little_32<R: Source>(bits: &mut BitReader<R>) -> Result<u32, Why>
 #[tactic(auto, unfolding(crate::specs::LittleEndian::little_64))]
 pub fn read_little_64<R: Source>(bits: &mut BitReader<R>) -> Result<u64, Why>
     ensures reading { CallInPlace 64 (Reads (λ v. v) little_64) bits.old bits.new result }
+    ensures needed { PullsFor 64 bits.old bits.new result }
 {
     let low = read_little_32(bits)?;
     let high = read_little_32(bits)?;

@@ -3,7 +3,7 @@
 ghost use Rattle.std.specs.Prelude.{◌≡◌, ◌≤◌, ◌<◌, ◌^◌, ◌+◌, ◌*◌, cond, nat_lt, IfOk, IfSome};
 ghost use Rattle.flac_bits.specs.Coded.{IsNumber};
 ghost use Rattle.flac_bits.specs.Number.{lead_form, continued, number};
-ghost use Rattle.flac_bits.specs.Reading.{Reads, Means, CallInPlace};
+ghost use Rattle.flac_bits.specs.Reading.{Reads, Means, CallInPlace, PullsInside};
 
 use crate::reader::BitReader;
 use crate::source::Source;
@@ -34,6 +34,7 @@ fn continued<R: Source>(bits: &mut BitReader<R>, count: u32, high: u64) -> Resul
     requires few { count ≤ 6 }
     requires small { high < 2 ^ 5 }
     ensures reading { CallInPlace 0 (Reads (λ v. v) (continued count high)) bits.old bits.new result }
+    ensures needed { PullsInside (continued count high) bits.old bits.new result }
     ensures room { IfOk result (λ v. v < (high + 1) * 64 ^ count) }
 {
     let mut value = high;
@@ -62,6 +63,7 @@ fn continued<R: Source>(bits: &mut BitReader<R>, count: u32, high: u64) -> Resul
 pub fn read_number<R: Source>(bits: &mut BitReader<R>, max_bits: u32) -> Result<u64, Why>
     ensures fits { IfOk result (λ v. IsNumber max_bits v) }
     ensures reading { CallInPlace 8 (Means (λ v. v) (number max_bits)) bits.old bits.new result }
+    ensures needed { PullsInside (number max_bits) bits.old bits.new result }
 {
     number_here(bits, max_bits)
 }
@@ -71,6 +73,7 @@ pub fn read_number<R: Source>(bits: &mut BitReader<R>, max_bits: u32) -> Result<
 fn number_here<R: Source>(bits: &mut BitReader<R>, max_bits: u32) -> Result<u64, Why>
     ensures fits { IfOk result (λ v. IsNumber max_bits v) }
     ensures reading { CallInPlace 8 (Reads (λ v. v) (number max_bits)) bits.old bits.new result }
+    ensures needed { PullsInside (number max_bits) bits.old bits.new result }
 {
     let lead = bits.take(8)?;
     if lead < 128 {

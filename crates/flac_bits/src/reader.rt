@@ -1,6 +1,6 @@
 //! Reading of bits from a source of bytes.
 
-ghost use Rattle.std.specs.Prelude.{◌≡◌, ◌≢◌, ◌<◌, ◌≤◌, ◌+◌, ◌^◌, ◌-◌, [], ℕ, true, IfOk, IfErr, OnOk, ◌*◌, length, take, IfSome, None, Some, Ok, false, get_or, pos};
+ghost use Rattle.std.specs.Prelude.{◌≡◌, ◌≢◌, ◌<◌, ◌≤◌, ◌+◌, ◌^◌, ◌-◌, [], ℕ, true, IfOk, IfErr, OnOk, ◌*◌, length, take, IfSome, None, Some, Ok, false, get_or, pos, MatchResult};
 ghost use Rattle.flac_bits.specs.declared.why.Why.TheVariants.{Truncated};
 ghost use Rattle.flac_bits.specs.Reasons.{of_output};
 ghost use Rattle.flac_bits.specs.Bits.{is_nil};
@@ -9,12 +9,13 @@ ghost use Rattle.flac_bits.specs.State.{State, short_of, started, Consumes, with
 ghost use Rattle.flac_bits.specs.Fencing.{fence_at, lifted};
 ghost use Rattle.flac_bits.specs.Store.{state_of};
 ghost use Rattle.flac_bits.specs.inner.Pulling.{Pulls};
-ghost use Rattle.flac_bits.specs.Layout.{next_bit, number_at, zeros_at, align as to_byte, run, and_then};
+ghost use Rattle.flac_bits.specs.Layout.{next_bit, number_at, zeros_at, unary as zeros, align as to_byte, run, and_then};
 ghost use Rattle.std.specs.Prelude.{All};
 ghost use Rattle.flac_bits.specs.Lists.{list_of, behind};
 ghost use Rattle.flac_bits.specs.Rice.{rice, rice_value, IsResidual};
 ghost use Rattle.flac_bits.specs.Signed.{signed_field, FitsBits};
-ghost use Rattle.flac_bits.specs.Reading.{Counts, Gives, Reads, CallInPlace};
+ghost use Rattle.flac_bits.specs.Reading.{Counts, Gives, Reads, CallInPlace, PullsFor, PullsInside, HeldEnds};
+ghost use Rattle.flac_bits.specs.inner.Reading.{Draws};
 ghost use Rattle.flac_bits.specs.inner.Unchecked.{Fills, started_unless};
 
 use crate::held::Held;
@@ -29,7 +30,7 @@ use std::marker::Model;
 /// # Errors
 /// A call that needs more bits than are left returns [`Why::Truncated`] if the input ends, [`Why::FrameTooLong`] if a
 /// fence is there ([`BitReader::fence`]), and [`Why::Read`] if the source returned an error. Which bits were read
-/// before the error is not specified.
+/// before the error is not specified. The source is asked for bytes only if too few bits are held.
 #[derive(Drop)]
 pub struct BitReader<R: Source> {
     source: R,
@@ -94,6 +95,7 @@ impl<R: Source> BitReader<R> {
           raised = R.raised source;
           behind = without_fence (R.behind source);
           most = 8 * R.most source;
+          held = 0;
           names = R.names source;
           cursor = record { left = bits_of (R.coming source); mark = record { unread = 0; bytes = 0; check8 = 0; check16 = 0; short = short_of ((R.behind source).fails) } };
         } }
@@ -110,6 +112,7 @@ impl<R: Source> BitReader<R> {
         ensures some { IfSome result (λ v. (v < 2 ^ n) × (self.new.most + n ≡ self.old.most) × (self.new.known ≡ self.old.known) × (self.new.errors ≡ self.old.errors) × (self.new.raised ≡ self.old.raised) × (self.new.behind ≡ self.old.behind) × (self.new.names ≡ self.old.names)
             × (number_at n self.old.cursor ≡ Ok (v, self.new.cursor))) }
         ensures none { result ≡ None → self.new ≡ self.old }
+        ensures held { IfSome result (λ _. self.new.held + n ≡ self.old.held) }
     {
         if n <= self.held.ready() {
             Some(self.held.take(n))
@@ -129,6 +132,7 @@ impl<R: Source> BitReader<R> {
     /// Reads one bit.
     fn bit(&mut self) -> Result<bool, Why>
         ensures reading { CallInPlace 1 (Gives (λ b. b) (next_bit self.old.cursor)) self.old self.new result }
+        ensures needed { PullsFor 1 self.old self.new result }
     {
         match fill(&mut self.held, &mut self.source) {
             Ok(true) => Ok(self.held.take(1) == 1),
@@ -144,6 +148,7 @@ impl<R: Source> BitReader<R> {
         requires { n ≤ 64 }
         ensures small { IfOk result (λ v. v < 2 ^ n) }
         ensures reading { CallInPlace n (Gives (λ v. v) (number_at n self.old.cursor)) self.old self.new result }
+        ensures needed { PullsFor n self.old self.new result }
     {
         let mut value = 0u64;
         for i in 0..n {
@@ -162,6 +167,7 @@ impl<R: Source> BitReader<R> {
         requires { n ≤ 64 }
         ensures small { IfOk result (λ v. v < 2 ^ n) }
         ensures reading { CallInPlace n (Gives (λ v. v) (number_at n self.old.cursor)) self.old self.new result }
+        ensures needed { PullsFor n self.old self.new result }
     {
         if let Some(value) = self.ready(n) {
             return Ok(value);
@@ -176,6 +182,7 @@ impl<R: Source> BitReader<R> {
         requires { n ≤ 64 }
         ensures small { IfOk result (λ v. v < 2 ^ n) }
         ensures reading { CallInPlace n (Gives (λ v. v) (number_at n self.old.cursor)) self.old self.new result }
+        ensures needed { PullsFor n self.old self.new result }
     {
         if n <= 32 {
             return self.take_few(n);
@@ -190,6 +197,7 @@ impl<R: Source> BitReader<R> {
         requires { n ≤ 32 }
         ensures small { IfOk result (λ v. v < 2 ^ n) }
         ensures reading { CallInPlace n (Gives (λ v. v) (number_at n self.old.cursor)) self.old self.new result }
+        ensures needed { PullsFor n self.old self.new result }
     {
         self.top_up();
         if let Some(value) = self.ready(n) {
@@ -204,6 +212,7 @@ impl<R: Source> BitReader<R> {
         ensures some { IfSome result (λ q. (q ≤ limit) × (self.new.most ≤ self.old.most) × (self.new.known ≡ self.old.known) × (self.new.errors ≡ self.old.errors) × (self.new.raised ≡ self.old.raised) × (self.new.behind ≡ self.old.behind) × (self.new.names ≡ self.old.names)
             × (zeros_at limit self.old.cursor ≡ Ok (Some q, self.new.cursor))) }
         ensures none { result ≡ None → self.new ≡ self.old }
+        ensures held { IfSome result (λ _. self.old.held + length self.new.cursor.left ≡ self.new.held + length self.old.cursor.left) }
     {
         self.held.unary(limit)
     }
@@ -214,6 +223,7 @@ impl<R: Source> BitReader<R> {
     fn unary_slow(&mut self, limit: u64) -> Result<Option<u64>, Why>
         ensures within { IfOk result (λ o. IfSome o (λ q. q ≤ limit)) }
         ensures reading { CallInPlace 0 (Gives (λ v. v) (zeros_at limit self.old.cursor)) self.old self.new result }
+        ensures needed { PullsInside (zeros limit) self.old self.new result }
     {
         for zeros in 0..limit {
             if self.bit()? {
@@ -235,6 +245,7 @@ impl<R: Source> BitReader<R> {
     pub fn unary(&mut self, limit: u64) -> Result<Option<u64>, Why>
         ensures within { IfOk result (λ o. IfSome o (λ q. q ≤ limit)) }
         ensures reading { CallInPlace 0 (Gives (λ v. v) (zeros_at limit self.old.cursor)) self.old self.new result }
+        ensures needed { PullsInside (zeros limit) self.old self.new result }
     {
         self.top_up();
         if let Some(zeros) = self.ready_unary(limit) {
@@ -251,6 +262,7 @@ impl<R: Source> BitReader<R> {
         ensures some { IfSome result (λ v. (self.new.most ≤ self.old.most) × (self.new.known ≡ self.old.known) × (self.new.errors ≡ self.old.errors) × (self.new.raised ≡ self.old.raised) × (self.new.behind ≡ self.old.behind) × (self.new.names ≡ self.old.names)
             × (run (rice k limit) self.old.cursor ≡ Ok (v, self.new.cursor))) }
         ensures none { result ≡ None → self.new ≡ self.old }
+        ensures held { IfSome result (λ _. self.old.held + length self.new.cursor.left ≡ self.new.held + length self.old.cursor.left) }
     {
         self.held.rice(k, limit)
     }
@@ -263,6 +275,7 @@ impl<R: Source> BitReader<R> {
         requires k { k ≤ 30 }
         requires limit { limit < 2 ^ 32 }
         ensures reading { CallInPlace 0 (Reads (λ v. v) (rice k limit)) self.old self.new result }
+        ensures needed { PullsInside (rice k limit) self.old self.new result }
     {
         let Some(zeros) = self.unary(limit)? else {
             return Err(Why::ResidualRange);
@@ -277,6 +290,7 @@ impl<R: Source> BitReader<R> {
         requires k { k ≤ 30 }
         requires limit { limit < 2 ^ 32 }
         ensures reading { CallInPlace 0 (Reads (λ v. v) (rice k limit)) self.old self.new result }
+        ensures needed { PullsInside (rice k limit) self.old self.new result }
     {
         self.top_up();
         if let Some(value) = self.ready_rice(k, limit) {
@@ -291,6 +305,7 @@ impl<R: Source> BitReader<R> {
         requires k { k ≤ 30 }
         requires limit { limit < 2 ^ 32 }
         ensures reading { CallInPlace 0 (Reads (λ v. v) (rice k limit)) self.old self.new result }
+        ensures needed { PullsInside (rice k limit) self.old self.new result }
     {
         if let Some(value) = self.ready_rice(k, limit) {
             return Ok(value);
@@ -305,6 +320,7 @@ impl<R: Source> BitReader<R> {
         requires { k ≤ 30 }
         ensures fits { IfOk result IsResidual }
         ensures reading { CallInPlace 0 (Reads (λ v. v) (rice_value k)) self.old self.new result }
+        ensures needed { PullsInside (rice_value k) self.old self.new result }
     {
         let folded = self.folded_value(k, MOST_FOLDED >> k)?;
         if folded > MOST_FOLDED {
@@ -323,6 +339,7 @@ impl<R: Source> BitReader<R> {
         ensures reads { and_then (run (list_of (length values.old - from) (rice_value k)) self.old.cursor) (behind (take from values.old))
             ≡ and_then (run (list_of (length values.old - result) (rice_value k)) self.new.cursor) (behind (take result values.new)) }
         ensures fits { ((j : ℕ) → j < from → IsResidual (get_or values.old j (pos 0))) → (j : ℕ) → j < result → IsResidual (get_or values.new j (pos 0)) }
+        ensures drawn { Draws self.old self.new (HeldEnds (list_of (length values.old - result) (rice_value k)) self.new) (HeldEnds (list_of (length values.old - from) (rice_value k)) self.old) }
     {
         if k > MOST_READY {
             return from;
@@ -341,6 +358,7 @@ impl<R: Source> BitReader<R> {
         requires { k ≤ 30 }
         ensures fits { OnOk result (All IsResidual values.new) }
         ensures reading { CallInPlace 0 (Reads (λ _. values.new) (list_of (length values.old) (rice_value k))) self.old self.new result }
+        ensures needed { PullsInside (list_of (length values.old) (rice_value k)) self.old self.new result }
     {
         let mut i = 0;
         while i < values.len() {
@@ -367,6 +385,7 @@ impl<R: Source> BitReader<R> {
         requires few { n ≤ 64 }
         ensures fits { IfOk result (FitsBits n) }
         ensures reading { CallInPlace n (Reads (λ v. v) (signed_field n)) self.old self.new result }
+        ensures needed { PullsFor n self.old self.new result }
     {
         let value = self.take(n)?;
         Ok(to_signed(value, n))
@@ -383,6 +402,7 @@ impl<R: Source> BitReader<R> {
         requires few { n ≤ 64 }
         ensures fits { OnOk result (All (FitsBits n) values.new) }
         ensures reading { CallInPlace 0 (Reads (λ _. values.new) (list_of (length values.old) (signed_field n))) self.old self.new result }
+        ensures needed { PullsFor (n * length values.old) self.old self.new result }
     {
         for i in 0..values.len() {
             values[i] = self.take_signed(n)?;
@@ -400,6 +420,7 @@ impl<R: Source> BitReader<R> {
         ensures taken { IfOk result (λ n. self.old.known ≡ true → Consumes (bits_of (take n out.new)) self.old.cursor self.new.cursor) }
         ensures over { result ≡ Ok 0 → 0 < length out.new → self.old.known ≡ true → (self.old.cursor.left ≡ []) × (self.old.cursor.mark.short ≡ Why.Read → ⊥) }
         ensures cut { IfErr result (λ e. (e ≡ Why.Read) × (self.old.known ≡ true → self.new.errors ≡ self.old.errors → (self.old.cursor.left ≡ []) × (self.old.cursor.mark.short ≡ Why.Read))) }
+        ensures needed { MatchResult result (λ n. self.old.held ≤ self.new.held + 8 * n) (λ _. self.old.held ≡ 0) }
     {
         match refill(&mut self.held, &mut self.source) {
             Ok(true) => Ok(self.held.copy(out)),
@@ -422,6 +443,7 @@ impl<R: Source> BitReader<R> {
         ensures taken { IfOk result (λ n. self.old.known ≡ true → Consumes (bits_of (take n out.new)) self.old.cursor self.new.cursor) }
         ensures over { IfOk result (λ n. n < length out.new → self.old.known ≡ true → (self.new.cursor.left ≡ []) × (self.new.cursor.mark.short ≡ Why.Read → ⊥)) }
         ensures cut { IfErr result (λ e. (e ≡ Why.Read) × (self.old.known ≡ true → self.new.errors ≡ self.old.errors → (length self.old.cursor.left < 8 * length out.new) × (self.old.cursor.mark.short ≡ Why.Read))) }
+        ensures needed { MatchResult result (λ n. self.old.held ≤ self.new.held + 8 * n) (λ _. self.old.held < 8 * length out.new) }
     {
         self.take_pieces(out, true)
     }
@@ -437,6 +459,7 @@ impl<R: Source> BitReader<R> {
         ensures taken { IfOk result (λ n. self.old.known ≡ true → Fills checked (bits_of (take n out.new)) self.old.cursor self.new.cursor) }
         ensures over { IfOk result (λ n. n < length out.new → self.old.known ≡ true → (self.new.cursor.left ≡ []) × (self.new.cursor.mark.short ≡ Why.Read → ⊥)) }
         ensures cut { IfErr result (λ e. (e ≡ Why.Read) × (self.old.known ≡ true → self.new.errors ≡ self.old.errors → (length self.old.cursor.left < 8 * length out.new) × (self.old.cursor.mark.short ≡ Why.Read))) }
+        ensures needed { MatchResult result (λ n. self.old.held ≤ self.new.held + 8 * n) (λ _. self.old.held < 8 * length out.new) }
     {
         self.start_unless(checked);
         let mut done = 0;
@@ -488,6 +511,7 @@ impl<R: Source> BitReader<R> {
         ensures over { IfOk result (λ over. self.old.known ≡ true → (self.new.cursor ≡ self.old.cursor) × (over ≡ is_nil self.old.cursor.left)) }
         ensures ended { result ≡ Ok true → self.old.known ≡ true → self.old.cursor.mark.short ≡ Why.Read → ⊥ }
         ensures read { IfErr result (λ e. (e ≡ Why.Read) × (self.old.known ≡ true → self.new.errors ≡ self.old.errors → (self.old.cursor.left ≡ []) × (self.old.cursor.mark.short ≡ Why.Read))) }
+        ensures needed { MatchResult result (λ _. self.old.held ≤ self.new.held) (λ _. self.old.held ≡ 0) }
     {
         match fill(&mut self.held, &mut self.source) {
             Ok(more) => Ok(!more),
@@ -565,6 +589,7 @@ impl<R: Source> BitReader<R> {
     /// Those of [`BitReader`].
     pub fn align(&mut self) -> Result<bool, Why>
         ensures reading { CallInPlace 0 (Reads (λ b. b) to_byte) self.old self.new result }
+        ensures needed { PullsFor self.old.cursor.mark.unread self.old self.new result }
     {
         let unread = self.held.unread();
         let bits = self.take(unread)?;

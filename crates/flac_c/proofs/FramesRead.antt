@@ -35,7 +35,7 @@ use Rattle.flac_c.specs.Cursors.{IsFrameAt, NoFrameAt}
 
 -- a reader at the first of these bytes
 abbrev pub at_bytes : List ℕ → State
-at_bytes bytes = record { known = true; errors = 0; raised = 0; behind = the_end; most = 8 * length bytes; names = []; cursor = record { left = bits_of bytes; mark = beginning Truncated } }
+at_bytes bytes = record { known = true; errors = 0; raised = 0; behind = the_end; most = 8 * length bytes; held = 0; names = []; cursor = record { left = bits_of bytes; mark = beginning Truncated } }
 
 -- a frame's spelling is whole bytes
 pub frame_whole : (i : Info) (text : List Bool) (f : Frame) → KeepsRules i → Spells (frame Subset i None) (beginning Truncated) text f → length text % 8 ≡ 0

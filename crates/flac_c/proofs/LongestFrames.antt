@@ -23,7 +23,7 @@ use Rattle.flac_header.proofs.Lengths.{header_few}
 use Rattle.flac_frame.proofs.Short.{whole_long}
 use Rattle.flac_frame.proofs.Sounds.{depth_small}
 use Rattle.flac_frame.proofs.Wholes.{texts_are, subframes_are, samples_are, as_many, not_joined, all_fit_in}
-use Rattle.flac_native.specs.Given.{Cut, blocks_in, size_of, frame_of}
+use Rattle.flac_native.specs.Given.{Cut, tried, blocks_in, size_of, frame_of}
 use Rattle.flac_native.specs.Writing.{AreFrames, AreLeastFrames, SpellsLeast}
 use Rattle.flac_native.proofs.Encoded.{least_part}
 use Rattle.flac_native.proofs.Planned.{either_false}
@@ -128,7 +128,7 @@ module _ (p : Cut) (a : Sound) (good : IsSound a) (some : 16 ≤ p.block_size) w
   abbrev total : ℕ
   total = samples_each a.channels
 
-  one_long : (number : ℕ) (text : List Bool) → number < blocks_in p.block_size total → SpellsLeast p.predictors a (frame_of p.block_size a number) text
+  one_long : (number : ℕ) (text : List Bool) → number < blocks_in p.block_size total → SpellsLeast (tried p number) a (frame_of p.block_size a number) text
       → length text ≤ 151 + length a.channels * (8 + a.bits * size_of p.block_size total number)
   one_long number text lt spells =
       let start : ℕ = p.block_size * number in
@@ -141,7 +141,7 @@ module _ (p : Cut) (a : Sound) (good : IsSound a) (some : 16 ≤ p.block_size) w
       let block : List (List ℤ) = block_of start size a.channels in
       let facts = is_block a.bits start size deep.0 size_some a.channels reach good.small in
       let many : length block ≡ length a.channels = length-map a.channels (λ c. take size (drop start c)) in
-      let cost = least_cost p.predictors a size number block spells.form deep.0 size_some (omega (arith, many, good.some)) (omega (arith, many, good.few)) facts.0 facts.1 spells.least in
+      let cost = least_cost (tried p number) a size number block spells.form deep.0 size_some (omega (arith, many, good.some)) (omega (arith, many, good.few)) facts.0 facts.1 spells.least in
       let bound : length (frame_spelling a.bits spells.form) ≤ 151 + length block * (8 + a.bits * size) = frame_long a.bits spells.form (length block * (8 + a.bits * size)) cost in
       let bound' : length (frame_spelling a.bits spells.form) ≤ 151 + length a.channels * (8 + a.bits * size) = subst (λ n. length (frame_spelling a.bits spells.form) ≤ 151 + n * (8 + a.bits * size)) many bound in
       subst (λ (t : List Bool). length t ≤ 151 + length a.channels * (8 + a.bits * size)) (sym spells.spelling) bound'

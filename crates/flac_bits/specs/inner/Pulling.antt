@@ -13,6 +13,7 @@ pub record Moves {S : Type 0} (g : source.Ghosts S) (old new : Store) (before af
   pub errors : g.errors after ≡ g.errors before
   pub raised : g.raised after ≡ g.raised before
   pub most : 8 * g.most after + most_of new ≤ 8 * g.most before + most_of old
+  pub held : most_of old ≤ most_of new
   pub same : g.known before ≡ true → SameBits old (g.coming before) new (g.coming after)
 
 -- no bit was left, and an error that was foretold came in place of the end
@@ -31,6 +32,8 @@ pub record Pulls {S : Type 0} (g : source.Ghosts S) (old new : Store) (before af
   pub kept : g.errors before ≤ g.errors after
   pub foretold : g.known before ≡ true → g.errors after ≡ g.errors before → g.behind after ≡ g.behind before
   pub read : IfErr result (λ e. e ≡ Read)
+  -- bytes are pulled only if no bit is held
+  pub none : OnErr result (most_of old ≡ 0)
   pub ended : OnErr result (g.known before ≡ true → g.errors after ≡ g.errors before → Ends g old new before after)
   pub rises : OnErr result (g.known before ≡ true → g.raised before < g.raised after)
   pub risen : OnErr result (Rises (g.raised before) (g.raised after))

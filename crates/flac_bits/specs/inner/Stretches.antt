@@ -3,6 +3,7 @@ use Rattle.std.specs.Prelude.{◌≡◌, ℕ, ℤ, ◌++◌, ◌-◌, ◌*◌, �
 use Rattle.flac_bits.specs.Bits.{unsigned, bits_of}
 use Rattle.flac_bits.specs.State.{Mark, past}
 use Rattle.flac_bits.specs.Layout.{run, and_then}
+use Rattle.flac_bits.specs.Meaning.{IsCut}
 use Rattle.flac_bits.specs.Lists.{list_of, behind}
 use Rattle.flac_bits.specs.Rice.{rice_value}
 
@@ -11,6 +12,8 @@ use Rattle.flac_bits.specs.Rice.{rice_value}
 pub record IsRead (k : ℕ) (text : List Bool) (old : List ℤ) (from : ℕ) (new : List ℤ) (to : ℕ) : Type 0 where
   pub reads : (rest : List Bool) → (m : Mark) → and_then (run (list_of (length old - from) (rice_value k)) (record { left = text ++ rest; mark = m })) (behind (take from old))
       ≡ and_then (run (list_of (length old - to) (rice_value k)) (record { left = rest; mark = past text m })) (behind (take to new))
+  -- and bits after it that end inside the other values end inside all of them
+  pub ends : (rest : List Bool) → (m : Mark) → IsCut (list_of (length old - to) (rice_value k)) (past text m) rest → IsCut (list_of (length old - from) (rice_value k)) m (text ++ rest)
 
 -- the first bits of a word of 64
 abbrev pub top_bits : ℕ → ℕ → List Bool

@@ -18,6 +18,7 @@ loop-i-preserved g c =
     let more : ℕ → Cursor → _ = λ v d. and_then (run (list_of (n - (i + 1)) (bits 8)) d) (behind (take i c.loop-i.out ++ v ∷ [])) in
     record {
       spent = omega (arith, c.in_ok-out.ensures.reading.spends);
+      held = omega (arith, c.loop-i.invariant.held, c.in_ok-out.ensures.needed);
       goes = goes_on c.args.bits.now c.loop-i.bits c.take.new.self (number_at 8 c.loop-i.bits.cursor) c.in_ok-out.field-0 more _ _ _
           c.loop-i.invariant.goes (list_more n i (bits 8) c.loop-i.bits.cursor (take i c.loop-i.out) c.loop-i-test.true)
           (ap (λ front. and_then (run (list_of (n - (i + 1)) (bits 8)) c.take.new.self.cursor) (behind front)) (sym (take-set_at c.loop-i.out i (i + 1) c.in_ok-out.field-0 refl (omega (arith, c.loop-i.auto.out, c.loop-i-test.true)))))
@@ -35,6 +36,7 @@ returns g c = record {
     memory = search rules;
     reads = (λ known same. sym (c.loop-i.invariant.goes.reads known) ∙ list_end (length c.args.out.now) c.loop-i.i (bits 8) c.loop-i.bits.cursor (take c.loop-i.i c.loop-i.out) c.loop-i-test.false ∙ ap (λ front. okay (front, c.loop-i.bits.cursor)) (take_all c.loop-i.i c.loop-i.out (omega (arith, c.loop-i.auto.out, c.loop-i-test.false))));
   };
+  needed = omega (arith, c.loop-i.invariant.held, c.loop-i.auto.i-end);
 }
 
 pub returns-in_err-out : goal.returns-in_err-out
@@ -51,4 +53,5 @@ returns-in_err-out g c =
             list_cut (length c.args.out.now) c.loop-i.i (bits 8) (take c.loop-i.i c.loop-i.out) _
             c.args.bits.now c.loop-i.bits c.loop-i-test.true goes known (failed.reads (goes.known known) (same ∙ sym goes.errors));
       };
+      needed = λ read. omega (arith, c.loop-i.invariant.held, c.loop-i-test.true, c.in_err-out.ensures.needed read);
     })

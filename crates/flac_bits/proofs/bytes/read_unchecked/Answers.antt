@@ -1,4 +1,4 @@
-use Rattle.std.proofs.Common.{refl, ◌≡◌, ◌+◌, ◌*◌, ◌≤◌, ℕ, false, List, length, take, get_or, Fits, w8, subst, sym, ◌∙◌, arith}
+use Rattle.std.proofs.Common.{refl, ◌≡◌, ◌+◌, ◌*◌, ◌<◌, ◌≤◌, ℕ, false, List, length, take, get_or, Fits, w8, subst, sym, ◌∙◌, arith}
 use Rattle.std.proofs.lemmas.List.{take_all, length-take}
 use Rattle.std.proofs.lemmas.Result.{err_from_is_err_and}
 use Rattle.std.proofs.Math.Facts.{Fits-lt-pow}
@@ -21,6 +21,12 @@ read_no_memory e is q = cc
 all_spent : (n long long' new old : ℕ) → long' ≤ n → long' ≡ long → new + 8 * n ≤ old → new + 8 * long ≤ old
 all_spent n long long' new old le is spent = omega (arith, le, is, spent)
 
+all_held : (n long long' new old : ℕ) → long' ≡ long → n ≤ long' → old ≤ new + 8 * n → old ≤ new + 8 * long
+all_held n long long' new old is le held = omega (arith, le, is, held)
+
+few_held : (long long' old : ℕ) → long' ≡ long → old < 8 * long' → old < 8 * long
+few_held long long' old is few = omega (arith, is, few)
+
 pub returns-then-count-out : goal.returns-then-count-out
 returns-then-count-out g c = record {
   reading = record {
@@ -35,6 +41,7 @@ returns-then-count-out g c = record {
         missing_anew (take n c.take_pieces.new.out) (length c.args.out.now) c.short.result c.args.bits.now.cursor c.take_pieces.new.self.cursor (omega (arith, lt, length-take {A = ℕ} n c.take_pieces.new.out, c.take_pieces.auto.out))
         over.0 (c.short.ensures.short (got.counts.0 known) over.0 over.1) (got.taken known));
   };
+  needed = λ e. absurd (c.short.ensures.device.0 e);
 }
 
 pub returns-else-count-out : goal.returns-else-count-out
@@ -49,6 +56,7 @@ returns-else-count-out g c = record {
         let all : take c.in_ok-count.count xs ≡ xs = take_all c.in_ok-count.count xs (omega (arith, c.if-count-out.false, c.take_pieces.auto.out)) in
         exact_anew xs (length c.args.out.now) c.args.bits.now.cursor c.take_pieces.new.self.cursor c.take_pieces.auto.out (λ k lt. let f : Fits w8 (get_or xs k 0) = c.type_inv.out k in Fits-lt-pow f) (let P : List ℕ → Type 0 = λ ys. Passes (bits_of ys) c.args.bits.now.cursor c.take_pieces.new.self.cursor in subst P all (got.taken known)));
   };
+  needed = all_held c.in_ok-count.count _ _ _ _ c.take_pieces.auto.out c.in_ok-count.ensures.bound c.in_ok-count.ensures.needed;
 }
 
 pub returns-in_err-count : goal.returns-in_err-count
@@ -64,4 +72,5 @@ returns-in_err-count g c =
             let few = cut.1 known same in
             cut_anew (length c.args.out.now) _ c.args.bits.now.cursor (omega (arith, few.0, c.take_pieces.auto.out)) (cut.0 ∙ sym few.1));
       };
+      needed = λ _. few_held _ _ _ c.take_pieces.auto.out c.in_err-count.ensures.needed;
     })

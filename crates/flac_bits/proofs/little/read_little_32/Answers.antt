@@ -14,6 +14,7 @@ returns g c =
             little_read c.read_u32.result c.read_bytes.new.out c.args.bits.now.cursor c.read_bytes.new.bits.cursor
             (got.reads known same) c.read_u32.ensures;
       };
+      needed = c.in_ok-read_bytes.ensures.needed;
     }
 
 pub returns-in_err-read_bytes : goal.returns-in_err-read_bytes
@@ -27,4 +28,5 @@ returns-in_err-read_bytes g c =
         memory = failed.memory;
         reads = λ known same. little_cut _ c.args.bits.now.cursor (failed.reads known same);
       };
+      needed = c.in_err-read_bytes.ensures.needed;
     })

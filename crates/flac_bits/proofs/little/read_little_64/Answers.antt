@@ -1,6 +1,7 @@
-use Rattle.std.proofs.Common.{rules}
+use Rattle.std.proofs.Common.{refl, arith, rules}
 use Rattle.std.proofs.lemmas.Result.{err_from_is_err_and}
 use Rattle.flac_bits.proofs.Counting.{answered_then, failed_then}
+use Rattle.flac_bits.proofs.Needing.{bits_failed}
 use Rattle.flac_bits.proofs.little.read_little_64.Goals as goal
 
 pub returns-in_err-high : goal.returns-in_err-high
@@ -14,6 +15,7 @@ returns-in_err-high g c =
         memory = c.in_err-high.ensures.reading.memory;
         reads = search rules;
       };
+      needed = bits_failed 32 32 64 c.args.bits.now.held c.read_little_32.new.bits.held _ c.in_ok-low.ensures.needed c.in_err-high.ensures.needed refl;
     })
 
 pub returns : goal.returns
@@ -25,4 +27,5 @@ returns g c = record {
     memory = tt;
     reads = search rules;
   };
+  needed = omega (arith, c.in_ok-low.ensures.needed, c.in_ok-high.ensures.needed);
 }

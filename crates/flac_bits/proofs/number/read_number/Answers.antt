@@ -10,3 +10,6 @@ returns-clause-reading g c = record {
   memory = search rules;
   reads = means (λ v. v) (number c.args.max_bits) c.args.bits.now c.number_here.new.bits c.number_here.result c.number_here.ensures.reading.reads;
 }
+
+pub returns-clause-needed : goal.returns-clause-needed
+returns-clause-needed g c = c.number_here.ensures.needed

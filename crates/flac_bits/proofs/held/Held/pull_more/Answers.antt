@@ -1,7 +1,7 @@
-use Rattle.std.proofs.Common.{◌≡◌, ◌≤◌, ◌++◌, ℕ, zero, suc, Bool, true, false, Option, Some, None, List, Result, Ok, Err, [], take, drop, refl, sym, ap, ◌∙◌, arith}
+use Rattle.std.proofs.Common.{◌≡◌, ◌≤◌, ◌++◌, ◌+◌, ◌*◌, ℕ, zero, suc, Bool, true, false, Option, Some, None, List, Result, Ok, Err, [], length, take, drop, refl, sym, ap, ◌∙◌, arith}
 use Rattle.flac_bits.specs.declared.why.Why.{Why}
 use Rattle.flac_bits.specs.Bits.{bits_of}
-use Rattle.flac_bits.specs.Store.{Store, passed, hides_late}
+use Rattle.flac_bits.specs.Store.{Store, Fence, passed, hides_late}
 use Rattle.flac_bits.specs.inner.Store.{seen}
 use Rattle.flac_bits.proofs.Marks.{pulled_mark}
 use Rattle.flac_bits.proofs.Standing.{came_bits, came_most, none_left}
@@ -29,6 +29,13 @@ failed r e a b = cc
 
 none_passed : (w : List Bool) → w ≡ [] → passed [] w ++ w ≡ []
 none_passed w is = rw is refl
+
+-- nothing is held
+none_most : (s : Store) → s.word ≡ [] → s.bytes ≡ [] → length s.fence.hidden ≡ 0 → length (s.word ++ bits_of s.bytes) + 8 * length s.fence.hidden ≡ 0
+none_most s word bytes hidden = rw (word, bytes, hidden) refl
+
+none_held : (s : Store) (n : ℕ) → s.word ≡ [] → s.bytes ≡ [] → length s.fence.hidden ≡ 0 → length (s.word ++ bits_of s.bytes) + 8 * length s.fence.hidden ≤ n
+none_held s n word bytes hidden = omega (arith, none_most s word bytes hidden)
 
 none_late : (room : Option ℕ) → hides_late room 0 0 ≡ true
 none_late None = refl
@@ -84,6 +91,7 @@ returns-in-Ok-eq0-clause-pulls g c =
         errors = got.counted.0;
         raised = got.counted.1;
         most = came_most old new _ _ c.requires.taken.0 c.requires.taken.1 none (omega (arith, got.most, zero));
+        held = none_held old _ c.requires.taken.0 c.requires.taken.1 (ap (λ (f : Fence). length f.hidden) (sym open_fence));
         same = λ known. came_bits old _ coming _ c.requires.taken.0 c.requires.taken.1 none (rw (← open_fence) (came_none room (g.R.Source.coming c.pull.new.self) coming (rw zero at got.bytes known)));
       };
       over = λ is known.
@@ -94,6 +102,7 @@ returns-in-Ok-eq0-clause-pulls g c =
       kept = got.kept;
       foretold = got.foretold;
       read = tt;
+      none = tt;
       ended = tt;
       rises = tt;
       risen = tt;
@@ -123,12 +132,14 @@ returns-in-Ok-clause-pulls g c =
         errors = got.counted.0;
         raised = got.counted.1;
         most = came_most old new _ _ c.requires.taken.0 c.requires.taken.1 none (rw (← open_fence, seen_is) (omega (arith, got.most, length-take (seen room n) buf, length-drop (seen room n) (take n buf), length-take n buf, few, got.bound.0)));
+        held = none_held old _ c.requires.taken.0 c.requires.taken.1 (ap (λ (f : Fence). length f.hidden) (sym open_fence));
         same = λ known. came_bits old _ coming _ c.requires.taken.0 c.requires.taken.1 none (rw (← open_fence, c.room_behind-self-inside.ensures, seen_is) (came_is room n buf (g.R.Source.coming c.pull.new.self) coming got.bound.0 (got.bytes known)));
       };
       over = λ is. absurd (went_on _ refl is);
       kept = got.kept;
       foretold = got.foretold;
       read = tt;
+      none = tt;
       ended = tt;
       rises = tt;
       risen = tt;
@@ -153,6 +164,7 @@ returns-in-Err-clause-pulls g c =
       kept = failed.kept;
       foretold = failed.foretold;
       read = refl;
+      none = none_most old c.requires.taken.0 c.requires.taken.1 (ap (λ (f : Fence). length f.hidden) (sym open_fence));
       ended = λ known same.
           let end = failed.failed known same in
           record {

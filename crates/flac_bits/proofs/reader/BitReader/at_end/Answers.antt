@@ -26,3 +26,9 @@ returns-clause-over g c = elim c.match-fill.branch [
       ))
   | in-Err w ↦ rw w.result-is tt
 ]
+
+pub returns-clause-needed : goal.returns-clause-needed
+returns-clause-needed g c = elim c.match-fill.branch [
+  | in-Ok w ↦ rw w.result-is (omega (arith, ap (λ (s : State). s.held) c.self.view_is, w.in-Ok.ensures.pulls.moved.held))
+  | in-Err w ↦ rw w.result-is (sym (ap (λ (s : State). s.held) c.self.view_is) ∙ w.in-Err.ensures.pulls.none)
+]

@@ -1,6 +1,7 @@
-use Rattle.std.proofs.Common.{rules, ◌≡◌, refl, false, ◌++◌, Ok, Err, sym, ap, ◌∙◌}
-use Rattle.flac_bits.specs.Bits.{bits_of}
-use Rattle.flac_bits.specs.Store.{allowed}
+use Rattle.std.proofs.Common.{rules, ◌≡◌, ◌+◌, ◌<◌, ◌≤◌, ℕ, length, refl, false, ◌++◌, Ok, Err, sym, ap, ◌∙◌, arith}
+use Rattle.flac_bits.specs.Bits.{bits_of, unsigned}
+use Rattle.flac_bits.specs.Store.{Store, Fence, allowed, most_of}
+use Rattle.flac_bits.specs.inner.Store.{Takes}
 use Rattle.flac_bits.specs.State.{State}
 use Rattle.flac_bits.specs.Layout.{because}
 use Rattle.flac_bits.specs.declared.why.Why.{Why}
@@ -8,7 +9,8 @@ use Rattle.flac_bits.specs.Reasons.{of_output}
 use Rattle.flac_bits.specs.declared.why.Why.TheVariants.{Read, Memory}
 use Rattle.flac_bits.proofs.Counting.{is_device, refused_then}
 use Rattle.flac_bits.proofs.Pulled.{state, pulled_counts, cut_counts}
-use Rattle.flac_bits.proofs.Fields.{bit_read, bit_none}
+use Rattle.flac_bits.proofs.Fields.{bit_read, bit_none, taken_spends}
+use Rattle.flac_bits.proofs.Words.{length-unsigned}
 use Rattle.flac_bits.proofs.Standing.{short_is, no_bytes, same_reason}
 use Rattle.flac_bits.proofs.reader.BitReader.bit.Goals as goal
 
@@ -18,6 +20,15 @@ no_device e other none = none
 
 read_no_memory : (e : Why) → e ≡ Read → e ≡ Memory → ⊥
 read_no_memory e is q = cc
+
+none_held : (n m : ℕ) → n ≡ m → n ≡ 0 → m < 1
+none_held n m is none = omega (arith, is, none)
+
+spent : (v : ℕ) (old new : Store) → Takes (unsigned 1 v) old new → most_of old ≡ 1 + most_of new
+spent v old new takes = omega (arith, taken_spends (unsigned 1 v) old new takes, length-unsigned 1 v, ap (λ (f : Fence). length f.hidden) takes.3)
+
+one_less : (old here mid last : ℕ) → old ≡ here → old ≤ mid → mid ≡ 1 + last → here ≤ last + 1
+one_less old here mid last is le spent = omega (arith, is, le, spent)
 
 pub returns-in-Err : goal.returns-in-Err
 returns-in-Err g c = record {
@@ -33,6 +44,7 @@ returns-in-Err g c = record {
         bit_none c.args.self.now.cursor _ c.self.inside.held (bits_of (allowed c.self.inside.held.fence.room (g.R.Source.coming c.self.inside.source))) (ap (λ (s : State). s.cursor) c.self.view_is) ends.left
         ∙ ap (λ w. Err (because w)) (ends.reason ∙ sym pulls.read));
   };
+  needed = λ _. none_held _ _ (ap (λ (s : State). s.held) c.self.view_is) c.in-Err.ensures.pulls.none;
 }
 
 pub returns-in-Ok-false : goal.returns-in-Ok-false
@@ -54,6 +66,7 @@ returns-in-Ok-false g c = record {
         bit_none c.args.self.now.cursor _ c.self.inside.held (bits_of (allowed c.self.inside.held.fence.room (g.R.Source.coming c.self.inside.source))) (ap (λ (s : State). s.cursor) c.self.view_is) over.0
         ∙ ap (λ w. Err (because w)) (sym (short ∙ reason)));
   };
+  needed = λ e. absurd (c.short.ensures.device.0 e);
 }
 
 pub returns-in-Ok-true : goal.returns-in-Ok-true
@@ -73,4 +86,5 @@ returns-in-Ok-true g c = record {
         rw takes.3 (bit_read c.take.result c.args.self.now.cursor _ _ c.self.inside.held c.fill.new.held c.take.new.self (bits_of (allowed c.fill.new.held.fence.room ys)) (bits_of (allowed c.self.inside.held.fence.room xs))
         reason c.take.ensures.1 (ap (λ (s : State). s.cursor) c.self.view_is) pulls.mark bits.left takes));
   };
+  needed = one_less _ _ _ _ (ap (λ (s : State). s.held) c.self.view_is) c.in-Ok-true.ensures.pulls.moved.held (spent c.take.result c.fill.new.held c.take.new.self c.take.ensures.0);
 }

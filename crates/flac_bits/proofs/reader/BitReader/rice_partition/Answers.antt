@@ -13,6 +13,7 @@ use Rattle.flac_bits.proofs.Lists.{list_more, list_end, list_start}
 use Rattle.flac_bits.proofs.Signs.{residual_kept}
 use Rattle.flac_bits.proofs.Counting.{gone, failed_then}
 use Rattle.flac_bits.proofs.Listed.{list_cut}
+use Rattle.flac_bits.proofs.Needing.{draws_then, list_none, list_drawn, list_ends}
 use Rattle.flac_bits.proofs.reader.BitReader.rice_partition.Goals as goal
 
 pub loop-i-preserved : goal.loop-i-preserved
@@ -37,6 +38,9 @@ loop-i-preserved g c =
           (list_more n i field mid.cursor (take i values) within)
           (ap (λ front. and_then (run (list_of (n - (i + 1)) field) c.rice_value.new.self.cursor) (behind front)) (sym (take-set_at values i (i + 1) v refl short)))
           c.in_ok-values.ensures.reading.counts c.in_ok-values.ensures.reading.reads;
+      drawn = list_drawn n i field v c.args.self.now mid c.rice_value.new.self within (λ known. rw got.went.1 (c.loop-i.invariant.goes.known known))
+          (draws_then c.args.self.now c.loop-i.self mid c.loop-i.invariant.goes.known c.loop-i.invariant.drawn got.drawn)
+          (λ known. c.in_ok-values.ensures.reading.reads known c.in_ok-values.ensures.reading.counts.1) c.in_ok-values.ensures.needed;
       fits = below_more _ i (λ j h. rw (get_or-set_other values i j v (pos 0) (λ e. omega arith)) (got.fits c.loop-i.invariant.fits j h)) (rw last c.in_ok-values.ensures.fits);
       spent = omega (arith, c.in_ok-values.ensures.reading.spends, got.went.0, c.loop-i.invariant.spent);
     })
@@ -47,6 +51,7 @@ loop-i-init g c =
     let e : n - 0 ≡ n = omega arith in
     record {
       goes = record { known = λ h. h; errors = refl; raised = refl; behind = λ _. refl; names = refl; reads = λ _. rw e (list_start _) };
+      drawn = list_none n (rice_value c.args.k) c.args.self.now;
       fits = λ j h. absurd (omega arith);
       spent = omega arith;
     }
@@ -72,6 +77,7 @@ loop-i-preserved-then-next-i g c =
     let got = rw (c.loop-i.auto.values, c.top_up.ensures) at ready.ensures in
     record {
       goes = goes_same c.args.self.now c.loop-i.self ready.new.self _ _ _ inv.goes got.went.1 got.went.2 got.went.3 got.went.4 got.went.5 got.reads;
+      drawn = draws_then c.args.self.now c.loop-i.self ready.new.self inv.goes.known inv.drawn got.drawn;
       fits = got.fits inv.fits;
       spent = omega (arith, got.went.0, inv.spent);
     }
@@ -97,4 +103,9 @@ returns-in_err-values g c =
             list_cut (length c.args.values.now) i (rice_value c.args.k) (take i ready.new.values) _
             c.args.self.now mid within goes known (failed.reads (goes.known known) (same ∙ sym goes.errors));
       };
+      needed = list_ends (length c.args.values.now) i (rice_value c.args.k) c.args.self.now mid _ within goes.known
+          (draws_then c.args.self.now c.loop-i.self mid c.loop-i.invariant.goes.known c.loop-i.invariant.drawn got.drawn) c.in_err-values.ensures.needed;
     })
+
+pub returns-clause-needed : goal.returns-clause-needed
+returns-clause-needed g c = c.loop-i.invariant.drawn.held

@@ -1,10 +1,15 @@
-use Rattle.std.proofs.Common.{rules, refl}
+use Rattle.std.proofs.Common.{◌≡◌, rules, refl}
 use Rattle.std.proofs.lemmas.Result.{err_from_is_err_and}
 use Rattle.flac_bits.proofs.Counting.{refused_then}
 use Rattle.flac_bits.proofs.Rices.{value_read}
 use Rattle.flac_bits.proofs.Signs.{residual_kept}
 use Rattle.flac_bits.proofs.Values.{value_cut, value_large}
+use Rattle.flac_bits.specs.declared.why.Why.TheVariants.{ResidualRange, Read}
+use Rattle.flac_bits.proofs.Needing.{value_first}
 use Rattle.flac_bits.proofs.reader.BitReader.rice_value.Goals as goal
+
+range_no_read : ResidualRange ≡ Read → ⊥
+range_no_read q = cc
 
 pub unfolded-requires : goal.unfolded-requires
 unfolded-requires g c = search rules
@@ -23,6 +28,7 @@ returns g c =
             value_read c.args.k c.in_ok-folded.folded c.unfolded.result c.args.self.now.cursor c.folded_value.new.self.cursor
             (got.reads known same) c.if-folded-gt-MOST_FOLDED.false c.unfolded.ensures.value;
       };
+      needed = c.in_ok-folded.ensures.needed;
     })
 
 pub returns-in_err-folded : goal.returns-in_err-folded
@@ -37,6 +43,7 @@ returns-in_err-folded g c =
         memory = failed.memory;
         reads = λ known same. value_cut c.args.k _ c.args.self.now.cursor (failed.reads known same);
       };
+      needed = λ read known. value_first c.args.k c.args.self.now (c.in_err-folded.ensures.needed read known);
     })
 
 pub returns-then-folded-gt-MOST_FOLDED : goal.returns-then-folded-gt-MOST_FOLDED
@@ -52,4 +59,5 @@ returns-then-folded-gt-MOST_FOLDED g c =
             value_large c.args.k c.in_ok-folded.folded c.args.self.now.cursor c.folded_value.new.self.cursor
             (got.reads known got.counts.1) c.if-folded-gt-MOST_FOLDED.true;
       };
+      needed = λ e. absurd (range_no_read e);
     }

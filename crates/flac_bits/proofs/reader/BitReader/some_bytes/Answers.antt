@@ -23,6 +23,12 @@ no_less n = omega arith
 none_spent : (a b d : ℕ) → a ≤ b → b ≡ d → a + 0 ≤ d
 none_spent a b d le is = omega (arith, le, is)
 
+none_less : (old here new : ℕ) → old ≡ here → old ≤ new → here ≤ new + 8 * 0
+none_less old here new is le = omega (arith, is, le)
+
+fewer : (n old here mid new : ℕ) → old ≡ here → old ≤ mid → mid ≡ 8 * n + new → here ≤ new + 8 * n
+fewer n old here mid new is le spent = omega (arith, is, le, spent)
+
 no_value : (r : Result ℕ Why) (e : Why) → r ≡ Err e → r ≡ Ok 0 → ⊥
 no_value r e a b = cc
 
@@ -98,6 +104,7 @@ returns-in-Ok-false g c =
           let over = pulls.over (ap Ok c.in-Ok-false.field-0-test) (known_is ∙ known) in
           (sym left_is ∙ over.0, λ e. over.1 (ap (λ (s : State). s.cursor.mark.short) c.self.view_is ∙ e));
       cut = tt;
+      needed = none_less _ _ _ (ap (λ (s : State). s.held) c.self.view_is) pulls.moved.held;
     }
 
 pub returns-in-Err : goal.returns-in-Err
@@ -118,4 +125,9 @@ returns-in-Err g c =
             let ends = pulls.ended (known_is ∙ known) (same ∙ sym errors_is) in
             (sym (ap (λ (s : State). s.cursor.left) c.self.view_is) ∙ ends.left, sym (ap (λ (s : State). s.cursor.mark.short) c.self.view_is) ∙ ends.reason),
       );
+      needed = sym (ap (λ (s : State). s.held) c.self.view_is) ∙ pulls.none;
     }
+
+pub returns-in-Ok-true-clause-needed : goal.returns-in-Ok-true-clause-needed
+returns-in-Ok-true-clause-needed g c =
+    fewer c.copy.result _ _ _ _ (ap (λ (s : State). s.held) c.self.view_is) c.in-Ok-true.ensures.pulls.moved.held (spent c.copy.result c.copy.new.out c.refill.new.held c.copy.new.self c.copy.ensures.bound c.copy.ensures.taken)

@@ -18,6 +18,12 @@ still_over (suc n) ys old new z c over = absurd (omega (arith, z))
 still_spent : (n done new mid old : ℕ) → n ≡ 0 → new + 8 * n ≤ mid → mid + 8 * done ≤ old → new + 8 * done ≤ old
 still_spent n done new mid old z a b = omega (arith, z, a, b)
 
+still_held : (n done new mid old : ℕ) → n ≡ 0 → mid ≤ new + 8 * n → old ≤ mid + 8 * done → old ≤ new + 8 * done
+still_held n done new mid old z a b = omega (arith, z, a, b)
+
+few_held : (done long many mid old : ℕ) → long ≡ many → done < many → mid ≡ 0 → old ≤ mid + 8 * done → old < 8 * long
+few_held done long many mid old is lt z a = omega (arith, is, lt, z, a)
+
 within_long : (done a b : ℕ) → done ≤ b → a ≡ b → done ≤ a
 within_long done a b le e = omega (arith, le, e)
 
@@ -43,6 +49,7 @@ loop-done-init g c =
       within = omega arith;
       whole = fills_zero c.args.checked c.args.self.now.cursor.mark c.start_unless.new.self.cursor.mark c.requires (ap (λ (s : State). s.cursor.mark) first);
       spent = omega (arith, ap (λ (s : State). s.most) first);
+      held = omega (arith, ap (λ (s : State). s.held) first);
       known = λ known. ap (λ (s : State). s.known) first ∙ known;
       errors = ap (λ (s : State). s.errors) first;
       raised = ap (λ (s : State). s.raised) first;
@@ -66,6 +73,7 @@ loop-done-preserved g c =
       within = omega (arith, put_long done xs ys room long, got.bound, long, room);
       whole = fills_zero c.args.checked c.some_bytes.new.self.cursor.mark c.start_unless-in-loop-done.new.self.cursor.mark got.whole (ap (λ (s : State). s.cursor.mark) again);
       spent = omega (arith, got.spends, inv.spent, ap (λ (s : State). s.most) again);
+      held = omega (arith, got.needed, inv.held, ap (λ (s : State). s.held) again);
       known = λ known. ap (λ (s : State). s.known) again ∙ got.counts.0 (inv.known known);
       errors = ap (λ (s : State). s.errors) again ∙ got.counts.1 ∙ inv.errors;
       raised = ap (λ (s : State). s.raised) again ∙ got.counts.2 ∙ inv.raised;
@@ -98,6 +106,7 @@ returns-in-Ok-eq0 g c =
           still_over n ys c.loop-done.self.cursor c.some_bytes.new.self.cursor zero_is (got.taken (inv.known known))
           (got.over (ap Ok zero_is) (room_left done (length ys) (length xs) c.loop-done-test.true long) (inv.known known));
       cut = tt;
+      needed = still_held n done _ _ _ zero_is got.needed inv.held;
     }
 
 pub returns-in-Err : goal.returns-in-Err
@@ -125,6 +134,7 @@ returns-in-Err g c =
               sym (fills_short c.args.checked (bits_of (take done xs)) c.args.self.now.cursor c.loop-done.self.cursor taken) ∙ over.1,
             ),
       );
+      needed = few_held done _ _ _ _ all c.loop-done-test.true c.in-Err.ensures.needed inv.held;
     }
 
 pub returns : goal.returns
@@ -138,4 +148,5 @@ returns g c =
       taken = inv.taken;
       over = λ lt. absurd (all_done _ _ c.loop-done-test.false lt);
       cut = tt;
+      needed = inv.held;
     }

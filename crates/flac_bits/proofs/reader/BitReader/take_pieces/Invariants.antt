@@ -8,6 +8,7 @@ invariant-loop-done g l = record {
   within : l.done ≤ length l.out;
   whole : l.self.cursor.mark.unread ≡ 0;
   spent : l.self.most + 8 * l.done ≤ l.fn.self.most;
+  held : l.fn.self.held ≤ l.self.held + 8 * l.done;
   known : l.fn.self.known ≡ true → l.self.known ≡ true;
   errors : l.self.errors ≡ l.fn.self.errors;
   raised : l.self.raised ≡ l.fn.self.raised;

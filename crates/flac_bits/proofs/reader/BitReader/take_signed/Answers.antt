@@ -36,4 +36,8 @@ returns-in_err-value g c =
         memory = failed.memory;
         reads = λ known same. signed_cut c.args.n _ c.args.self.now.cursor (failed.reads known same);
       };
+      needed = c.in_err-value.ensures.needed;
     })
+
+pub returns-clause-needed : goal.returns-clause-needed
+returns-clause-needed g c = c.in_ok-value.ensures.needed

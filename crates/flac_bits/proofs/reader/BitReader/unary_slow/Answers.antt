@@ -2,6 +2,7 @@ use Rattle.std.proofs.Common.{sym, ◌∙◌, arith, rules}
 use Rattle.std.proofs.lemmas.Result.{err_from_is_err_and}
 use Rattle.flac_bits.proofs.Counting.{gone, answered_then, failed_then}
 use Rattle.flac_bits.proofs.Turns.{zeros_start, zeros_turn, zeros_cut, zeros_cut_last}
+use Rattle.flac_bits.proofs.Needing.{zeros_none, zeros_more, zeros_end, zeros_held}
 use Rattle.flac_bits.proofs.reader.BitReader.unary_slow.Goals as goal
 
 pub returns-in_err-bit-clause-reading : goal.returns-in_err-bit-clause-reading
@@ -46,7 +47,7 @@ returns-clause-reading g c = record {
 }
 
 pub loop-zeros-init : goal.loop-zeros-init
-loop-zeros-init g c = record { goes = zeros_start c.args.limit c.args.self.now; spent = omega arith }
+loop-zeros-init g c = record { goes = zeros_start c.args.limit c.args.self.now; zeros = zeros_none c.args.self.now; spent = omega arith }
 
 pub loop-zeros-preserved : goal.loop-zeros-preserved
 loop-zeros-preserved g c =
@@ -55,6 +56,8 @@ loop-zeros-preserved g c =
     record {
       goes = zeros_turn c.args.limit c.loop-zeros.zeros c.in_ok-bit.field-0 c.args.self.now c.loop-zeros.self c.bit.new.self
           c.loop-zeros-test.true c.if-branch.false inv.goes got.counts got.reads;
+      zeros = zeros_more c.loop-zeros.zeros c.in_ok-bit.field-0 c.args.self.now c.loop-zeros.self c.bit.new.self inv.goes.known inv.zeros c.if-branch.false
+          c.in_ok-bit.ensures.needed (λ known. got.reads known got.counts.1);
       spent = omega (arith, inv.spent, got.spends);
     }
 
@@ -74,4 +77,28 @@ returns-in_err-bit-2 g c =
             zeros_cut_last c.args.limit c.loop-zeros.zeros _ c.args.self.now c.loop-zeros.self c.loop-zeros-test.false goes known
             (failed.reads (goes.known known) (same ∙ sym goes.errors));
       };
+      needed = zeros_end c.loop-zeros.zeros c.args.limit c.args.self.now c.loop-zeros.self _ (omega (arith, c.loop-zeros.auto.zeros-end)) c.loop-zeros.invariant.zeros c.in_err-bit-2.ensures.needed;
     })
+
+pub returns-in_err-bit-clause-needed : goal.returns-in_err-bit-clause-needed
+returns-in_err-bit-clause-needed g c =
+    let p = err_from_is_err_and c.from_residual.result c.from_residual.ensures.1 in
+    rw (p.1, p.2) (zeros_end c.loop-zeros.zeros c.args.limit c.args.self.now c.loop-zeros.self _ (omega (arith, c.loop-zeros-test.true)) c.loop-zeros.invariant.zeros c.in_err-bit.ensures.needed)
+
+pub returns-then-branch-clause-needed : goal.returns-then-branch-clause-needed
+returns-then-branch-clause-needed g c =
+    let inv = c.loop-zeros.invariant in
+    let got = c.in_ok-bit.ensures in
+    zeros_held c.loop-zeros.zeros c.in_ok-bit.field-0 c.args.self.now c.loop-zeros.self c.bit.new.self inv.goes.known inv.zeros got.needed (λ known. got.reading.reads known got.reading.counts.1)
+
+pub returns-then-branch-2-clause-needed : goal.returns-then-branch-2-clause-needed
+returns-then-branch-2-clause-needed g c =
+    let inv = c.loop-zeros.invariant in
+    let got = c.in_ok-bit-2.ensures in
+    zeros_held c.loop-zeros.zeros c.in_ok-bit-2.field-0 c.args.self.now c.loop-zeros.self c.bit-2.new.self inv.goes.known inv.zeros got.needed (λ known. got.reading.reads known got.reading.counts.1)
+
+pub returns-clause-needed : goal.returns-clause-needed
+returns-clause-needed g c =
+    let inv = c.loop-zeros.invariant in
+    let got = c.in_ok-bit-2.ensures in
+    zeros_held c.loop-zeros.zeros c.in_ok-bit-2.field-0 c.args.self.now c.loop-zeros.self c.bit-2.new.self inv.goes.known inv.zeros got.needed (λ known. got.reading.reads known got.reading.counts.1)
