@@ -1,5 +1,5 @@
 -- One predictor more.
-use Rattle.std.proofs.Common.{◌≡◌, ◌∙◌, inl, inr, sym, ap, ℕ, ◌+◌, ◌*◌, ◌≤◌, ◌<◌, arith, ℤ, List, [], ◌∷◌, ◌++◌, length, map, take, get_or, append_assoc}
+use Rattle.std.proofs.Common.{◌≡◌, ◌∙◌, inl, inr, ◌⊎◌, sym, ap, subst, ℕ, ◌+◌, ◌*◌, ◌≤◌, ◌<◌, arith, ℤ, List, [], ◌∷◌, ◌++◌, length, map, take, get_or, append_assoc}
 use Rattle.std.proofs.lemmas.List.{get_or-map, map_more}
 use Rattle.std.proofs.lemmas.List.FromFn.{map-range_with_len_more}
 use Rattle.flac_subframe.specs.Cost.{Codings, MayWrite}
@@ -71,12 +71,31 @@ same_best hs most d s ps qs best to from so = record {
   small = so.small;
 }
 
-module _ (hs : List LinearPredictor) (most d : ℕ) (s : List ℤ) (best : Way) where
-  pub next_tried : (first order : ℕ) → IsBest hs most d s ((fixed first ∷ fixed_below order) ++ fixed order ∷ []) best → IsBest hs most d s (fixed first ∷ fixed_below (order + 1)) best
-  next_tried first order so = rw (one_fixed_more order) so
+-- one of either list
+among_left : (p : Chooses) (ps qs : List Chooses) → Among p ps → Among p (ps ++ qs)
+among_left p [] qs h = absurd h
+among_left p (x ∷ ps) qs (inl e) = inl e
+among_left p (x ∷ ps) qs (inr h) = inr (among_left p ps qs h)
 
-  pub first_tried : (order : ℕ) → IsBest hs most d s (fixed order ∷ fixed_below order) best → IsBest hs most d s (fixed order ∷ fixed_below (order + 1)) best
-  first_tried order so = same_best hs most d s (fixed order ∷ fixed_below order) (fixed order ∷ fixed_below (order + 1)) best to from so
+among_right : (p : Chooses) (ps qs : List Chooses) → Among p qs → Among p (ps ++ qs)
+among_right p [] qs h = h
+among_right p (x ∷ ps) qs h = inr (among_right p ps qs h)
+
+among_either : (p : Chooses) (ps qs : List Chooses) → Among p (ps ++ qs) → Among p ps ⊎ Among p qs
+among_either p [] qs h = inr h
+among_either p (x ∷ ps) qs (inl e) = inl (inl e)
+among_either p (x ∷ ps) qs (inr h) = elim (among_either p ps qs h) [ inl a ↦ inl (inr a) | inr b ↦ inr b ]
+
+module _ (hs : List LinearPredictor) (most d : ℕ) (s : List ℤ) (ls : List Chooses) (best : Way) where
+  pub next_tried : (first order : ℕ) → IsBest hs most d s ((ls ++ fixed first ∷ fixed_below order) ++ fixed order ∷ []) best → IsBest hs most d s (ls ++ fixed first ∷ fixed_below (order + 1)) best
+  next_tried first order so =
+      subst (λ (l : List Chooses). IsBest hs most d s l best)
+      (append_assoc ls (fixed first ∷ fixed_below order) (fixed order ∷ []) ∙ ap (λ (l : List Chooses). ls ++ fixed first ∷ l) (sym (one_fixed_more order))) so
+
+  pub first_tried : (order : ℕ) → IsBest hs most d s (ls ++ fixed order ∷ fixed_below order) best → IsBest hs most d s (ls ++ fixed order ∷ fixed_below (order + 1)) best
+  first_tried order so = same_best hs most d s (ls ++ fixed order ∷ fixed_below order) (ls ++ fixed order ∷ fixed_below (order + 1)) best
+      (λ p h. elim (among_either p ls (fixed order ∷ fixed_below order) h) [ inl a ↦ among_left p ls _ a | inr b ↦ among_right p ls _ (to p b) ])
+      (λ p h. elim (among_either p ls (fixed order ∷ fixed_below (order + 1)) h) [ inl a ↦ among_left p ls _ a | inr b ↦ among_right p ls _ (from p b) ]) so
     where
       to : (p : Chooses) → Among p (fixed order ∷ fixed_below order) → Among p (fixed order ∷ fixed_below (order + 1))
       to p h = elim h [ inl e ↦ inl e | inr b ↦ inr (rw (one_fixed_more order) (among_more (fixed order) p (fixed_below order) b)) ]
@@ -87,8 +106,11 @@ module _ (hs : List LinearPredictor) (most d : ℕ) (s : List ℤ) (best : Way) 
         | inr b ↦ let b' : Among p (fixed_below order ++ fixed order ∷ []) = rw (one_fixed_more order) at b in elim (among_split (fixed order) p (fixed_below order) b') [ inl c ↦ inr c | inr e ↦ inl e ]
       ]
 
-  pub all_tried : (first : ℕ) → Among (fixed first) (fixed_below 5) → IsBest hs most d s (fixed first ∷ fixed_below 5) best → IsBest hs most d s (fixed_below 5) best
-  all_tried first one so = same_best hs most d s (fixed first ∷ fixed_below 5) (fixed_below 5) best (λ p h. elim h [ inl e ↦ rw e one | inr b ↦ b ]) (λ p h. inr h) so
+  -- the linear ones were tried before the fixed ones, of which one was tried before the others
+  pub all_tried : (first : ℕ) → Among (fixed first) (fixed_below 5) → IsBest hs most d s (ls ++ fixed first ∷ fixed_below 5) best → IsBest hs most d s (fixed_below 5 ++ ls) best
+  all_tried first one so = same_best hs most d s (ls ++ fixed first ∷ fixed_below 5) (fixed_below 5 ++ ls) best
+      (λ p h. elim (among_either p ls (fixed first ∷ fixed_below 5) h) [ inl a ↦ among_right p (fixed_below 5) ls a | inr b ↦ among_left p (fixed_below 5) ls (elim b [ inl e ↦ rw e one | inr c ↦ c ]) ])
+      (λ p h. elim (among_either p (fixed_below 5) ls h) [ inl a ↦ among_right p ls _ (inr a) | inr b ↦ among_left p ls _ b ]) so
 
 -- ---- a linear predictor more
 

@@ -22,18 +22,13 @@ order_more n d old v so few =
 pub orders_all : (n d old : ℕ) → d ≤ 7 → old ≤ (1 + 4 * d) * n → old ≤ 29 * n
 orders_all n d old few so = omega (arith, so, mul-le (1 + 4 * d) n 29 n (omega (arith, few)) (omega arith))
 
--- one predictor more
-pub one_more : (i b old new next : ℕ) → new ≤ old + (5 + i) * b → next ≤ new + b → next ≤ old + (5 + (i + 1)) * b
-one_more i b old new next so more =
-    let e : 5 + (i + 1) ≡ suc (5 + i) = omega arith in
-    rw e (omega (arith, so, more, suc-mul (5 + i) b))
-
 -- the first predictor was priced, and each fixed one below i
 pub record Counted (first i b old new : ℕ) : Type 0 where
   pub before : i ≤ first → new ≤ old + (i + 1) * b
   pub after : first < i → new ≤ old + i * b
 
-next : (i b old new more : ℕ) → new ≤ old + i * b → more ≤ new + b → more ≤ old + (i + 1) * b
+-- one predictor more
+pub next : (i b old new more : ℕ) → new ≤ old + i * b → more ≤ new + b → more ≤ old + (i + 1) * b
 next i b old new more so less =
     let e : i + 1 ≡ suc i = omega arith in
     rw e (omega (arith, so, less, suc-mul i b))
@@ -49,3 +44,13 @@ counted_more first i b old new more not so less = record {
 
 pub counted_same : (first i b old new : ℕ) → i ≡ first → Counted first i b old new → Counted first (i + 1) b old new
 counted_same first i b old new is so = record { before = λ h. absurd (omega (arith, h, is)); after = λ h. so.before (omega (arith, is)) }
+
+-- one predictor after n others
+pub next_after : (old n b i mid new : ℕ) → i ≡ n → mid ≤ old + i * b → new ≤ mid + b → new ≤ old + n * b + b
+next_after old n b i mid new is so more = rw (← is) (omega (arith, so, more))
+
+-- n linear predictors and the five fixed ones
+pub counted_all : (n b old new : ℕ) → new ≤ old + n * b + 5 * b → new ≤ old + (5 + n) * b
+counted_all n b old new so =
+    let e : 5 + n ≡ suc (suc (suc (suc (suc n)))) = omega arith in
+    rw e (omega (arith, so, suc-mul n b, suc-mul (suc n) b, suc-mul (suc (suc n)) b, suc-mul (suc (suc (suc n))) b, suc-mul (suc (suc (suc (suc n)))) b))

@@ -16,7 +16,7 @@ use Rattle.flac_subframe.specs.Numbers.{sample_at}
 use Rattle.flac_subframe.specs.Prediction.{prediction}
 use Rattle.flac_subframe.specs.inner.Summing.{known, IsHeld}
 use Rattle.flac_subframe.specs.inner.Packing.{packed, paired}
-use Rattle.flac_subframe.proofs.Bounds.{back, abs_product}
+use Rattle.flac_subframe.proofs.Bounds.{back, abs_product, stored}
 use Rattle.flac_subframe.proofs.Lanes.{sum_abs, one_below}
 use Rattle.flac_subframe.proofs.Restoring.{RestoredTo}
 use Rattle.flac_subframe.proofs.Packing.{packed_more, packed_small, product_small}
@@ -67,6 +67,9 @@ module _ (half : ℕ) (cs : List ℤ) (m : ℕ) (narrow : sum_by unsigned_abs cs
   term_small : (k : ℕ) (x : ℤ) → unsigned_abs x ≤ m → unsigned_abs (sample_at cs k *ℤ x) < 2 ^ 31
   term_small k x small = omega (arith, narrow, abs_product (sample_at cs k) x (sum_by unsigned_abs cs) m (one_below cs k) small)
 
+  pub products_small : (factors : List ℤ) (x : ℤ) → unsigned_abs x ≤ m → ((j : ℕ) → j < half → sample_at factors j ≡ paired (sample_at cs j) (sample_at cs (j + half))) → (j : ℕ) → j < half → IsHeld (sample_at factors j *ℤ x)
+  products_small factors x small pairs j lt = rw (pairs j lt) (product_small (sample_at cs j) (sample_at cs (j + half)) x (term_small j x small) (term_small (j + half) x small))
+
   module _ (s words : List ℤ) (i : ℕ) (most : (k : ℕ) → k < i → unsigned_abs (sample_at s k) ≤ m) (some : 1 ≤ half) (packs : Packs half cs s words i) where
     first_is : sample_at words 0 ≡ packed (known cs s i) (known (drop half cs) s i)
     first_is = let e : 0 + half ≡ half = omega arith in rw e at (packs.each 0 some)
@@ -114,16 +117,16 @@ module _ (half : ℕ) (cs : List ℤ) (m : ℕ) (narrow : sum_by unsigned_abs cs
           rw (word_is (j + 1) (omega arith), pairs j lt, e, known_step cs s t i j x here same, known_step cs s t i (j + half) x here same)
           (packed_more (known (drop (j + 1) cs) s i) (known (drop (j + half + 1) cs) s i) (sample_at cs j) (sample_at cs (j + half)) x)
 
-      products_small : (j : ℕ) → j < half → IsHeld (sample_at factors j *ℤ x)
-      products_small j lt = rw (pairs j lt) (product_small (sample_at cs j) (sample_at cs (j + half)) x (term_small j x small) (term_small (j + half) x small))
-
-      sums_small : (j : ℕ) → j < half → IsHeld (sample_at old (j + 1) +ℤ (sample_at factors j *ℤ x))
+      pub sums_small : (j : ℕ) → j < half → IsHeld (sample_at old (j + 1) +ℤ (sample_at factors j *ℤ x))
       sums_small j lt = rw (sum_is j lt) (packed_small (known (drop j cs) t (i + 1)) (known (drop (j + half) cs) t (i + 1)) (sum_small t (i + 1) most_more j) (sum_small t (i + 1) most_more (j + half)))
 
       -- after one sample more
-      pub packs_more : (new : List ℤ) → ((j : ℕ) → j < half → IsHeld (sample_at factors j *ℤ x) → IsHeld (sample_at old (j + 1) +ℤ (sample_at factors j *ℤ x)) → sample_at new j ≡ sample_at old (j + 1) +ℤ (sample_at factors j *ℤ x)) → Packs half cs t new (i + 1)
-      packs_more new added = record { each = λ j lt. added j lt (products_small j lt) (sums_small j lt) ∙ sum_is j lt }
+      pub packs_more : (new : List ℤ) → ((j : ℕ) → j < half → sample_at new j ≡ sample_at old (j + 1) +ℤ (sample_at factors j *ℤ x)) → Packs half cs t new (i + 1)
+      packs_more new added = record { each = λ j lt. added j lt ∙ sum_is j lt }
 
--- how far from 0 a number of so many bits is at most
+-- how far from 0 a number of so many bits is at most, and so its place
 pub abs_from_bits : (n : ℕ) (z : ℤ) → FitsBits n z → unsigned_abs z ≤ 2 ^ (n - 1)
 abs_from_bits n z f = omega (arith, ints, f.low, f.high)
+
+pub abs_stored : (n : ℕ) (z : ℤ) → n ≤ 33 → FitsBits n z → unsigned_abs (to_z w64 (of_z w64 z)) ≤ 2 ^ (n - 1)
+abs_stored n z few f = rw (stored n z few f) (abs_from_bits n z f)

@@ -3,13 +3,13 @@ use Rattle.std.proofs.Common.{◌≡◌, ◌∙◌, ℕ, zero, suc, ◌+◌, ◌
 use Rattle.std.proofs.Math.IntN.{*ℤ_comm, zero-*ℤ, suc_ℤ-*ℤ, pred_ℤ-*ℤ}
 use Rattle.std.proofs.Math.Nat.{div-div-eq-div-mul, div-mul-le_self, div-le_self, add-mul}
 use Rattle.std.proofs.lemmas.Nat.{mul-le, pow-add, div-mul-add, and_mask}
-use Rattle.std.specs.Int.{int_shr, int_wrap}
+use Rattle.std.specs.Int.{int_shr}
 use Rattle.std.specs.Int.RustNames.{unsigned_abs}
-use Rattle.std.proofs.lemmas.Int.{ints, to_z-of_z, to_z_pos, fits_signed_from_abs, int_wrap_fits, wrapping_add-bits, wrapping_add_onto, wrapping_mul_onto}
+use Rattle.std.proofs.lemmas.Int.{ints, to_z-of_z, to_z_pos, fits_signed_from_abs}
 use Rattle.flac_bits.specs.Signed.{FitsBits}
 use Rattle.flac_subframe.specs.inner.Packing.{packed, paired}
 use Rattle.flac_subframe.specs.inner.Summing.{IsHeld}
-use Rattle.flac_subframe.proofs.Bounds.{back, back_15, below_64}
+use Rattle.flac_subframe.proofs.Bounds.{back, back_15}
 
 -- products of sums
 more : (p pa pb q qa qb a b : ℤ) → p ≡ pa +ℤ pb → q ≡ p +ℤ (a +ℤ b) → qa ≡ pa +ℤ a → qb ≡ pb +ℤ b → q ≡ qa +ℤ qb
@@ -119,29 +119,28 @@ module _ (z r : ℤ) (s : ℕ) (fit : FitsSigned w64 z) (f : FitsBits 32 r) wher
       let high : to_z w64 (of_z w64 (int_shr z (32 + s))) ≡ int_shr z (32 + s) = back _ (omega (arith, q)) in
       rw (same, high) refl
 
-  high_below : of_z w64 (int_shr (to_z w64 (of_z w64 z)) (32 + s)) < 2 ^ 64
-  high_below =
-      let same : to_z w64 (of_z w64 z) ≡ z = to_z-of_z w64 z fit in
-      let q = shifted_fits z s fit in
-      rw same (below_64 (int_shr z (32 + s)) (fits_signed_from_abs w64 (int_shr z (32 + s)) (omega (arith, q))))
+  residual_kept : to_z w64 (of_z w64 r) ≡ r
+  residual_kept = back r (omega (arith, ints, f.low, f.high))
 
   sum_less : unsigned_abs (int_shr z (32 + s) +ℤ r) < 2 ^ 63
   sum_less = let q = shifted_fits z s fit in omega (arith, ints, q, f.low, f.high)
 
-  pub sample_is : (h l : ℤ) → unsigned_abs l < 2 ^ 31 → z ≡ packed h l → to_z w64 ((of_z w64 (int_shr (to_z w64 (of_z w64 z)) (32 + s)) + of_z w64 r) % 2 ^ 64) ≡ int_shr h s +ℤ r
-  sample_is h l small e =
-      wrapping_add_onto w64 (of_z w64 (int_shr (to_z w64 (of_z w64 z)) (32 + s))) r high_below (fits_signed_from_abs w64 r (omega (arith, ints, f.low, f.high))) ∙ ap (int_wrap w64) sum_read ∙ int_wrap_fits w64 _ (fits_signed_from_abs w64 _ sum_less)
-      ∙ ap (λ k. int_shr k (32 + s) +ℤ r) e ∙ ap (λ k. k +ℤ r) (shifted_is h l s small)
+  pub sample_fits : FitsSigned w64 (to_z w64 (of_z w64 (int_shr (to_z w64 (of_z w64 z)) (32 + s))) +ℤ to_z w64 (of_z w64 r))
+  sample_fits = rw (residual_kept, sum_read) (fits_signed_from_abs w64 _ sum_less)
+
+  pub sample_is : (h l : ℤ) → unsigned_abs l < 2 ^ 31 → z ≡ packed h l → to_z w64 (of_z w64 (to_z w64 (of_z w64 (int_shr (to_z w64 (of_z w64 z)) (32 + s))) +ℤ to_z w64 (of_z w64 r))) ≡ int_shr h s +ℤ r
+  sample_is h l small e = rw (residual_kept, sum_read) (back _ sum_less ∙ ap (λ k. int_shr k (32 + s) +ℤ r) e ∙ ap (λ k. k +ℤ r) (shifted_is h l s small))
 
 -- a sum and one product more
-module _ (a f x : ℤ) (fa : FitsSigned w64 a) (ff : FitsSigned w64 f) (fx : FitsSigned w64 x) (product : IsHeld (f *ℤ x)) (sum : IsHeld (a +ℤ (f *ℤ x))) where
-  times : to_z w64 ((of_z w64 f * of_z w64 x) % 2 ^ 64) ≡ f *ℤ x
-  times = wrapping_mul_onto w64 (of_z w64 f) x (below_64 f ff) fx ∙ rw (to_z-of_z w64 f ff) (int_wrap_fits w64 (f *ℤ x) (fits_signed_from_abs w64 (f *ℤ x) product))
+module _ (a f x : ℤ) (fa : FitsSigned w64 a) (ff : FitsSigned w64 f) (fx : FitsSigned w64 x) (product : IsHeld (f *ℤ x)) where
+  factors_kept : to_z w64 (of_z w64 f) *ℤ to_z w64 (of_z w64 x) ≡ f *ℤ x
+  factors_kept = rw (to_z-of_z w64 f ff, to_z-of_z w64 x fx) refl
 
-  pub plus_is : to_z w64 ((of_z w64 a + (of_z w64 f * of_z w64 x) % 2 ^ 64) % 2 ^ 64) ≡ a +ℤ (f *ℤ x)
-  plus_is =
-      let rest : (of_z w64 f * of_z w64 x) % 2 ^ 64 < 2 ^ 64 = omega arith in
-      wrapping_add-bits w64 (of_z w64 a) ((of_z w64 f * of_z w64 x) % 2 ^ 64) (below_64 a fa) rest ∙ rw (to_z-of_z w64 a fa, times) (int_wrap_fits w64 (a +ℤ (f *ℤ x)) (fits_signed_from_abs w64 (a +ℤ (f *ℤ x)) sum))
+  times : to_z w64 (of_z w64 a) +ℤ to_z w64 (of_z w64 (to_z w64 (of_z w64 f) *ℤ to_z w64 (of_z w64 x))) ≡ a +ℤ (f *ℤ x)
+  times = rw (to_z-of_z w64 a fa, factors_kept, back (f *ℤ x) product) refl
+
+  pub plus_is : IsHeld (a +ℤ (f *ℤ x)) → to_z w64 (of_z w64 (to_z w64 (of_z w64 a) +ℤ to_z w64 (of_z w64 (to_z w64 (of_z w64 f) *ℤ to_z w64 (of_z w64 x))))) ≡ a +ℤ (f *ℤ x)
+  plus_is sum = rw times (back (a +ℤ (f *ℤ x)) sum)
 
 -- a number that is below a quotient
 pub below_quotient : (n q p : ℕ) → 1 ≤ p → q < n / p → q * p < n

@@ -1,5 +1,5 @@
 -- The sums of products for the samples to come.
-use Rattle.std.proofs.Common.{◌≡◌, ◌∙◌, ℕ, zero, suc, ◌+◌, ◌-◌, ◌%◌, ◌^◌, ◌≤◌, ◌<◌, refl, sym, arith, ℤ, pos, ◌+ℤ◌, ◌*ℤ◌, List, [], ◌∷◌, length, drop, inl, inr, to_z, of_z, w64}
+use Rattle.std.proofs.Common.{◌≡◌, ◌∙◌, ℕ, zero, suc, ◌+◌, ◌-◌, ◌^◌, ◌≤◌, ◌<◌, refl, sym, arith, ℤ, pos, ◌+ℤ◌, ◌*ℤ◌, List, [], ◌∷◌, length, drop, inl, inr, to_z, of_z, w64}
 use Rattle.std.proofs.Math.IntN.{+ℤ_comm}
 use Rattle.std.proofs.lemmas.List.{drop_more, drop_all}
 use Rattle.std.proofs.lemmas.Bool.{cases_lt}
@@ -7,11 +7,11 @@ use Rattle.flac_subframe.specs.Numbers.{sample_at}
 use Rattle.flac_subframe.specs.Prediction.{prediction, weighted}
 use Rattle.std.specs.Int.{int_shr}
 use Rattle.std.specs.Int.RustNames.{unsigned_abs}
-use Rattle.std.proofs.lemmas.Int.{ints, fits_signed_from_abs, int_wrap_fits, wrapping_add_onto}
+use Rattle.std.proofs.lemmas.Int.{ints}
 use Rattle.std.specs.Prelude.{All, ⊤}
 use Rattle.flac_bits.specs.Signed.{FitsBits}
 use Rattle.flac_subframe.specs.inner.Summing.{known, AreSums, AreBelow, Added, IsHeld}
-use Rattle.flac_subframe.proofs.Bounds.{back, below_64, shifted_small, term_small}
+use Rattle.flac_subframe.proofs.Bounds.{back, fits_more, shifted_small, stored, term_small}
 use Rattle.flac_subframe.proofs.Restoring.{RestoredTo}
 
 -- a sum reads only the samples before its index
@@ -72,17 +72,21 @@ below_more order cs old new x long small fit below added k le = elim (cases_lt k
       rw (end, added.last) was
 ]
 
--- the sums of samples that fit are held as the code makes them
-pub added_is : (order : ℕ) (cs old new : List ℤ) (x : ℤ) → length cs ≡ order → order ≤ 12 → All (FitsBits 15) cs → FitsBits 33 x → AreBelow order old
-    → ((k : ℕ) → k < order → IsHeld (sample_at cs k *ℤ x) → IsHeld (sample_at old (k + 1) +ℤ (sample_at cs k *ℤ x)) → sample_at new k ≡ sample_at old (k + 1) +ℤ (sample_at cs k *ℤ x)) → sample_at new order ≡ sample_at old order → Added cs x old new
-added_is order cs old new x long few small fit below added last = record {
-  each = λ k lt.
-      let inside : k < order = omega (arith, lt, long) in
-      let term = term_small (sample_at cs k) x (small k (pos 0) lt) fit in
-      let was = below (k + 1) (omega (arith, inside)) in
-      added k inside (omega (arith, term)) (omega (arith, ints, term, was, few));
-  last = rw long last;
-}
+-- the products of samples that fit are held, and so are the sums
+module _ (order : ℕ) (cs old : List ℤ) (x : ℤ) (long : length cs ≡ order) (few : order ≤ 12) (small : All (FitsBits 15) cs) (fit : FitsBits 33 x) where
+  pub products_held : (k : ℕ) → k < order → IsHeld (sample_at cs k *ℤ x)
+  products_held k lt = omega (arith, term_small (sample_at cs k) x (small k (pos 0) (omega (arith, lt, long))) fit)
+
+  module _ (below : AreBelow order old) where
+    pub sums_held : (k : ℕ) → k < order → IsHeld (sample_at old (k + 1) +ℤ (sample_at cs k *ℤ x))
+    sums_held k lt =
+        let term = term_small (sample_at cs k) x (small k (pos 0) (omega (arith, lt, long))) fit in
+        let was = below (k + 1) (omega (arith, lt)) in
+        omega (arith, ints, term, was, few)
+
+-- what the code has added
+pub added_is : (order : ℕ) (cs old new : List ℤ) (x : ℤ) → length cs ≡ order → ((k : ℕ) → k < order → sample_at new k ≡ sample_at old (k + 1) +ℤ (sample_at cs k *ℤ x)) → sample_at new order ≡ sample_at old order → Added cs x old new
+added_is order cs old new x long added last = record { each = λ k lt. added k (omega (arith, lt, long)); last = rw long last }
 
 abbrev pub AllZero : List ℤ → Type 0
 AllZero [] = ⊤
@@ -100,24 +104,44 @@ sums_none cs s sums zeros k le = zeros k ∙ sym (known_none (drop k cs) s)
 pub below_none : (order : ℕ) (sums : List ℤ) → ((k : ℕ) → sample_at sums k ≡ pos 0) → AreBelow order sums
 below_none order sums zeros k le = rw (zeros k) (omega arith)
 
+-- what a place holds of a number that fits, and of a residual value that is still there
+pub stored_fits : (bits : ℕ) (z : ℤ) → bits ≤ 33 → FitsBits bits z → FitsBits 33 (to_z w64 (of_z w64 z))
+stored_fits bits z few f = rw (stored bits z few f) (fits_more bits z few f)
+
+pub residual_fits : (z r : ℤ) → z ≡ r → FitsBits 32 r → FitsBits 32 (to_z w64 (of_z w64 z))
+residual_fits z r same f = rw (same, stored 32 r (omega arith) f) f
+
 -- a sample as the code makes it
-pub sample_is : (z r : ℤ) (s : ℕ) → unsigned_abs z ≤ 2 ^ 51 → FitsBits 32 r → to_z w64 ((of_z w64 (int_shr (to_z w64 (of_z w64 z)) s) + of_z w64 r) % 2 ^ 64) ≡ int_shr z s +ℤ r
-sample_is z r s small fit =
-    let same : to_z w64 (of_z w64 z) ≡ z = back z (omega (arith, small)) in
-    let q : unsigned_abs (int_shr z s) ≤ 2 ^ 51 = shifted_small z s small in
-    let high : to_z w64 (of_z w64 (int_shr z s)) ≡ int_shr z s = back (int_shr z s) (omega (arith, q)) in
-    let bits = below_64 (int_shr z s) (fits_signed_from_abs w64 (int_shr z s) (omega (arith, q))) in
-    rw same (wrapping_add_onto w64 (of_z w64 (int_shr z s)) r bits (fits_signed_from_abs w64 r (omega (arith, ints, fit.low, fit.high))) ∙ rw high (int_wrap_fits w64 (int_shr z s +ℤ r) (fits_signed_from_abs w64 (int_shr z s +ℤ r) (omega (arith, ints, q, fit.low, fit.high)))))
+module _ (z r : ℤ) (s : ℕ) (small : unsigned_abs z ≤ 2 ^ 51) (fit : FitsBits 32 r) where
+  sum_kept : to_z w64 (of_z w64 (int_shr (to_z w64 (of_z w64 z)) s)) +ℤ to_z w64 (of_z w64 r) ≡ int_shr z s +ℤ r
+  sum_kept =
+      let same : to_z w64 (of_z w64 z) ≡ z = back z (omega (arith, small)) in
+      let high : to_z w64 (of_z w64 (int_shr z s)) ≡ int_shr z s = back (int_shr z s) (omega (arith, shifted_small z s small)) in
+      let residual : to_z w64 (of_z w64 r) ≡ r = back r (omega (arith, ints, fit.low, fit.high)) in
+      rw (same, high, residual) refl
+
+  sum_less : unsigned_abs (int_shr z s +ℤ r) < 2 ^ 63
+  sum_less = omega (arith, ints, shifted_small z s small, fit.low, fit.high)
+
+  pub sample_is : to_z w64 (of_z w64 (to_z w64 (of_z w64 (int_shr (to_z w64 (of_z w64 z)) s)) +ℤ to_z w64 (of_z w64 r))) ≡ int_shr z s +ℤ r
+  sample_is = rw sum_kept (back (int_shr z s +ℤ r) sum_less)
 
 -- the first sum gives the next sample
-pub next_is : (order : ℕ) (cs s r sums : List ℤ) (shift i : ℕ) (v : ℤ) → (unsigned_abs (to_z w64 (of_z w64 (sample_at sums 0))) ≤ 2 ^ 51 → FitsBits 32 (to_z w64 (of_z w64 (sample_at s i))) → v ≡ int_shr (to_z w64 (of_z w64 (sample_at sums 0))) shift +ℤ to_z w64 (of_z w64 (sample_at s i)))
-    → order ≤ 12 → AreBelow order sums → AreSums cs s sums i → length cs ≤ i → sample_at s i ≡ sample_at r i → FitsBits 32 (sample_at r i) → v ≡ prediction cs shift s i +ℤ sample_at r i
-next_is order cs s r sums shift i v is few below so long same fit =
-    let small : unsigned_abs (sample_at sums 0) ≤ 2 ^ 51 = omega (arith, few, below 0 (omega arith)) in
-    let sum : to_z w64 (of_z w64 (sample_at sums 0)) ≡ sample_at sums 0 = back (sample_at sums 0) (omega (arith, small)) in
-    let residual : to_z w64 (of_z w64 (sample_at r i)) ≡ sample_at r i = omega (arith, ints, fit.low, fit.high) in
-    let now = is (rw sum small) (rw (same, residual) fit) in
-    rw (sum, so 0 (omega arith), known_is cs s i long, same, residual) at now
+module _ (order : ℕ) (sums : List ℤ) (few : order ≤ 12) (below : AreBelow order sums) where
+  first_small : unsigned_abs (sample_at sums 0) ≤ 2 ^ 51
+  first_small = omega (arith, few, below 0 (omega arith))
+
+  first_kept : to_z w64 (of_z w64 (sample_at sums 0)) ≡ sample_at sums 0
+  first_kept = back (sample_at sums 0) (omega (arith, first_small))
+
+  pub first_within : unsigned_abs (to_z w64 (of_z w64 (sample_at sums 0))) ≤ 2 ^ 51
+  first_within = rw first_kept first_small
+
+  pub next_is : (cs s r : List ℤ) (shift i : ℕ) (v : ℤ) → v ≡ int_shr (to_z w64 (of_z w64 (sample_at sums 0))) shift +ℤ to_z w64 (of_z w64 (sample_at s i))
+      → AreSums cs s sums i → length cs ≤ i → sample_at s i ≡ sample_at r i → FitsBits 32 (sample_at r i) → v ≡ prediction cs shift s i +ℤ sample_at r i
+  next_is cs s r shift i v is so long same fit =
+      let residual : to_z w64 (of_z w64 (sample_at r i)) ≡ sample_at r i = omega (arith, ints, fit.low, fit.high) in
+      rw (first_kept, so 0 (omega arith), known_is cs s i long, same, residual) at is
 
 -- the first i samples are restored, and the sums of their products are small
 pub record SumsOn (order : ℕ) (cs : List ℤ) (shift bits : ℕ) (r s sums : List ℤ) (i : ℕ) : Type 0 where

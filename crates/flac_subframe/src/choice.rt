@@ -53,7 +53,7 @@ pub(crate) fn all_equal(samples: &[i64]) -> bool
 }
 
 /// The number of bits that a predictor must stay below to replace the best so far: of two fixed ones that take as many,
-/// the one of the lower order is kept.
+/// the one of the lower order is kept, and a fixed one replaces a linear one.
 fn limit(best: &Best, kind: PredictorKind) -> u64
     requires { best.now.bits ≤ 2 ^ 60 }
     ensures { (best.now.bits ≤ result) × (result ≤ best.now.bits + 1) }
@@ -61,6 +61,9 @@ fn limit(best: &Best, kind: PredictorKind) -> u64
     match (best.content, kind) {
         (ContentKind::Predicted(PredictorKind::Fixed(higher)), PredictorKind::Fixed(order))
             if order < higher => best.bits + 1,
+        (ContentKind::Predicted(PredictorKind::Linear(_)), PredictorKind::Fixed(_)) => {
+            best.bits + 1
+        }
         _ => best.bits,
     }
 }
@@ -341,6 +344,16 @@ fn search(subject: &SampleView<'_>, arrays: &mut SearchArrays<'_>, tables: &mut 
     ensures priced { tables.new.priced ≤ tables.old.priced + (5 + length subject.now.predictors.now) * (93 * length subject.now.samples.now) }
 {
     let mut best = begin(subject.samples, subject.bits);
+    // linear ones first: they mostly take fewer bits, so that bounds rule out the fixed ones
+    for index in 0..subject.predictors.len() {
+        improve(
+            subject,
+            PredictorKind::Linear(index),
+            arrays,
+            tables,
+            &mut best,
+        );
+    }
     let first = likely_order(subject.samples);
     improve(
         subject,
@@ -359,15 +372,6 @@ fn search(subject: &SampleView<'_>, arrays: &mut SearchArrays<'_>, tables: &mut 
                 &mut best,
             );
         }
-    }
-    for index in 0..subject.predictors.len() {
-        improve(
-            subject,
-            PredictorKind::Linear(index),
-            arrays,
-            tables,
-            &mut best,
-        );
     }
     best
 }

@@ -42,6 +42,18 @@ pub(crate) fn fits_bits(number: i64, bits: u32) -> bool
     is_below(offset_binary(number, bits), bits)
 }
 
+/// The same by a call, which is never inlined. A loop that leaves by it, although the answer is known, is faster than one
+/// that leaves with `false`: there the compiler makes the result anew in each round.
+#[cold]
+#[inline(never)]
+pub(crate) fn fits_apart(number: i64, bits: u32) -> bool
+    requires positive { 1 ≤ bits }
+    requires small { bits ≤ 63 }
+    ensures { IsTrue result ↔ FitsBits bits number }
+{
+    fits_bits(number, bits)
+}
+
 /// Two to the power of the exponent, as a number of places.
 #[inline(always)]
 pub(crate) fn power(exponent: u8) -> usize

@@ -11,7 +11,7 @@ ghost use Rattle.flac_subframe.specs.Prediction.{Restored};
 ghost use Rattle.flac_subframe.specs.inner.Packing.{packed, paired};
 ghost use Rattle.flac_subframe.specs.inner.Summing.{IsHeld};
 
-use crate::numbers::{is_below, offset_binary};
+use crate::numbers::{fits_apart, fits_bits};
 
 /// Whether each sum of products with samples of `bits` bits, 1 to 33, is less than 2^31 from 0.
 pub(crate) fn are_narrow(coefficients: &[i64], bits: u32) -> bool
@@ -91,30 +91,35 @@ fn word_after(first: i64) -> i64
 }
 
 /// The sample of this residual value, from the first word, whose first sum is shifted to the right by `shift`, 0 to 15
-/// bits. If the residual value has more than 32 bits, the result is of no use.
+/// bits.
 #[inline(always)]
 fn sample_of(first: i64, shift: u32, residual: i64) -> i64
     requires shift { shift < 16 }
-    ensures { FitsBits 32 residual → (high low : ℤ) → unsigned_abs low < 2 ^ 31 → first ≡ packed high low → result ≡ int_shr high shift +ℤ residual }
+    requires residual { FitsBits 32 residual }
+    ensures { (high low : ℤ) → unsigned_abs low < 2 ^ 31 → first ≡ packed high low → result ≡ int_shr high shift +ℤ residual }
 {
-    (first >> (32 + shift)).wrapping_add(residual)
+    (first >> (32 + shift)) + residual
 }
 
-/// A sum and one product more, if the product and the new sum fit 64 bits; else a number of no use.
+/// A sum and one product more.
 #[inline(always)]
 fn plus(sum: i64, factor: i64, sample: i64) -> i64
-    ensures { IsHeld (factor *ℤ sample) → IsHeld (sum +ℤ (factor *ℤ sample)) → result ≡ sum +ℤ (factor *ℤ sample) }
+    requires product { IsHeld (factor *ℤ sample) }
+    requires sum { IsHeld (sum +ℤ (factor *ℤ sample)) }
+    ensures { result ≡ sum +ℤ (factor *ℤ sample) }
 {
-    sum.wrapping_add(factor.wrapping_mul(sample))
+    sum + factor * sample
 }
 
 /// Adds the products of one more sample with the first `count` factors to the sums, each of which moves one place
-/// forward. A sum that does not fit 64 bits becomes a number of no use.
+/// forward.
 #[inline(always)]
 pub(crate) fn add_sample(count: usize, factors: &[i64], sample: i64, sums: &mut [i64])
     requires factors { count ≤ length factors.now }
     requires places { count < length sums.old }
-    ensures added { (j : ℕ) → j < count → IsHeld (sample_at factors.now j *ℤ sample) → IsHeld (sample_at sums.old (j + 1) +ℤ (sample_at factors.now j *ℤ sample)) → sample_at sums.new j ≡ sample_at sums.old (j + 1) +ℤ (sample_at factors.now j *ℤ sample) }
+    requires products { (j : ℕ) → j < count → IsHeld (sample_at factors.now j *ℤ sample) }
+    requires sums { (j : ℕ) → j < count → IsHeld (sample_at sums.old (j + 1) +ℤ (sample_at factors.now j *ℤ sample)) }
+    ensures added { (j : ℕ) → j < count → sample_at sums.new j ≡ sample_at sums.old (j + 1) +ℤ (sample_at factors.now j *ℤ sample) }
     ensures last { sample_at sums.new count ≡ sample_at sums.old count }
     ensures long { length sums.new ≡ length sums.old }
 {
@@ -126,8 +131,7 @@ pub(crate) fn add_sample(count: usize, factors: &[i64], sample: i64, sums: &mut 
 /// Restores by a linear predictor of an order, from the front, as [`crate::restoration::restore_linear`] does. The sums
 /// of products for the samples to come are held in words beside the slice: word j holds the sum j, and that half the
 /// order after it. Each sample is multiplied by all factors once it is known. The result is whether each sample fits in
-/// `bits` bits. The loop has no exit, which is faster: after a sample that does not fit it goes on with numbers of no
-/// use, and those are left in the slice.
+/// `bits` bits. The first that does not is left in the slice, and is not multiplied.
 #[inline(always)]
 pub(crate) fn restore_packed(
     order: usize,
@@ -159,13 +163,14 @@ pub(crate) fn restore_packed(
         words[half] = word_after(words[0]);
         add_sample(half, &factors, samples[i], &mut words);
     }
-    let mut wrong = 0;
     for i in order..samples.len() {
         let sample = sample_of(words[0], shift, samples[i]);
-        wrong |= offset_binary(sample, bits);
         samples[i] = sample;
+        if !fits_bits(sample, bits) {
+            return fits_apart(sample, bits);
+        }
         words[half] = word_after(words[0]);
         add_sample(half, &factors, sample, &mut words);
     }
-    is_below(wrong, bits)
+    true
 }

@@ -9,7 +9,7 @@ ghost use Rattle.flac_subframe.specs.Prediction.{fixed_coefficients, prediction,
 ghost use Rattle.std.specs.Int.{int_shr};
 ghost use Rattle.flac_subframe.specs.inner.Sums.{second_of, third_of, fourth_of};
 
-use crate::numbers::{fits_bits, is_below, offset_binary};
+use crate::numbers::{fits_apart, fits_bits, is_below, offset_binary};
 use crate::packed::{add_sample, are_narrow, restore_packed};
 
 /// The prediction of the fixed predictor of an order after four samples, the nearest first (RFC 9639, section 9.2.5).
@@ -209,21 +209,21 @@ fn restore_by(
 }
 
 /// The sample of this residual value, from the sum of products, which is shifted to the right by `shift`, 0 to 15 bits.
-/// If the sum is more than 2^51 from 0, or the residual value has more than 32 bits, the result is of no use.
 #[inline(always)]
 fn sample_of(sum: i64, shift: u32, residual: i64) -> i64
     requires shift { shift < 16 }
-    ensures { unsigned_abs sum ≤ 2 ^ 51 → FitsBits 32 residual → result ≡ int_shr sum shift +ℤ residual }
+    requires sum { unsigned_abs sum ≤ 2 ^ 51 }
+    requires residual { FitsBits 32 residual }
+    ensures { result ≡ int_shr sum shift +ℤ residual }
 {
-    (sum >> shift).wrapping_add(residual)
+    (sum >> shift) + residual
 }
 
 /// Restores by a linear predictor of an order. The sums of products for the next samples are held beside the slice:
 /// each sample is multiplied by all coefficients once it is known, and is not read again. This is faster than
 /// [`restore_by`], whose loop reads the last samples again, and on processors with AVX2 by far: there the compiler
 /// makes lanes of that loop, which wait for the samples that were just stored. The result is whether each sample fits
-/// in `bits` bits. The loop has no exit, which is faster: after a sample that does not fit it goes on with numbers of
-/// no use, and those are left in the slice.
+/// in `bits` bits. The first that does not is left in the slice, and is not multiplied.
 #[inline(always)]
 fn restore_summed(
     order: usize,
@@ -250,14 +250,15 @@ fn restore_summed(
     for i in 0..order {
         add_sample(order, coefficients, samples[i], &mut sums);
     }
-    let mut wrong = 0;
     for i in order..samples.len() {
         let sample = sample_of(sums[0], shift, samples[i]);
-        wrong |= offset_binary(sample, bits);
         samples[i] = sample;
+        if !fits_bits(sample, bits) {
+            return fits_apart(sample, bits);
+        }
         add_sample(order, coefficients, sample, &mut sums);
     }
-    is_below(wrong, bits)
+    true
 }
 
 /// Copies coefficients. It is a call of its own: otherwise the compiler makes lanes of more of the loops that multiply

@@ -34,7 +34,7 @@ returns c =
     let l = c.loop-j in
     let same : to_z w64 (of_z w64 c.args.sample) ≡ c.args.sample = to_z-of_z w64 c.args.sample c.ranges.sample in
     record {
-      added = λ j h product sum. rw same at (l.invariant.done j (less j c.args.count l.j h c.loop-j-test.false) (rw same product) (rw same sum));
+      added = λ j h. rw same at (l.invariant.done j (less j c.args.count l.j h c.loop-j-test.false));
       last = l.invariant.rest c.args.count l.auto.j-end;
       long = l.auto.sums;
     }
@@ -50,12 +50,11 @@ loop-j-preserved c =
     let word : to_z w64 (of_z w64 w) ≡ w = to_z-of_z w64 w (search rules) in
     let next = l.invariant.rest (l.j + 1) (omega arith) in
     record {
-      done = λ k h product sum. elim (cases_lt k l.j) [
-        | inl b ↦ get_or-set_other l.sums l.j k _ (pos 0) (λ e. omega (arith, e, b)) ∙ l.invariant.done k b product sum
+      done = λ k h. elim (cases_lt k l.j) [
+        | inl b ↦ get_or-set_other l.sums l.j k _ (pos 0) (λ e. omega (arith, e, b)) ∙ l.invariant.done k b
         | inr b ↦
             let e : k ≡ l.j = omega (arith, h, b) in
-            let is = rw (factor, word, next) at c.plus.ensures in
-            rw e (get_or-set_same l.sums l.j _ (pos 0) (omega arith) ∙ kept ∙ is (rw e at product) (rw e at sum))
+            rw e (get_or-set_same l.sums l.j _ (pos 0) (omega arith) ∙ kept ∙ rw (factor, word, next) at c.plus.ensures)
       ];
       rest = λ k h. get_or-set_other l.sums l.j k _ (pos 0) (λ e. omega (arith, e, h)) ∙ l.invariant.rest k (omega (arith, h));
     }

@@ -1,5 +1,3 @@
-use Rattle.std.proofs.Common.{◌<◌, ◌≤◌, ◌^◌}
-use Rattle.flac_subframe.proofs.Restoring.{Hopeless}
 use Rattle.flac_subframe.proofs.PackedSums.{Packs, PacksOn}
 use Rattle.flac_subframe.proofs.packed.restore_packed.Given as goal
 
@@ -7,7 +5,4 @@ abbrev pub invariant-loop-i : goal.invariant-loop-i
 invariant-loop-i l = Packs l.half l.coefficients l.samples l.words l.i
 
 abbrev pub invariant-loop-i-2 : goal.invariant-loop-i-2
-invariant-loop-i-2 l = record {
-  good : l.wrong < 2 ^ l.bits → PacksOn l.half l.coefficients l.shift l.bits l.fn.samples l.samples l.words l.i;
-  bad : 2 ^ l.bits ≤ l.wrong → Hopeless l.coefficients l.shift l.bits l.fn.samples;
-}
+invariant-loop-i-2 l = PacksOn l.half l.coefficients l.shift l.bits l.fn.samples l.samples l.words l.i
