@@ -10,84 +10,108 @@ use Rattle.flac_subframe.specs.declared.limits.Limits.{Limits}
 use Rattle.flac_subframe.specs.Family.{IsMadeIn, form_in}
 use Rattle.flac_subframe.specs.Spelling.{subframe_spelling, IsSubframe}
 use Rattle.flac_subframe.specs.Subframe.{Form, samples_of}
-use Rattle.flac_frame.specs.Chosen.{forms_of, AreMade}
+use Rattle.flac_frame.specs.Chosen.{forms_by_plane, AreMadeByPlane}
+use Rattle.flac_frame.specs.PlaneLists.{Lists, later}
 use Rattle.flac_frame.specs.inner.Chosen.{AreChosen}
 use Rattle.flac_frame.specs.Encoding.{block_of}
-use Rattle.flac_frame.specs.inner.Encoding.{AreForms, AreLeast, IsLeastFor}
+use Rattle.flac_frame.specs.inner.Encoding.{AreFormsByPlane, AreLeast, IsLeastFor}
 use Rattle.flac_frame.specs.Frame.{side_bit}
 use Rattle.flac_frame.specs.Spelling.{subframes_spelling}
 use Rattle.flac_frame.specs.Stereo.{side_of, middle_of}
-use Rattle.flac_frame.proofs.Encoded.{forms-append, least-append}
+use Rattle.flac_frame.proofs.Encoded.{forms-more, least-more}
+use Rattle.flac_frame.proofs.PlaneLists.{from_plane, later_from, first_from}
 use Rattle.flac_frame.proofs.Pairs.{side_fits, middle_fits}
 
 -- ---- one more
 
-made_more : (ps : List LinearPredictor) (cs : List WideChoice) (block : List (List ℤ)) (c : WideChoice) (s : List ℤ) → length cs ≡ length block → AreMade ps cs block → IsMadeIn ps c s → AreMade ps (cs ++ c ∷ []) (block ++ s ∷ [])
-made_more ps [] [] c s e h k = (k, tt)
-made_more ps [] (t ∷ ts) c s e h k = absurd (omega (arith, e))
-made_more ps (d ∷ ds) [] c s e h k = absurd (omega (arith, e))
-made_more ps (d ∷ ds) (t ∷ ts) c s e h k = (h.0, made_more ps ds ts c s (omega (arith, e)) h.1 k)
+made_more : (lists : Lists) (cs : List WideChoice) (block : List (List ℤ)) (c : WideChoice) (s : List ℤ) → length cs ≡ length block → AreMadeByPlane lists cs block → IsMadeIn (lists (length block)) c s → AreMadeByPlane lists (cs ++ c ∷ []) (block ++ s ∷ [])
+made_more lists [] [] c s e h k = (k, tt)
+made_more lists [] (t ∷ ts) c s e h k = absurd (omega (arith, e))
+made_more lists (d ∷ ds) [] c s e h k = absurd (omega (arith, e))
+made_more lists (d ∷ ds) (t ∷ ts) c s e h k = (h.0, made_more (later lists) ds ts c s (omega (arith, e)) h.1 k)
 
-forms_more : (ps : List LinearPredictor) (cs : List WideChoice) (block : List (List ℤ)) (c : WideChoice) (s : List ℤ) → length cs ≡ length block → forms_of ps (cs ++ c ∷ []) (block ++ s ∷ []) ≡ forms_of ps cs block ++ form_in ps c s ∷ []
-forms_more ps [] [] c s e = refl
-forms_more ps [] (t ∷ ts) c s e = absurd (omega (arith, e))
-forms_more ps (d ∷ ds) [] c s e = absurd (omega (arith, e))
-forms_more ps (d ∷ ds) (t ∷ ts) c s e = ap (λ l. form_in ps d t ∷ l) (forms_more ps ds ts c s (omega (arith, e)))
+forms_more : (lists : Lists) (cs : List WideChoice) (block : List (List ℤ)) (c : WideChoice) (s : List ℤ) → length cs ≡ length block → forms_by_plane lists (cs ++ c ∷ []) (block ++ s ∷ []) ≡ forms_by_plane lists cs block ++ form_in (lists (length block)) c s ∷ []
+forms_more lists [] [] c s e = refl
+forms_more lists [] (t ∷ ts) c s e = absurd (omega (arith, e))
+forms_more lists (d ∷ ds) [] c s e = absurd (omega (arith, e))
+forms_more lists (d ∷ ds) (t ∷ ts) c s e = ap (λ l. form_in (lists 0) d t ∷ l) (forms_more (later lists) ds ts c s (omega (arith, e)))
+
+forms_long : (lists : Lists) (cs : List WideChoice) (block : List (List ℤ)) → length cs ≡ length block → length (forms_by_plane lists cs block) ≡ length block
+forms_long lists [] [] e = refl
+forms_long lists [] (t ∷ ts) e = absurd (omega (arith, e))
+forms_long lists (d ∷ ds) [] e = refl
+forms_long lists (d ∷ ds) (t ∷ ts) e = ap suc (forms_long (later lists) ds ts (omega (arith, e)))
 
 -- what is chosen of the first so many
-pub record FirstChosen (most : ℕ) (ps : List LinearPredictor) (depth size : ℕ) (choices : List WideChoice) (i : ℕ) (block : List (List ℤ)) (bits : ℕ) : Type 0 where
-  pub chosen : AreChosen most ps depth size (take i choices) block
-  pub bits_are : bits ≡ length (flat_map (subframe_spelling depth) (forms_of ps (take i choices) block))
+pub record FirstChosen (most : ℕ) (lists : Lists) (depth size : ℕ) (choices : List WideChoice) (i : ℕ) (block : List (List ℤ)) (bits : ℕ) : Type 0 where
+  pub chosen : AreChosen most lists depth size (take i choices) block
+  pub bits_are : bits ≡ length (flat_map (subframe_spelling depth) (forms_by_plane lists (take i choices) block))
 
-pub none_chosen : (most : ℕ) (ps : List LinearPredictor) (depth size : ℕ) (choices : List WideChoice) → FirstChosen most ps depth size choices 0 [] 0
-none_chosen most ps depth size choices = record { chosen = record { made = tt; are = tt; least = tt }; bits_are = refl }
+pub none_chosen : (most : ℕ) (lists : Lists) (depth size : ℕ) (choices : List WideChoice) → FirstChosen most lists depth size choices 0 [] 0
+none_chosen most lists depth size choices = record { chosen = record { made = tt; are = tt; least = tt }; bits_are = refl }
 
-module _ (most : ℕ) (ps : List LinearPredictor) (depth size : ℕ) (deep : 1 ≤ depth) (some : 1 ≤ size) where
-  pub one_chosen : (choices : List WideChoice) (i : ℕ) (block : List (List ℤ)) (c : WideChoice) (s : List ℤ) (bits more : ℕ) → length block ≡ i → i < length choices → FirstChosen most ps depth size choices i block bits
-      → IsMadeIn ps c s → ((limits : Limits) → most ≤ limits.partition → AreWithin limits.linear ps → IsSubframe depth (length s) limits (form_in ps c s)) → samples_of depth (length s) (form_in ps c s) ≡ Some s → IsLeastFor most ps depth s (form_in ps c s)
-      → more ≡ length (subframe_spelling depth (form_in ps c s)) → length s ≡ size → FirstChosen most ps depth size (set choices i c) (i + 1) (block ++ s ∷ []) (bits + more)
-  one_chosen choices i block c s bits more many lt first made valid restored least cost long =
-      let long_take : length (take i choices) ≡ length block = length-take-le i choices (omega (arith, lt)) ∙ sym many in
+-- a choice for samples, with a list
+pub record OneChosen (most : ℕ) (ps : List LinearPredictor) (depth : ℕ) (c : WideChoice) (s : List ℤ) (bits : ℕ) : Type 0 where
+  pub made : IsMadeIn ps c s
+  pub valid : (limits : Limits) → most ≤ limits.partition → AreWithin limits.linear ps → IsSubframe depth (length s) limits (form_in ps c s)
+  pub samples : samples_of depth (length s) (form_in ps c s) ≡ Some s
+  pub least : IsLeastFor most ps depth s (form_in ps c s)
+  pub cost : bits ≡ length (subframe_spelling depth (form_in ps c s))
+
+module _ (most : ℕ) (lists : Lists) (depth size : ℕ) where
+  next_chosen : (choices : List WideChoice) (block : List (List ℤ)) (c : WideChoice) (s : List ℤ) (bits more : ℕ) → length block < length choices → FirstChosen most lists depth size choices (length block) block bits
+      → OneChosen most (lists (length block)) depth c s more → length s ≡ size → FirstChosen most lists depth size (set choices (length block) c) (length block + 1) (block ++ s ∷ []) (bits + more)
+  next_chosen choices block c s bits more lt first one long =
+      let i : ℕ = length block in
+      let ps : List LinearPredictor = lists i in
+      let f : Form = form_in ps c s in
+      let long_take : length (take i choices) ≡ length block = length-take-le i choices (omega (arith, lt)) in
       let is : take (i + 1) (set choices i c) ≡ take i choices ++ c ∷ [] = take_more_set choices i c lt in
-      let forms : forms_of ps (take i choices ++ c ∷ []) (block ++ s ∷ []) ≡ forms_of ps (take i choices) block ++ form_in ps c s ∷ [] = forms_more ps (take i choices) block c s long_take in
+      let before : List Form = forms_by_plane lists (take i choices) block in
+      let forms : forms_by_plane lists (take i choices ++ c ∷ []) (block ++ s ∷ []) ≡ before ++ f ∷ [] = forms_more lists (take i choices) block c s long_take in
+      let many : length before ≡ length block = forms_long lists (take i choices) block long_take in
       let text = subframe_spelling depth in
-      let are : AreForms most ps depth size (forms_of ps (take i choices) block ++ form_in ps c s ∷ []) (block ++ s ∷ []) =
-      forms-append most ps depth size deep some (forms_of ps (take i choices) block) (form_in ps c s ∷ []) block (s ∷ []) first.chosen.are
-      (λ limits few within. subst (λ n. IsSubframe depth n limits (form_in ps c s)) long (valid limits few within), subst (λ n. samples_of depth n (form_in ps c s) ≡ Some s) long restored, tt) in
-      let leasts : AreLeast most ps depth (forms_of ps (take i choices) block ++ form_in ps c s ∷ []) (block ++ s ∷ []) =
-      least-append most ps depth size deep some (forms_of ps (take i choices) block) (form_in ps c s ∷ []) block (s ∷ []) first.chosen.least (least, tt) in
-      let sum : length (flat_map text (forms_of ps (take i choices) block ++ form_in ps c s ∷ [])) ≡ length (flat_map text (forms_of ps (take i choices) block)) + length (text (form_in ps c s)) =
-      ap (λ (t : List Bool). length t) (flat_map-append text (forms_of ps (take i choices) block) (form_in ps c s ∷ []) ∙ ap (λ t. flat_map text (forms_of ps (take i choices) block) ++ t) (append-nil (text (form_in ps c s)))) ∙ length-append (flat_map text (forms_of ps (take i choices) block)) (text (form_in ps c s)) in
+      let are : AreFormsByPlane most lists depth size (before ++ f ∷ []) (block ++ s ∷ []) =
+      forms-more most depth size lists before block f s many first.chosen.are (λ limits few within. subst (λ n. IsSubframe depth n limits f) long (one.valid limits few within)) (subst (λ n. samples_of depth n f ≡ Some s) long one.samples) in
+      let leasts : AreLeast most lists depth (before ++ f ∷ []) (block ++ s ∷ []) = least-more most depth size lists before block f s many first.chosen.least one.least in
+      let sum : length (flat_map text (before ++ f ∷ [])) ≡ length (flat_map text before) + length (text f) =
+      ap (λ (t : List Bool). length t) (flat_map-append text before (f ∷ []) ∙ ap (λ t. flat_map text before ++ t) (append-nil (text f))) ∙ length-append (flat_map text before) (text f) in
       record {
-        chosen = subst (λ cs. AreChosen most ps depth size cs (block ++ s ∷ [])) (sym is) (record {
-          made = made_more ps (take i choices) block c s long_take first.chosen.made made;
-          are = subst (λ fs. AreForms most ps depth size fs (block ++ s ∷ [])) (sym forms) are;
-          least = subst (λ fs. AreLeast most ps depth fs (block ++ s ∷ [])) (sym forms) leasts;
+        chosen = subst (λ cs. AreChosen most lists depth size cs (block ++ s ∷ [])) (sym is) (record {
+          made = made_more lists (take i choices) block c s long_take first.chosen.made one.made;
+          are = subst (λ fs. AreFormsByPlane most lists depth size fs (block ++ s ∷ [])) (sym forms) are;
+          least = subst (λ fs. AreLeast most lists depth fs (block ++ s ∷ [])) (sym forms) leasts;
         });
-        bits_are = omega (arith, first.bits_are, cost, sum, ap (λ cs. length (flat_map text (forms_of ps cs (block ++ s ∷ [])))) is, ap (λ fs. length (flat_map text fs)) forms);
+        bits_are = omega (arith, first.bits_are, one.cost, sum, ap (λ cs. length (flat_map text (forms_by_plane lists cs (block ++ s ∷ [])))) is, ap (λ fs. length (flat_map text fs)) forms);
       }
+
+  pub one_chosen : (choices : List WideChoice) (i : ℕ) (block : List (List ℤ)) (c : WideChoice) (s : List ℤ) (bits more : ℕ) → length block ≡ i → i < length choices → FirstChosen most lists depth size choices i block bits
+      → OneChosen most (lists i) depth c s more → length s ≡ size → FirstChosen most lists depth size (set choices i c) (i + 1) (block ++ s ∷ []) (bits + more)
+  one_chosen choices i block c s bits more many lt first one long =
+      subst (λ k. k < length choices → FirstChosen most lists depth size choices k block bits → OneChosen most (lists k) depth c s more → FirstChosen most lists depth size (set choices k c) (k + 1) (block ++ s ∷ []) (bits + more)) many
+      (λ lt first one. next_chosen choices block c s bits more lt first one long) lt first one
 
 -- ---- all
 
-forms_first : (ps : List LinearPredictor) (cs : List WideChoice) (block : List (List ℤ)) → forms_of ps (take (length block) cs) block ≡ forms_of ps cs block
-forms_first ps cs [] = refl
-forms_first ps [] (s ∷ ss) = refl
-forms_first ps (c ∷ cs) (s ∷ ss) = ap (λ l. form_in ps c s ∷ l) (forms_first ps cs ss)
+forms_first : (lists : Lists) (cs : List WideChoice) (block : List (List ℤ)) → forms_by_plane lists (take (length block) cs) block ≡ forms_by_plane lists cs block
+forms_first lists cs [] = refl
+forms_first lists [] (s ∷ ss) = refl
+forms_first lists (c ∷ cs) (s ∷ ss) = ap (λ l. form_in (lists 0) c s ∷ l) (forms_first (later lists) cs ss)
 
-made_first : (ps : List LinearPredictor) (cs : List WideChoice) (block : List (List ℤ)) → AreMade ps (take (length block) cs) block → AreMade ps cs block
-made_first ps cs [] h = tt
-made_first ps [] (s ∷ ss) h = absurd h
-made_first ps (c ∷ cs) (s ∷ ss) h = (h.0, made_first ps cs ss h.1)
+made_first : (lists : Lists) (cs : List WideChoice) (block : List (List ℤ)) → AreMadeByPlane lists (take (length block) cs) block → AreMadeByPlane lists cs block
+made_first lists cs [] h = tt
+made_first lists [] (s ∷ ss) h = absurd h
+made_first lists (c ∷ cs) (s ∷ ss) h = (h.0, made_first (later lists) cs ss h.1)
 
-pub all_chosen : (most : ℕ) (ps : List LinearPredictor) (depth size : ℕ) (choices : List WideChoice) (i : ℕ) (block : List (List ℤ)) (bits : ℕ) → length block ≡ i → FirstChosen most ps depth size choices i block bits
-    → AreChosen most ps depth size choices block × (bits ≡ length (flat_map (subframe_spelling depth) (forms_of ps choices block)))
-all_chosen most ps depth size choices i block bits many first =
-    let f = subst (λ n. FirstChosen most ps depth size choices n block bits) (sym many) first in
-    let forms = forms_first ps choices block in (
+pub all_chosen : (most : ℕ) (lists : Lists) (depth size : ℕ) (choices : List WideChoice) (i : ℕ) (block : List (List ℤ)) (bits : ℕ) → length block ≡ i → FirstChosen most lists depth size choices i block bits
+    → AreChosen most lists depth size choices block × (bits ≡ length (flat_map (subframe_spelling depth) (forms_by_plane lists choices block)))
+all_chosen most lists depth size choices i block bits many first =
+    let f = subst (λ n. FirstChosen most lists depth size choices n block bits) (sym many) first in
+    let forms = forms_first lists choices block in (
       record {
-        made = made_first ps choices block f.chosen.made;
-        are = subst (λ fs. AreForms most ps depth size fs block) forms f.chosen.are;
-        least = subst (λ fs. AreLeast most ps depth fs block) forms f.chosen.least;
+        made = made_first lists choices block f.chosen.made;
+        are = subst (λ fs. AreFormsByPlane most lists depth size fs block) forms f.chosen.are;
+        least = subst (λ fs. AreLeast most lists depth fs block) forms f.chosen.least;
       },
       f.bits_are ∙ ap (λ fs. length (flat_map (subframe_spelling depth) fs)) forms,
     )
@@ -110,58 +134,69 @@ drop_none (x ∷ xs) zero h = absurd (omega (arith, h))
 drop_none (x ∷ xs) (suc n) h = drop_none xs n (omega (arith, h))
 
 -- the subframes of the channels from one on
-module _ (ps : List LinearPredictor) (depth start size : ℕ) (cs : List WideChoice) (xs : List (List ℤ)) where
+module _ (lists : Lists) (depth start size : ℕ) (cs : List WideChoice) (xs : List (List ℤ)) where
   abbrev pub text_behind : ℕ → List Bool
-  text_behind i = flat_map (subframe_spelling depth) (forms_of ps (drop i cs) (block_of start size (drop i xs)))
+  text_behind i = flat_map (subframe_spelling depth) (forms_by_plane (from_plane i lists) (drop i cs) (block_of start size (drop i xs)))
+
+  abbrev pub MadeBehind : ℕ → Type 0
+  MadeBehind i = AreMadeByPlane (from_plane i lists) (drop i cs) (block_of start size (drop i xs))
 
   module _ (i : ℕ) (c : WideChoice) (few : i < length cs) (lt : i < length xs) (is_c : c ≡ get_or cs i c) where
     first_channel : drop i xs ≡ get_or xs i [] ∷ drop (i + 1) xs
     first_channel = drop_is xs i (get_or xs i []) lt (get_or_default xs i [] (get_or xs i []) lt)
 
-    pub made_next : AreMade ps (drop i cs) (block_of start size (drop i xs)) → IsMadeIn ps c (take size (drop start (get_or xs i []))) × AreMade ps (drop (i + 1) cs) (block_of start size (drop (i + 1) xs))
-    made_next h = subst (λ ds. AreMade ps ds (block_of start size (get_or xs i [] ∷ drop (i + 1) xs))) (drop_is cs i c few is_c) (subst (λ ys. AreMade ps (drop i cs) (block_of start size ys)) first_channel h)
+    pub made_next : MadeBehind i → IsMadeIn (lists i) c (take size (drop start (get_or xs i []))) × MadeBehind (i + 1)
+    made_next h =
+        let here = subst (λ ds. AreMadeByPlane (from_plane i lists) ds (block_of start size (get_or xs i [] ∷ drop (i + 1) xs))) (drop_is cs i c few is_c) (subst (λ ys. AreMadeByPlane (from_plane i lists) (drop i cs) (block_of start size ys)) first_channel h) in
+        (subst (λ ps. IsMadeIn ps c (take size (drop start (get_or xs i [])))) (first_from i lists) here.0, subst (λ ls. AreMadeByPlane ls (drop (i + 1) cs) (block_of start size (drop (i + 1) xs))) (later_from i lists) here.1)
 
-    pub text_next : text_behind i ≡ subframe_spelling depth (form_in ps c (take size (drop start (get_or xs i [])))) ++ text_behind (i + 1)
-    text_next = ap (λ ds. flat_map (subframe_spelling depth) (forms_of ps ds (block_of start size (drop i xs)))) (drop_is cs i c few is_c) ∙ ap (λ ys. flat_map (subframe_spelling depth) (forms_of ps (c ∷ drop (i + 1) cs) (block_of start size ys))) first_channel
+    pub text_next : text_behind i ≡ subframe_spelling depth (form_in (lists i) c (take size (drop start (get_or xs i [])))) ++ text_behind (i + 1)
+    text_next =
+        let s : List ℤ = take size (drop start (get_or xs i [])) in
+        let text = subframe_spelling depth in
+        ap (λ ds. flat_map text (forms_by_plane (from_plane i lists) ds (block_of start size (drop i xs)))) (drop_is cs i c few is_c)
+        ∙ ap (λ ys. flat_map text (forms_by_plane (from_plane i lists) (c ∷ drop (i + 1) cs) (block_of start size ys))) first_channel
+        ∙ ap (λ ps. text (form_in ps c s) ++ flat_map text (forms_by_plane (later (from_plane i lists)) (drop (i + 1) cs) (block_of start size (drop (i + 1) xs)))) (first_from i lists)
+        ∙ ap (λ ls. text (form_in (lists i) c s) ++ flat_map text (forms_by_plane ls (drop (i + 1) cs) (block_of start size (drop (i + 1) xs)))) (later_from i lists)
 
   pub text_last : (i : ℕ) → length xs ≤ i → text_behind i ≡ []
-  text_last i h = ap (λ ys. flat_map (subframe_spelling depth) (forms_of ps (drop i cs) (block_of start size ys))) (drop_none xs i h)
+  text_last i h = ap (λ ys. flat_map (subframe_spelling depth) (forms_by_plane (from_plane i lists) (drop i cs) (block_of start size ys))) (drop_none xs i h)
 
 -- the texts of all, whose choices are the same, at a depth that is the same
-pub texts_same : (ps : List LinearPredictor) (depth own start size : ℕ) (cs items : List WideChoice) (xs : List (List ℤ)) → depth ≡ own → cs ≡ items
-    → flat_map (subframe_spelling depth) (forms_of ps cs (block_of start size xs)) ≡ flat_map (subframe_spelling own) (forms_of ps items (block_of start size xs))
-texts_same ps depth own start size cs items xs d c =
-    ap (λ k. flat_map (subframe_spelling k) (forms_of ps cs (block_of start size xs))) d ∙ ap (λ k. flat_map (subframe_spelling own) (forms_of ps k (block_of start size xs))) c
+pub texts_same : (lists : Lists) (depth own start size : ℕ) (cs items : List WideChoice) (xs : List (List ℤ)) → depth ≡ own → cs ≡ items
+    → flat_map (subframe_spelling depth) (forms_by_plane lists cs (block_of start size xs)) ≡ flat_map (subframe_spelling own) (forms_by_plane lists items (block_of start size xs))
+texts_same lists depth own start size cs items xs d c =
+    ap (λ k. flat_map (subframe_spelling k) (forms_by_plane lists cs (block_of start size xs))) d ∙ ap (λ k. flat_map (subframe_spelling own) (forms_by_plane lists k (block_of start size xs))) c
 
 -- ---- two subframes
 
-pub two_forms : (ps : List LinearPredictor) (cs : List WideChoice) (x y : WideChoice) (first second : List ℤ) → 2 ≤ length cs → x ≡ get_or cs 0 x → y ≡ get_or cs 1 y → forms_of ps cs (first ∷ second ∷ []) ≡ form_in ps x first ∷ form_in ps y second ∷ []
-two_forms ps [] x y first second h p q = absurd (omega (arith, h))
-two_forms ps (a ∷ []) x y first second h p q = absurd (omega (arith, h))
-two_forms ps (a ∷ b ∷ cs) x y first second h p q = ap (λ z. form_in ps z first ∷ form_in ps b second ∷ []) (sym p) ∙ ap (λ z. form_in ps x first ∷ form_in ps z second ∷ []) (sym q)
+pub two_forms : (lists : Lists) (cs : List WideChoice) (x y : WideChoice) (first second : List ℤ) → 2 ≤ length cs → x ≡ get_or cs 0 x → y ≡ get_or cs 1 y → forms_by_plane lists cs (first ∷ second ∷ []) ≡ form_in (lists 0) x first ∷ form_in (lists 1) y second ∷ []
+two_forms lists [] x y first second h p q = absurd (omega (arith, h))
+two_forms lists (a ∷ []) x y first second h p q = absurd (omega (arith, h))
+two_forms lists (a ∷ b ∷ cs) x y first second h p q = ap (λ z. form_in (lists 0) z first ∷ form_in (lists 1) b second ∷ []) (sym p) ∙ ap (λ z. form_in (lists 0) x first ∷ form_in (lists 1) z second ∷ []) (sym q)
 
-pub first_made : (ps : List LinearPredictor) (cs : List WideChoice) (x : WideChoice) (first second : List ℤ) → x ≡ get_or cs 0 x → AreMade ps cs (first ∷ second ∷ []) → IsMadeIn ps x first
-first_made ps [] x first second p m = absurd m
-first_made ps (a ∷ cs) x first second p m = subst (λ z. IsMadeIn ps z first) (sym p) m.0
+pub first_made : (lists : Lists) (cs : List WideChoice) (x : WideChoice) (first second : List ℤ) → x ≡ get_or cs 0 x → AreMadeByPlane lists cs (first ∷ second ∷ []) → IsMadeIn (lists 0) x first
+first_made lists [] x first second p m = absurd m
+first_made lists (a ∷ cs) x first second p m = subst (λ z. IsMadeIn (lists 0) z first) (sym p) m.0
 
-pub second_made : (ps : List LinearPredictor) (cs : List WideChoice) (y : WideChoice) (first second : List ℤ) → y ≡ get_or cs 1 y → AreMade ps cs (first ∷ second ∷ []) → IsMadeIn ps y second
-second_made ps [] y first second q m = absurd m
-second_made ps (a ∷ []) y first second q m = absurd m.1
-second_made ps (a ∷ b ∷ cs) y first second q m = subst (λ z. IsMadeIn ps z second) (sym q) m.1.0
+pub second_made : (lists : Lists) (cs : List WideChoice) (y : WideChoice) (first second : List ℤ) → y ≡ get_or cs 1 y → AreMadeByPlane lists cs (first ∷ second ∷ []) → IsMadeIn (lists 1) y second
+second_made lists [] y first second q m = absurd m
+second_made lists (a ∷ []) y first second q m = absurd m.1
+second_made lists (a ∷ b ∷ cs) y first second q m = subst (λ z. IsMadeIn (lists 1) z second) (sym q) m.1.0
 
-two_texts : (ps : List LinearPredictor) (depth code d e : ℕ) (cs : List WideChoice) (x y : WideChoice) (first second : List ℤ) → 2 ≤ length cs → x ≡ get_or cs 0 x → y ≡ get_or cs 1 y → d ≡ side_bit code 0 → e ≡ side_bit code 1
-    → subframe_spelling (depth + d) (form_in ps x first) ++ subframe_spelling (depth + e) (form_in ps y second) ≡ subframes_spelling depth code 0 (forms_of ps cs (first ∷ second ∷ []))
-two_texts ps depth code d e cs x y first second h p q is_d is_e =
-    ap (λ n. subframe_spelling (depth + n) (form_in ps x first) ++ subframe_spelling (depth + e) (form_in ps y second)) is_d
-    ∙ ap (λ n. subframe_spelling (depth + side_bit code 0) (form_in ps x first) ++ subframe_spelling (depth + n) (form_in ps y second)) is_e
-    ∙ sym (pair_text depth code (form_in ps x first) (form_in ps y second)) ∙ ap (subframes_spelling depth code 0) (sym (two_forms ps cs x y first second h p q))
+two_texts : (lists : Lists) (depth code d e : ℕ) (cs : List WideChoice) (x y : WideChoice) (first second : List ℤ) → 2 ≤ length cs → x ≡ get_or cs 0 x → y ≡ get_or cs 1 y → d ≡ side_bit code 0 → e ≡ side_bit code 1
+    → subframe_spelling (depth + d) (form_in (lists 0) x first) ++ subframe_spelling (depth + e) (form_in (lists 1) y second) ≡ subframes_spelling depth code 0 (forms_by_plane lists cs (first ∷ second ∷ []))
+two_texts lists depth code d e cs x y first second h p q is_d is_e =
+    ap (λ n. subframe_spelling (depth + n) (form_in (lists 0) x first) ++ subframe_spelling (depth + e) (form_in (lists 1) y second)) is_d
+    ∙ ap (λ n. subframe_spelling (depth + side_bit code 0) (form_in (lists 0) x first) ++ subframe_spelling (depth + n) (form_in (lists 1) y second)) is_e
+    ∙ sym (pair_text depth code (form_in (lists 0) x first) (form_in (lists 1) y second)) ∙ ap (subframes_spelling depth code 0) (sym (two_forms lists cs x y first second h p q))
 
 -- the texts of two subframes, whose choices are the first of a list that is the same, at depths that are the same
-pub pair_texts : (ps : List LinearPredictor) (own depth code d e : ℕ) (items cs : List WideChoice) (x y : WideChoice) (first second : List ℤ) → depth ≡ own → cs ≡ items → 2 ≤ length items → x ≡ get_or cs 0 x → y ≡ get_or cs 1 y → d ≡ side_bit code 0 → e ≡ side_bit code 1
-    → subframe_spelling (depth + d) (form_in ps x first) ++ subframe_spelling (depth + e) (form_in ps y second) ≡ subframes_spelling own code 0 (forms_of ps items (first ∷ second ∷ []))
-pair_texts ps own depth code d e items cs x y first second is same two p q is_d is_e =
+pub pair_texts : (lists : Lists) (own depth code d e : ℕ) (items cs : List WideChoice) (x y : WideChoice) (first second : List ℤ) → depth ≡ own → cs ≡ items → 2 ≤ length items → x ≡ get_or cs 0 x → y ≡ get_or cs 1 y → d ≡ side_bit code 0 → e ≡ side_bit code 1
+    → subframe_spelling (depth + d) (form_in (lists 0) x first) ++ subframe_spelling (depth + e) (form_in (lists 1) y second) ≡ subframes_spelling own code 0 (forms_by_plane lists items (first ∷ second ∷ []))
+pair_texts lists own depth code d e items cs x y first second is same two p q is_d is_e =
     let many : 2 ≤ length cs = omega (arith, two, ap (λ (l : List WideChoice). length l) same) in
-    two_texts ps depth code d e cs x y first second many p q is_d is_e ∙ ap (λ k. subframes_spelling k code 0 (forms_of ps cs (first ∷ second ∷ []))) is ∙ ap (λ l. subframes_spelling own code 0 (forms_of ps l (first ∷ second ∷ []))) same
+    two_texts lists depth code d e cs x y first second many p q is_d is_e ∙ ap (λ k. subframes_spelling k code 0 (forms_by_plane lists cs (first ∷ second ∷ []))) is ∙ ap (λ l. subframes_spelling own code 0 (forms_by_plane lists l (first ∷ second ∷ []))) same
 
 -- ---- what a code keeps fits
 

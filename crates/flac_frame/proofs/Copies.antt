@@ -7,7 +7,8 @@ use Rattle.flac_subframe.specs.declared.wide.WideChoice.{WideChoice}
 use Rattle.flac_subframe.specs.declared.linear.LinearPredictor.{LinearPredictor}
 use Rattle.flac_subframe.specs.Family.{IsMadeIn, form_in}
 use Rattle.flac_frame.specs.Audio.{Sound}
-use Rattle.flac_frame.specs.Chosen.{forms_of, AreMade, IsChoiceWith}
+use Rattle.flac_frame.specs.Chosen.{forms_by_plane, AreMadeByPlane, IsChoiceByPlane}
+use Rattle.flac_frame.specs.PlaneLists.{Lists, later, lists_kept}
 use Rattle.flac_frame.specs.Stereo.{kept_as}
 use Rattle.flac_frame.specs.declared.frame_choice.FrameChoice.{FrameChoice}
 
@@ -37,29 +38,29 @@ copies_long [] (d ∷ ds) h = absurd h
 copies_long (c ∷ cs) [] h = absurd h
 copies_long (c ∷ cs) (d ∷ ds) h = omega (arith, copies_long cs ds h.1)
 
-copied_forms : (ps : List LinearPredictor) (cs ds : List WideChoice) (block : List (List ℤ)) → AreCopies cs ds → forms_of ps ds block ≡ forms_of ps cs block
-copied_forms ps cs ds [] h = refl
-copied_forms ps [] [] (s ∷ ss) h = refl
-copied_forms ps [] (d ∷ ds) (s ∷ ss) h = absurd h
-copied_forms ps (c ∷ cs) [] (s ∷ ss) h = absurd h
-copied_forms ps (c ∷ cs) (d ∷ ds) (s ∷ ss) h = ap (λ f. f ∷ forms_of ps ds ss) (sym (h.0.form ps s)) ∙ ap (λ fs. form_in ps c s ∷ fs) (copied_forms ps cs ds ss h.1)
+copied_forms : (lists : Lists) (cs ds : List WideChoice) (block : List (List ℤ)) → AreCopies cs ds → forms_by_plane lists ds block ≡ forms_by_plane lists cs block
+copied_forms lists cs ds [] h = refl
+copied_forms lists [] [] (s ∷ ss) h = refl
+copied_forms lists [] (d ∷ ds) (s ∷ ss) h = absurd h
+copied_forms lists (c ∷ cs) [] (s ∷ ss) h = absurd h
+copied_forms lists (c ∷ cs) (d ∷ ds) (s ∷ ss) h = ap (λ f. f ∷ forms_by_plane (later lists) ds ss) (sym (h.0.form (lists 0) s)) ∙ ap (λ fs. form_in (lists 0) c s ∷ fs) (copied_forms (later lists) cs ds ss h.1)
 
-copied_made : (ps : List LinearPredictor) (cs ds : List WideChoice) (block : List (List ℤ)) → AreCopies cs ds → AreMade ps ds block → AreMade ps cs block
-copied_made ps cs ds [] h m = tt
-copied_made ps [] [] (s ∷ ss) h m = absurd m
-copied_made ps [] (d ∷ ds) (s ∷ ss) h m = absurd h
-copied_made ps (c ∷ cs) [] (s ∷ ss) h m = absurd h
-copied_made ps (c ∷ cs) (d ∷ ds) (s ∷ ss) h m = (h.0.made ps s m.0, copied_made ps cs ds ss h.1 m.1)
+copied_made : (lists : Lists) (cs ds : List WideChoice) (block : List (List ℤ)) → AreCopies cs ds → AreMadeByPlane lists ds block → AreMadeByPlane lists cs block
+copied_made lists cs ds [] h m = tt
+copied_made lists [] [] (s ∷ ss) h m = absurd m
+copied_made lists [] (d ∷ ds) (s ∷ ss) h m = absurd h
+copied_made lists (c ∷ cs) [] (s ∷ ss) h m = absurd h
+copied_made lists (c ∷ cs) (d ∷ ds) (s ∷ ss) h m = (h.0.made (lists 0) s m.0, copied_made (later lists) cs ds ss h.1 m.1)
 
-pub copied : (ps : List LinearPredictor) (sound : Sound) (size number : ℕ) (block : List (List ℤ)) (old new : FrameChoice) → old.code ≡ new.code → old.bits ≡ new.bits → AreCopies new.subframes.items old.subframes.items → IsChoiceWith ps sound size number block old
-    → IsChoiceWith ps sound size number block new
-copied ps sound size number block old new code bits copies is =
-    let keeps : kept_as old.code block ≡ kept_as new.code block = ap (λ k. kept_as k block) code in
+pub copied : (lists : Lists) (sound : Sound) (size number : ℕ) (block : List (List ℤ)) (old new : FrameChoice) → old.code ≡ new.code → old.bits ≡ new.bits → AreCopies new.subframes.items old.subframes.items → IsChoiceByPlane lists sound size number block old
+    → IsChoiceByPlane lists sound size number block new
+copied lists sound size number block old new code bits copies is =
+    let own : Lists = lists_kept old.code lists in
     record {
       form = is.form;
       header = subst (λ k. chosen_header sound.profile size sound.rate k sound.bits number ≡ Some is.form.header) code is.header;
-      subframes = is.subframes ∙ copied_forms ps new.subframes.items old.subframes.items (kept_as old.code block) copies ∙ ap (forms_of ps new.subframes.items) keeps;
-      made = subst (AreMade ps new.subframes.items) keeps (copied_made ps new.subframes.items old.subframes.items (kept_as old.code block) copies is.made);
+      subframes = is.subframes ∙ copied_forms own new.subframes.items old.subframes.items (kept_as old.code block) copies ∙ ap (λ k. forms_by_plane (lists_kept k lists) new.subframes.items (kept_as k block)) code;
+      made = subst (λ k. AreMadeByPlane (lists_kept k lists) new.subframes.items (kept_as k block)) code (copied_made own new.subframes.items old.subframes.items (kept_as old.code block) copies is.made);
       encoding = is.encoding;
       least = is.least;
       short = is.short;

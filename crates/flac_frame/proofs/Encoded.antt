@@ -1,13 +1,16 @@
 -- The subframes of a block, written one after another.
-use Rattle.std.proofs.Common.{◌≡◌, ◌∙◌, sym, ap, ℕ, zero, suc, ◌+◌, ◌≤◌, ◌<◌, arith, ℤ, pos, List, [], ◌∷◌, ◌++◌, length, take, drop, get_or, set, Result, Ok, Err, All}
+use Rattle.std.proofs.Common.{◌≡◌, ◌∙◌, sym, ap, ℕ, zero, suc, ◌+◌, ◌≤◌, ◌<◌, arith, ℤ, pos, List, [], ◌∷◌, ◌++◌, length, take, drop, get_or, set, Some, Result, Ok, Err, All}
 use Rattle.std.proofs.lemmas.List.{take_more, take_more_set, length-take-le, length-drop, map-append}
 use Rattle.std.proofs.lemmas.List.Elements.{All-take, All-head, All-tail, All-cons, All-nil}
-use Rattle.flac_subframe.specs.declared.linear.LinearPredictor.{LinearPredictor}
 use Rattle.flac_bits.specs.Signed.{FitsBits}
 use Rattle.flac_bits.specs.declared.why.Why.{Why}
-use Rattle.flac_subframe.specs.Subframe.{Form}
+use Rattle.flac_subframe.specs.declared.limits.Limits.{Limits}
+use Rattle.flac_subframe.specs.Handed.{AreWithin}
+use Rattle.flac_subframe.specs.Spelling.{IsSubframe}
+use Rattle.flac_subframe.specs.Subframe.{Form, samples_of}
 use Rattle.flac_frame.specs.Encoding.{block_of}
-use Rattle.flac_frame.specs.inner.Encoding.{AreForms, AreLeast}
+use Rattle.flac_frame.specs.PlaneLists.{Lists, later}
+use Rattle.flac_frame.specs.inner.Encoding.{AreFormsByPlane, AreLeast, IsLeastFor}
 
 -- ---- samples in wider places
 
@@ -27,18 +30,19 @@ module _ (depth size : ℕ) (deep : 1 ≤ depth) (some : 1 ≤ size) where
   abbrev pub IsBlock : List (List ℤ) → Type 0
   IsBlock block = All (λ s. length s ≡ size) block × All (λ s. All (FitsBits depth) s) block
 
-module _ (most : ℕ) (ps : List LinearPredictor) (depth size : ℕ) (deep : 1 ≤ depth) (some : 1 ≤ size) where
-  pub forms-append : (fs gs : List Form) (a b : List (List ℤ)) → AreForms most ps depth size fs a → AreForms most ps depth size gs b → AreForms most ps depth size (fs ++ gs) (a ++ b)
-  forms-append [] gs [] b h k = k
-  forms-append [] gs (s ∷ ss) b h k = absurd h
-  forms-append (f ∷ fs) gs [] b h k = absurd h
-  forms-append (f ∷ fs) gs (s ∷ ss) b h k = (h.0, h.1, forms-append fs gs ss b h.2 k)
+module _ (most depth size : ℕ) where
+  pub forms-more : (lists : Lists) (fs : List Form) (block : List (List ℤ)) (f : Form) (s : List ℤ) → length fs ≡ length block → AreFormsByPlane most lists depth size fs block
+      → ((limits : Limits) → most ≤ limits.partition → AreWithin limits.linear (lists (length block)) → IsSubframe depth size limits f) → samples_of depth size f ≡ Some s → AreFormsByPlane most lists depth size (fs ++ f ∷ []) (block ++ s ∷ [])
+  forms-more lists [] [] f s e h valid samples = (valid, samples, tt)
+  forms-more lists [] (t ∷ ts) f s e h valid samples = absurd h
+  forms-more lists (g ∷ gs) [] f s e h valid samples = absurd h
+  forms-more lists (g ∷ gs) (t ∷ ts) f s e h valid samples = (h.0, h.1, forms-more (later lists) gs ts f s (omega (arith, e)) h.2 valid samples)
 
-  pub least-append : (fs gs : List Form) (a b : List (List ℤ)) → AreLeast most ps depth fs a → AreLeast most ps depth gs b → AreLeast most ps depth (fs ++ gs) (a ++ b)
-  least-append [] gs [] b h k = k
-  least-append [] gs (s ∷ ss) b h k = absurd h
-  least-append (f ∷ fs) gs [] b h k = absurd h
-  least-append (f ∷ fs) gs (s ∷ ss) b h k = (h.0, least-append fs gs ss b h.1 k)
+  pub least-more : (lists : Lists) (fs : List Form) (block : List (List ℤ)) (f : Form) (s : List ℤ) → length fs ≡ length block → AreLeast most lists depth fs block → IsLeastFor most (lists (length block)) depth s f → AreLeast most lists depth (fs ++ f ∷ []) (block ++ s ∷ [])
+  least-more lists [] [] f s e h least = (least, tt)
+  least-more lists [] (t ∷ ts) f s e h least = absurd h
+  least-more lists (g ∷ gs) [] f s e h least = absurd h
+  least-more lists (g ∷ gs) (t ∷ ts) f s e h least = (h.0, least-more (later lists) gs ts f s (omega (arith, e)) h.1 least)
 
 -- ---- a block of longer channels
 

@@ -1,7 +1,7 @@
 -- The frames of the family, and the least of them.
 use Rattle.std.proofs.Common.{◌≡◌, ◌∙◌, refl, sym, ap, subst, ℕ, ◌+◌, ◌-◌, ◌%◌, ◌≤◌, ◌<◌, ◌^◌, arith, ℤ, Bool, true, false, cond, ◌||◌, nat_lt, nat_le, List, [], ◌∷◌, ◌++◌, length, length-append, Option, Some, None, flat_map}
+use Rattle.std.proofs.Math.Path.{fun_ext}
 use Rattle.std.proofs.lemmas.Bool.Decides.{nat_tests}
-use Rattle.flac_subframe.specs.declared.linear.LinearPredictor.{LinearPredictor}
 use Rattle.flac_header.specs.Header.{Header}
 use Rattle.flac_header.specs.Choice.{size_choice, rate_choice_in, depth_choice_in, stated_rate, with_codes, chosen_header}
 use Rattle.flac_header.specs.declared.subset.Profile.{Profile}
@@ -9,7 +9,8 @@ use Rattle.flac_header.specs.Spelling.{header_spelling}
 use Rattle.flac_subframe.specs.Spelling.{subframe_spelling}
 use Rattle.flac_subframe.specs.Subframe.{Form}
 use Rattle.flac_frame.specs.Audio.{Sound}
-use Rattle.flac_frame.specs.Encoding.{partition_limit, IsEncoding, EachStands, IsOfWidened, IsLeastWith, subframes_cost}
+use Rattle.flac_frame.specs.Encoding.{partition_limit, IsEncoding, EachStandsByPlane, IsOfPlanes, IsLeastByPlane, subframes_cost}
+use Rattle.flac_frame.specs.PlaneLists.{Lists, later, lists_kept, plane_of}
 use Rattle.flac_frame.specs.inner.Encoding.{AreLeast}
 use Rattle.flac_frame.specs.Spelling.{FrameForm, frame_spelling, subframes_spelling}
 use Rattle.flac_frame.specs.Stereo.{kept_as}
@@ -60,12 +61,12 @@ frame_less depth f g e le =
     let few : a ≤ b = omega (arith, length-append (header_spelling f.header) p, length-append (header_spelling g.header) q, e, le) in
     omega (arith, whole_long (header_spelling f.header ++ p), whole_long (header_spelling g.header ++ q), filled_less a b few)
 
-module _ (ps : List LinearPredictor) (sound : Sound) (size number : ℕ) (block : List (List ℤ)) where
+module _ (lists : Lists) (sound : Sound) (size number : ℕ) (block : List (List ℤ)) where
   abbrev pub IsBelow : FrameForm → Type 0
-  IsBelow f = (g : FrameForm) → IsOfWidened ps sound size number block g
+  IsBelow f = (g : FrameForm) → IsOfPlanes lists sound size number block g
       → (subframes_cost sound.bits f ≤ subframes_cost sound.bits g) × (g.header.channel_code < f.header.channel_code → subframes_cost sound.bits f < subframes_cost sound.bits g)
 
-  pub least_frame : (f : FrameForm) → IsOfWidened ps sound size number block f → IsBelow f → IsLeastWith ps sound size number block f
+  pub least_frame : (f : FrameForm) → IsOfPlanes lists sound size number block f → IsBelow f → IsLeastByPlane lists sound size number block f
   least_frame f m below = record {
     least = record {
       member = m;
@@ -84,38 +85,52 @@ pub kept_same : (code : ℕ) (block : List (List ℤ)) → code ≤ 7 → kept_a
 unfolding kept_as
 kept_same code block few = let a : nat_lt code 8 ≡ true = grind (arith, nat_tests) in rw a refl
 
-all_less : (most : ℕ) (ps : List LinearPredictor) (depth : ℕ) (fs gs : List Form) (block : List (List ℤ)) → AreLeast most ps depth fs block → EachStands most ps gs block → length (flat_map (subframe_spelling depth) fs) ≤ length (flat_map (subframe_spelling depth) gs)
-all_less most ps depth [] [] [] a b = omega arith
-all_less most ps depth [] (g ∷ gs) [] a b = absurd b
-all_less most ps depth (f ∷ fs) gs [] a b = absurd a
-all_less most ps depth [] gs (s ∷ ss) a b = absurd a
-all_less most ps depth (f ∷ fs) [] (s ∷ ss) a b = absurd b
-all_less most ps depth (f ∷ fs) (g ∷ gs) (s ∷ ss) a b =
+-- each is its own plane
+own_plane : (code channel : ℕ) → code ≤ 7 → plane_of code channel ≡ channel
+own_plane code channel few = let a : nat_lt code 8 ≡ true = grind (arith, nat_tests) in rw a refl
+
+pub lists_same : (code : ℕ) (lists : Lists) → code ≤ 7 → lists_kept code lists ≡ lists
+lists_same code lists few = fun_ext (λ channel. ap lists (own_plane code channel few))
+
+module _ (code : ℕ) (few : code ≤ 7) (most : ℕ) (lists : Lists) (fs : List Form) (block : List (List ℤ)) where
+  stands_kept : EachStandsByPlane most lists fs block → EachStandsByPlane most (lists_kept code lists) fs (kept_as code block)
+  stands_kept h = subst (λ ls. EachStandsByPlane most ls fs (kept_as code block)) (sym (lists_same code lists few)) (subst (EachStandsByPlane most lists fs) (sym (kept_same code block few)) h)
+
+  kept_stands : EachStandsByPlane most (lists_kept code lists) fs (kept_as code block) → EachStandsByPlane most lists fs block
+  kept_stands h = subst (EachStandsByPlane most lists fs) (kept_same code block few) (subst (λ ls. EachStandsByPlane most ls fs (kept_as code block)) (lists_same code lists few) h)
+
+all_less : (most : ℕ) (lists : Lists) (depth : ℕ) (fs gs : List Form) (block : List (List ℤ)) → AreLeast most lists depth fs block → EachStandsByPlane most lists gs block → length (flat_map (subframe_spelling depth) fs) ≤ length (flat_map (subframe_spelling depth) gs)
+all_less most lists depth [] [] [] a b = omega arith
+all_less most lists depth [] (g ∷ gs) [] a b = absurd b
+all_less most lists depth (f ∷ fs) gs [] a b = absurd a
+all_less most lists depth [] gs (s ∷ ss) a b = absurd a
+all_less most lists depth (f ∷ fs) [] (s ∷ ss) a b = absurd b
+all_less most lists depth (f ∷ fs) (g ∷ gs) (s ∷ ss) a b =
     let one : length (subframe_spelling depth f) ≤ length (subframe_spelling depth g) = a.0.least g b.0 in
-    let rest = all_less most ps depth fs gs ss a.1 b.1 in
+    let rest = all_less most (later lists) depth fs gs ss a.1 b.1 in
     omega (arith, length-append (subframe_spelling depth f) (flat_map (subframe_spelling depth) fs), length-append (subframe_spelling depth g) (flat_map (subframe_spelling depth) gs), one, rest)
 
-stands_of : (most : ℕ) (ps : List LinearPredictor) (depth : ℕ) (fs : List Form) (block : List (List ℤ)) → AreLeast most ps depth fs block → EachStands most ps fs block
-stands_of most ps depth [] [] a = tt
-stands_of most ps depth [] (s ∷ ss) a = absurd a
-stands_of most ps depth (f ∷ fs) [] a = absurd a
-stands_of most ps depth (f ∷ fs) (s ∷ ss) a = (a.0.member, stands_of most ps depth fs ss a.1)
+stands_of : (most : ℕ) (lists : Lists) (depth : ℕ) (fs : List Form) (block : List (List ℤ)) → AreLeast most lists depth fs block → EachStandsByPlane most lists fs block
+stands_of most lists depth [] [] a = tt
+stands_of most lists depth [] (s ∷ ss) a = absurd a
+stands_of most lists depth (f ∷ fs) [] a = absurd a
+stands_of most lists depth (f ∷ fs) (s ∷ ss) a = (a.0.member, stands_of most (later lists) depth fs ss a.1)
 
 pub code_once : (b : Bool) (c n : ℕ) → cond b (c + 1) 2 ≡ n → (n ≡ 2 → ⊥) → c + 1 ≡ n
 code_once true c n e other = e
 code_once false c n e other = absurd (other (sym e))
 
-pub independent_least : (ps : List LinearPredictor) (sound : Sound) (size number : ℕ) (block : List (List ℤ)) (f : FrameForm) → (length block ≡ 2 → ⊥) → length block ≤ 8 → IsEncoding sound size number block f → AreLeast (partition_limit sound) ps sound.bits f.subframes block
-    → IsLeastWith ps sound size number block f
-independent_least ps sound size number block f other few encoding least =
+pub independent_least : (lists : Lists) (sound : Sound) (size number : ℕ) (block : List (List ℤ)) (f : FrameForm) → (length block ≡ 2 → ⊥) → length block ≤ 8 → IsEncoding sound size number block f → AreLeast (partition_limit sound) lists sound.bits f.subframes block
+    → IsLeastByPlane lists sound size number block f
+independent_least lists sound size number block f other few encoding least =
     let depth : ℕ = sound.bits in
     let code = code_once (nat_lt f.header.channel_code 8) f.header.channel_code (length block) encoding.channels other in
     let low : f.header.channel_code ≤ 7 = omega (arith, code, few) in
     let cost : subframes_cost depth f ≡ length (flat_map (subframe_spelling depth) f.subframes) = ap (λ (t : List Bool). length t) (texts_are depth f.header.channel_code size low 0 f.subframes) in
-    least_frame ps sound size number block f (record { encoding = encoding; stand = subst (EachStands (partition_limit sound) ps f.subframes) (sym (kept_same f.header.channel_code block low)) (stands_of (partition_limit sound) ps depth f.subframes block least) })
+    least_frame lists sound size number block f (record { encoding = encoding; stand = stands_kept f.header.channel_code low (partition_limit sound) lists f.subframes block (stands_of (partition_limit sound) lists depth f.subframes block least) })
     (λ g m.
     let code' = code_once (nat_lt g.header.channel_code 8) g.header.channel_code (length block) m.encoding.channels other in
     let low' : g.header.channel_code ≤ 7 = omega (arith, code', few) in
     let cost' : subframes_cost depth g ≡ length (flat_map (subframe_spelling depth) g.subframes) = ap (λ (t : List Bool). length t) (texts_are depth g.header.channel_code size low' 0 g.subframes) in
-    let less = all_less (partition_limit sound) ps depth f.subframes g.subframes block least (subst (EachStands (partition_limit sound) ps g.subframes) (kept_same g.header.channel_code block low') m.stand) in
+    let less = all_less (partition_limit sound) lists depth f.subframes g.subframes block least (kept_stands g.header.channel_code low' (partition_limit sound) lists g.subframes block m.stand) in
     (omega (arith, cost, cost', less), λ lower. absurd (omega (arith, lower, code, code'))))

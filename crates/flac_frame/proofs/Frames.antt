@@ -2,8 +2,6 @@
 use Rattle.std.proofs.Common.{◌≡◌, ◌∙◌, refl, sym, ap, subst, ℕ, ◌+◌, ◌≤◌, ◌<◌, ◌^◌, arith, ℤ, Bool, true, nat_lt, List, [], ◌∷◌, length, map, Option, Some, None, is_some, All, IfSome, flat_map, take, drop, get_or}
 use Rattle.std.proofs.lemmas.Bool.Decides.{nat_tests}
 use Rattle.std.proofs.lemmas.List.{length-map, get_or-map}
-use Rattle.flac_subframe.specs.declared.linear.LinearPredictor.{LinearPredictor}
-use Rattle.flac_subframe.specs.Handed.{AreWithin}
 use Rattle.flac_bits.specs.Signed.{FitsBits}
 use Rattle.flac_header.specs.Header.{Header, IsHeader, channels_of}
 use Rattle.flac_header.specs.declared.subset.Profile.{Profile}
@@ -15,42 +13,43 @@ use Rattle.flac_frame.specs.Audio.{Sound, IsSound, samples_each}
 use Rattle.flac_frame.specs.Frame.{limits_at}
 use Rattle.flac_frame.specs.Stereo.{joined, kept_as}
 use Rattle.flac_frame.specs.Spelling.{FrameForm, subframes_spelling, HaveSamples}
-use Rattle.flac_frame.specs.Chosen.{forms_of, AreMade, IsChoiceWith}
+use Rattle.flac_frame.specs.Chosen.{forms_by_plane, AreMadeByPlane, IsChoiceByPlane}
+use Rattle.flac_frame.specs.PlaneLists.{Lists, lists_kept, AreAllWithin}
 use Rattle.flac_frame.specs.inner.Chosen.{AreChosen}
-use Rattle.flac_frame.specs.Encoding.{block_of, partition_limit, IsEncoding, IsLeastWith, IsShort, subframes_cost}
-use Rattle.flac_frame.specs.inner.Encoding.{AreForms, AreLeast}
+use Rattle.flac_frame.specs.Encoding.{block_of, partition_limit, IsEncoding, IsLeastByPlane, IsShort, subframes_cost}
+use Rattle.flac_frame.specs.inner.Encoding.{AreFormsByPlane, AreLeast}
 use Rattle.flac_frame.specs.declared.frame_choice.FrameChoice.{FrameChoice}
 use Rattle.flac_frame.proofs.Encoded.{is_block, part_fits}
 use Rattle.flac_frame.proofs.Short.{all_short, parts_few, frame_short}
-use Rattle.flac_frame.proofs.Family.{independent_least, kept_same}
+use Rattle.flac_frame.proofs.Family.{independent_least, kept_same, lists_same}
 use Rattle.flac_frame.proofs.Sounds.{depth_small, limit_few}
-use Rattle.flac_frame.proofs.Wholes.{texts_are, subframes_are, samples_are, as_many, not_joined, all_fit_in, codes_are, chosen_as, header_at, header_never}
+use Rattle.flac_frame.proofs.Wholes.{texts_are, subframes_by_plane, samples_by_plane, many_by_plane, not_joined, all_fit_in, codes_are, chosen_as, header_at, header_never}
 
 -- ---- the whole
 
 as_coded : (code : ℕ) → code ≤ 7 → channels_of code ≡ code + 1
 as_coded code few = let a : nat_lt code 8 ≡ true = grind (arith, nat_tests) in rw a refl
 
-pub frame_encoded : (ps : List LinearPredictor) (sound : Sound) → AreWithin (limits_at sound.profile sound.rate).linear ps → (code size number : ℕ) (block : List (List ℤ)) (fs : List Form) (h : Header) → (length block ≡ 2 → ⊥) → code ≤ 7 → number < 2 ^ 31
+pub frame_encoded : (lists : Lists) (sound : Sound) → AreAllWithin (limits_at sound.profile sound.rate).linear lists → (code size number : ℕ) (block : List (List ℤ)) (fs : List Form) (h : Header) → (length block ≡ 2 → ⊥) → code ≤ 7 → number < 2 ^ 31
     → (1 ≤ sound.bits) × (sound.bits ≤ 32) → 1 ≤ size → size ≤ 65535 → All (λ s. length s ≡ size) block → chosen_header sound.profile size sound.rate code sound.bits number ≡ Some h → IsHeader h → code + 1 ≡ length block → All (λ s. All (FitsBits sound.bits) s) block
-    → AreForms (partition_limit sound) ps sound.bits size fs block → AreLeast (partition_limit sound) ps sound.bits fs block → (f : FrameForm) → f ≡ record { header = h; subframes = fs }
-    → IsEncoding sound size number block f × IsLeastWith ps sound size number block f × IsShort sound.bits f × (subframes_cost sound.bits f ≡ length (flat_map (subframe_spelling sound.bits) fs))
-frame_encoded ps sound within code size number block fs h other independent small deep some few long chosen valid each fits are least f is =
+    → AreFormsByPlane (partition_limit sound) lists sound.bits size fs block → AreLeast (partition_limit sound) lists sound.bits fs block → (f : FrameForm) → f ≡ record { header = h; subframes = fs }
+    → IsEncoding sound size number block f × IsLeastByPlane lists sound size number block f × IsShort sound.bits f × (subframes_cost sound.bits f ≡ length (flat_map (subframe_spelling sound.bits) fs))
+frame_encoded lists sound within code size number block fs h other independent small deep some few long chosen valid each fits are least f is =
     let depth : ℕ = sound.bits in
     let codes = codes_are (size_choice size) (rate_choice_in sound.profile sound.rate) (depth_choice_in sound.profile depth) size sound.rate code number h (sym (chosen_as sound.profile size sound.rate code depth number (omega (arith, independent)) small) ∙ chosen) in
     let parts_are : flat_map (subframe_spelling depth) fs ≡ subframes_spelling depth h.channel_code 0 fs = sym (ap (λ k. subframes_spelling depth k 0 fs) codes.0 ∙ texts_are depth code size independent 0 fs) in
     let limits : Limits = limits_at sound.profile sound.rate in
-    let have = subst (λ k. HaveSamples depth k h.size 0 fs block) (sym codes.0) (subst (λ n. HaveSamples depth code n 0 fs block) (sym codes.1) (samples_are depth code size independent (partition_limit sound) ps 0 fs block are)) in
+    let have = subst (λ k. HaveSamples depth k h.size 0 fs block) (sym codes.0) (subst (λ n. HaveSamples depth code n 0 fs block) (sym codes.1) (samples_by_plane depth code size independent (partition_limit sound) lists 0 fs block are)) in
     let short : IsShort depth (record { header = h; subframes = fs }) = frame_short depth (record { header = h; subframes = fs })
-    (omega (arith, ap (λ (t : List Bool). length t) parts_are, all_short (partition_limit sound) (limit_few sound.profile sound.rate) ps depth deep.0 size fs block some long fits least, parts_few (length block) depth size (omega (arith, independent, each)) deep.1 few)) in
+    (omega (arith, ap (λ (t : List Bool). length t) parts_are, all_short (partition_limit sound) (limit_few sound.profile sound.rate) depth deep.0 lists size fs block some long fits least, parts_few (length block) depth size (omega (arith, independent, each)) deep.1 few)) in
     let encoding : IsEncoding sound size number block (record { header = h; subframes = fs }) =
     record {
       code = code;
       header = chosen;
       valid = valid;
       channels = ap channels_of codes.0 ∙ as_coded code independent ∙ each;
-      many = as_many depth code size independent (partition_limit sound) ps fs block are;
-      subframes = subframes_are depth code size independent (partition_limit sound) ps limits (omega arith) within 0 fs block are;
+      many = many_by_plane depth code size independent (partition_limit sound) lists fs block are;
+      subframes = subframes_by_plane depth code size independent (partition_limit sound) lists limits (omega arith) within 0 fs block are;
       samples = record {
         kept = block;
         subframes = have;
@@ -58,7 +57,7 @@ frame_encoded ps sound within code size number block fs h other independent smal
         fit = all_fit_in depth code size independent block fits;
       };
     } in
-    rw is (encoding, independent_least ps sound size number block (record { header = h; subframes = fs }) other (omega (arith, independent, each)) encoding least, short, ap (λ (t : List Bool). length t) (sym parts_are))
+    rw is (encoding, independent_least lists sound size number block (record { header = h; subframes = fs }) other (omega (arith, independent, each)) encoding least, short, ap (λ (t : List Bool). length t) (sym parts_are))
 
 -- ---- samples that can be encoded
 
@@ -86,27 +85,28 @@ module _ (sound : Sound) (good : IsSound sound) where
   each_long start size within = λ k d lt. omega (arith, good.long k d lt, within)
 
   -- what was chosen of each channel by itself makes a frame
-  pub apart_choice : (ps : List LinearPredictor) → AreWithin (limits_at sound.profile sound.rate).linear ps → (start size number : ℕ) (profile : Profile) (rate code bits : ℕ) (o : Option Header) (c : FrameChoice) → profile ≡ sound.profile → rate ≡ sound.rate → bits ≡ sound.bits
+  pub apart_choice : (lists : Lists) → AreAllWithin (limits_at sound.profile sound.rate).linear lists → (start size number : ℕ) (profile : Profile) (rate code bits : ℕ) (o : Option Header) (c : FrameChoice) → profile ≡ sound.profile → rate ≡ sound.rate → bits ≡ sound.bits
       → (length sound.channels ≡ 2 → ⊥) → code + 1 ≡ length sound.channels → c.code ≡ code → 1 ≤ size → size ≤ 65535 → start + size ≤ samples_each sound.channels → number < 2 ^ 31 → o ≡ chosen_header profile size rate code bits number → IfSome o IsHeader
-      → AreChosen (partition_limit sound) ps sound.bits size c.subframes.items (block_of start size sound.channels) → c.bits ≡ length (flat_map (subframe_spelling sound.bits) (forms_of ps c.subframes.items (block_of start size sound.channels)))
-      → IsChoiceWith ps sound size number (block_of start size sound.channels) c
-  apart_choice ps orders start size number profile rate code bits None c p r b other n coded some few within small is valid chose cost =
+      → AreChosen (partition_limit sound) lists sound.bits size c.subframes.items (block_of start size sound.channels) → c.bits ≡ length (flat_map (subframe_spelling sound.bits) (forms_by_plane lists c.subframes.items (block_of start size sound.channels)))
+      → IsChoiceByPlane lists sound size number (block_of start size sound.channels) c
+  apart_choice lists orders start size number profile rate code bits None c p r b other n coded some few within small is valid chose cost =
       absurd (header_never sound good profile size rate code bits number p r b (omega (arith, n, good.few)) some few small (sym is))
-  apart_choice ps orders start size number profile rate code bits (Some h) c p r b other n coded some few within small is valid chose cost =
+  apart_choice lists orders start size number profile rate code bits (Some h) c p r b other n coded some few within small is valid chose cost =
       let deep = bits_small sound.bits refl in
       let chosen : chosen_header sound.profile size sound.rate code sound.bits number ≡ Some h = header_at sound profile size rate code bits number (Some h) h p r b is refl in
       let all : List (List ℤ) = block_of start size sound.channels in
       let block = is_block sound.bits start size deep.0 some sound.channels (each_long start size within) good.small in
       let block_long : length all ≡ length sound.channels = length-map sound.channels (λ c. take size (drop start c)) in
       let low : code ≤ 7 = omega (arith, n, good.few) in
-      let form : FrameForm = record { header = h; subframes = forms_of ps c.subframes.items all } in
-      let made = frame_encoded ps sound orders code size number all (forms_of ps c.subframes.items all) h (λ e. other (sym block_long ∙ e)) low small deep some few block.0 chosen valid (omega (arith, n, block_long)) block.1 chose.are chose.least form refl in
+      let form : FrameForm = record { header = h; subframes = forms_by_plane lists c.subframes.items all } in
+      let made = frame_encoded lists sound orders code size number all (forms_by_plane lists c.subframes.items all) h (λ e. other (sym block_long ∙ e)) low small deep some few block.0 chosen valid (omega (arith, n, block_long)) block.1 chose.are chose.least form refl in
       let keeps : kept_as c.code all ≡ all = kept_same c.code all (omega (arith, coded, low)) in
+      let own : lists_kept c.code lists ≡ lists = lists_same c.code lists (omega (arith, coded, low)) in
       record {
         form = form;
         header = ap (λ k. chosen_header sound.profile size sound.rate k sound.bits number) coded ∙ chosen;
-        subframes = ap (forms_of ps c.subframes.items) (sym keeps);
-        made = subst (AreMade ps c.subframes.items) (sym keeps) chose.made;
+        subframes = ap (forms_by_plane lists c.subframes.items) (sym keeps) ∙ ap (λ ls. forms_by_plane ls c.subframes.items (kept_as c.code all)) (sym own);
+        made = subst (λ ls. AreMadeByPlane ls c.subframes.items (kept_as c.code all)) (sym own) (subst (AreMadeByPlane lists c.subframes.items) (sym keeps) chose.made);
         encoding = made.0;
         least = made.1;
         short = made.2;

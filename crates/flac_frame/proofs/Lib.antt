@@ -7,6 +7,7 @@ pub mod Following
 pub mod Gathered
 pub mod FrameTie
 pub mod Sounds
+pub mod PlaneLists
 pub mod Encoded
 pub mod Short
 pub mod Wholes

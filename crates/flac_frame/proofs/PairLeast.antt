@@ -3,8 +3,6 @@ use Rattle.std.proofs.Common.{◌≡◌, ◌∙◌, refl, sym, ap, subst, inl, i
 use Rattle.std.proofs.lemmas.Bool.Decides.{nat_tests}
 use Rattle.std.proofs.lemmas.List.{append-nil}
 use Rattle.std.proofs.lemmas.Nat.{mul-le}
-use Rattle.flac_subframe.specs.declared.linear.LinearPredictor.{LinearPredictor}
-use Rattle.flac_subframe.specs.Handed.{AreWithin}
 use Rattle.flac_bits.specs.Signed.{FitsBits}
 use Rattle.flac_header.specs.Header.{Header, IsHeader, channels_of}
 use Rattle.flac_header.specs.Choice.{chosen_header}
@@ -15,9 +13,10 @@ use Rattle.flac_subframe.specs.Spelling.{subframe_spelling, IsSubframe}
 use Rattle.flac_subframe.specs.Subframe.{Form, samples_of}
 use Rattle.flac_subframe.proofs.Samples.{all_fit_is}
 use Rattle.flac_frame.specs.Audio.{Sound, IsSound}
-use Rattle.flac_frame.specs.Chosen.{forms_of, AreMade, IsChoiceWith}
+use Rattle.flac_frame.specs.Chosen.{forms_by_plane, AreMadeByPlane, IsChoiceByPlane}
 use Rattle.flac_frame.specs.declared.pair_choices.PairChoices.{PairChoices}
-use Rattle.flac_frame.specs.Encoding.{partition_limit, EachStands, IsEncoding, IsLeastWith, IsShort, subframes_cost}
+use Rattle.flac_frame.specs.Encoding.{partition_limit, EachStandsByPlane, IsEncoding, IsLeastByPlane, IsShort, subframes_cost}
+use Rattle.flac_frame.specs.PlaneLists.{Lists, lists_kept, plane_of, AreAllWithin}
 use Rattle.flac_frame.specs.declared.frame_choice.FrameChoice.{FrameChoice}
 use Rattle.flac_frame.specs.Frame.{side_bit, limits_at}
 use Rattle.flac_frame.specs.inner.Pair.{IsPairCode, pair_cost, choices_cost, first_kept, second_kept, IsFirstLeast, IsChosen, IsPlane, ArePlanes}
@@ -110,7 +109,7 @@ channels_kept code left right few long = by_test (nat_lt code 8)
 
 -- ---- two subframes
 
-module _ (most : ℕ) (ps : List LinearPredictor) (d code : ℕ) (a b : List ℤ) (f g : Form) (n k : ℕ) (p : IsChosen most ps (d + side_bit code 0) a f n) (q : IsChosen most ps (d + side_bit code 1) b g k) where
+module _ (most : ℕ) (two : Lists) (d code : ℕ) (a b : List ℤ) (f g : Form) (n k : ℕ) (p : IsChosen most (two 0) (d + side_bit code 0) a f n) (q : IsChosen most (two 1) (d + side_bit code 1) b g k) where
   two_long : (x y : Form) → length (subframes_spelling d code 0 (x ∷ y ∷ [])) ≡ length (subframe_spelling (d + side_bit code 0) x) + length (subframe_spelling (d + side_bit code 1) y)
   unfolding subframes_spelling
   two_long x y =
@@ -121,7 +120,7 @@ module _ (most : ℕ) (ps : List LinearPredictor) (d code : ℕ) (a b : List ℤ
   two_cost : length (subframes_spelling d code 0 (f ∷ g ∷ [])) ≡ n + k
   two_cost = omega (arith, two_long f g, p.cost, q.cost)
 
-  two_least : (fs : List Form) → EachStands most ps fs (a ∷ b ∷ []) → n + k ≤ length (subframes_spelling d code 0 fs)
+  two_least : (fs : List Form) → EachStandsByPlane most two fs (a ∷ b ∷ []) → n + k ≤ length (subframes_spelling d code 0 fs)
   two_least [] h = absurd h
   two_least (x ∷ []) h = absurd h.1
   two_least (x ∷ y ∷ []) h =
@@ -139,31 +138,31 @@ more d b n e = omega (arith, e)
 same : (d b : ℕ) → b ≡ 0 → d ≡ d + b
 same d b e = omega (arith, e)
 
-module _ (ps : List LinearPredictor) (sound : Sound) (size number : ℕ) (left right : List ℤ) (lf rf sf mf : Form) (l r s m : ℕ)
-    (cl : IsChosen (partition_limit sound) ps sound.bits left lf l) (cr : IsChosen (partition_limit sound) ps sound.bits right rf r) (cs : IsChosen (partition_limit sound) ps (sound.bits + 1) (side_of left right) sf s) (cm : IsChosen (partition_limit sound) ps sound.bits (middle_of left right) mf m) where
-  pub l1 : IsChosen (partition_limit sound) ps (sound.bits + side_bit 1 0) left lf l
-  l1 = subst (λ d. IsChosen (partition_limit sound) ps d left lf l) (same sound.bits _ bits_1.0) cl
+module _ (lists : Lists) (sound : Sound) (size number : ℕ) (left right : List ℤ) (lf rf sf mf : Form) (l r s m : ℕ)
+    (cl : IsChosen (partition_limit sound) (lists 0) sound.bits left lf l) (cr : IsChosen (partition_limit sound) (lists 1) sound.bits right rf r) (cs : IsChosen (partition_limit sound) (lists 2) (sound.bits + 1) (side_of left right) sf s) (cm : IsChosen (partition_limit sound) (lists 3) sound.bits (middle_of left right) mf m) where
+  pub l1 : IsChosen (partition_limit sound) (lists 0) (sound.bits + side_bit 1 0) left lf l
+  l1 = subst (λ d. IsChosen (partition_limit sound) (lists 0) d left lf l) (same sound.bits _ bits_1.0) cl
 
-  pub r1 : IsChosen (partition_limit sound) ps (sound.bits + side_bit 1 1) right rf r
-  r1 = subst (λ d. IsChosen (partition_limit sound) ps d right rf r) (same sound.bits _ bits_1.1) cr
+  pub r1 : IsChosen (partition_limit sound) (lists 1) (sound.bits + side_bit 1 1) right rf r
+  r1 = subst (λ d. IsChosen (partition_limit sound) (lists 1) d right rf r) (same sound.bits _ bits_1.1) cr
 
-  pub l8 : IsChosen (partition_limit sound) ps (sound.bits + side_bit 8 0) left lf l
-  l8 = subst (λ d. IsChosen (partition_limit sound) ps d left lf l) (same sound.bits _ bits_8.0) cl
+  pub l8 : IsChosen (partition_limit sound) (lists 0) (sound.bits + side_bit 8 0) left lf l
+  l8 = subst (λ d. IsChosen (partition_limit sound) (lists 0) d left lf l) (same sound.bits _ bits_8.0) cl
 
-  pub s8 : IsChosen (partition_limit sound) ps (sound.bits + side_bit 8 1) (side_of left right) sf s
-  s8 = subst (λ d. IsChosen (partition_limit sound) ps d (side_of left right) sf s) (more sound.bits _ 1 bits_8.1) cs
+  pub s8 : IsChosen (partition_limit sound) (lists 2) (sound.bits + side_bit 8 1) (side_of left right) sf s
+  s8 = subst (λ d. IsChosen (partition_limit sound) (lists 2) d (side_of left right) sf s) (more sound.bits _ 1 bits_8.1) cs
 
-  pub s9 : IsChosen (partition_limit sound) ps (sound.bits + side_bit 9 0) (side_of left right) sf s
-  s9 = subst (λ d. IsChosen (partition_limit sound) ps d (side_of left right) sf s) (more sound.bits _ 1 bits_9.0) cs
+  pub s9 : IsChosen (partition_limit sound) (lists 2) (sound.bits + side_bit 9 0) (side_of left right) sf s
+  s9 = subst (λ d. IsChosen (partition_limit sound) (lists 2) d (side_of left right) sf s) (more sound.bits _ 1 bits_9.0) cs
 
-  pub r9 : IsChosen (partition_limit sound) ps (sound.bits + side_bit 9 1) right rf r
-  r9 = subst (λ d. IsChosen (partition_limit sound) ps d right rf r) (same sound.bits _ bits_9.1) cr
+  pub r9 : IsChosen (partition_limit sound) (lists 1) (sound.bits + side_bit 9 1) right rf r
+  r9 = subst (λ d. IsChosen (partition_limit sound) (lists 1) d right rf r) (same sound.bits _ bits_9.1) cr
 
-  pub m10 : IsChosen (partition_limit sound) ps (sound.bits + side_bit 10 0) (middle_of left right) mf m
-  m10 = subst (λ d. IsChosen (partition_limit sound) ps d (middle_of left right) mf m) (same sound.bits _ bits_10.0) cm
+  pub m10 : IsChosen (partition_limit sound) (lists 3) (sound.bits + side_bit 10 0) (middle_of left right) mf m
+  m10 = subst (λ d. IsChosen (partition_limit sound) (lists 3) d (middle_of left right) mf m) (same sound.bits _ bits_10.0) cm
 
-  pub s10 : IsChosen (partition_limit sound) ps (sound.bits + side_bit 10 1) (side_of left right) sf s
-  s10 = subst (λ d. IsChosen (partition_limit sound) ps d (side_of left right) sf s) (more sound.bits _ 1 bits_10.1) cs
+  pub s10 : IsChosen (partition_limit sound) (lists 2) (sound.bits + side_bit 10 1) (side_of left right) sf s
+  s10 = subst (λ d. IsChosen (partition_limit sound) (lists 2) d (side_of left right) sf s) (more sound.bits _ 1 bits_10.1) cs
 
   abbrev cost : ℕ → ℕ
   cost = pair_cost l r s m
@@ -171,17 +170,20 @@ module _ (ps : List LinearPredictor) (sound : Sound) (size number : ℕ) (left r
   abbrev block : List (List ℤ)
   block = left ∷ right ∷ []
 
-  cost_of : (c : ℕ) → IsPairCode c → (fs : List Form) → EachStands (partition_limit sound) ps fs (kept_as c block) → cost c ≤ length (subframes_spelling sound.bits c 0 fs)
-  cost_of c (inl e) fs h = subst (λ k. cost k ≤ length (subframes_spelling sound.bits k 0 fs)) (sym e)
-      (two_least (partition_limit sound) ps sound.bits 1 left right lf rf l r l1 r1 fs (subst (EachStands (partition_limit sound) ps fs) (ap (λ k. kept_as k block) e ∙ kept_1 left right) h))
-  cost_of c (inr (inl e)) fs h = subst (λ k. cost k ≤ length (subframes_spelling sound.bits k 0 fs)) (sym e)
-      (two_least (partition_limit sound) ps sound.bits 8 left (side_of left right) lf sf l s l8 s8 fs (subst (EachStands (partition_limit sound) ps fs) (ap (λ k. kept_as k block) e ∙ kept_8 left right) h))
-  cost_of c (inr (inr (inl e))) fs h = subst (λ k. cost k ≤ length (subframes_spelling sound.bits k 0 fs)) (sym e)
-      (two_least (partition_limit sound) ps sound.bits 9 (side_of left right) right sf rf s r s9 r9 fs (subst (EachStands (partition_limit sound) ps fs) (ap (λ k. kept_as k block) e ∙ kept_9 left right) h))
-  cost_of c (inr (inr (inr e))) fs h = subst (λ k. cost k ≤ length (subframes_spelling sound.bits k 0 fs)) (sym e)
-      (two_least (partition_limit sound) ps sound.bits 10 (middle_of left right) (side_of left right) mf sf m s m10 s10 fs (subst (EachStands (partition_limit sound) ps fs) (ap (λ k. kept_as k block) e ∙ kept_10 left right) h))
+  abbrev Standing : List Form → ℕ → Type 0
+  Standing fs c = EachStandsByPlane (partition_limit sound) (lists_kept c lists) fs (kept_as c block)
 
-  module _ (orders : AreWithin (limits_at sound.profile sound.rate).linear ps) (code : ℕ) (best : IsFirstLeast cost code) (first second : List ℤ) (f g : Form) (n k : ℕ) (p : IsChosen (partition_limit sound) ps (sound.bits + side_bit code 0) first f n) (q : IsChosen (partition_limit sound) ps (sound.bits + side_bit code 1) second g k)
+  cost_of : (c : ℕ) → IsPairCode c → (fs : List Form) → Standing fs c → cost c ≤ length (subframes_spelling sound.bits c 0 fs)
+  cost_of c (inl e) fs h = subst (λ k. cost k ≤ length (subframes_spelling sound.bits k 0 fs)) (sym e)
+      (two_least (partition_limit sound) (lists_kept 1 lists) sound.bits 1 left right lf rf l r l1 r1 fs (subst (EachStandsByPlane (partition_limit sound) (lists_kept 1 lists) fs) (kept_1 left right) (subst (Standing fs) e h)))
+  cost_of c (inr (inl e)) fs h = subst (λ k. cost k ≤ length (subframes_spelling sound.bits k 0 fs)) (sym e)
+      (two_least (partition_limit sound) (lists_kept 8 lists) sound.bits 8 left (side_of left right) lf sf l s l8 s8 fs (subst (EachStandsByPlane (partition_limit sound) (lists_kept 8 lists) fs) (kept_8 left right) (subst (Standing fs) e h)))
+  cost_of c (inr (inr (inl e))) fs h = subst (λ k. cost k ≤ length (subframes_spelling sound.bits k 0 fs)) (sym e)
+      (two_least (partition_limit sound) (lists_kept 9 lists) sound.bits 9 (side_of left right) right sf rf s r s9 r9 fs (subst (EachStandsByPlane (partition_limit sound) (lists_kept 9 lists) fs) (kept_9 left right) (subst (Standing fs) e h)))
+  cost_of c (inr (inr (inr e))) fs h = subst (λ k. cost k ≤ length (subframes_spelling sound.bits k 0 fs)) (sym e)
+      (two_least (partition_limit sound) (lists_kept 10 lists) sound.bits 10 (middle_of left right) (side_of left right) mf sf m s m10 s10 fs (subst (EachStandsByPlane (partition_limit sound) (lists_kept 10 lists) fs) (kept_10 left right) (subst (Standing fs) e h)))
+
+  module _ (orders : AreAllWithin (limits_at sound.profile sound.rate).linear lists) (code : ℕ) (best : IsFirstLeast cost code) (first second : List ℤ) (f g : Form) (n k : ℕ) (p : IsChosen (partition_limit sound) (lists_kept code lists 0) (sound.bits + side_bit code 0) first f n) (q : IsChosen (partition_limit sound) (lists_kept code lists 1) (sound.bits + side_bit code 1) second g k)
       (sum : n + k ≡ cost code) (kept : kept_as code block ≡ first ∷ second ∷ []) (back : joined code (first ∷ second ∷ []) ≡ block)
       (depth : (1 ≤ sound.bits) × (sound.bits ≤ 32)) (some : 1 ≤ size) (few : size ≤ 65535) (left_long : length left ≡ size) (right_long : length right ≡ size) (first_long : length first ≡ size) (second_long : length second ≡ size)
       (left_fits : All (FitsBits sound.bits) left) (right_fits : All (FitsBits sound.bits) right) (h : Header) (chosen : chosen_header sound.profile size sound.rate code sound.bits number ≡ Some h) (valid : IsHeader h) where
@@ -192,7 +194,7 @@ module _ (ps : List LinearPredictor) (sound : Sound) (size number : ℕ) (left r
     codes = coded_as sound.profile size sound.rate code sound.bits number h chosen
 
     form_cost : subframes_cost sound.bits form ≡ cost code
-    form_cost = ap (λ c. length (subframes_spelling sound.bits c 0 (f ∷ g ∷ []))) codes.0 ∙ two_cost (partition_limit sound) ps sound.bits code first second f g n k p q ∙ sum
+    form_cost = ap (λ c. length (subframes_spelling sound.bits c 0 (f ∷ g ∷ []))) codes.0 ∙ two_cost (partition_limit sound) (lists_kept code lists) sound.bits code first second f g n k p q ∙ sum
 
     encoding : IsEncoding sound size number block form
     encoding =
@@ -206,7 +208,7 @@ module _ (ps : List LinearPredictor) (sound : Sound) (size number : ℕ) (left r
           valid = valid;
           channels = ap channels_of codes.0 ∙ two_channels code best.one;
           many = refl;
-          subframes = (subst (λ z. IsSubframe (sound.bits + side_bit code 0) z limits f) first_long (p.valid limits (omega arith) orders), (subst (λ z. IsSubframe (sound.bits + side_bit code 1) z limits g) second_long (q.valid limits (omega arith) orders), tt));
+          subframes = (subst (λ z. IsSubframe (sound.bits + side_bit code 0) z limits f) first_long (p.valid limits (omega arith) (orders (plane_of code 0))), (subst (λ z. IsSubframe (sound.bits + side_bit code 1) z limits g) second_long (q.valid limits (omega arith) (orders (plane_of code 1))), tt));
           samples = record {
             kept = first ∷ second ∷ [];
             subframes = subst (λ c. HaveSamples sound.bits c h.size 0 (f ∷ g ∷ []) (first ∷ second ∷ [])) (sym codes.0) (subst (λ z. HaveSamples sound.bits code z 0 (f ∷ g ∷ []) (first ∷ second ∷ [])) (sym codes.1) have);
@@ -215,10 +217,11 @@ module _ (ps : List LinearPredictor) (sound : Sound) (size number : ℕ) (left r
           };
         }
 
-    least : IsLeastWith ps sound size number block form
+    least : IsLeastByPlane lists sound size number block form
     least =
-        let stand : EachStands (partition_limit sound) ps (f ∷ g ∷ []) (first ∷ second ∷ []) = (p.least.member, (q.least.member, tt)) in
-        least_frame ps sound size number block form (record { encoding = encoding; stand = subst (EachStands (partition_limit sound) ps (f ∷ g ∷ [])) (sym (ap (λ c. kept_as c block) codes.0 ∙ kept)) stand })
+        let stand : EachStandsByPlane (partition_limit sound) (lists_kept code lists) (f ∷ g ∷ []) (first ∷ second ∷ []) = (p.least.member, (q.least.member, tt)) in
+        let here : EachStandsByPlane (partition_limit sound) (lists_kept code lists) (f ∷ g ∷ []) (kept_as code block) = subst (EachStandsByPlane (partition_limit sound) (lists_kept code lists) (f ∷ g ∷ [])) (sym kept) stand in
+        least_frame lists sound size number block form (record { encoding = encoding; stand = subst (Standing (f ∷ g ∷ [])) (sym codes.0) here })
         (λ x member.
         let c : ℕ = x.header.channel_code in
         let one = pair_codes c member.encoding.valid.channel_code member.encoding.channels in
@@ -231,81 +234,81 @@ module _ (ps : List LinearPredictor) (sound : Sound) (size number : ℕ) (left r
 
     short : IsShort sound.bits form
     short =
-        let a = one_short (partition_limit sound) (limit_few sound.profile sound.rate) ps sound.bits depth.0 lf left (omega (arith, some, left_long)) left_fits cl.least in
-        let b = one_short (partition_limit sound) (limit_few sound.profile sound.rate) ps sound.bits depth.0 rf right (omega (arith, some, right_long)) right_fits cr.least in
+        let a = one_short (partition_limit sound) (limit_few sound.profile sound.rate) (lists 0) sound.bits depth.0 lf left (omega (arith, some, left_long)) left_fits cl.least in
+        let b = one_short (partition_limit sound) (limit_few sound.profile sound.rate) (lists 1) sound.bits depth.0 rf right (omega (arith, some, right_long)) right_fits cr.least in
         let under : cost code ≤ l + r = best.least 1 (inl refl) in
         frame_short sound.bits form (omega (arith, form_cost, under, a, b, cl.cost, cr.cost, one_few (length left) left_long, one_few (length right) right_long))
 
-    pub pair_encoded : IsEncoding sound size number block form × IsLeastWith ps sound size number block form × IsShort sound.bits form × (subframes_cost sound.bits form ≡ n + k)
+    pub pair_encoded : IsEncoding sound size number block form × IsLeastByPlane lists sound size number block form × IsShort sound.bits form × (subframes_cost sound.bits form ≡ n + k)
     pair_encoded = (encoding, least, short, form_cost ∙ sym sum)
 
 -- ---- as the code chooses
 
 -- what a code keeps of two channels: samples and a choice each, which were chosen of them
-record KeptTwo (most : ℕ) (ps : List LinearPredictor) (depth : ℕ) (left right : List ℤ) (c : PairChoices) (code : ℕ) : Type 0 where
+record KeptTwo (most : ℕ) (lists : Lists) (depth : ℕ) (left right : List ℤ) (c : PairChoices) (code : ℕ) : Type 0 where
   first : List ℤ
   second : List ℤ
   kept : kept_as code (left ∷ right ∷ []) ≡ first ∷ second ∷ []
   first_long : length first ≡ length left
   second_long : length second ≡ length left
-  first_plane : IsPlane most ps (depth + side_bit code 0) first (first_kept code c)
-  second_plane : IsPlane most ps (depth + side_bit code 1) second (second_kept code c)
+  first_plane : IsPlane most (lists_kept code lists 0) (depth + side_bit code 0) first (first_kept code c)
+  second_plane : IsPlane most (lists_kept code lists 1) (depth + side_bit code 1) second (second_kept code c)
   sum : (first_kept code c).bits + (second_kept code c).bits ≡ choices_cost c code
 
-module _ (most : ℕ) (ps : List LinearPredictor) (depth : ℕ) (left right : List ℤ) (c : PairChoices) (long : length right ≡ length left) (planes : ArePlanes most ps depth left right c) where
-  by_1 : KeptTwo most ps depth left right c 1
+module _ (most : ℕ) (lists : Lists) (depth : ℕ) (left right : List ℤ) (c : PairChoices) (long : length right ≡ length left) (planes : ArePlanes most lists depth left right c) where
+  by_1 : KeptTwo most lists depth left right c 1
   by_1 = record {
     first = left;
     second = right;
     kept = kept_1 left right;
     first_long = refl;
     second_long = long;
-    first_plane = subst (λ d. IsPlane most ps d left c.left) (same depth _ bits_1.0) planes.lefts;
-    second_plane = subst (λ d. IsPlane most ps d right c.right) (same depth _ bits_1.1) planes.rights;
+    first_plane = subst (λ d. IsPlane most (lists 0) d left c.left) (same depth _ bits_1.0) planes.lefts;
+    second_plane = subst (λ d. IsPlane most (lists 1) d right c.right) (same depth _ bits_1.1) planes.rights;
     sum = refl;
   }
 
-  by_8 : KeptTwo most ps depth left right c 8
+  by_8 : KeptTwo most lists depth left right c 8
   by_8 = record {
     first = left;
     second = side_of left right;
     kept = kept_8 left right;
     first_long = refl;
     second_long = side_long left right long;
-    first_plane = subst (λ d. IsPlane most ps d left c.left) (same depth _ bits_8.0) planes.lefts;
-    second_plane = subst (λ d. IsPlane most ps d (side_of left right) c.side) (more depth _ 1 bits_8.1) planes.sides;
+    first_plane = subst (λ d. IsPlane most (lists 0) d left c.left) (same depth _ bits_8.0) planes.lefts;
+    second_plane = subst (λ d. IsPlane most (lists 2) d (side_of left right) c.side) (more depth _ 1 bits_8.1) planes.sides;
     sum = refl;
   }
 
-  by_9 : KeptTwo most ps depth left right c 9
+  by_9 : KeptTwo most lists depth left right c 9
   by_9 = record {
     first = side_of left right;
     second = right;
     kept = kept_9 left right;
     first_long = side_long left right long;
     second_long = long;
-    first_plane = subst (λ d. IsPlane most ps d (side_of left right) c.side) (more depth _ 1 bits_9.0) planes.sides;
-    second_plane = subst (λ d. IsPlane most ps d right c.right) (same depth _ bits_9.1) planes.rights;
+    first_plane = subst (λ d. IsPlane most (lists 2) d (side_of left right) c.side) (more depth _ 1 bits_9.0) planes.sides;
+    second_plane = subst (λ d. IsPlane most (lists 1) d right c.right) (same depth _ bits_9.1) planes.rights;
     sum = refl;
   }
 
-  by_10 : KeptTwo most ps depth left right c 10
+  by_10 : KeptTwo most lists depth left right c 10
   by_10 = record {
     first = middle_of left right;
     second = side_of left right;
     kept = kept_10 left right;
     first_long = middle_long left right long;
     second_long = side_long left right long;
-    first_plane = subst (λ d. IsPlane most ps d (middle_of left right) c.middle) (same depth _ bits_10.0) planes.middles;
-    second_plane = subst (λ d. IsPlane most ps d (side_of left right) c.side) (more depth _ 1 bits_10.1) planes.sides;
+    first_plane = subst (λ d. IsPlane most (lists 3) d (middle_of left right) c.middle) (same depth _ bits_10.0) planes.middles;
+    second_plane = subst (λ d. IsPlane most (lists 2) d (side_of left right) c.side) (more depth _ 1 bits_10.1) planes.sides;
     sum = refl;
   }
 
-  kept_two : (code : ℕ) → IsPairCode code → KeptTwo most ps depth left right c code
-  kept_two code (inl e) = subst (λ k. KeptTwo most ps depth left right c k) (sym e) by_1
-  kept_two code (inr (inl e)) = subst (λ k. KeptTwo most ps depth left right c k) (sym e) by_8
-  kept_two code (inr (inr (inl e))) = subst (λ k. KeptTwo most ps depth left right c k) (sym e) by_9
-  kept_two code (inr (inr (inr e))) = subst (λ k. KeptTwo most ps depth left right c k) (sym e) by_10
+  kept_two : (code : ℕ) → IsPairCode code → KeptTwo most lists depth left right c code
+  kept_two code (inl e) = subst (λ k. KeptTwo most lists depth left right c k) (sym e) by_1
+  kept_two code (inr (inl e)) = subst (λ k. KeptTwo most lists depth left right c k) (sym e) by_8
+  kept_two code (inr (inr (inl e))) = subst (λ k. KeptTwo most lists depth left right c k) (sym e) by_9
+  kept_two code (inr (inr (inr e))) = subst (λ k. KeptTwo most lists depth left right c k) (sym e) by_10
 
 -- ---- what the code knows
 
@@ -316,12 +319,12 @@ only_1 code (inr (inr (inl e))) a b d = absurd (b e)
 only_1 code (inr (inr (inr e))) a b d = absurd (d e)
 
 -- what was kept makes a frame
-module _ (ps : List LinearPredictor) (sound : Sound) (number : ℕ) (left right : List ℤ) (c : PairChoices) (planes : ArePlanes (partition_limit sound) ps sound.bits left right c) (code : ℕ) (best : IsFirstLeast (choices_cost c) code)
-    (orders : AreWithin (limits_at sound.profile sound.rate).linear ps)
+module _ (lists : Lists) (sound : Sound) (number : ℕ) (left right : List ℤ) (c : PairChoices) (planes : ArePlanes (partition_limit sound) lists sound.bits left right c) (code : ℕ) (best : IsFirstLeast (choices_cost c) code)
+    (orders : AreAllWithin (limits_at sound.profile sound.rate).linear lists)
     (depth : (1 ≤ sound.bits) × (sound.bits ≤ 32)) (some : 1 ≤ length left) (few : length left ≤ 65535) (long : length right ≡ length left)
     (left_fits : All (FitsBits sound.bits) left) (right_fits : All (FitsBits sound.bits) right) (h : Header) (chosen : chosen_header sound.profile (length left) sound.rate code sound.bits number ≡ Some h) (valid : IsHeader h) where
-  k : KeptTwo (partition_limit sound) ps sound.bits left right c code
-  k = kept_two (partition_limit sound) ps sound.bits left right c long planes code best.one
+  k : KeptTwo (partition_limit sound) lists sound.bits left right c code
+  k = kept_two (partition_limit sound) lists sound.bits left right c long planes code best.one
 
   abbrev x : WideChoice
   x = first_kept code c
@@ -330,40 +333,41 @@ module _ (ps : List LinearPredictor) (sound : Sound) (number : ℕ) (left right 
   y = second_kept code c
 
   abbrev f : Form
-  f = form_in ps x k.first
+  f = form_in (lists_kept code lists 0) x k.first
 
   abbrev g : Form
-  g = form_in ps y k.second
+  g = form_in (lists_kept code lists 1) y k.second
 
   kept_encoded : (n : FrameForm) → n ≡ record { header = h; subframes = f ∷ g ∷ [] }
-      → IsEncoding sound (length left) number (left ∷ right ∷ []) n × IsLeastWith ps sound (length left) number (left ∷ right ∷ []) n × IsShort sound.bits n × (subframes_cost sound.bits n ≡ x.bits + y.bits)
+      → IsEncoding sound (length left) number (left ∷ right ∷ []) n × IsLeastByPlane lists sound (length left) number (left ∷ right ∷ []) n × IsShort sound.bits n × (subframes_cost sound.bits n ≡ x.bits + y.bits)
   kept_encoded n is =
       let back : joined code (k.first ∷ k.second ∷ []) ≡ left ∷ right ∷ [] = sym (ap (joined code) k.kept) ∙ channels_kept code left right (omega (arith, few_codes code best.one)) long in
-      rw is (pair_encoded ps sound (length left) number left right (form_in ps c.left left) (form_in ps c.right right) (form_in ps c.side (side_of left right)) (form_in ps c.middle (middle_of left right)) c.left.bits c.right.bits c.side.bits c.middle.bits
+      rw is (pair_encoded lists sound (length left) number left right (form_in (lists 0) c.left left) (form_in (lists 1) c.right right) (form_in (lists 2) c.side (side_of left right)) (form_in (lists 3) c.middle (middle_of left right)) c.left.bits c.right.bits c.side.bits c.middle.bits
       planes.lefts.chosen planes.rights.chosen planes.sides.chosen planes.middles.chosen orders code best k.first k.second f g x.bits y.bits k.first_plane.chosen k.second_plane.chosen
       k.sum k.kept back depth some few refl long k.first_long k.second_long left_fits right_fits h chosen valid)
 
-  two_forms : (old : List WideChoice) → 2 ≤ length old → forms_of ps (set (set old 0 x) 1 y) (k.first ∷ k.second ∷ []) ≡ f ∷ g ∷ []
+  two_forms : (old : List WideChoice) → 2 ≤ length old → forms_by_plane (lists_kept code lists) (set (set old 0 x) 1 y) (k.first ∷ k.second ∷ []) ≡ f ∷ g ∷ []
   two_forms [] h = absurd (omega (arith, h))
   two_forms (a ∷ []) h = absurd (omega (arith, h))
   two_forms (a ∷ b ∷ cs) h = refl
 
-  two_made : (old : List WideChoice) → 2 ≤ length old → AreMade ps (set (set old 0 x) 1 y) (k.first ∷ k.second ∷ [])
+  two_made : (old : List WideChoice) → 2 ≤ length old → AreMadeByPlane (lists_kept code lists) (set (set old 0 x) 1 y) (k.first ∷ k.second ∷ [])
   two_made [] h = absurd (omega (arith, h))
   two_made (a ∷ []) h = absurd (omega (arith, h))
   two_made (a ∷ b ∷ cs) h = (k.first_plane.made, (k.second_plane.made, tt))
 
-  kept_choice : (made : FrameChoice) (old : List WideChoice) → 2 ≤ length old → made.code ≡ code → made.subframes.items ≡ set (set old 0 x) 1 y → made.bits ≡ choices_cost c code → IsChoiceWith ps sound (length left) number (left ∷ right ∷ []) made
+  kept_choice : (made : FrameChoice) (old : List WideChoice) → 2 ≤ length old → made.code ≡ code → made.subframes.items ≡ set (set old 0 x) 1 y → made.bits ≡ choices_cost c code → IsChoiceByPlane lists sound (length left) number (left ∷ right ∷ []) made
   kept_choice made old two coded placed sum =
       let n : FrameForm = record { header = h; subframes = f ∷ g ∷ [] } in
       let p = kept_encoded n refl in
-      let keeps : kept_as made.code (left ∷ right ∷ []) ≡ k.first ∷ k.second ∷ [] = ap (λ z. kept_as z (left ∷ right ∷ [])) coded ∙ k.kept in
-      let forms : forms_of ps made.subframes.items (k.first ∷ k.second ∷ []) ≡ f ∷ g ∷ [] = ap (λ cs. forms_of ps cs (k.first ∷ k.second ∷ [])) placed ∙ two_forms old two in
+      let two' : List (List ℤ) = k.first ∷ k.second ∷ [] in
+      let forms : forms_by_plane (lists_kept code lists) made.subframes.items two' ≡ f ∷ g ∷ [] = ap (λ cs. forms_by_plane (lists_kept code lists) cs two') placed ∙ two_forms old two in
+      let own : AreMadeByPlane (lists_kept code lists) made.subframes.items two' = subst (λ cs. AreMadeByPlane (lists_kept code lists) cs two') (sym placed) (two_made old two) in
       record {
         form = n;
         header = ap (λ z. chosen_header sound.profile (length left) sound.rate z sound.bits number) coded ∙ chosen;
-        subframes = sym (ap (forms_of ps made.subframes.items) keeps ∙ forms);
-        made = subst (AreMade ps made.subframes.items) (sym keeps) (subst (λ cs. AreMade ps cs (k.first ∷ k.second ∷ [])) (sym placed) (two_made old two));
+        subframes = sym (ap (λ z. forms_by_plane (lists_kept z lists) made.subframes.items (kept_as z (left ∷ right ∷ []))) coded ∙ ap (forms_by_plane (lists_kept code lists) made.subframes.items) k.kept ∙ forms);
+        made = subst (λ z. AreMadeByPlane (lists_kept z lists) made.subframes.items (kept_as z (left ∷ right ∷ []))) (sym coded) (subst (AreMadeByPlane (lists_kept code lists) made.subframes.items) (sym k.kept) own);
         encoding = p.0;
         least = p.1;
         short = p.2;
@@ -371,15 +375,15 @@ module _ (ps : List LinearPredictor) (sound : Sound) (number : ℕ) (left right 
       }
 
 -- what was kept of two channels makes the frame of their block
-pub pair_choice : (ps : List LinearPredictor) (sound : Sound) (number n : ℕ) (left right : List ℤ) (block : List (List ℤ)) (c : PairChoices) (code : ℕ) → ArePlanes (partition_limit sound) ps sound.bits left right c → IsFirstLeast (choices_cost c) code
-    → IsSound sound → AreWithin (limits_at sound.profile sound.rate).linear ps → 1 ≤ n → n ≤ 65535 → length left ≡ n → length right ≡ length left → All (FitsBits sound.bits) left → All (FitsBits sound.bits) right → left ∷ right ∷ [] ≡ block
+pub pair_choice : (lists : Lists) (sound : Sound) (number n : ℕ) (left right : List ℤ) (block : List (List ℤ)) (c : PairChoices) (code : ℕ) → ArePlanes (partition_limit sound) lists sound.bits left right c → IsFirstLeast (choices_cost c) code
+    → IsSound sound → AreAllWithin (limits_at sound.profile sound.rate).linear lists → 1 ≤ n → n ≤ 65535 → length left ≡ n → length right ≡ length left → All (FitsBits sound.bits) left → All (FitsBits sound.bits) right → left ∷ right ∷ [] ≡ block
     → (profile : Profile) (rate bits : ℕ) (o : Option Header) → profile ≡ sound.profile → rate ≡ sound.rate → bits ≡ sound.bits → o ≡ chosen_header profile n rate code bits number → IfSome o IsHeader → number < 2 ^ 31
-    → (made : FrameChoice) (old : List WideChoice) → 2 ≤ length old → made.code ≡ code → made.subframes.items ≡ set (set old 0 (first_kept code c)) 1 (second_kept code c) → made.bits ≡ choices_cost c code → IsChoiceWith ps sound n number block made
-pair_choice ps sound number n left right block c code planes best good orders some few left_long right_long left_fits right_fits is profile rate bits None p r b chosen valid small made old two coded placed sum =
+    → (made : FrameChoice) (old : List WideChoice) → 2 ≤ length old → made.code ≡ code → made.subframes.items ≡ set (set old 0 (first_kept code c)) 1 (second_kept code c) → made.bits ≡ choices_cost c code → IsChoiceByPlane lists sound n number block made
+pair_choice lists sound number n left right block c code planes best good orders some few left_long right_long left_fits right_fits is profile rate bits None p r b chosen valid small made old two coded placed sum =
     absurd (header_never sound good profile n rate code bits number p r b (few_codes code best.one) some few small (sym chosen))
-pair_choice ps sound number n left right block c code planes best good orders some few left_long right_long left_fits right_fits is profile rate bits (Some h) p r b chosen valid small made old two coded placed sum =
+pair_choice lists sound number n left right block c code planes best good orders some few left_long right_long left_fits right_fits is profile rate bits (Some h) p r b chosen valid small made old two coded placed sum =
     let there : chosen_header sound.profile n sound.rate code sound.bits number ≡ Some h = header_at sound profile n rate code bits number (Some h) h p r b chosen refl in
     let at : chosen_header sound.profile (length left) sound.rate code sound.bits number ≡ Some h = ap (λ z. chosen_header sound.profile z sound.rate code sound.bits number) left_long ∙ there in
-    subst (λ z. IsChoiceWith ps sound n number z made) is
-    (subst (λ z. IsChoiceWith ps sound z number (left ∷ right ∷ []) made) left_long
-    (kept_choice ps sound number left right c planes code best orders (depth_small sound.profile sound.bits good.bits) (omega (arith, some, left_long)) (omega (arith, few, left_long)) right_long left_fits right_fits h at valid made old two coded placed sum))
+    subst (λ z. IsChoiceByPlane lists sound n number z made) is
+    (subst (λ z. IsChoiceByPlane lists sound z number (left ∷ right ∷ []) made) left_long
+    (kept_choice lists sound number left right c planes code best orders (depth_small sound.profile sound.bits good.bits) (omega (arith, some, left_long)) (omega (arith, few, left_long)) right_long left_fits right_fits h at valid made old two coded placed sum))

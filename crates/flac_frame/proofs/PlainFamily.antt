@@ -6,13 +6,13 @@ use Rattle.std.proofs.lemmas.Bool.Decides.{nat_tests}
 use Rattle.std.proofs.lemmas.List.{ext_get_or}
 use Rattle.flac_header.specs.Header.{channels_of}
 use Rattle.flac_subframe.specs.declared.limits.Limits.{Limits}
-use Rattle.flac_subframe.specs.declared.linear.LinearPredictor.{LinearPredictor}
 use Rattle.flac_subframe.specs.Laws.{InFamily, InWidened}
 use Rattle.flac_subframe.specs.Subframe.{Form}
 use Rattle.flac_subframe.proofs.Complete.{widened_whole, none_linear}
 use Rattle.flac_subframe.proofs.Family.{in_widened, no_linear}
 use Rattle.flac_frame.specs.Audio.{Sound}
-use Rattle.flac_frame.specs.Encoding.{partition_limit, IsEncoding, EachStands, EachInFamily, EachInWidened, FrameFamilyIsPlain, FrameWidenedIsPlain}
+use Rattle.flac_frame.specs.Encoding.{partition_limit, IsEncoding, EachStandsByPlane, EachInFamily, EachInPlanes, EachInWidened, FrameFamilyIsPlain, FramePlanesIsPlain, FrameWidenedIsPlain}
+use Rattle.flac_frame.specs.PlaneLists.{Lists, same_list, later, lists_kept}
 use Rattle.flac_frame.specs.Frame.{limits_at}
 use Rattle.flac_frame.specs.Spelling.{FrameForm, AreSubframes, HaveSamples}
 use Rattle.flac_frame.specs.Stereo.{sample_at, Joined, joined, kept_as, side_of, middle_of}
@@ -65,7 +65,7 @@ abbrev EachLong : ℕ → List (List ℤ) → Type 0
 EachLong n [] = ⊤
 EachLong n (s ∷ ss) = (length s ≡ n) × EachLong n ss
 
-module _ (ps : List LinearPredictor) (depth code size : ℕ) (limits : Limits) where
+module _ (depth code size : ℕ) (limits : Limits) where
   each_long : (channel : ℕ) (fs : List Form) (ss : List (List ℤ)) → AreSubframes depth code size limits channel fs → HaveSamples depth code size channel fs ss → EachLong size ss × (length ss ≡ length fs)
   each_long channel [] [] valid have = (tt, refl)
   each_long channel [] (s ∷ ss) valid have = absurd have
@@ -74,18 +74,18 @@ module _ (ps : List LinearPredictor) (depth code size : ℕ) (limits : Limits) w
       let rest = each_long (channel + 1) fs ss valid.1 have.1 in
       ((samples_long _ size limits f s valid.0 have.0, rest.0), omega (arith, rest.1))
 
-  each_stands : (channel : ℕ) (fs : List Form) (ss : List (List ℤ)) → AreSubframes depth code size limits channel fs → HaveSamples depth code size channel fs ss → EachInWidened ps fs ss → EachStands limits.partition ps fs ss
-  each_stands channel [] [] valid have family = tt
-  each_stands channel [] (s ∷ ss) valid have family = absurd have
-  each_stands channel (f ∷ fs) [] valid have family = absurd have
-  each_stands channel (f ∷ fs) (s ∷ ss) valid have family =
-      (widened_whole limits.partition _ size limits ps f s (omega arith) valid.0 have.0 family.0, each_stands (channel + 1) fs ss valid.1 have.1 family.1)
+  each_stands : (lists : Lists) (channel : ℕ) (fs : List Form) (ss : List (List ℤ)) → AreSubframes depth code size limits channel fs → HaveSamples depth code size channel fs ss → EachInPlanes lists fs ss → EachStandsByPlane limits.partition lists fs ss
+  each_stands lists channel [] [] valid have family = tt
+  each_stands lists channel [] (s ∷ ss) valid have family = absurd have
+  each_stands lists channel (f ∷ fs) [] valid have family = absurd have
+  each_stands lists channel (f ∷ fs) (s ∷ ss) valid have family =
+      (widened_whole limits.partition _ size limits (lists 0) f s (omega arith) valid.0 have.0 family.0, each_stands (later lists) (channel + 1) fs ss valid.1 have.1 family.1)
 
-each_plain : (most : ℕ) (ps : List LinearPredictor) (fs : List Form) (ss : List (List ℤ)) → EachStands most ps fs ss → EachInWidened ps fs ss
-each_plain most ps [] [] stand = tt
-each_plain most ps [] (s ∷ ss) stand = absurd stand
-each_plain most ps (f ∷ fs) [] stand = absurd stand
-each_plain most ps (f ∷ fs) (s ∷ ss) stand = (in_widened most ps f s stand.0, each_plain most ps fs ss stand.1)
+each_plain : (most : ℕ) (lists : Lists) (fs : List Form) (ss : List (List ℤ)) → EachStandsByPlane most lists fs ss → EachInPlanes lists fs ss
+each_plain most lists [] [] stand = tt
+each_plain most lists [] (s ∷ ss) stand = absurd stand
+each_plain most lists (f ∷ fs) [] stand = absurd stand
+each_plain most lists (f ∷ fs) (s ∷ ss) stand = (in_widened most (lists 0) f s stand.0, each_plain most (later lists) fs ss stand.1)
 
 -- where no linear predictor is handed in
 each_family : (fs : List Form) (ss : List (List ℤ)) → EachInWidened [] fs ss → EachInFamily fs ss
@@ -127,7 +127,7 @@ paired code n t e = go (nat_lt code 8) t e
         no z = cc
     go false t e = sym e
 
-module _ (ps : List LinearPredictor) (sound : Sound) (size number : ℕ) (block : List (List ℤ)) (f : FrameForm) (e : IsEncoding sound size number block f) where
+module _ (lists : Lists) (sound : Sound) (size number : ℕ) (block : List (List ℤ)) (f : FrameForm) (e : IsEncoding sound size number block f) where
   subframes_valid : AreSubframes sound.bits f.header.channel_code f.header.size (limits_at sound.profile sound.rate) 0 f.subframes
   subframes_valid =
       let codes = coded_as sound.profile size sound.rate e.code sound.bits number f.header e.header in
@@ -139,21 +139,25 @@ module _ (ps : List LinearPredictor) (sound : Sound) (size number : ℕ) (block 
   kept_is =
       let code : ℕ = f.header.channel_code in
       let kept : List (List ℤ) = e.samples.kept in
-      let each = each_long ps sound.bits code f.header.size (limits_at sound.profile sound.rate) 0 f.subframes kept subframes_valid e.samples.subframes in
+      let each = each_long sound.bits code f.header.size (limits_at sound.profile sound.rate) 0 f.subframes kept subframes_valid e.samples.subframes in
       by_test (nat_lt code 8)
       (λ t. let low : code ≤ 7 = grind (arith, nat_tests) in kept_same code block low ∙ sym e.samples.joined ∙ not_joined 1 code 1 low kept)
       (λ t. let over : 7 < code = grind (arith, nat_tests) in
       let two : length block ≡ 2 = paired code (length block) t e.channels in
       pair_back code f.header.size kept block over (omega (arith, e.valid.channel_code)) (each.1 ∙ e.many ∙ two) two each.0 e.samples.joined)
 
-  stand : EachInWidened ps f.subframes e.samples.kept → EachStands (partition_limit sound) ps f.subframes e.samples.kept
-  stand family = each_stands ps sound.bits f.header.channel_code f.header.size (limits_at sound.profile sound.rate) 0 f.subframes e.samples.kept subframes_valid e.samples.subframes family
+  stand : EachInPlanes (lists_kept f.header.channel_code lists) f.subframes e.samples.kept → EachStandsByPlane (partition_limit sound) (lists_kept f.header.channel_code lists) f.subframes e.samples.kept
+  stand family = each_stands sound.bits f.header.channel_code f.header.size (limits_at sound.profile sound.rate) (lists_kept f.header.channel_code lists) 0 f.subframes e.samples.kept subframes_valid e.samples.subframes family
+
+pub frame_planes_plain : FramePlanesIsPlain
+frame_planes_plain lists sound size number block f =
+    let own : Lists = lists_kept f.header.channel_code lists in (
+      λ o. (o.encoding, subst (EachInPlanes own f.subframes) (kept_is lists sound size number block f o.encoding) (each_plain (partition_limit sound) own f.subframes (kept_as f.header.channel_code block) o.stand)),
+      λ p. record { encoding = p.0; stand = subst (EachStandsByPlane (partition_limit sound) own f.subframes) (sym (kept_is lists sound size number block f p.0)) (stand lists sound size number block f p.0 p.1) },
+    )
 
 pub frame_widened_plain : FrameWidenedIsPlain
-frame_widened_plain ps sound size number block f = (
-  λ o. (o.encoding, subst (EachInWidened ps f.subframes) (kept_is ps sound size number block f o.encoding) (each_plain (partition_limit sound) ps f.subframes (kept_as f.header.channel_code block) o.stand)),
-  λ p. record { encoding = p.0; stand = subst (EachStands (partition_limit sound) ps f.subframes) (sym (kept_is ps sound size number block f p.0)) (stand ps sound size number block f p.0 p.1) },
-)
+frame_widened_plain ps sound size number block f = frame_planes_plain (same_list ps) sound size number block f
 
 pub frame_family_plain : FrameFamilyIsPlain
 frame_family_plain sound size number block f =

@@ -24,6 +24,7 @@ use Rattle.flac_subframe.proofs.Lengths.{length-samples}
 use Rattle.flac_subframe.proofs.WholeLeast.{length-subframe}
 use Rattle.flac_frame.specs.Encoding.{IsShort}
 use Rattle.flac_frame.specs.inner.Encoding.{IsLeastFor, AreLeast}
+use Rattle.flac_frame.specs.PlaneLists.{Lists, later}
 use Rattle.flac_frame.specs.Spelling.{FrameForm, subframes_spelling, filled, checked, frame_spelling}
 
 -- ---- a subframe
@@ -47,19 +48,20 @@ module _ (most : ℕ) (wide : most ≤ 15) (ps : List LinearPredictor) (depth : 
       let few : (depth - k) * length t ≤ depth * length s = subst (λ n. (depth - k) * length t ≤ depth * n) long (mul-le-mul_right (length t) (omega arith)) in
       omega (arith, le, plain_long k t, few, left)
 
-  one_more : (n m a b c : ℕ) → c ≡ a + b → a ≤ m → b ≤ n * m → c ≤ suc n * m
-  one_more n m a b c e h k = omega (arith, e, h, k)
+one_more : (n m a b c : ℕ) → c ≡ a + b → a ≤ m → b ≤ n * m → c ≤ suc n * m
+one_more n m a b c e h k = omega (arith, e, h, k)
 
-  pub all_short : (size : ℕ) (fs : List Form) (block : List (List ℤ)) → 0 < size → All (λ s. length s ≡ size) block → All (λ s. All (FitsBits depth) s) block → AreLeast most ps depth fs block
+module _ (most : ℕ) (wide : most ≤ 15) (depth : ℕ) (deep : 1 ≤ depth) where
+  pub all_short : (lists : Lists) (size : ℕ) (fs : List Form) (block : List (List ℤ)) → 0 < size → All (λ s. length s ≡ size) block → All (λ s. All (FitsBits depth) s) block → AreLeast most lists depth fs block
       → length (flat_map (subframe_spelling depth) fs) ≤ length block * (8 + depth + depth * size)
-  all_short size [] [] some long fits least = omega arith
-  all_short size [] (s ∷ ss) some long fits least = absurd least
-  all_short size (f ∷ fs) [] some long fits least = absurd least
-  all_short size (f ∷ fs) (s ∷ ss) some long fits least =
+  all_short lists size [] [] some long fits least = omega arith
+  all_short lists size [] (s ∷ ss) some long fits least = absurd least
+  all_short lists size (f ∷ fs) [] some long fits least = absurd least
+  all_short lists size (f ∷ fs) (s ∷ ss) some long fits least =
       let here = All-head (λ s. length s ≡ size) s ss long in
-      let one = one_short f s (omega (arith, some, here)) (All-head (λ s. All (FitsBits depth) s) s ss fits) least.0 in
+      let one = one_short most wide (lists 0) depth deep f s (omega (arith, some, here)) (All-head (λ s. All (FitsBits depth) s) s ss fits) least.0 in
       let one' : length (subframe_spelling depth f) ≤ 8 + depth + depth * size = subst (λ n. length (subframe_spelling depth f) ≤ 8 + depth + depth * n) here one in
-      let rest = all_short size fs ss some (All-tail (λ s. length s ≡ size) s ss long) (All-tail (λ s. All (FitsBits depth) s) s ss fits) least.1 in
+      let rest = all_short (later lists) size fs ss some (All-tail (λ s. length s ≡ size) s ss long) (All-tail (λ s. All (FitsBits depth) s) s ss fits) least.1 in
       one_more (length ss) (8 + depth + depth * size) _ _ _ (length-append (subframe_spelling depth f) (flat_map (subframe_spelling depth) fs)) one' rest
 
 -- ---- a frame

@@ -23,7 +23,8 @@ use Rattle.flac_frame.specs.Audio.{Sound, IsSound}
 use Rattle.flac_frame.specs.Frame.{side_bit, each_fits}
 use Rattle.flac_frame.specs.Stereo.{joined}
 use Rattle.flac_frame.specs.Spelling.{frame_spelling, subframes_spelling, filled, checked, AreSubframes, HaveSamples}
-use Rattle.flac_frame.specs.inner.Encoding.{AreForms, end_spelling}
+use Rattle.flac_frame.specs.PlaneLists.{Lists, same_list, later, AreAllWithin}
+use Rattle.flac_frame.specs.inner.Encoding.{AreForms, AreFormsByPlane, end_spelling}
 use Rattle.flac_frame.proofs.FrameTie.{end_is}
 use Rattle.flac_frame.proofs.Encoded.{failed}
 
@@ -72,23 +73,35 @@ module _ (depth code size : ℕ) (independent : code ≤ 7) where
   texts_are channel [] = refl
   texts_are channel (f ∷ fs) = ap (λ n. subframe_spelling n f ++ subframes_spelling depth code (channel + 1) fs) (no_side channel) ∙ ap (λ t. subframe_spelling depth f ++ t) (texts_are (channel + 1) fs)
 
+  pub subframes_by_plane : (most : ℕ) (lists : Lists) (limits : Limits) → most ≤ limits.partition → AreAllWithin limits.linear lists → (channel : ℕ) (fs : List Form) (block : List (List ℤ)) → AreFormsByPlane most lists depth size fs block
+      → AreSubframes depth code size limits channel fs
+  subframes_by_plane most lists limits few within channel [] [] h = tt
+  subframes_by_plane most lists limits few within channel [] (s ∷ ss) h = absurd h
+  subframes_by_plane most lists limits few within channel (f ∷ fs) [] h = absurd h
+  subframes_by_plane most lists limits few within channel (f ∷ fs) (s ∷ ss) h =
+      (subst (λ n. IsSubframe n size limits f) (sym (no_side channel)) (h.0 limits few (within 0)), subframes_by_plane most (later lists) limits few (λ plane. within (suc plane)) (channel + 1) fs ss h.2)
+
+  pub samples_by_plane : (most : ℕ) (lists : Lists) (channel : ℕ) (fs : List Form) (block : List (List ℤ)) → AreFormsByPlane most lists depth size fs block → HaveSamples depth code size channel fs block
+  samples_by_plane most lists channel [] [] h = tt
+  samples_by_plane most lists channel [] (s ∷ ss) h = absurd h
+  samples_by_plane most lists channel (f ∷ fs) [] h = absurd h
+  samples_by_plane most lists channel (f ∷ fs) (s ∷ ss) h = (subst (λ n. samples_of n size f ≡ Some s) (sym (no_side channel)) h.1, samples_by_plane most (later lists) (channel + 1) fs ss h.2)
+
+  pub many_by_plane : (most : ℕ) (lists : Lists) (fs : List Form) (block : List (List ℤ)) → AreFormsByPlane most lists depth size fs block → length fs ≡ length block
+  many_by_plane most lists [] [] h = refl
+  many_by_plane most lists [] (s ∷ ss) h = absurd h
+  many_by_plane most lists (f ∷ fs) [] h = absurd h
+  many_by_plane most lists (f ∷ fs) (s ∷ ss) h = ap suc (many_by_plane most (later lists) fs ss h.2)
+
+  -- with one list for all
   pub subframes_are : (most : ℕ) (ps : List LinearPredictor) (limits : Limits) → most ≤ limits.partition → AreWithin limits.linear ps → (channel : ℕ) (fs : List Form) (block : List (List ℤ)) → AreForms most ps depth size fs block → AreSubframes depth code size limits channel fs
-  subframes_are most ps limits few within channel [] [] h = tt
-  subframes_are most ps limits few within channel [] (s ∷ ss) h = absurd h
-  subframes_are most ps limits few within channel (f ∷ fs) [] h = absurd h
-  subframes_are most ps limits few within channel (f ∷ fs) (s ∷ ss) h = (subst (λ n. IsSubframe n size limits f) (sym (no_side channel)) (h.0 limits few within), subframes_are most ps limits few within (channel + 1) fs ss h.2)
+  subframes_are most ps limits few within channel fs block h = subframes_by_plane most (same_list ps) limits few (λ plane. within) channel fs block h
 
   pub samples_are : (most : ℕ) (ps : List LinearPredictor) (channel : ℕ) (fs : List Form) (block : List (List ℤ)) → AreForms most ps depth size fs block → HaveSamples depth code size channel fs block
-  samples_are most ps channel [] [] h = tt
-  samples_are most ps channel [] (s ∷ ss) h = absurd h
-  samples_are most ps channel (f ∷ fs) [] h = absurd h
-  samples_are most ps channel (f ∷ fs) (s ∷ ss) h = (subst (λ n. samples_of n size f ≡ Some s) (sym (no_side channel)) h.1, samples_are most ps (channel + 1) fs ss h.2)
+  samples_are most ps channel fs block h = samples_by_plane most (same_list ps) channel fs block h
 
   pub as_many : (most : ℕ) (ps : List LinearPredictor) (fs : List Form) (block : List (List ℤ)) → AreForms most ps depth size fs block → length fs ≡ length block
-  as_many most ps [] [] h = refl
-  as_many most ps [] (s ∷ ss) h = absurd h
-  as_many most ps (f ∷ fs) [] h = absurd h
-  as_many most ps (f ∷ fs) (s ∷ ss) h = ap suc (as_many most ps fs ss h.2)
+  as_many most ps fs block h = many_by_plane most (same_list ps) fs block h
 
   pub not_joined : (block : List (List ℤ)) → joined code block ≡ block
   unfolding joined

@@ -6,36 +6,41 @@ use Rattle.flac_subframe.specs.declared.linear.LinearPredictor.{LinearPredictor}
 use Rattle.flac_subframe.specs.Family.{IsMadeIn, form_in}
 use Rattle.flac_subframe.specs.Subframe.{Form}
 use Rattle.flac_frame.specs.Audio.{Sound}
-use Rattle.flac_frame.specs.Encoding.{IsEncoding, IsLeastWith, IsShort, subframes_cost}
+use Rattle.flac_frame.specs.Encoding.{IsEncoding, IsLeastByPlane, IsShort, subframes_cost}
+use Rattle.flac_frame.specs.PlaneLists.{Lists, same_list, later, lists_kept}
 use Rattle.flac_frame.specs.Spelling.{FrameForm}
 use Rattle.flac_frame.specs.Stereo.{kept_as}
 use Rattle.flac_frame.specs.declared.frame_choice.FrameChoice.{FrameChoice}
 
--- the forms of choices for the samples of each channel, with the linear predictors of the list; there may be more
--- choices than channels
-abbrev pub forms_of : List LinearPredictor → List WideChoice → List (List ℤ) → List Form
-forms_of ps choices [] = []
-forms_of ps [] (s ∷ ss) = []
-forms_of ps (c ∷ cs) (s ∷ ss) = form_in ps c s ∷ forms_of ps cs ss
+-- the forms of choices for the samples of each channel, with the linear predictors of its list; there may be more choices
+-- than channels
+abbrev pub forms_by_plane : Lists → List WideChoice → List (List ℤ) → List Form
+forms_by_plane lists choices [] = []
+forms_by_plane lists [] (s ∷ ss) = []
+forms_by_plane lists (c ∷ cs) (s ∷ ss) = form_in (lists 0) c s ∷ forms_by_plane (later lists) cs ss
 
 -- each choice was made for the samples of its channel
-abbrev pub AreMade : List LinearPredictor → List WideChoice → List (List ℤ) → Type 0
-AreMade ps choices [] = ⊤
-AreMade ps [] (s ∷ ss) = ⊥
-AreMade ps (c ∷ cs) (s ∷ ss) = IsMadeIn ps c s × AreMade ps cs ss
+abbrev pub AreMadeByPlane : Lists → List WideChoice → List (List ℤ) → Type 0
+AreMadeByPlane lists choices [] = ⊤
+AreMadeByPlane lists [] (s ∷ ss) = ⊥
+AreMadeByPlane lists (c ∷ cs) (s ∷ ss) = IsMadeIn (lists 0) c s × AreMadeByPlane (later lists) cs ss
 
 -- What was chosen for a block makes its shortest frame, under the header of its number: the subframes are chosen for
 -- the channels that the channel code stores. The frame has at most 16777215 bytes, and `bits` are those of its
 -- subframes.
-pub record IsChoiceWith (ps : List LinearPredictor) (sound : Sound) (size number : ℕ) (block : List (List ℤ)) (c : FrameChoice) : Type 0 where
+pub record IsChoiceByPlane (lists : Lists) (sound : Sound) (size number : ℕ) (block : List (List ℤ)) (c : FrameChoice) : Type 0 where
   pub form : FrameForm
   pub header : chosen_header sound.profile size sound.rate c.code sound.bits number ≡ Some form.header
-  pub subframes : form.subframes ≡ forms_of ps c.subframes.items (kept_as c.code block)
-  pub made : AreMade ps c.subframes.items (kept_as c.code block)
+  pub subframes : form.subframes ≡ forms_by_plane (lists_kept c.code lists) c.subframes.items (kept_as c.code block)
+  pub made : AreMadeByPlane (lists_kept c.code lists) c.subframes.items (kept_as c.code block)
   pub encoding : IsEncoding sound size number block form
-  pub least : IsLeastWith ps sound size number block form
+  pub least : IsLeastByPlane lists sound size number block form
   pub short : IsShort sound.bits form
   pub cost : c.bits ≡ subframes_cost sound.bits form
+
+-- the same with one list for all planes
+abbrev pub IsChoiceWith : List LinearPredictor → Sound → (size number : ℕ) → List (List ℤ) → FrameChoice → Type 0
+IsChoiceWith ps = IsChoiceByPlane (same_list ps)
 
 -- each array is long enough for partition orders up to `most`
 abbrev pub AllWide : (most : ℕ) → List WideChoice → Type 0

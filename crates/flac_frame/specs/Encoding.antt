@@ -20,6 +20,7 @@ use Rattle.flac_subframe.specs.Subframe.{Form, samples_of}
 use Rattle.flac_frame.specs.Audio.{Sound}
 use Rattle.flac_frame.specs.Follows.{HasFormat}
 use Rattle.flac_frame.specs.Frame.{limits_at, header_rules}
+use Rattle.flac_frame.specs.PlaneLists.{Lists, same_list, later, lists_kept}
 use Rattle.flac_frame.specs.Stereo.{kept_as}
 use Rattle.flac_frame.specs.Spelling.{FrameForm, frame_spelling, subframes_spelling, AreSubframes, IsFrame, FrameSamples}
 use Rattle.flac_frame.specs.declared.before.Before.{Before}
@@ -59,18 +60,26 @@ partition_limit sound = (limits_at sound.profile sound.rate).partition
 abbrev pub IsShort : ℕ → FrameForm → Type 0
 IsShort depth f = length (frame_spelling depth f) ≤ 8 * 16777215
 
--- each form encodes one of the channels, in the family above
-abbrev pub EachStands : (most : ℕ) → List LinearPredictor → List Form → List (List ℤ) → Type 0
-EachStands most ps [] [] = ⊤
-EachStands most ps [] (s ∷ ss) = ⊥
-EachStands most ps (f ∷ fs) [] = ⊥
-EachStands most ps (f ∷ fs) (s ∷ ss) = Stands most (offered ps) f s × EachStands most ps fs ss
+-- each form encodes one of the channels, in the family above, with the linear predictors of the channel's list
+abbrev pub EachStandsByPlane : (most : ℕ) → Lists → List Form → List (List ℤ) → Type 0
+EachStandsByPlane most lists [] [] = ⊤
+EachStandsByPlane most lists [] (s ∷ ss) = ⊥
+EachStandsByPlane most lists (f ∷ fs) [] = ⊥
+EachStandsByPlane most lists (f ∷ fs) (s ∷ ss) = Stands most (offered (lists 0)) f s × EachStandsByPlane most (later lists) fs ss
 
 -- The frames of a block of which the shortest is chosen: under any channel code for as many channels, the subframes are
--- forms of the family for the channels that the code stores. The linear predictors of the list add exactly their forms.
-pub record IsOfWidened (ps : List LinearPredictor) (sound : Sound) (size number : ℕ) (block : List (List ℤ)) (f : FrameForm) : Type 0 where
+-- forms of the family for the channels that the code stores. The linear predictors of a plane's list add exactly their
+-- forms, to the subframes of that plane alone.
+pub record IsOfPlanes (lists : Lists) (sound : Sound) (size number : ℕ) (block : List (List ℤ)) (f : FrameForm) : Type 0 where
   pub encoding : IsEncoding sound size number block f
-  pub stand : EachStands (partition_limit sound) ps f.subframes (kept_as f.header.channel_code block)
+  pub stand : EachStandsByPlane (partition_limit sound) (lists_kept f.header.channel_code lists) f.subframes (kept_as f.header.channel_code block)
+
+-- the same with one list for all planes
+abbrev pub EachStands : (most : ℕ) → List LinearPredictor → List Form → List (List ℤ) → Type 0
+EachStands most ps = EachStandsByPlane most (same_list ps)
+
+abbrev pub IsOfWidened : List LinearPredictor → Sound → (size number : ℕ) → List (List ℤ) → FrameForm → Type 0
+IsOfWidened ps = IsOfPlanes (same_list ps)
 
 abbrev pub IsOfFamily : Sound → (size number : ℕ) → List (List ℤ) → FrameForm → Type 0
 IsOfFamily sound size number block f = IsOfWidened [] sound size number block f
@@ -83,18 +92,25 @@ EachInFamily [] (s ∷ ss) = ⊥
 EachInFamily (f ∷ fs) [] = ⊥
 EachInFamily (f ∷ fs) (s ∷ ss) = InFamily f s × EachInFamily fs ss
 
--- the same with linear predictors: also by one of the list
+-- the same with linear predictors: also by one of the channel's list
+abbrev pub EachInPlanes : Lists → List Form → List (List ℤ) → Type 0
+EachInPlanes lists [] [] = ⊤
+EachInPlanes lists [] (s ∷ ss) = ⊥
+EachInPlanes lists (f ∷ fs) [] = ⊥
+EachInPlanes lists (f ∷ fs) (s ∷ ss) = InWidened (lists 0) f s × EachInPlanes (later lists) fs ss
+
 abbrev pub EachInWidened : List LinearPredictor → List Form → List (List ℤ) → Type 0
-EachInWidened ps [] [] = ⊤
-EachInWidened ps [] (s ∷ ss) = ⊥
-EachInWidened ps (f ∷ fs) [] = ⊥
-EachInWidened ps (f ∷ fs) (s ∷ ss) = InWidened ps f s × EachInWidened ps fs ss
+EachInWidened ps = EachInPlanes (same_list ps)
 
 -- these frames are exactly the encodings of a block, under any channel code, whose subframes are of the family, each
 -- for its samples
 abbrev pub FrameFamilyIsPlain : Type 0
 FrameFamilyIsPlain = (sound : Sound) (size number : ℕ) (block : List (List ℤ)) (f : FrameForm)
     → IsOfFamily sound size number block f ↔ ((e : IsEncoding sound size number block f) × EachInFamily f.subframes e.samples.kept)
+
+abbrev pub FramePlanesIsPlain : Type 0
+FramePlanesIsPlain = (lists : Lists) (sound : Sound) (size number : ℕ) (block : List (List ℤ)) (f : FrameForm)
+    → IsOfPlanes lists sound size number block f ↔ ((e : IsEncoding sound size number block f) × EachInPlanes (lists_kept f.header.channel_code lists) f.subframes e.samples.kept)
 
 abbrev pub FrameWidenedIsPlain : Type 0
 FrameWidenedIsPlain = (ps : List LinearPredictor) (sound : Sound) (size number : ℕ) (block : List (List ℤ)) (f : FrameForm)
@@ -106,15 +122,21 @@ subframes_cost depth f = length (subframes_spelling depth f.header.channel_code 
 
 -- No frame of the family is shorter; none takes fewer bits for its subframes, which the padding to a whole byte may
 -- hide; and with a smaller channel code, they take more.
-pub record IsLeastWith (ps : List LinearPredictor) (sound : Sound) (size number : ℕ) (block : List (List ℤ)) (f : FrameForm) : Type 0 where
-  pub least : IsLeast (IsOfWidened ps sound size number block) (λ g. length (frame_spelling sound.bits g)) f
-  pub fewest : (g : FrameForm) → IsOfWidened ps sound size number block g → subframes_cost sound.bits f ≤ subframes_cost sound.bits g
-  pub first : (g : FrameForm) → IsOfWidened ps sound size number block g → g.header.channel_code < f.header.channel_code → subframes_cost sound.bits f < subframes_cost sound.bits g
+pub record IsLeastByPlane (lists : Lists) (sound : Sound) (size number : ℕ) (block : List (List ℤ)) (f : FrameForm) : Type 0 where
+  pub least : IsLeast (IsOfPlanes lists sound size number block) (λ g. length (frame_spelling sound.bits g)) f
+  pub fewest : (g : FrameForm) → IsOfPlanes lists sound size number block g → subframes_cost sound.bits f ≤ subframes_cost sound.bits g
+  pub first : (g : FrameForm) → IsOfPlanes lists sound size number block g → g.header.channel_code < f.header.channel_code → subframes_cost sound.bits f < subframes_cost sound.bits g
+
+abbrev pub IsLeastWith : List LinearPredictor → Sound → (size number : ℕ) → List (List ℤ) → FrameForm → Type 0
+IsLeastWith ps = IsLeastByPlane (same_list ps)
 
 -- at a whole byte, at which the checks begin, the spelling of such a frame was written, the shortest of the family, of
 -- at most 16777215 bytes
+abbrev pub WritesFrameByPlane : {X : Type 0} → Lists → Sound → (size number : ℕ) → List (List ℤ) → Written → Written → Result X Why → Type 0
+WritesFrameByPlane lists sound size number block old new result = (f : FrameForm) × IsEncoding sound size number block f × (IsLeastByPlane lists sound size number block f × IsShort sound.bits f) × Writes (frame_spelling sound.bits f) (restarted old) new result
+
 abbrev pub WritesFrameWith : {X : Type 0} → List LinearPredictor → Sound → (size number : ℕ) → List (List ℤ) → Written → Written → Result X Why → Type 0
-WritesFrameWith ps sound size number block old new result = (f : FrameForm) × IsEncoding sound size number block f × (IsLeastWith ps sound size number block f × IsShort sound.bits f) × Writes (frame_spelling sound.bits f) (restarted old) new result
+WritesFrameWith ps sound size number block old new result = WritesFrameByPlane (same_list ps) sound size number block old new result
 
 abbrev pub WritesFrame : {X : Type 0} → Sound → (size number : ℕ) → List (List ℤ) → Written → Written → Result X Why → Type 0
 WritesFrame sound size number block old new result = WritesFrameWith [] sound size number block old new result

@@ -5,9 +5,11 @@ ghost use Rattle.flac_bits.specs.Signed.{FitsBits};
 ghost use Rattle.flac_bits.specs.Reading.{Reads, CallInPlace};
 ghost use Rattle.flac_header.specs.Assignment.{code_of, IsAssignment};
 ghost use Rattle.flac_frame.specs.Frame.{side_bit, subframes};
+ghost use Rattle.flac_frame.specs.PlaneLists.{plane_of};
 ghost use Rattle.flac_frame.specs.View.{chunks};
 ghost use Rattle.flac_subframe.specs.Subframe.{subframe_samples};
 
+use crate::planes::{LEFT, MIDDLE, RIGHT, SIDE};
 use crate::shape::Shape;
 use flac_bits::{BitReader, Source, Why};
 use flac_header::ChannelAssignment;
@@ -26,6 +28,20 @@ pub(crate) fn side_bit(assignment: ChannelAssignment, channel: usize) -> u32
         ChannelAssignment::LeftSide => u32::from(channel == 1),
         ChannelAssignment::SideRight => u32::from(channel == 0),
         ChannelAssignment::MidSide => u32::from(channel == 1),
+    }
+}
+
+/// Which plane a channel's subframe is of (RFC 9639, section 9.1.3).
+pub(crate) fn plane_of(assignment: ChannelAssignment, channel: usize) -> usize
+    requires { IsAssignment assignment }
+    ensures { result ≡ plane_of (code_of assignment) channel }
+{
+    let is_first = channel == 0;
+    match assignment {
+        ChannelAssignment::Independent(_) => channel,
+        ChannelAssignment::LeftSide => if is_first { LEFT } else { SIDE },
+        ChannelAssignment::SideRight => if is_first { SIDE } else { RIGHT },
+        ChannelAssignment::MidSide => if is_first { MIDDLE } else { SIDE },
     }
 }
 

@@ -5,12 +5,13 @@ ghost use Rattle.flac_bits.specs.Written.{Writes};
 ghost use Rattle.flac_subframe.specs.Handed.{AreWithin};
 ghost use Rattle.flac_subframe.specs.Spelling.{subframe_spelling};
 ghost use Rattle.flac_frame.specs.Audio.{samples_each};
-ghost use Rattle.flac_frame.specs.Chosen.{forms_of, AreMade, IsChoiceWith, AllWide, HasPlaces};
+ghost use Rattle.flac_frame.specs.Chosen.{forms_by_plane, AreMadeByPlane, IsChoiceByPlane, IsChoiceWith, AllWide, HasPlaces};
 ghost use Rattle.flac_frame.specs.inner.Chosen.{AreChosen};
-ghost use Rattle.flac_frame.specs.Encoding.{block_of, partition_limit, WritesFrame, WritesFrameWith};
+ghost use Rattle.flac_frame.specs.Encoding.{block_of, partition_limit, WritesFrame, WritesFrameByPlane, WritesFrameWith};
 ghost use Rattle.flac_frame.specs.inner.Encoding.{end_spelling};
 ghost use Rattle.flac_frame.specs.Frame.{limits_at};
 ghost use Rattle.flac_frame.specs.Pair.{AreWide};
+ghost use Rattle.flac_frame.specs.PlaneLists.{lists_of, lists_kept, AreAllWithin};
 ghost use Rattle.flac_frame.specs.Spelling.{subframes_spelling};
 ghost use Rattle.flac_frame.specs.Stereo.{kept_as};
 
@@ -20,6 +21,7 @@ use crate::frame_choice::FrameChoice;
 use crate::pair::{choose_pair, write_pair};
 use crate::pair_choices::PairChoices;
 use crate::plane::choose_plane;
+use crate::plane_predictors::PlanePredictors;
 use crate::subject::Subject;
 use flac_bits::{BitWriter, Target, Why};
 use flac_header::{FrameHeader, write_header};
@@ -46,11 +48,11 @@ fn choose_channels(
     requires size { length samples.old ≡ subject.now.size }
     requires block { subject.now.size ≤ workspace.old.block }
     requires partition { partition_limit subject.now.audio.now ≤ workspace.old.most }
-    requires orders { AreWithin (limits_at subject.now.audio.now.profile subject.now.audio.now.rate).linear subject.now.predictors.now }
+    requires orders { AreAllWithin (limits_at subject.now.audio.now.profile subject.now.audio.now.rate).linear (lists_of subject.now.predictors.now) }
     requires choices { length subject.now.audio.now.channels ≤ length subframes.old }
     requires wide { AllWide workspace.old.most subframes.old }
-    ensures chosen { AreChosen (partition_limit subject.now.audio.now) subject.now.predictors.now subject.now.audio.now.bits subject.now.size subframes.new (block_of subject.now.start subject.now.size subject.now.audio.now.channels) }
-    ensures bits { result ≡ length (flat_map (subframe_spelling subject.now.audio.now.bits) (forms_of subject.now.predictors.now subframes.new (block_of subject.now.start subject.now.size subject.now.audio.now.channels))) }
+    ensures chosen { AreChosen (partition_limit subject.now.audio.now) (lists_of subject.now.predictors.now) subject.now.audio.now.bits subject.now.size subframes.new (block_of subject.now.start subject.now.size subject.now.audio.now.channels) }
+    ensures bits { result ≡ length (flat_map (subframe_spelling subject.now.audio.now.bits) (forms_by_plane (lists_of subject.now.predictors.now) subframes.new (block_of subject.now.start subject.now.size subject.now.audio.now.channels))) }
     ensures wide { AllWide workspace.old.most subframes.new }
     ensures room { workspace.new ≡ workspace.old }
 {
@@ -63,7 +65,7 @@ fn choose_channels(
     for i in 0..channels.len() {
         widen(audio.part(i, start, size), samples);
         let choice = &mut subframes[i];
-        choose_plane(samples, depth, subject, workspace, choice);
+        choose_plane(samples, depth, i, subject, workspace, choice);
         bits += choice.bits();
     }
     bits
@@ -82,8 +84,8 @@ fn choose_apart(
     requires partition { partition_limit subject.now.audio.now ≤ workspace.old.most }
     requires choices { HasPlaces (length subject.now.audio.now.channels) workspace.old.most choice.old }
     requires number { subject.now.number < 2 ^ 31 }
-    requires orders { AreWithin (limits_at subject.now.audio.now.profile subject.now.audio.now.rate).linear subject.now.predictors.now }
-    ensures chosen { IsChoiceWith subject.now.predictors.now subject.now.audio.now subject.now.size subject.now.number (block_of subject.now.start subject.now.size subject.now.audio.now.channels) choice.new }
+    requires orders { AreAllWithin (limits_at subject.now.audio.now.profile subject.now.audio.now.rate).linear (lists_of subject.now.predictors.now) }
+    ensures chosen { IsChoiceByPlane (lists_of subject.now.predictors.now) subject.now.audio.now subject.now.size subject.now.number (block_of subject.now.start subject.now.size subject.now.audio.now.channels) choice.new }
     ensures choices { HasPlaces (length subject.now.audio.now.channels) workspace.old.most choice.new }
     ensures many { length choice.new.subframes.items ≡ length choice.old.subframes.items }
     ensures room { workspace.new ≡ workspace.old }
@@ -119,8 +121,8 @@ fn choose_first(
     requires wide { AreWide workspace.old.most choices.old }
     requires choices { HasPlaces (length subject.now.audio.now.channels) workspace.old.most choice.old }
     requires number { subject.now.number < 2 ^ 31 }
-    requires orders { AreWithin (limits_at subject.now.audio.now.profile subject.now.audio.now.rate).linear subject.now.predictors.now }
-    ensures chosen { IsChoiceWith subject.now.predictors.now subject.now.audio.now subject.now.size subject.now.number (block_of subject.now.start subject.now.size subject.now.audio.now.channels) choice.new }
+    requires orders { AreAllWithin (limits_at subject.now.audio.now.profile subject.now.audio.now.rate).linear (lists_of subject.now.predictors.now) }
+    ensures chosen { IsChoiceByPlane (lists_of subject.now.predictors.now) subject.now.audio.now subject.now.size subject.now.number (block_of subject.now.start subject.now.size subject.now.audio.now.channels) choice.new }
     ensures wide { AreWide workspace.old.most choices.new }
     ensures choices { HasPlaces (length subject.now.audio.now.channels) workspace.old.most choice.new }
     ensures many { length choice.new.subframes.items ≡ length choice.old.subframes.items }
@@ -145,8 +147,8 @@ fn write_channels<W: Target>(
     requires size { length samples.old ≡ subject.now.size }
     requires block { subject.now.size ≤ workspace.old.block }
     requires choices { length subject.now.audio.now.channels ≤ length choice.now.subframes.items }
-    requires made { AreMade subject.now.predictors.now choice.now.subframes.items (block_of subject.now.start subject.now.size subject.now.audio.now.channels) }
-    ensures text { Writes (flat_map (subframe_spelling subject.now.audio.now.bits) (forms_of subject.now.predictors.now choice.now.subframes.items (block_of subject.now.start subject.now.size subject.now.audio.now.channels))) writer.old writer.new result }
+    requires made { AreMadeByPlane (lists_of subject.now.predictors.now) choice.now.subframes.items (block_of subject.now.start subject.now.size subject.now.audio.now.channels) }
+    ensures text { Writes (flat_map (subframe_spelling subject.now.audio.now.bits) (forms_by_plane (lists_of subject.now.predictors.now) choice.now.subframes.items (block_of subject.now.start subject.now.size subject.now.audio.now.channels))) writer.old writer.new result }
     ensures room { workspace.new ≡ workspace.old }
 {
     let audio = subject.audio;
@@ -157,14 +159,8 @@ fn write_channels<W: Target>(
     let subframes = choice.subframes.as_slice();
     for i in 0..channels.len() {
         widen(audio.part(i, start, size), samples);
-        write_subframe_in(
-            &subframes[i],
-            subject.predictors,
-            samples,
-            depth,
-            workspace,
-            writer,
-        )?;
+        let predictors = subject.predictors.list(i);
+        write_subframe_in(&subframes[i], predictors, samples, depth, workspace, writer)?;
     }
     Ok(())
 }
@@ -189,8 +185,8 @@ fn write_subframes<W: Target>(
     requires places { 2 * subject.now.size ≤ length places.old }
     requires block { subject.now.size ≤ workspace.old.block }
     requires choices { length subject.now.audio.now.channels ≤ length choice.now.subframes.items }
-    requires chosen { IsChoiceWith subject.now.predictors.now subject.now.audio.now subject.now.size subject.now.number (block_of subject.now.start subject.now.size subject.now.audio.now.channels) choice.now }
-    ensures text { Writes (subframes_spelling subject.now.audio.now.bits choice.now.code 0 (forms_of subject.now.predictors.now choice.now.subframes.items (kept_as choice.now.code (block_of subject.now.start subject.now.size subject.now.audio.now.channels)))) writer.old writer.new result }
+    requires chosen { IsChoiceByPlane (lists_of subject.now.predictors.now) subject.now.audio.now subject.now.size subject.now.number (block_of subject.now.start subject.now.size subject.now.audio.now.channels) choice.now }
+    ensures text { Writes (subframes_spelling subject.now.audio.now.bits choice.now.code 0 (forms_by_plane (lists_kept choice.now.code (lists_of subject.now.predictors.now)) choice.now.subframes.items (kept_as choice.now.code (block_of subject.now.start subject.now.size subject.now.audio.now.channels)))) writer.old writer.new result }
     ensures room { workspace.new ≡ workspace.old }
 {
     let channels = subject.audio.channels();
@@ -212,9 +208,9 @@ fn write_first<W: Target>(
     requires places { 2 * subject.now.size ≤ length places.old }
     requires block { subject.now.size ≤ workspace.old.block }
     requires choices { length subject.now.audio.now.channels ≤ length choice.now.subframes.items }
-    requires chosen { IsChoiceWith subject.now.predictors.now subject.now.audio.now subject.now.size subject.now.number (block_of subject.now.start subject.now.size subject.now.audio.now.channels) choice.now }
+    requires chosen { IsChoiceByPlane (lists_of subject.now.predictors.now) subject.now.audio.now subject.now.size subject.now.number (block_of subject.now.start subject.now.size subject.now.audio.now.channels) choice.now }
     requires whole { writer.old.mark.unread ≡ 0 }
-    ensures wrote { WritesFrameWith subject.now.predictors.now subject.now.audio.now subject.now.size subject.now.number (block_of subject.now.start subject.now.size subject.now.audio.now.channels) writer.old writer.new result }
+    ensures wrote { WritesFrameByPlane (lists_of subject.now.predictors.now) subject.now.audio.now subject.now.size subject.now.number (block_of subject.now.start subject.now.size subject.now.audio.now.channels) writer.old writer.new result }
     ensures room { workspace.new ≡ workspace.old }
 {
     let header = choice.header(subject.audio, subject.size, subject.number);
@@ -254,6 +250,34 @@ pub fn choose_frame(
     requires places { HasPlaces (length audio.now.channels) buffers.old.most choice.old }
     ensures kept { buffers.new ≡ buffers.old }
     ensures chosen { IsChoiceWith predictors.now audio.now (range.end - range.start) number (block_of range.start (range.end - range.start) audio.now.channels) choice.new }
+    ensures places { HasPlaces (length audio.now.channels) buffers.old.most choice.new }
+    ensures many { length choice.new.subframes.items ≡ length choice.old.subframes.items }
+{
+    let planes = PlanePredictors::same(predictors);
+    choose_frame_by_plane(audio, range, number, &planes, buffers, choice);
+}
+
+/// Chooses how samples `range` of each channel are written as frame `number`, as [`choose_frame`] does, with a list of
+/// linear predictors for each plane: the subframes of a plane are by one of its own list, and by no other.
+///
+/// The arguments are as for [`choose_frame`]; [`PlanePredictors::are_within`] tests the orders.
+pub fn choose_frame_by_plane(
+    audio: &Audio,
+    range: Range<usize>,
+    number: u64,
+    predictors: &PlanePredictors<'_>,
+    buffers: &mut EncodeBuffers,
+    choice: &mut FrameChoice,
+)
+    requires some { range.start < range.end }
+    requires within { range.end ≤ samples_each audio.now.channels }
+    requires room { range.end - range.start ≤ buffers.old.block }
+    requires partition { partition_limit audio.now ≤ buffers.old.most }
+    requires number { number < 2 ^ 31 }
+    requires orders { AreAllWithin (limits_at audio.now.profile audio.now.rate).linear (lists_of predictors.now) }
+    requires places { HasPlaces (length audio.now.channels) buffers.old.most choice.old }
+    ensures kept { buffers.new ≡ buffers.old }
+    ensures chosen { IsChoiceByPlane (lists_of predictors.now) audio.now (range.end - range.start) number (block_of range.start (range.end - range.start) audio.now.channels) choice.new }
     ensures places { HasPlaces (length audio.now.channels) buffers.old.most choice.new }
     ensures many { length choice.new.subframes.items ≡ length choice.old.subframes.items }
 {
@@ -298,6 +322,33 @@ pub fn write_frame<W: Target>(
     requires whole { writer.old.mark.unread ≡ 0 }
     ensures kept { buffers.new ≡ buffers.old }
     ensures wrote { WritesFrameWith predictors.now audio.now (range.end - range.start) number (block_of range.start (range.end - range.start) audio.now.channels) writer.old writer.new result }
+{
+    let planes = PlanePredictors::same(predictors);
+    write_frame_by_plane(audio, range, number, choice, &planes, buffers, writer)
+}
+
+/// Writes the frame that [`choose_frame_by_plane`] chose for this range of the samples, this number and these predictors
+/// (RFC 9639, section 9). The writer is at a whole byte.
+///
+/// # Errors
+/// [`Why::Write`] if the target returns an error.
+pub fn write_frame_by_plane<W: Target>(
+    audio: &Audio,
+    range: Range<usize>,
+    number: u64,
+    choice: &FrameChoice,
+    predictors: &PlanePredictors<'_>,
+    buffers: &mut EncodeBuffers,
+    writer: &mut BitWriter<W>,
+) -> Result<(), Why>
+    requires some { range.start < range.end }
+    requires within { range.end ≤ samples_each audio.now.channels }
+    requires room { range.end - range.start ≤ buffers.old.block }
+    requires places { length audio.now.channels ≤ length choice.now.subframes.items }
+    requires chosen { IsChoiceByPlane (lists_of predictors.now) audio.now (range.end - range.start) number (block_of range.start (range.end - range.start) audio.now.channels) choice.now }
+    requires whole { writer.old.mark.unread ≡ 0 }
+    ensures kept { buffers.new ≡ buffers.old }
+    ensures wrote { WritesFrameByPlane (lists_of predictors.now) audio.now (range.end - range.start) number (block_of range.start (range.end - range.start) audio.now.channels) writer.old writer.new result }
 {
     // read for the invariant of the buffers
     let _places = buffers.places.len();
@@ -372,6 +423,37 @@ pub fn encode_frame_with<W: Target>(
     requires whole { writer.old.mark.unread ≡ 0 }
     ensures kept { buffers.new ≡ buffers.old }
     ensures wrote { WritesFrameWith predictors.now audio.now (range.end - range.start) number (block_of range.start (range.end - range.start) audio.now.channels) writer.old writer.new result }
+    ensures counted { IfOk result (λ bytes. writer.new.mark.bytes ≡ writer.old.mark.bytes + bytes) }
+    // The count of the writer stops at 2^64 - 1.
+    ensures bytes { IfOk result (λ bytes. writer.old.known ≡ true → writer.new.mark.bytes < 2 ^ 64 - 1 → length writer.new.bits ≡ length writer.old.bits + 8 * bytes) }
+{
+    let planes = PlanePredictors::same(predictors);
+    encode_frame_by_plane(audio, range, number, &planes, buffers, writer)
+}
+
+/// Chooses how samples `range` of each channel are written as frame `number`, as [`choose_frame_by_plane`] does, and
+/// writes it. The writer is at a whole byte. Returns how many bytes the frame has, 1 to 16777215. It allocates nothing.
+/// The buffers are as for [`encode_frame`].
+///
+/// # Errors
+/// [`Why::Write`] if the target returns an error.
+pub fn encode_frame_by_plane<W: Target>(
+    audio: &Audio,
+    range: Range<usize>,
+    number: u64,
+    predictors: &PlanePredictors<'_>,
+    buffers: &mut EncodeBuffers,
+    writer: &mut BitWriter<W>,
+) -> Result<u64, Why>
+    requires some { range.start < range.end }
+    requires within { range.end ≤ samples_each audio.now.channels }
+    requires room { range.end - range.start ≤ buffers.old.block }
+    requires partition { partition_limit audio.now ≤ buffers.old.most }
+    requires number { number < 2 ^ 31 }
+    requires orders { AreAllWithin (limits_at audio.now.profile audio.now.rate).linear (lists_of predictors.now) }
+    requires whole { writer.old.mark.unread ≡ 0 }
+    ensures kept { buffers.new ≡ buffers.old }
+    ensures wrote { WritesFrameByPlane (lists_of predictors.now) audio.now (range.end - range.start) number (block_of range.start (range.end - range.start) audio.now.channels) writer.old writer.new result }
     ensures counted { IfOk result (λ bytes. writer.new.mark.bytes ≡ writer.old.mark.bytes + bytes) }
     // The count of the writer stops at 2^64 - 1.
     ensures bytes { IfOk result (λ bytes. writer.old.known ≡ true → writer.new.mark.bytes < 2 ^ 64 - 1 → length writer.new.bits ≡ length writer.old.bits + 8 * bytes) }

@@ -6,8 +6,9 @@ ghost use Rattle.flac_header.specs.Choice.{chosen_header};
 ghost use Rattle.flac_header.specs.Header.{Header};
 ghost use Rattle.flac_subframe.specs.declared.linear.LinearPredictor.{LinearPredictor};
 ghost use Rattle.flac_frame.specs.Audio.{Sound};
-ghost use Rattle.flac_frame.specs.Chosen.{IsChoiceWith, HasPlaces};
+ghost use Rattle.flac_frame.specs.Chosen.{IsChoiceByPlane, IsChoiceWith, HasPlaces};
 ghost use Rattle.flac_frame.specs.Encoding.{most_in};
+ghost use Rattle.flac_frame.specs.PlaneLists.{Lists};
 ghost use Rattle.flac_frame.specs.Spelling.{frame_spelling};
 ghost use Rattle.flac_frame.specs.inner.Pair.{IsPairCode};
 
@@ -68,6 +69,7 @@ impl FrameChoice {
     /// [`Why::Memory`] if an allocation fails.
     pub fn kept(&self, alloc: Global) -> Result<FrameChoice, Why>
         ensures same { IfOk result (λ c. (ps : List LinearPredictor) (sound : Sound) (size number : ℕ) (block : List (List ℤ)) → IsChoiceWith ps sound size number block self.now → IsChoiceWith ps sound size number block c) }
+        ensures same_by_plane { IfOk result (λ c. (lists : Lists) (sound : Sound) (size number : ℕ) (block : List (List ℤ)) → IsChoiceByPlane lists sound size number block self.now → IsChoiceByPlane lists sound size number block c) }
         ensures many { IfOk result (λ c. length c.subframes.items ≡ length self.now.subframes.items) }
         ensures memory { IfErr result (λ e. e ≡ Why.Memory) }
     {
@@ -121,6 +123,16 @@ impl FrameChoice {
         requires few { size ≤ 65535 }
         requires chosen { (ps : List LinearPredictor) × (block : List (List ℤ)) × IsChoiceWith ps audio.now size number block self.now }
         ensures bytes { (ps : List LinearPredictor) (block : List (List ℤ)) (is : IsChoiceWith ps audio.now size number block self.now) → length (frame_spelling audio.now.bits is.form) ≡ 8 * result }
+        ensures few { (1 ≤ result) × (result ≤ 16777215) }
+    {
+        self.frame_bytes_by_plane(audio, size, number)
+    }
+
+    /// What [`FrameChoice::frame_bytes`] returns, for a choice with a list of linear predictors for each plane.
+    pub fn frame_bytes_by_plane(&self, audio: &Audio, size: usize, number: u64) -> u64
+        requires few { size ≤ 65535 }
+        requires chosen { (lists : Lists) × (block : List (List ℤ)) × IsChoiceByPlane lists audio.now size number block self.now }
+        ensures bytes { (lists : Lists) (block : List (List ℤ)) (is : IsChoiceByPlane lists audio.now size number block self.now) → length (frame_spelling audio.now.bits is.form) ≡ 8 * result }
         ensures few { (1 ≤ result) × (result ≤ 16777215) }
     {
         let header = self.header(audio, size, number);

@@ -8,6 +8,7 @@
 //! | encode a block as a frame | [`Audio::new`], [`EncodeBuffers::new`] and [`encode_frame`] |
 //! | encode outside the streamable subset | [`Audio::new_in`] and [`EncodeBuffers::new_in`] |
 //! | try linear predictors of one's own | [`encode_frame_with`] |
+//! | try others for each plane | [`PlanePredictors`], [`encode_frame_by_plane`] |
 //! | know a frame's size before it is written | [`choose_frame`], [`FrameChoice::frame_bytes`] and [`write_frame`] |
 #![tactic(auto)]
 
@@ -24,6 +25,7 @@ mod limits;
 mod pair;
 mod pair_choices;
 mod plane;
+mod plane_predictors;
 mod planes;
 mod promises;
 mod samples;
@@ -36,13 +38,17 @@ mod view;
 
 pub use audio::Audio;
 pub use buffers::{FrameBuffers, LONGEST_FRAME};
-pub use encode::{choose_frame, encode_frame, encode_frame_with, write_frame};
+pub use encode::{
+    choose_frame, choose_frame_by_plane, encode_frame, encode_frame_by_plane, encode_frame_with,
+    write_frame, write_frame_by_plane,
+};
 pub use encode_buffers::EncodeBuffers;
 pub use frame_choice::FrameChoice;
 pub use limits::greatest_order;
+pub use plane_predictors::PlanePredictors;
 pub use promises::{
     channels_are_joined, encodings_are_frames, forms_stand_for_samples, frame_family_is_plain,
-    frame_widened_is_plain, frames_are_spelled, frames_follow,
+    frame_planes_is_plain, frame_widened_is_plain, frames_are_spelled, frames_follow,
 };
 pub use samples::{samples_fault, samples_fit};
 pub use setup::{SetupFault, format_fault};

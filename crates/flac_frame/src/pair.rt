@@ -5,23 +5,23 @@ ghost use Rattle.std.specs.Int.{int_shr};
 ghost use Rattle.flac_bits.specs.Signed.{FitsBits};
 ghost use Rattle.flac_bits.specs.Written.{Writes};
 ghost use Rattle.flac_header.specs.Assignment.{code_of, IsAssignment};
-ghost use Rattle.flac_subframe.specs.Handed.{AreWithin};
 ghost use Rattle.flac_frame.specs.Audio.{samples_each};
-ghost use Rattle.flac_frame.specs.Chosen.{forms_of, AreMade, IsChoiceWith, HasPlaces};
+ghost use Rattle.flac_frame.specs.Chosen.{forms_by_plane, AreMadeByPlane, IsChoiceByPlane, HasPlaces};
 ghost use Rattle.flac_frame.specs.Encoding.{block_of, partition_limit};
 ghost use Rattle.flac_frame.specs.Frame.{side_bit, limits_at};
 ghost use Rattle.flac_frame.specs.Pair.{AreWide};
+ghost use Rattle.flac_frame.specs.PlaneLists.{lists_of, lists_kept, AreAllWithin};
 ghost use Rattle.flac_frame.specs.inner.Pair.{IsPairCode, IsFirstLeast, ArePlanes, pair_cost, choices_cost};
 ghost use Rattle.flac_frame.specs.Spelling.{subframes_spelling};
 ghost use Rattle.flac_frame.specs.Stereo.{side_of, middle_of, kept_as};
 
 use crate::audio::Audio;
-use crate::channels::side_bit;
+use crate::channels::{plane_of, side_bit};
 use crate::encode::widen;
 use crate::frame_choice::FrameChoice;
 use crate::pair_choices::PairChoices;
 use crate::plane::choose_plane;
-use crate::planes::Planes;
+use crate::planes::{LEFT, MIDDLE, Planes, RIGHT, SIDE};
 use crate::subject::Subject;
 use flac_bits::{BitWriter, Target, Why};
 use flac_header::{ChannelAssignment, FrameHeader};
@@ -106,8 +106,8 @@ fn choose_planes(
     requires block { length planes.now.left.now ≤ workspace.old.block }
     requires partition { partition_limit subject.now.audio.now ≤ workspace.old.most }
     requires wide { AreWide workspace.old.most choices.old }
-    requires orders { AreWithin (limits_at subject.now.audio.now.profile subject.now.audio.now.rate).linear subject.now.predictors.now }
-    ensures planes { ArePlanes (partition_limit subject.now.audio.now) subject.now.predictors.now planes.now.depth planes.now.left.now planes.now.right.now choices.new }
+    requires orders { AreAllWithin (limits_at subject.now.audio.now.profile subject.now.audio.now.rate).linear (lists_of subject.now.predictors.now) }
+    ensures planes { ArePlanes (partition_limit subject.now.audio.now) (lists_of subject.now.predictors.now) planes.now.depth planes.now.left.now planes.now.right.now choices.new }
     ensures valid { IsAssignment result.0 }
     ensures best { IsFirstLeast (choices_cost choices.new) (code_of result.0) }
     ensures bits { result.1 ≡ choices_cost choices.new (code_of result.0) }
@@ -115,11 +115,26 @@ fn choose_planes(
     ensures room { workspace.new ≡ workspace.old }
 {
     let depth = planes.depth;
-    choose_plane(planes.left, depth, subject, workspace, &mut choices.left);
-    choose_plane(planes.right, depth, subject, workspace, &mut choices.right);
+    choose_plane(
+        planes.left,
+        depth,
+        LEFT,
+        subject,
+        workspace,
+        &mut choices.left,
+    );
+    choose_plane(
+        planes.right,
+        depth,
+        RIGHT,
+        subject,
+        workspace,
+        &mut choices.right,
+    );
     choose_plane(
         planes.side,
         depth + 1,
+        SIDE,
         subject,
         workspace,
         &mut choices.side,
@@ -127,6 +142,7 @@ fn choose_planes(
     choose_plane(
         planes.middle,
         depth,
+        MIDDLE,
         subject,
         workspace,
         &mut choices.middle,
@@ -184,8 +200,8 @@ pub(crate) fn choose_pair(
     requires wide { AreWide workspace.old.most choices.old }
     requires choices { HasPlaces 2 workspace.old.most choice.old }
     requires number { subject.now.number < 2 ^ 31 }
-    requires orders { AreWithin (limits_at subject.now.audio.now.profile subject.now.audio.now.rate).linear subject.now.predictors.now }
-    ensures chosen { IsChoiceWith subject.now.predictors.now subject.now.audio.now subject.now.size subject.now.number (block_of subject.now.start subject.now.size subject.now.audio.now.channels) choice.new }
+    requires orders { AreAllWithin (limits_at subject.now.audio.now.profile subject.now.audio.now.rate).linear (lists_of subject.now.predictors.now) }
+    ensures chosen { IsChoiceByPlane (lists_of subject.now.predictors.now) subject.now.audio.now subject.now.size subject.now.number (block_of subject.now.start subject.now.size subject.now.audio.now.channels) choice.new }
     ensures wide { AreWide workspace.old.most choices.new }
     ensures choices { HasPlaces 2 workspace.old.most choice.new }
     ensures many { length choice.new.subframes.items ≡ length choice.old.subframes.items }
@@ -295,9 +311,9 @@ fn write_two<W: Target>(
     requires second { length second.now ≡ length first.now }
     requires first_fits { All (FitsBits (subject.now.audio.now.bits + side_bit choice.now.code 0)) first.now }
     requires second_fits { All (FitsBits (subject.now.audio.now.bits + side_bit choice.now.code 1)) second.now }
-    requires made { AreMade subject.now.predictors.now choice.now.subframes.items (first.now ∷ second.now ∷ []) }
+    requires made { AreMadeByPlane (lists_kept choice.now.code (lists_of subject.now.predictors.now)) choice.now.subframes.items (first.now ∷ second.now ∷ []) }
     requires choices { 2 ≤ length choice.now.subframes.items }
-    ensures text { Writes (subframes_spelling subject.now.audio.now.bits choice.now.code 0 (forms_of subject.now.predictors.now choice.now.subframes.items (first.now ∷ second.now ∷ []))) writer.old writer.new result }
+    ensures text { Writes (subframes_spelling subject.now.audio.now.bits choice.now.code 0 (forms_by_plane (lists_kept choice.now.code (lists_of subject.now.predictors.now)) choice.now.subframes.items (first.now ∷ second.now ∷ []))) writer.old writer.new result }
     ensures room { workspace.new ≡ workspace.old }
 {
     let assignment = choice.assignment();
@@ -309,9 +325,10 @@ fn write_two<W: Target>(
     let right = &subframes[1];
     let left_depth = depth + side_bit(assignment, 0);
     let right_depth = depth + side_bit(assignment, 1);
-    let predictors = subject.predictors;
-    write_subframe_in(left, predictors, first, left_depth, workspace, writer)?;
-    write_subframe_in(right, predictors, second, right_depth, workspace, writer)
+    let left_list = subject.predictors.list(plane_of(assignment, 0));
+    let right_list = subject.predictors.list(plane_of(assignment, 1));
+    write_subframe_in(left, left_list, first, left_depth, workspace, writer)?;
+    write_subframe_in(right, right_list, second, right_depth, workspace, writer)
 }
 
 /// Writes the subframes that were chosen of a block of two channels, with places for twice as many samples.
@@ -326,9 +343,9 @@ pub(crate) fn write_pair<W: Target>(
     requires places { 2 * subject.now.size ≤ length places.old }
     requires block { subject.now.size ≤ workspace.old.block }
     requires code { IsPairCode choice.now.code }
-    requires made { AreMade subject.now.predictors.now choice.now.subframes.items (kept_as choice.now.code (block_of subject.now.start subject.now.size subject.now.audio.now.channels)) }
+    requires made { AreMadeByPlane (lists_kept choice.now.code (lists_of subject.now.predictors.now)) choice.now.subframes.items (kept_as choice.now.code (block_of subject.now.start subject.now.size subject.now.audio.now.channels)) }
     requires choices { 2 ≤ length choice.now.subframes.items }
-    ensures text { Writes (subframes_spelling subject.now.audio.now.bits choice.now.code 0 (forms_of subject.now.predictors.now choice.now.subframes.items (kept_as choice.now.code (block_of subject.now.start subject.now.size subject.now.audio.now.channels)))) writer.old writer.new result }
+    ensures text { Writes (subframes_spelling subject.now.audio.now.bits choice.now.code 0 (forms_by_plane (lists_kept choice.now.code (lists_of subject.now.predictors.now)) choice.now.subframes.items (kept_as choice.now.code (block_of subject.now.start subject.now.size subject.now.audio.now.channels)))) writer.old writer.new result }
     ensures room { workspace.new ≡ workspace.old }
 {
     let size = subject.size;

@@ -3,19 +3,21 @@
 ghost use Rattle.std.specs.Prelude.{◌≡◌, ◌<◌, ◌≤◌, ◌^◌, length, vec_len, All};
 ghost use Rattle.flac_bits.specs.Signed.{FitsBits};
 ghost use Rattle.flac_subframe.specs.Family.{IsMadeIn, form_in};
-ghost use Rattle.flac_subframe.specs.Handed.{AreWithin};
 ghost use Rattle.flac_frame.specs.Encoding.{partition_limit};
 ghost use Rattle.flac_frame.specs.Frame.{limits_at};
+ghost use Rattle.flac_frame.specs.PlaneLists.{lists_of, AreAllWithin};
 ghost use Rattle.flac_frame.specs.inner.Pair.{IsChosen};
 
 use crate::limits::limits_at;
 use crate::subject::Subject;
 use flac_subframe::{WideChoice, Workspace, choose_in};
 
-/// Chooses a shortest subframe of some samples of a depth, under the profile and with the predictors of a subject.
+/// Chooses a shortest subframe of the samples of a plane, of a depth, under the profile of a subject and with the
+/// predictors that it has for the plane.
 pub(crate) fn choose_plane(
     samples: &[i64],
     depth: u32,
+    plane: usize,
     subject: &Subject<'_>,
     workspace: &mut Workspace,
     choice: &mut WideChoice,
@@ -26,21 +28,15 @@ pub(crate) fn choose_plane(
     requires fits { All (FitsBits depth) samples.now }
     requires partition { partition_limit subject.now.audio.now ≤ workspace.old.most }
     requires places { 2 ^ partition_limit subject.now.audio.now ≤ vec_len choice.old.codings }
-    requires orders { AreWithin (limits_at subject.now.audio.now.profile subject.now.audio.now.rate).linear subject.now.predictors.now }
-    ensures chosen { IsChosen (partition_limit subject.now.audio.now) subject.now.predictors.now depth samples.now (form_in subject.now.predictors.now choice.new samples.now) choice.new.bits }
-    ensures made { IsMadeIn subject.now.predictors.now choice.new samples.now }
+    requires orders { AreAllWithin (limits_at subject.now.audio.now.profile subject.now.audio.now.rate).linear (lists_of subject.now.predictors.now) }
+    ensures chosen { IsChosen (partition_limit subject.now.audio.now) (lists_of subject.now.predictors.now plane) depth samples.now (form_in (lists_of subject.now.predictors.now plane) choice.new samples.now) choice.new.bits }
+    ensures made { IsMadeIn (lists_of subject.now.predictors.now plane) choice.new samples.now }
     ensures small { choice.new.bits ≤ 2 ^ 61 }
     ensures places { vec_len choice.new.codings ≡ vec_len choice.old.codings }
     ensures room { workspace.new ≡ workspace.old }
 {
     let audio = subject.audio;
     let limits = limits_at(audio.profile(), audio.rate());
-    choose_in(
-        samples,
-        depth,
-        &limits,
-        subject.predictors,
-        workspace,
-        choice,
-    );
+    let predictors = subject.predictors.list(plane);
+    choose_in(samples, depth, &limits, predictors, workspace, choice);
 }

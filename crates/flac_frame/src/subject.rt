@@ -4,18 +4,18 @@ ghost use Rattle.std.specs.Prelude.{◌≡◌, ◌≤◌, ◌<◌, ◌+◌, ◌-
 ghost use Rattle.flac_frame.specs.Audio.{samples_each};
 
 use crate::audio::Audio;
-use flac_subframe::LinearPredictor;
+use crate::plane_predictors::PlanePredictors;
 use std::ops::Range;
 
 /// What a frame is chosen and written of: `size` samples of each channel from `start` on, the frame's number, and the
-/// linear predictors beside the fixed ones.
+/// linear predictors of each plane beside the fixed ones.
 #[derive(Drop)]
 pub(crate) struct Subject<'a> {
     pub(crate) audio: &'a Audio,
     pub(crate) start: usize,
     pub(crate) size: usize,
     pub(crate) number: u64,
-    pub(crate) predictors: &'a [LinearPredictor],
+    pub(crate) predictors: &'a PlanePredictors<'a>,
     ghost some: { 0 < size },
     ghost few: { size ≤ 65535 },
     ghost within: { start + size ≤ samples_each audio.now.channels },
@@ -27,7 +27,7 @@ impl<'a> Subject<'a> {
         audio: &'a Audio,
         range: Range<usize>,
         number: u64,
-        predictors: &'a [LinearPredictor],
+        predictors: &'a PlanePredictors<'a>,
     ) -> Subject<'a>
         requires some { range.start < range.end }
         requires few { range.end - range.start ≤ 65535 }

@@ -5,6 +5,8 @@
 #[cfg(test)]
 mod blocks;
 #[cfg(test)]
+mod by_plane;
+#[cfg(test)]
 mod enumeration;
 #[cfg(test)]
 mod equals;

@@ -10,6 +10,7 @@ use Rattle.flac_subframe.specs.Handed.{AreWithin}
 use Rattle.flac_subframe.specs.Least.{IsLeast}
 use Rattle.flac_subframe.specs.Spelling.{subframe_spelling, IsSubframe}
 use Rattle.flac_subframe.specs.Subframe.{Form, samples_of}
+use Rattle.flac_frame.specs.PlaneLists.{Lists, same_list, later}
 
 -- ---- a frame
 
@@ -20,21 +21,24 @@ abbrev pub IsLeastFor : (most : ℕ) → List LinearPredictor → ℕ → List �
 IsLeastFor most ps depth s f = IsLeast (λ g. Stands most (offered ps) g s) (λ g. length (subframe_spelling depth g)) f
 
 -- each channel's subframe is the shortest by itself
-abbrev pub AreLeast : (most : ℕ) → List LinearPredictor → ℕ → List Form → List (List ℤ) → Type 0
-AreLeast most ps depth [] [] = ⊤
-AreLeast most ps depth [] (s ∷ ss) = ⊥
-AreLeast most ps depth (f ∷ fs) [] = ⊥
-AreLeast most ps depth (f ∷ fs) (s ∷ ss) = IsLeastFor most ps depth s f × AreLeast most ps depth fs ss
+abbrev pub AreLeast : (most : ℕ) → Lists → ℕ → List Form → List (List ℤ) → Type 0
+AreLeast most lists depth [] [] = ⊤
+AreLeast most lists depth [] (s ∷ ss) = ⊥
+AreLeast most lists depth (f ∷ fs) [] = ⊥
+AreLeast most lists depth (f ∷ fs) (s ∷ ss) = IsLeastFor most (lists 0) depth s f × AreLeast most (later lists) depth fs ss
 
 -- ---- its parts
 
 -- forms that may be spelled, if the orders of the predictors are within the limit, have the samples of channels, each
 -- by itself
+abbrev pub AreFormsByPlane : (most : ℕ) → Lists → (depth size : ℕ) → List Form → List (List ℤ) → Type 0
+AreFormsByPlane most lists depth size [] [] = ⊤
+AreFormsByPlane most lists depth size [] (s ∷ ss) = ⊥
+AreFormsByPlane most lists depth size (f ∷ fs) [] = ⊥
+AreFormsByPlane most lists depth size (f ∷ fs) (s ∷ ss) = ((limits : Limits) → most ≤ limits.partition → AreWithin limits.linear (lists 0) → IsSubframe depth size limits f) × (samples_of depth size f ≡ Some s) × AreFormsByPlane most (later lists) depth size fs ss
+
 abbrev pub AreForms : (most : ℕ) → List LinearPredictor → (depth size : ℕ) → List Form → List (List ℤ) → Type 0
-AreForms most ps depth size [] [] = ⊤
-AreForms most ps depth size [] (s ∷ ss) = ⊥
-AreForms most ps depth size (f ∷ fs) [] = ⊥
-AreForms most ps depth size (f ∷ fs) (s ∷ ss) = ((limits : Limits) → most ≤ limits.partition → AreWithin limits.linear ps → IsSubframe depth size limits f) × (samples_of depth size f ≡ Some s) × AreForms most ps depth size fs ss
+AreForms most ps = AreFormsByPlane most (same_list ps)
 
 -- zeros up to a whole byte after a mark, and CRC-16
 abbrev pub end_spelling : Mark → List Bool

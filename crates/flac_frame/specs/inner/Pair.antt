@@ -8,6 +8,7 @@ use Rattle.flac_subframe.specs.Handed.{AreWithin}
 use Rattle.flac_subframe.specs.Spelling.{subframe_spelling, IsSubframe}
 use Rattle.flac_subframe.specs.Subframe.{Form, samples_of}
 use Rattle.flac_frame.specs.inner.Encoding.{IsLeastFor}
+use Rattle.flac_frame.specs.PlaneLists.{Lists}
 use Rattle.flac_frame.specs.Stereo.{side_of, middle_of}
 use Rattle.flac_frame.specs.declared.pair_choices.PairChoices.{PairChoices}
 
@@ -37,12 +38,12 @@ pub record IsPlane (most : ℕ) (ps : List LinearPredictor) (depth : ℕ) (s : L
   pub chosen : IsChosen most ps depth s (form_in ps c s) c.bits
   pub made : IsMadeIn ps c s
 
--- what was chosen for left and right, for their side and for their middle (section 4.2)
-pub record ArePlanes (most : ℕ) (ps : List LinearPredictor) (depth : ℕ) (left right : List ℤ) (c : PairChoices) : Type 0 where
-  pub lefts : IsPlane most ps depth left c.left
-  pub rights : IsPlane most ps depth right c.right
-  pub sides : IsPlane most ps (depth + 1) (side_of left right) c.side
-  pub middles : IsPlane most ps depth (middle_of left right) c.middle
+-- what was chosen for left and right, for their side and for their middle (section 4.2), each with its own list
+pub record ArePlanes (most : ℕ) (lists : Lists) (depth : ℕ) (left right : List ℤ) (c : PairChoices) : Type 0 where
+  pub lefts : IsPlane most (lists 0) depth left c.left
+  pub rights : IsPlane most (lists 1) depth right c.right
+  pub sides : IsPlane most (lists 2) (depth + 1) (side_of left right) c.side
+  pub middles : IsPlane most (lists 3) depth (middle_of left right) c.middle
 
 -- how many bits two subframes take under a code
 abbrev pub choices_cost : PairChoices → ℕ → ℕ

@@ -3,7 +3,8 @@ use Rattle.std.proofs.lemmas.List.{with_items_is}
 use Rattle.std.specs.Vec.{with_items}
 use Rattle.flac_subframe.specs.Spelling.{subframe_spelling}
 use Rattle.flac_subframe.specs.declared.wide.WideChoice.{WideChoice}
-use Rattle.flac_frame.specs.Chosen.{forms_of, AllWide}
+use Rattle.flac_frame.specs.Chosen.{forms_by_plane, AllWide}
+use Rattle.flac_frame.specs.PlaneLists.{lists_of}
 use Rattle.flac_frame.specs.inner.Chosen.{AreChosen}
 use Rattle.flac_frame.specs.Encoding.{block_of, partition_limit}
 use Rattle.flac_frame.specs.declared.frame_choice.FrameChoice.{FrameChoice}
@@ -41,10 +42,10 @@ returns-clause-chosen c =
     let long : length k.new.subframes ≡ c.args.choice.now.subframes.len = k.auto.subframes ∙ ap length c.deref_mut.ensures.value ∙ sym c.args.choice.now.subframes.ok.0 in
     let back : made.subframes.items ≡ k.new.subframes = with_items_is c.args.choice.now.subframes k.new.subframes long in
     let many = many_channels (λ v. v.items) c.channels-channels.result.now a e.sound e.items in
-    apart_choice a e.sound s.predictors.now c.requires.orders s.start s.size s.number c.profile.result c.rate.result code c.bits-depth.result c.chosen_in-header.result made
+    apart_choice a e.sound (lists_of s.predictors.now) c.requires.orders s.start s.size s.number c.profile.result c.rate.result code c.bits-depth.result c.chosen_in-header.result made
     c.profile.ensures c.rate.ensures c.bits-depth.ensures c.requires.other (omega (arith, many, e.sound.some)) refl (omega (arith, s.some)) s.few s.within c.requires.number c.chosen_in-header.ensures.chosen c.chosen_in-header.ensures.valid
-    (subst (λ l. AreChosen (partition_limit a) s.predictors.now a.bits s.size l (block_of s.start s.size a.channels)) (sym back) k.ensures.chosen)
-    (k.ensures.bits ∙ ap (λ l. length (flat_map (subframe_spelling a.bits) (forms_of s.predictors.now l (block_of s.start s.size a.channels)))) (sym back))
+    (subst (λ l. AreChosen (partition_limit a) (lists_of s.predictors.now) a.bits s.size l (block_of s.start s.size a.channels)) (sym back) k.ensures.chosen)
+    (k.ensures.bits ∙ ap (λ l. length (flat_map (subframe_spelling a.bits) (forms_by_plane (lists_of s.predictors.now) l (block_of s.start s.size a.channels)))) (sym back))
 
 pub returns-clause-choices : goal.returns-clause-choices
 returns-clause-choices c =

@@ -8,9 +8,10 @@ use Rattle.flac_subframe.specs.Room.{Room}
 use Rattle.flac_subframe.specs.Spelling.{subframe_spelling}
 use Rattle.flac_subframe.specs.declared.wide.WideChoice.{WideChoice}
 use Rattle.flac_frame.specs.Audio.{Sound, IsSound}
-use Rattle.flac_frame.specs.Chosen.{forms_of}
+use Rattle.flac_frame.specs.Chosen.{forms_by_plane}
 use Rattle.flac_frame.specs.inner.Chosen.{AreChosen}
 use Rattle.flac_frame.specs.Encoding.{block_of, partition_limit}
+use Rattle.flac_frame.specs.PlaneLists.{lists_of}
 use Rattle.flac_frame.proofs.Chosen.{FirstChosen, none_chosen, one_chosen, all_chosen}
 use Rattle.flac_frame.proofs.Encoded.{block_more}
 use Rattle.flac_frame.proofs.Frames.{many_channels, few_channels, part_small, bits_small}
@@ -26,9 +27,6 @@ in_range items xs a good are i lt = subst (λ n. i < n) (many_channels items xs 
 -- how many bits the subframes so far take at most
 none_more : 0 ≤ 0 * 2097160
 none_more = omega arith
-
-one_at_least : (n : ℕ) → 0 < n → 1 ≤ n
-one_at_least n some = omega arith
 
 below : (i n : ℕ) → i < n → i ≤ n
 below i n lt = omega arith
@@ -91,7 +89,7 @@ loop-i-smaller c = falls _ _ c.loop-i-test.true
 
 pub loop-i-init : goal.loop-i-init
 loop-i-init c = record {
-  first = none_chosen (partition_limit c.args.subject.now.audio.now) c.args.subject.now.predictors.now c.bits-depth.result c.args.subject.now.size c.args.subframes.now;
+  first = none_chosen (partition_limit c.args.subject.now.audio.now) (lists_of c.args.subject.now.predictors.now) c.bits-depth.result c.args.subject.now.size c.args.subframes.now;
   few = none_more;
   wide = c.requires.wide;
   room = refl;
@@ -107,12 +105,11 @@ pub loop-i-preserved : goal.loop-i-preserved
 loop-i-preserved c =
     let w = c.channels-channels.ensures in
     let a = c.args.subject.now.audio.now in
-    let ps = c.args.subject.now.predictors.now in
+    let lists = lists_of c.args.subject.now.predictors.now in
     let most : ℕ = partition_limit a in
     let depth : ℕ = c.bits-depth.result in
     let start : ℕ = c.args.subject.now.start in
     let size : ℕ = c.args.subject.now.size in
-    let some : 1 ≤ size = one_at_least size c.args.subject.now.some in
     let i = c.loop-i.i in
     let s = c.widen.new.out in
     let y = c.choose_plane.new.choice in
@@ -124,15 +121,15 @@ loop-i-preserved c =
     let long : length s ≡ size = c.widen.auto.out ∙ c.loop-i.auto.samples ∙ c.requires.size in
     let within : i < length a.channels = in_range (λ v. v.items) c.channels-channels.result.now a w.sound w.items i c.loop-i-test.true in
     let lt : i < length c.loop-i.subframes = in_reach _ _ _ _ _ within refl c.requires.choices c.loop-i.auto.subframes in
-    let made = one_chosen most ps depth size deep.0 some c.loop-i.subframes i block y s c.loop-i.bits c.bits-bits.result (block_long start size i a.channels (below i (length a.channels) within)) lt c.loop-i.invariant.first
-    e.made k.valid k.samples k.least (c.bits-bits.ensures ∙ k.cost) long in
+    let made = one_chosen most lists depth size c.loop-i.subframes i block y s c.loop-i.bits c.bits-bits.result (block_long start size i a.channels (below i (length a.channels) within)) lt c.loop-i.invariant.first
+    (record { made = e.made; valid = k.valid; samples = k.samples; least = k.least; cost = c.bits-bits.ensures ∙ k.cost }) long in
     let is : block ++ s ∷ [] ≡ block_of start size (take (i + 1) a.channels) = ap (λ k. block ++ k ∷ []) so ∙ sym (block_more start size a.channels i within) in
     let fits : All (FitsBits depth) s = subst (All (FitsBits depth)) (sym so) (part_small a w.sound start size i depth c.bits-depth.ensures within) in
-    let one = one_short most (limit_few a.profile a.rate) ps depth deep.0 _ s (some_of _ _ long some) fits k.least in
+    let one = one_short most (limit_few a.profile a.rate) (lists i) depth deep.0 _ s (some_of _ _ long c.args.subject.now.some) fits k.least in
     let more : c.bits-bits.result ≤ 2097160 = few_bits depth (length s) c.bits-bits.result deep.1 (as_few _ _ _ long c.args.subject.now.few) (as_few _ _ _ (c.bits-bits.ensures ∙ k.cost) one) in
     let here : 2 ^ c.args.workspace.now.most ≤ vec_len y.codings = wide_still _ _ _ e.places (c.loop-i.invariant.wide i c.index-subframes-i.result lt) in
     record {
-      first = subst (λ b. FirstChosen most ps depth size (set c.loop-i.subframes i y) (i + 1) b (c.loop-i.bits + c.bits-bits.result)) is made;
+      first = subst (λ b. FirstChosen most lists depth size (set c.loop-i.subframes i y) (i + 1) b (c.loop-i.bits + c.bits-bits.result)) is made;
       few = more_bits _ _ _ c.loop-i.invariant.few more;
       wide = All-set (λ (v : WideChoice). 2 ^ c.args.workspace.now.most ≤ vec_len v.codings) c.loop-i.subframes i y here c.loop-i.invariant.wide;
       room = e.room ∙ c.loop-i.invariant.room;
@@ -146,23 +143,23 @@ pub returns-clause-chosen : goal.returns-clause-chosen
 returns-clause-chosen c =
     let e = c.channels-channels.ensures in
     let a = c.args.subject.now.audio.now in
-    let ps = c.args.subject.now.predictors.now in
+    let lists = lists_of c.args.subject.now.predictors.now in
     let size : ℕ = c.args.subject.now.size in
     let many = many_channels (λ v. v.items) c.channels-channels.result.now a e.sound e.items in
     let k = whole c.args.subject.now.start size c.loop-i.i a.channels (subst (λ n. n ≤ c.loop-i.i) many c.loop-i-test.false) (subst (λ n. c.loop-i.i ≤ n) many c.loop-i.auto.i-end) in
-    subst (λ d. AreChosen (partition_limit a) ps d size c.loop-i.subframes (block_of c.args.subject.now.start size a.channels)) c.bits-depth.ensures
-    (subst (λ b. AreChosen (partition_limit a) ps c.bits-depth.result size c.loop-i.subframes b) k.0 (all_chosen (partition_limit a) ps c.bits-depth.result size c.loop-i.subframes c.loop-i.i _ c.loop-i.bits k.1 c.loop-i.invariant.first).0)
+    subst (λ d. AreChosen (partition_limit a) lists d size c.loop-i.subframes (block_of c.args.subject.now.start size a.channels)) c.bits-depth.ensures
+    (subst (λ b. AreChosen (partition_limit a) lists c.bits-depth.result size c.loop-i.subframes b) k.0 (all_chosen (partition_limit a) lists c.bits-depth.result size c.loop-i.subframes c.loop-i.i _ c.loop-i.bits k.1 c.loop-i.invariant.first).0)
 
 pub returns-clause-bits : goal.returns-clause-bits
 returns-clause-bits c =
     let e = c.channels-channels.ensures in
     let a = c.args.subject.now.audio.now in
-    let ps = c.args.subject.now.predictors.now in
+    let lists = lists_of c.args.subject.now.predictors.now in
     let size : ℕ = c.args.subject.now.size in
     let many = many_channels (λ v. v.items) c.channels-channels.result.now a e.sound e.items in
     let k = whole c.args.subject.now.start size c.loop-i.i a.channels (subst (λ n. n ≤ c.loop-i.i) many c.loop-i-test.false) (subst (λ n. c.loop-i.i ≤ n) many c.loop-i.auto.i-end) in
-    (all_chosen (partition_limit a) ps c.bits-depth.result size c.loop-i.subframes c.loop-i.i _ c.loop-i.bits k.1 c.loop-i.invariant.first).1 ∙ ap (λ b. length (flat_map (subframe_spelling c.bits-depth.result) (forms_of ps c.loop-i.subframes b))) k.0
-    ∙ ap (λ d. length (flat_map (subframe_spelling d) (forms_of ps c.loop-i.subframes (block_of c.args.subject.now.start size a.channels)))) c.bits-depth.ensures
+    (all_chosen (partition_limit a) lists c.bits-depth.result size c.loop-i.subframes c.loop-i.i _ c.loop-i.bits k.1 c.loop-i.invariant.first).1 ∙ ap (λ b. length (flat_map (subframe_spelling c.bits-depth.result) (forms_by_plane lists c.loop-i.subframes b))) k.0
+    ∙ ap (λ d. length (flat_map (subframe_spelling d) (forms_by_plane lists c.loop-i.subframes (block_of c.args.subject.now.start size a.channels)))) c.bits-depth.ensures
 
 pub returns-clause-wide : goal.returns-clause-wide
 returns-clause-wide c = c.loop-i.invariant.wide

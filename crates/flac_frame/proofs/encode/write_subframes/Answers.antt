@@ -2,6 +2,7 @@ use Rattle.std.proofs.Common.{◌≡◌, ◌∙◌, ◌≤◌, ap, subst, sym, l
 use Rattle.std.proofs.lemmas.List.{length-map, length-take-le}
 use Rattle.flac_bits.specs.Written.{Writes}
 use Rattle.flac_frame.specs.Encoding.{block_of}
+use Rattle.flac_frame.specs.PlaneLists.{lists_of}
 use Rattle.flac_frame.proofs.Frames.{many_channels, few_channels}
 use Rattle.flac_frame.proofs.Rooms.{as_few, half_of}
 use Rattle.flac_frame.proofs.Written.{pair_code, apart_made, apart_parts}
@@ -22,7 +23,7 @@ write_pair-requires g c =
       two = two;
       places = c.requires.places;
       block = c.requires.block;
-      code = pair_code s.predictors.now a s.size s.number (block_of s.start s.size a.channels) c.args.choice.now c.requires.chosen (many ∙ c.if-channels-eq2.true);
+      code = pair_code (lists_of s.predictors.now) a s.size s.number (block_of s.start s.size a.channels) c.args.choice.now c.requires.chosen (many ∙ c.if-channels-eq2.true);
       made = c.requires.chosen.made;
       choices = subst (λ n. n ≤ length c.args.choice.now.subframes.items) two c.requires.choices;
     }
@@ -47,7 +48,7 @@ write_channels-requires g c =
       size = length-take-le s.size c.args.places.now (half_of _ _ c.requires.places);
       block = c.requires.block;
       choices = c.requires.choices;
-      made = apart_made s.predictors.now a s.size s.number (block_of s.start s.size a.channels) c.args.choice.now c.requires.chosen (λ two. c.if-channels-eq2.false (sym many ∙ two)) (as_few _ _ _ many few.1);
+      made = apart_made (lists_of s.predictors.now) a s.size s.number (block_of s.start s.size a.channels) c.args.choice.now c.requires.chosen (λ two. c.if-channels-eq2.false (sym many ∙ two)) (as_few _ _ _ many few.1);
     }
 
 pub returns : goal.returns
@@ -57,7 +58,7 @@ returns g c =
     let a = s.audio.now in
     let many = block_many (λ v. v.items) s.start s.size c.channels-channels.result.now a.channels e.items in
     let few = few_channels (λ v. v.items) c.channels-channels.result.now a e.sound e.items in
-    let parts = apart_parts s.predictors.now a s.size s.number (block_of s.start s.size a.channels) c.args.choice.now c.requires.chosen (λ two. c.if-channels-eq2.false (sym many ∙ two)) (as_few _ _ _ many few.1) in
+    let parts = apart_parts (lists_of s.predictors.now) a s.size s.number (block_of s.start s.size a.channels) c.args.choice.now c.requires.chosen (λ two. c.if-channels-eq2.false (sym many ∙ two)) (as_few _ _ _ many few.1) in
     record {
       text = subst (λ t. Writes t c.args.writer.now c.write_channels.new.writer c.write_channels.result) parts c.write_channels.ensures.text;
       room = c.write_channels.ensures.room;

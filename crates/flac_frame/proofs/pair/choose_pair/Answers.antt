@@ -8,6 +8,7 @@ use Rattle.flac_header.specs.Assignment.{code_of}
 use Rattle.flac_frame.specs.Audio.{samples_each}
 use Rattle.flac_frame.specs.Chosen.{AllWide}
 use Rattle.flac_frame.specs.Encoding.{block_of, partition_limit}
+use Rattle.flac_frame.specs.PlaneLists.{lists_of}
 use Rattle.flac_frame.specs.inner.Pair.{ArePlanes}
 use Rattle.flac_frame.proofs.PairLeast.{pair_choice}
 use Rattle.flac_frame.proofs.Rooms.{as_few, some_of, quarter}
@@ -97,12 +98,12 @@ returns-clause-chosen c =
     let old = c.deref_mut.result.now in
     let made : FrameChoice = record { code = c.code-code.result; bits = k.result.1; subframes = with_items c.args.choice.now.subframes c.keep.new.places } in
     let back : made.subframes.items ≡ c.keep.new.places = with_items_is c.args.choice.now.subframes c.keep.new.places (c.keep.auto.places ∙ ap length c.deref_mut.ensures.value ∙ sym c.args.choice.now.subframes.ok.0) in
-    let planes = subst (λ b. ArePlanes (partition_limit a) c.args.subject.now.predictors.now b s.new.left s.new.right k.new.choices) c.bits-depth.ensures k.ensures.planes in
+    let planes = subst (λ b. ArePlanes (partition_limit a) (lists_of c.args.subject.now.predictors.now) b s.new.left s.new.right k.new.choices) c.bits-depth.ensures k.ensures.planes in
     let long : length s.new.left ≡ n = s.auto.left ∙ c.split_at_mut-left.ensures.front_len in
     let right_long : length s.new.right ≡ length s.new.left = s.auto.right ∙ c.split_at_mut-right.ensures.front_len ∙ sym long in
     let front : length c.split_at_mut-left.result.0.now ≡ n = c.split_at_mut-left.ensures.front_len in
     let block : s.new.left ∷ s.new.right ∷ [] ≡ block_of c.args.subject.now.start n a.channels = s.ensures.block ∙ ap (λ (m : ℕ). block_of c.args.subject.now.start m a.channels) front in
-    pair_choice c.args.subject.now.predictors.now a c.args.subject.now.number n s.new.left s.new.right (block_of c.args.subject.now.start n a.channels) k.new.choices (code_of k.result.0) planes k.ensures.best c.channels-channels.ensures.sound c.requires.orders
+    pair_choice (lists_of c.args.subject.now.predictors.now) a c.args.subject.now.number n s.new.left s.new.right (block_of c.args.subject.now.start n a.channels) k.new.choices (code_of k.result.0) planes k.ensures.best c.channels-channels.ensures.sound c.requires.orders
     (at_least_one n c.args.subject.now.some) c.args.subject.now.few long right_long s.ensures.left_fits s.ensures.right_fits block
     c.profile.result c.rate.result c.bits-depth.result c.chosen_in-header.result c.profile.ensures c.rate.ensures c.bits-depth.ensures (rw c.code-code.ensures.code at c.chosen_in-header.ensures.chosen) c.chosen_in-header.ensures.valid c.requires.number
     made old (subst (λ (l : List WideChoice). 2 ≤ length l) (sym c.deref_mut.ensures.value) c.requires.choices.many) c.code-code.ensures.code (back ∙ c.keep.ensures.kept) k.ensures.bits

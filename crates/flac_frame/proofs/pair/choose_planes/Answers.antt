@@ -3,6 +3,7 @@ use Rattle.flac_bits.specs.Signed.{FitsBits}
 use Rattle.flac_header.specs.Assignment.{code_of}
 use Rattle.flac_subframe.specs.Room.{Room}
 use Rattle.flac_frame.specs.Encoding.{partition_limit}
+use Rattle.flac_frame.specs.PlaneLists.{lists_of}
 use Rattle.flac_frame.specs.inner.Pair.{IsFirstLeast, IsPlane, pair_cost}
 use Rattle.flac_frame.proofs.Pairs.{side_long, middle_long, side_fits, middle_fits}
 use Rattle.flac_frame.proofs.Rooms.{as_few, room_for, some_of, wide_for, wide_still}
@@ -94,7 +95,7 @@ pub returns : goal.returns
 returns c =
     let p = c.args.planes.now in
     let most : ℕ = partition_limit c.args.subject.now.audio.now in
-    let ps = c.args.subject.now.predictors.now in
+    let lists = lists_of c.args.subject.now.predictors.now in
     let l = c.choose_plane.ensures in
     let r = c.choose_plane-2.ensures in
     let s = c.choose_plane-3.ensures in
@@ -105,8 +106,8 @@ returns c =
       planes = record {
         lefts = record { chosen = l.chosen; made = l.made };
         rights = record { chosen = r.chosen; made = r.made };
-        sides = subst (λ k. IsPlane most ps (p.depth + 1) k c.choose_plane-3.new.choice) p.sides (record { chosen = s.chosen; made = s.made });
-        middles = subst (λ k. IsPlane most ps p.depth k c.choose_plane-4.new.choice) p.middles (record { chosen = m.chosen; made = m.made });
+        sides = subst (λ k. IsPlane most (lists 2) (p.depth + 1) k c.choose_plane-3.new.choice) p.sides (record { chosen = s.chosen; made = s.made });
+        middles = subst (λ k. IsPlane most (lists 3) p.depth k c.choose_plane-4.new.choice) p.middles (record { chosen = m.chosen; made = m.made });
       };
       valid = c.least_assignment.ensures.valid;
       best = subst (λ f. IsFirstLeast f code) cost c.least_assignment.ensures.best;

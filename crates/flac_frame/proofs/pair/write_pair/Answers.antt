@@ -4,7 +4,8 @@ use Rattle.flac_bits.specs.Signed.{FitsBits}
 use Rattle.flac_bits.specs.Written.{Writes}
 use Rattle.flac_header.specs.Assignment.{code_of}
 use Rattle.flac_frame.specs.Audio.{samples_each}
-use Rattle.flac_frame.specs.Chosen.{forms_of, AreMade}
+use Rattle.flac_frame.specs.Chosen.{forms_by_plane, AreMadeByPlane}
+use Rattle.flac_frame.specs.PlaneLists.{lists_of, lists_kept}
 use Rattle.flac_frame.specs.Encoding.{block_of}
 use Rattle.flac_frame.specs.Frame.{side_bit}
 use Rattle.flac_frame.specs.Spelling.{subframes_spelling}
@@ -48,7 +49,7 @@ write_two-requires g c =
       second = c.keep_pair.auto.second ∙ places ∙ sym long;
       first_fits = subst (λ k. All (FitsBits (s.audio.now.bits + side_bit k 0)) c.keep_pair.new.first) same c.keep_pair.ensures.first_fits;
       second_fits = subst (λ k. All (FitsBits (s.audio.now.bits + side_bit k 1)) c.keep_pair.new.second) same c.keep_pair.ensures.second_fits;
-      made = subst (AreMade s.predictors.now c.args.choice.now.subframes.items) kept c.requires.made;
+      made = subst (AreMadeByPlane (lists_kept c.args.choice.now.code (lists_of s.predictors.now)) c.args.choice.now.subframes.items) kept c.requires.made;
       choices = c.requires.choices;
     }
 
@@ -60,6 +61,6 @@ returns g c =
     let channels = s.audio.now.channels in
     let kept = ap (λ k. kept_as k (block_of s.start s.size channels)) (sym same) ∙ ap (λ n. kept_as (code_of c.assignment-assignment.result) (block_of s.start n channels)) (sym front) ∙ c.keep_pair.ensures.kept in
     record {
-      text = subst (λ b. Writes (subframes_spelling s.audio.now.bits c.args.choice.now.code 0 (forms_of s.predictors.now c.args.choice.now.subframes.items b)) c.args.writer.now c.write_two.new.writer c.write_two.result) (sym kept) c.write_two.ensures.text;
+      text = subst (λ b. Writes (subframes_spelling s.audio.now.bits c.args.choice.now.code 0 (forms_by_plane (lists_kept c.args.choice.now.code (lists_of s.predictors.now)) c.args.choice.now.subframes.items b)) c.args.writer.now c.write_two.new.writer c.write_two.result) (sym kept) c.write_two.ensures.text;
       room = c.write_two.ensures.room;
     }

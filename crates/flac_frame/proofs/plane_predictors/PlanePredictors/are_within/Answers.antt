@@ -1,0 +1,30 @@
+use Rattle.std.proofs.Common.{◌≡◌, Vec, Global, subst, sym, arith, true, false}
+use Rattle.std.proofs.lemmas.List.Elements.{All-more}
+use Rattle.flac_subframe.specs.declared.linear.LinearPredictor.{LinearPredictor}
+use Rattle.flac_subframe.specs.Handed.{AreWithin}
+use Rattle.flac_frame.proofs.PlaneLists.{all_lists, rest_within, one_within}
+use Rattle.flac_frame.proofs.plane_predictors.PlanePredictors.are_within.Goals as goal
+
+pub loop-list-preserved : goal.loop-list-preserved
+loop-list-preserved c =
+    let one = subst (AreWithin c.args.limit) c.as_slice.ensures.value (c.are_within.ensures.0 c.if-not-are_within.false) in
+    All-more (λ (v : Vec LinearPredictor Global). AreWithin c.args.limit v.items) c.args.self.now.lists.now c.loop-list.list-index c.list-item.result c.loop-list-test.true c.loop-list.invariant (subst (λ (v : Vec LinearPredictor Global). AreWithin c.args.limit v.items) c.list-item.is one)
+
+pub returns-then-not-are_within : goal.returns-then-not-are_within
+returns-then-not-are_within c =
+    let p = c.args.self.now in (
+      λ no. cc,
+      λ all.
+          let one = one_within c.args.limit p.lists.now p.others.now all c.loop-list.list-index c.list-item.result c.loop-list-test.true c.list-item.is in
+          let yes : c.are_within.result ≡ true = c.are_within.ensures.1 (subst (AreWithin c.args.limit) (sym c.as_slice.ensures.value) one) in
+          let no : c.are_within.result ≡ false = c.if-not-are_within.true in
+          absurd cc,
+    )
+
+pub returns : goal.returns
+returns c =
+    let p = c.args.self.now in
+    let e = c.are_within-2.ensures in (
+      λ yes. all_lists c.args.limit p.lists.now p.others.now c.loop-list.list-index (omega (arith, c.loop-list-test.false)) c.loop-list.invariant (e.0 yes),
+      λ all. e.1 (rest_within c.args.limit p.lists.now p.others.now all),
+    )
