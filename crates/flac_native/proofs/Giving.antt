@@ -3,10 +3,10 @@ use Rattle.std.proofs.Common.{◌≡◌, true, List, [], ◌∷◌, Option, Some
 use Rattle.flac_bits.specs.declared.why.Why.{Why}
 use Rattle.flac_bits.specs.declared.why.Why.TheVariants.{Memory}
 use Rattle.flac_native.specs.Stream.{Piece, marked, block, framed, Progress, next}
-use Rattle.flac_native.specs.Track.{IsAt, is_made, IsMadeAs, piece_of, block_in}
-use Rattle.flac_native.specs.Item.{Item}
+use Rattle.flac_native.specs.Track.{IsAt, is_made, IsMadeAs, IsInOrder, is_behind_blocks, piece_of, block_in}
+use Rattle.flac_native.specs.Item.{Item, metadata, frame}
 use Rattle.flac_native.specs.Coming.{Coming, IsNext}
-use Rattle.flac_native.specs.Giving.{handed, before, items_of, IsFirst, seen_by, found, Stage, Goes, MovesFrom, Moves}
+use Rattle.flac_native.specs.Giving.{handed, before, items_of, IsFirst, seen_by, found, ComesInOrder, Stage, Goes, MovesFrom, Moves}
 use Rattle.flac_meta.specs.declared.block.Block.{Block}
 use Rattle.flac_native.specs.declared.track.Phase.TheVariants as phase
 use Rattle.flac_native.specs.declared.fault.Place.{Place}
@@ -41,6 +41,31 @@ made_behind old new part.Marker blocks made = absurd (two (sym blocks ∙ made.0
     two e = absurd cc
 made_behind old new part.Block blocks made = made
 made_behind old new part.Frame blocks made = made
+
+-- what comes in its phase
+pub in_order : (old new : Track) (result : Result (Option Part) Fault) → IfOk result (λ o. IfSome o (λ y. is_made (course.Read y) new ≡ true)) → IfOk result (λ o. IsInOrder o old new) → IfOk result (λ o. ComesInOrder old new (found new o))
+in_order old new (Err f) made ordered = tt
+in_order old new (Ok None) made ordered = ordered
+in_order old new (Ok (Some part.Marker)) made ordered = absurd cc
+in_order old new (Ok (Some part.Block)) made ordered = go new.block made
+  where
+    go : (b : Option Block) → is_some b ≡ true → ComesInOrder old new (handed (block_in new.last b))
+    go None made = absurd cc
+    go (Some k) made = ordered
+in_order old new (Ok (Some part.Frame)) made ordered = ordered
+
+-- and after the marker it is no frame and no end
+pub marker_before : (old mid new : Track) (result : Result (Option Part) Fault) → old.position.phase ≡ phase.Opening → mid.position.phase ≡ phase.Blocks → IfOk result (λ o. ComesInOrder mid new (found new o)) → IfOk result (λ o. ComesInOrder old new (found new o))
+marker_before old mid new (Err f) opens blocks ordered = tt
+marker_before old mid new (Ok o) opens blocks ordered = go (found new o) ordered
+  where
+    two : phase.Blocks ≡ phase.Frames → ⊥
+    two e = absurd cc
+
+    go : (i : Option Item) → ComesInOrder mid new i → ComesInOrder old new i
+    go None h = absurd (two (sym blocks ∙ h.0))
+    go (Some (metadata b)) h = ap is_behind_blocks opens
+    go (Some (frame f)) h = absurd (two (sym blocks ∙ h.0))
 
 -- the next of the parts is the first of the items
 pub item_first : (given : Coming) (p : Progress) (new : Track) (result : Result (Option Part) Fault)
@@ -102,7 +127,7 @@ pub moves_refused : {C X Y : Type 0} (g : container.Ghosts C) (old new : Stage C
 moves_refused {C} {X} {Y} g old new view seen f h = go old.course h
   where
     goes : Goes g old new view (Err f) → Goes g old new seen (Err f)
-    goes h = record { gives = λ p at known same quiet room items end still. h.gives p at known same quiet (λ e. room (same_why f.why Memory e)) items end still; counts = record { met = tt; kept = h.counts.kept; read = h.counts.read; risen = h.counts.risen; output = h.counts.output; behind = h.counts.behind; names = h.counts.names }; passes = λ p at. tt; broken = h.broken; memory = h.memory; going = h.going; ends = h.ends; refused = h.refused }
+    goes h = record { gives = λ p at known same quiet room items end still. h.gives p at known same quiet (λ e. room (same_why f.why Memory e)) items end still; counts = record { met = tt; kept = h.counts.kept; read = h.counts.read; risen = h.counts.risen; output = h.counts.output; behind = h.counts.behind; names = h.counts.names }; passes = λ p at. tt; broken = h.broken; memory = h.memory; ordered = h.ordered; going = h.going; ends = h.ends; refused = h.refused }
 
     go : (k : Course) → MovesFrom g k old new view (Err f) → MovesFrom g k old new seen (Err f)
     go course.Begun h = goes h

@@ -151,6 +151,7 @@ answers_seen {C} {X} g old new view (Ok x) h = go old.course h
       passes = h.passes;
       broken = λ p at. tt;
       memory = λ frames. tt;
+      ordered = h.ordered;
       going = h.going;
       ends = h.ends;
       refused = tt;

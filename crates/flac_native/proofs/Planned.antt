@@ -1,6 +1,8 @@
 -- What holds of a plan.
-use Rattle.std.proofs.Common.{◌≡◌, ℕ, ◌^◌, ◌<◌, ◌≤◌, Bool, true, false, not, cond, ◌&&◌, ◌||◌, nat_eq, nat_lt, nat_le, length, Option, Some, None, is_none, List, refl, ap, subst, ◌∙◌, arith}
+use Rattle.std.proofs.Common.{◌≡◌, ℕ, ◌^◌, ◌<◌, ◌≤◌, Bool, true, false, not, cond, ◌&&◌, ◌||◌, nat_eq, nat_lt, nat_le, length, Option, Some, None, is_none, List, All, get_or, inl, inr, sym, refl, ap, subst, ◌∙◌, arith}
 use Rattle.std.specs.Option.{option_or}
+use Rattle.std.proofs.lemmas.Bool.{cases_lt}
+use Rattle.std.proofs.Math.ListN.{get_or-eq_default}
 use Rattle.std.proofs.lemmas.Bool.Decides.{nat_tests}
 use Rattle.flac_info.specs.Info.{KeepsRules}
 use Rattle.flac_header.specs.Header.{allows_block, greatest_in}
@@ -15,7 +17,7 @@ use Rattle.flac_frame.specs.Frame.{limits_at}
 use Rattle.flac_frame.specs.Setup.{format_fault}
 use Rattle.flac_frame.specs.declared.setup.SetupFault.TheVariants.{TooLong, BadBlockSize, TooManyPoints}
 use Rattle.flac_frame.specs.Audio.{Sound, samples_each}
-use Rattle.flac_native.specs.Given.{Cut, with_predictors, same_profile, fits_plan, room_of, blocks_in, points_before, predictors_fault, cutting_fault, plan_fault, info_of}
+use Rattle.flac_native.specs.Given.{Cut, with_predictors, with_found, same_profile, fits_plan, room_of, blocks_in, points_before, predictors_fault, cutting_fault, plan_fault, info_of}
 use Rattle.flac_native.proofs.Predictors.{within, partition_is}
 
 -- ---- tests in a row
@@ -178,6 +180,26 @@ block_small p q = omega (arith, q.greatest, greatest_small p.profile p.rate)
 pub orders_of : (p : Cut) (a : Sound) → Planned p → Fit p a → AreWithin (limits_at a.profile a.rate).linear p.predictors
 orders_of p a q f =
     subst (λ x. AreWithin (limits_at x a.rate).linear p.predictors) f.profile (subst (λ r. AreWithin (limits_at p.profile r).linear p.predictors) f.rate (within p.profile p.rate p.predictors q.predictors))
+
+-- what the profile allows of the plan it allows of the samples
+pub orders_at : (p : Cut) (a : Sound) (ps : List LinearPredictor) → Fit p a → AreWithin (limits_at p.profile p.rate).linear ps → AreWithin (limits_at a.profile a.rate).linear ps
+orders_at p a ps f h = subst (λ x. AreWithin (limits_at x a.rate).linear ps) f.profile (subst (λ r. AreWithin (limits_at p.profile r).linear ps) f.rate h)
+
+-- the plan's own
+pub own_orders : (p : Cut) → Planned p → AreWithin (limits_at p.profile p.rate).linear p.predictors
+own_orders p q = within p.profile p.rate p.predictors q.predictors
+
+-- so it is with lists for the frames
+pub still_found : (p : Cut) (found : List (List LinearPredictor)) → plan_fault p ≡ None → plan_fault (with_found p found) ≡ None
+unfolding plan_fault cutting_fault
+still_found p found e = e
+
+-- the list of a number, or another
+pub orders_in : (limit : ℕ) (lists : List (List LinearPredictor)) (n : ℕ) (other : List LinearPredictor) → All (AreWithin limit) lists → AreWithin limit other → AreWithin limit (get_or lists n other)
+orders_in limit lists n other all one = elim (cases_lt n (length lists)) [
+  | inl b ↦ all n other b
+  | inr b ↦ subst (AreWithin limit) (sym (get_or-eq_default lists other (omega (arith, b)))) one
+]
 
 -- arrays that were made for the plan
 pub room_is : (p : Cut) (r : Room) (size : ℕ) (profile : Profile) → size ≡ p.block_size → profile ≡ p.profile → r ≡ record { block = size; most = most_in profile } → r ≡ room_of p

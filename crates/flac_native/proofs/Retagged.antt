@@ -1,5 +1,5 @@
 -- What was written of a stream with other comments.
-use Rattle.std.proofs.Common.{◌≡◌, ◌≢◌, ℕ, Bool, List, ◌∷◌, ◌++◌, Result, Ok, Err, Option, Some, None, sym, ap, ◌∙◌, append_assoc}
+use Rattle.std.proofs.Common.{◌≡◌, ◌≢◌, ℕ, Bool, List, ◌∷◌, ◌++◌, Result, Ok, Err, Option, Some, None, sym, ap, subst, ◌∙◌, append_assoc}
 use Rattle.std.specs.Prelude.{IfErr, IfSome}
 use Rattle.flac_bits.specs.declared.why.Why.{Why}
 use Rattle.flac_bits.specs.declared.why.Why.TheVariants as why
@@ -12,7 +12,7 @@ use Rattle.flac_meta.specs.declared.block.Block.{Block}
 use Rattle.flac_meta.specs.declared.block.Block.TheVariants as block_of
 use Rattle.flac_meta.specs.declared.comments.Comments.{Comments}
 use Rattle.flac_native.specs.Writing.{head_spelling}
-use Rattle.flac_native.specs.Retag.{Retags, BeginsRetagging, without_comments}
+use Rattle.flac_native.specs.Retag.{BeginsWith, Retags, BeginsRetagging, CopiesPart, without_comments}
 use Rattle.flac_native.specs.inner.Retag.{AreKept, new_head}
 
 module _ (c : Cursor) (kept : List Block) (rest : List Bool) (comments : Comments) (head : List ℕ) (are : AreKept c kept rest) (is : bits_of head ≡ new_head comments kept) where
@@ -49,6 +49,17 @@ module _ (c : Cursor) (kept : List Block) (rest : List Bool) (comments : Comment
       input = are.input;
       output = ap (λ k. bits_of old ++ k) (append_assoc (bits_of head) front left ∙ ap (λ k. bits_of head ++ k) cut ∙ ap (λ k. k ++ rest) head_is);
     };
+  }
+
+  pub part_retagged : (old mid new : List ℕ) (front left : List Bool) → mid ≡ old ++ head → bits_of new ≡ bits_of mid ++ front → front ++ left ≡ rest → CopiesPart c.mark c.left comments (bits_of old) (bits_of new)
+  unfolding written
+  part_retagged old mid new front left sent more cut = record {
+    info = are.info;
+    list = are.list;
+    front = front;
+    left = left;
+    input = subst (λ r. BeginsWith c.mark c.left are.info are.list r) (sym cut) are.input;
+    output = more ∙ ap (λ k. k ++ front) (ap bits_of sent ∙ bits_of-append old head) ∙ append_assoc (bits_of old) (bits_of head) front ∙ ap (λ k. bits_of old ++ (k ++ front)) head_is;
   }
 
   -- the first bytes of the head

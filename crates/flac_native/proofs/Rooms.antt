@@ -13,7 +13,7 @@ use Rattle.flac_meta.specs.declared.seek_table.SeekPoint.{SeekPoint}
 use Rattle.flac_frame.specs.Audio.{Sound}
 use Rattle.flac_frame.specs.Spelling.{FrameForm, frame_spelling}
 use Rattle.flac_frame.proofs.FrameTie.{frames_bytes}
-use Rattle.flac_native.specs.Given.{Cut, frame_of}
+use Rattle.flac_native.specs.Given.{Cut, tried, frame_of}
 use Rattle.flac_native.specs.Room.{placed}
 use Rattle.flac_native.specs.Writing.{AreCounted, IsSpelled, HasRoom}
 use Rattle.flac_native.specs.inner.Writing.{WritesAll, WritesNext}
@@ -112,7 +112,7 @@ spell_ok X x p a number places more s old new known blank sent w =
 pub spell_err : (X : Type 0) (e : Why) (p : Cut) (a : Sound) (number places more : ℕ) (s : List ℕ) (old new : Written) → old.known ≡ true → old.bits ≡ bits_of (placed places []) → new.sent ≡ placed more s → (h : HasRoom p a places)
     → number < length h.frames → (1 ≤ new.errors → more < length s) → WritesNext {X = X} p a number old new (Err e) → ⊥
 spell_err X e p a number places more s old new known blank sent h lt full w =
-    let same = as_long p.predictors a (frame_of p.block_size a number) w.0 _ w.1.least (h.are_least number lt) in
+    let same = as_long (tried p number) a (frame_of p.block_size a number) w.0 _ w.1.least (h.are_least number lt) in
     never_full e w.0 places more s old new known blank sent (omega (arith, same, h.within number lt)) full w.2
 
 -- ---- a place for each frame

@@ -13,7 +13,7 @@ use Rattle.flac_frame.specs.Encoding.{block_of, IsEncoding, IsLeastWith, IsShort
 use Rattle.flac_frame.specs.Frame.{Frame}
 use Rattle.flac_subframe.specs.declared.linear.LinearPredictor.{LinearPredictor}
 use Rattle.flac_frame.specs.Spelling.{FrameForm, frame_spelling}
-use Rattle.flac_native.specs.Given.{Cut, IsRange, size_of, frame_of}
+use Rattle.flac_native.specs.Given.{Cut, tried, IsRange, size_of, frame_of}
 use Rattle.flac_native.specs.Seeking.{points_from, points_of, point_at}
 use Rattle.flac_native.specs.Writing.{SpellsLeast, AreFrames, AreLeastFrames, AreSizes, IsSpelled}
 use Rattle.flac_native.specs.inner.Writing.{WritesChosen}
@@ -30,15 +30,15 @@ as_long ps a f t u x y =
 
 -- what is written of a block is the frame of its number
 pub spelled_of : (p : Cut) (a : Sound) (number start n : ℕ) (f : FrameForm) → start ≡ p.block_size * number → n ≡ size_of p.block_size (samples_each a.channels) number → IsEncoding a n number (block_of start n a.channels) f
-    → IsLeastWith p.predictors a n number (block_of start n a.channels) f → IsShort a.bits f → IsSpelled p a number (frame_spelling a.bits f)
+    → IsLeastWith (tried p number) a n number (block_of start n a.channels) f → IsShort a.bits f → IsSpelled p a number (frame_spelling a.bits f)
 spelled_of p a number start n f start_is n_is encoding least short =
     let size = size_of p.block_size (samples_each a.channels) number in
     let e : IsEncoding a size number (block_of (p.block_size * number) size a.channels) f = subst (λ k. IsEncoding a k number (block_of (p.block_size * number) k a.channels) f) n_is (subst (λ k. IsEncoding a n number (block_of k n a.channels) f) start_is encoding) in
-    let l : IsLeastWith p.predictors a size number (block_of (p.block_size * number) size a.channels) f = subst (λ k. IsLeastWith p.predictors a k number (block_of (p.block_size * number) k a.channels) f) n_is (subst (λ k. IsLeastWith p.predictors a n number (block_of k n a.channels) f) start_is least) in
+    let l : IsLeastWith (tried p number) a size number (block_of (p.block_size * number) size a.channels) f = subst (λ k. IsLeastWith (tried p number) a k number (block_of (p.block_size * number) k a.channels) f) n_is (subst (λ k. IsLeastWith (tried p number) a n number (block_of k n a.channels) f) start_is least) in
     record { frame = record { form = f; encoding = e; spelling = refl; short = short }; least = record { form = f; least = l; spelling = refl } }
 
 -- so it was written
-pub chosen_of : (p : Cut) (a : Sound) (number start end : ℕ) (ps : List LinearPredictor) (old new : Written) (r : Result (Unit {0}) Why) → IsRange p a number start end → ps ≡ p.predictors
+pub chosen_of : (p : Cut) (a : Sound) (number start end : ℕ) (ps : List LinearPredictor) (old new : Written) (r : Result (Unit {0}) Why) → IsRange p a number start end → ps ≡ tried p number
     → WritesFrameWith ps a (end - start) number (block_of start (end - start) a.channels) old new r → WritesChosen p a number old new r
 chosen_of p a number start end ps old new r k tried w =
     let least = subst (λ l. IsLeastWith l a (end - start) number (block_of start (end - start) a.channels) w.0) tried w.2.0 in
@@ -161,5 +161,5 @@ same_sizes ts us least greatest h s = record {
 -- the frames that are sent have the sizes and the points of those that were counted
 pub alike : (p : Cut) (a : Sound) (ts us : List (List Bool)) (least greatest : ℕ) → AreFrames p a ts → AreLeastFrames p a ts → AreFrames p a us → AreLeastFrames p a us → AreSizes us least greatest → AreSizes ts least greatest × (points_of p ts ≡ points_of p us)
 alike p a ts us least greatest are least_ts others least_us sizes =
-    let long : AsLong ts us = (are.many ∙ sym others.many, λ i lt. as_long p.predictors a (frame_of p.block_size a i) (nth ts i) (nth us i) (least_ts i lt) (least_us i (omega (arith, lt, are.many, others.many)))) in
+    let long : AsLong ts us = (are.many ∙ sym others.many, λ i lt. as_long (tried p i) a (frame_of p.block_size a i) (nth ts i) (nth us i) (least_ts i lt) (least_us i (omega (arith, lt, are.many, others.many)))) in
     (same_sizes ts us least greatest long sizes, same_points p 0 0 ts us long)

@@ -1,6 +1,6 @@
 -- What is encoded: STREAMINFO, blocks, and samples that are cut into frames.
 use Rattle.flac_subframe.specs.Handed.{coefficients_in}
-use Rattle.std.specs.Prelude.{◌≡◌, ◌<◌, ◌≤◌, ℕ, zero, suc, ◌+◌, ◌-◌, ◌*◌, ◌/◌, ◌^◌, min, Bool, true, false, not, cond, ◌&&◌, ◌||◌, nat_eq, nat_lt, nat_le, List, [], ◌∷◌, ◌++◌, length, map, Option, Some, None, Vec}
+use Rattle.std.specs.Prelude.{◌≡◌, ◌<◌, ◌≤◌, ℕ, zero, suc, ◌+◌, ◌-◌, ◌*◌, ◌/◌, ◌^◌, min, Bool, true, false, not, cond, ◌&&◌, ◌||◌, nat_eq, nat_lt, nat_le, List, [], ◌∷◌, ◌++◌, length, map, slice_index_or, Option, Some, None, Vec}
 use Rattle.std.specs.Global.{Global}
 use Rattle.std.specs.List.{list_all}
 use Rattle.std.specs.Option.{option_or}
@@ -27,7 +27,7 @@ use Rattle.md5.specs.Md5.{md5}
 
 -- How samples are cut: the samples of a block; the profile, the sample rate, the bits per sample, the channels and the
 -- samples of each that the plan was made for; the samples from one seek point to the next, 0 if there are none; and the
--- linear predictors that are tried beside the fixed ones.
+-- linear predictors that are tried beside the fixed ones: one list for all frames, and a list for each of the first frames.
 pub record Cut : Type 0 where
   pub profile : Profile
   pub block_size : ℕ
@@ -37,6 +37,7 @@ pub record Cut : Type 0 where
   pub total : ℕ
   pub seek_every : ℕ
   pub predictors : List LinearPredictor
+  pub found : List (List LinearPredictor)
 
 abbrev pub cut_in : Profile → (block_size : ℕ) → Sound → (seek_every : ℕ) → Cut
 cut_in profile block_size a seek_every = record {
@@ -48,6 +49,7 @@ cut_in profile block_size a seek_every = record {
   total = samples_each a.channels;
   seek_every = seek_every;
   predictors = [];
+  found = [];
 }
 
 -- the same in the profile of the samples
@@ -61,7 +63,21 @@ listed (Some v) = v.items
 
 -- the same with these predictors
 abbrev pub with_predictors : Cut → List LinearPredictor → Cut
-with_predictors p ps = record p { predictors = ps }
+with_predictors p ps = record p { predictors = ps; found = [] }
+
+-- the predictors of optional lists
+abbrev pub listed_each : Option (Vec (Vec LinearPredictor Global) Global) → List (List LinearPredictor)
+listed_each None = []
+listed_each (Some v) = map (λ (l : Vec LinearPredictor Global). l.items) v.items
+
+-- the same with a list of predictors for each of the first frames
+abbrev pub with_found : Cut → List (List LinearPredictor) → Cut
+with_found p found = record p { found = found }
+
+-- the linear predictors that are tried for the frame of a number: those of its own list, or if it has none, those of the
+-- list for all frames
+abbrev pub tried : Cut → (number : ℕ) → List LinearPredictor
+tried p number = slice_index_or p.found number p.predictors
 
 abbrev pub same_profile : Profile → Profile → Bool
 same_profile Subset Subset = true

@@ -8,7 +8,7 @@ use Rattle.flac_bits.specs.declared.why.Why.{Why}
 use Rattle.flac_bits.specs.declared.why.Why.TheVariants.{Memory, Read, Spent}
 use Rattle.flac_frame.specs.Lent.{frame_of}
 use Rattle.flac_native.specs.Stream.{Piece, marked, block, framed, Progress, grammar}
-use Rattle.flac_native.specs.Track.{IsAt, piece_of, stand_of}
+use Rattle.flac_native.specs.Track.{IsAt, AreAtFrames, is_behind_blocks, piece_of, stand_of}
 use Rattle.flac_native.specs.Item.{Item, metadata, frame, told}
 use Rattle.flac_native.specs.Coming.{Coming}
 use Rattle.flac_native.specs.declared.fault.Place.{Place}
@@ -125,6 +125,12 @@ abbrev pub found : Track → Option Part → Option Item
 found t None = None
 found t (Some p) = handed (piece_of t p)
 
+-- a block comes before the last metadata block was read, a frame and the end after
+abbrev pub ComesInOrder : Track → Track → Option Item → Type 0
+ComesInOrder old new None = AreAtFrames old new
+ComesInOrder old new (Some (metadata b)) = is_behind_blocks old.position.phase ≡ false
+ComesInOrder old new (Some (frame f)) = AreAtFrames old new
+
 -- the item that is lent
 abbrev pub shown_of : Lent → Option Item
 shown_of (lent.Block b) = Some (metadata b.now)
@@ -157,6 +163,7 @@ pub record Goes {C X : Type 0} (g : container.Ghosts C) (old new : Stage C) (vie
   pub broken : (p : Progress) → IsAt old.track p → IfErr result (λ f. IsOutside f.why → BreaksOff g p old.container new.container f)
   -- memory does not run out after the last block
   pub memory : (stand_of old.track).phase ≡ Frames → IfErr result (λ f. f.why ≢ Memory)
+  pub ordered : IfOk result (λ x. ComesInOrder old.track new.track (view x))
   pub going : IfOk result (λ x. IfSome (view x) (λ _. (part : Part) × (new.course ≡ course.Read part)))
   pub ends : seen_by view result ≡ Ok None → new.course ≡ course.Over
   pub refused : IfErr result (λ f. new.course ≡ course.Spent f.at)

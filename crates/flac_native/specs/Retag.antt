@@ -115,6 +115,15 @@ pub record BeginsRetagging (m : Mark) (text : List Bool) (comments : Comments) (
   pub written : after ≡ before ++ front
   pub retags : Retags m text comments before (before ++ (front ++ left))
 
+-- After the bits that were there, the new blocks were written whole, and a prefix of the rest of the input.
+pub record CopiesPart (m : Mark) (text : List Bool) (comments : Comments) (before after : List Bool) : Type 0 where
+  pub info : Info
+  pub list : List Block
+  pub front : List Bool
+  pub left : List Bool
+  pub input : BeginsWith m text info list (front ++ left)
+  pub output : after ≡ before ++ retagged comments info list front
+
 -- ---- what is returned
 
 -- comments whose block would be longer than its header can have; this is checked before anything is read

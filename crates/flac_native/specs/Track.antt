@@ -81,6 +81,17 @@ IsMadeAs part.Marker old new = (old.position.phase ≡ phase.Opening) × (new.po
 IsMadeAs part.Block old new = is_some new.block ≡ true
 IsMadeAs part.Frame old new = is_some new.format ≡ true
 
+-- the last metadata block was read already, and only frames and the end are still to come
+abbrev pub AreAtFrames : Track → Track → Type 0
+AreAtFrames old new = (old.position.phase ≡ phase.Frames) × (new.position.phase ≡ phase.Frames)
+
+-- Each part comes in its phase: the marker and a block before the last metadata block was read, a frame and the end after.
+abbrev pub IsInOrder : Option Part → Track → Track → Type 0
+IsInOrder None old new = AreAtFrames old new
+IsInOrder (Some part.Marker) old new = is_behind_blocks old.position.phase ≡ false
+IsInOrder (Some part.Block) old new = is_behind_blocks old.position.phase ≡ false
+IsInOrder (Some part.Frame) old new = AreAtFrames old new
+
 -- what was read last is there to be lent
 abbrev pub is_made : Course → Track → Bool
 is_made (course.Read part.Marker) t = false

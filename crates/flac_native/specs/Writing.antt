@@ -20,7 +20,7 @@ use Rattle.flac_frame.specs.Frame.{Frame}
 use Rattle.flac_frame.specs.Spelling.{FrameForm, frame_spelling}
 use Rattle.flac_native.specs.Decoding.{beginning}
 use Rattle.flac_native.specs.Stream.{grammar, opening}
-use Rattle.flac_native.specs.Given.{Cut, fits_plan, blocks_in, plan_fault, info_of, sound_message, frame_of, given}
+use Rattle.flac_native.specs.Given.{Cut, tried, fits_plan, blocks_in, plan_fault, info_of, sound_message, frame_of, given}
 use Rattle.flac_native.specs.Seeking.{points_of, table_of}
 use Rattle.md5.specs.Md5.{md5}
 
@@ -45,9 +45,9 @@ pub record SpellsLeast (ps : List LinearPredictor) (a : Sound) (f : Frame) (text
   pub least : IsLeastWith ps a f.size f.number f.channels form
   pub spelling : text ≡ frame_spelling a.bits form
 
--- each frame is the shortest of its block, with the plan's predictors
+-- each frame is the shortest of its block, with the plan's predictors for it
 abbrev pub AreLeastFrames : Cut → Sound → List (List Bool) → Type 0
-AreLeastFrames p a frames = (i : ℕ) → i < length frames → SpellsLeast p.predictors a (frame_of p.block_size a i) (slice_index_or frames i [])
+AreLeastFrames p a frames = (i : ℕ) → i < length frames → SpellsLeast (tried p i) a (frame_of p.block_size a i) (slice_index_or frames i [])
 
 -- the smallest and the largest size of the frames in bytes, 0 if there is no frame
 pub record AreSizes (frames : List (List Bool)) (least greatest : ℕ) : Type 0 where
@@ -96,11 +96,11 @@ IsDigest a digest = digest ≡ md5 (sound_message a)
 -- the bits are those of the shortest frame of a number, of at most 16777215 bytes
 pub record IsSpelled (p : Cut) (a : Sound) (number : ℕ) (text : List Bool) : Type 0 where
   pub frame : SpellsFrame a (frame_of p.block_size a number) text
-  pub least : SpellsLeast p.predictors a (frame_of p.block_size a number) text
+  pub least : SpellsLeast (tried p number) a (frame_of p.block_size a number) text
 
 -- it was chosen how the frame of a number is written
 pub record IsChoiceOf (p : Cut) (a : Sound) (number : ℕ) (c : FrameChoice) : Type 0 where
-  pub chosen : IsChoiceWith p.predictors a (frame_of p.block_size a number).size number (frame_of p.block_size a number).channels c
+  pub chosen : IsChoiceWith (tried p number) a (frame_of p.block_size a number).size number (frame_of p.block_size a number).channels c
   pub places : length a.channels ≤ length c.subframes.items
 
 -- these are the choices of the first frames

@@ -108,7 +108,6 @@ impl ChosenFrames {
         let most = total / KEPT + 1;
         let mut choices = Vec::new(alloc);
         let mut choice = FrameChoice::new(alloc, plan.profile(), channels)?;
-        let predictors = plan.predictors();
         let mut points = Vec::new(alloc);
         let mut least = 0;
         let mut greatest = 0;
@@ -122,6 +121,7 @@ impl ChosenFrames {
             let len = end - range.start;
             plan.note_point(number, offset, &mut points)?;
             feed_block(&mut hasher, audio, range.start, len);
+            let predictors = plan.predictors_at(number);
             choose_frame(audio, range, number, predictors, buffers, &mut choice);
             let bytes = choice.frame_bytes(audio, len, number);
             keep(alloc, &mut choices, &choice, most)?;
@@ -266,7 +266,7 @@ fn write_chosen<W: Target>(
     ensures wrote { WritesChosen plan.now audio.now number writer.old writer.new result }
 {
     let range = plan.range(audio, number);
-    let predictors = plan.predictors();
+    let predictors = plan.predictors_at(number);
     let at = number as usize;
     if at < choices.len() {
         let choice = &choices[at];

@@ -7,7 +7,7 @@ ghost use Rattle.flac_bits.specs.Handing.{reason_of, IsOutside};
 ghost use Rattle.flac_bits.specs.Reasons.{of_output};
 ghost use Rattle.flac_bits.specs.declared.why.Why.TheVariants.{Memory};
 ghost use Rattle.flac_native.specs.Stream.{Piece, Progress, Stand, next};
-ghost use Rattle.flac_native.specs.Track.{IsAt, IsMadeAs, piece_of, stand_of};
+ghost use Rattle.flac_native.specs.Track.{IsAt, IsMadeAs, IsInOrder, piece_of, stand_of};
 ghost use Rattle.flac_native.specs.Item.{told};
 ghost use Rattle.flac_native.specs.Coming.{Coming, IsNext};
 ghost use Rattle.flac_native.specs.declared.track.Phase.TheVariants.{Frames};
@@ -105,5 +105,7 @@ pub trait Container {
         ensures gave { IfOk result (λ o. IfSome o (λ _. gave self.old self.new)) }
         ensures broke { IfErr result (λ f. IsOutside f.why → broke self.old self.new f.why) }
         ensures made { IfOk result (λ o. IfSome o (λ part. IsMadeAs part track.old track.new)) }
+        // A frame, and the end, come only after the last metadata block, and no block comes after it.
+        ensures ordered { IfOk result (λ o. IsInOrder o track.old track.new) }
         ensures next { IfOk result (λ o. IfSome o (λ part. (p : Progress) → IsAt track.old p → IsAt track.new (next p (piece_of track.new part)))) };
 }

@@ -12,7 +12,7 @@ ghost use Rattle.flac_native.specs.Decoding.{beginning};
 ghost use Rattle.flac_native.specs.Resuming.{resumed};
 
 use crate::container::{Container, Part};
-use crate::fault::{Fault, Place};
+use crate::fault::{Fault, Place, Refused};
 use crate::item::{Item, next_item};
 use crate::track::Track;
 use flac_bits::{BitReader, Source, Why};
@@ -244,6 +244,41 @@ impl<R: Source> Decoder<BitReader<R>> {
     }
 }
 
+impl<R: Source> Decoder<BitReader<R>> {
+    /// Does what [`Decoder::resume`] does, and returns the source with an error.
+    ///
+    /// # Errors
+    /// Those of [`Decoder::resume`]. Nothing was read from the source.
+    pub fn resume_returning(
+        alloc: Global,
+        source: R,
+        info: &StreamInfo,
+        profile: Profile,
+    ) -> Result<Decoder<BitReader<R>>, Refused<R>>
+        ensures track { IfOk result (λ d. IsAt d.track (resumed profile info.now)) }
+        ensures course { IfOk result (λ d. d.course ≡ Course.Begun) }
+        ensures known { IfOk result (λ d. d.container.known ≡ R.known source) }
+        ensures errors { IfOk result (λ d. (d.container.errors ≡ R.errors source) × (d.container.raised ≡ R.raised source)) }
+        ensures cursor { IfOk result (λ d. (lifted d.container).cursor ≡ record { left = bits_of (R.coming source); mark = beginning (short_of ((R.behind source).fails)) }) }
+        ensures behind { IfOk result (λ d. d.container.behind ≡ without_fence (R.behind source)) }
+        ensures most { IfOk result (λ d. d.container.most ≡ 8 * R.most source) }
+        ensures names { IfOk result (λ d. d.container.names ≡ R.names source) }
+        ensures memory { IfErr result (λ x. x.fault ≡ record { at = Place.Marker; why = Why.Memory }) }
+        ensures left { IfErr result (λ x. x.left ≡ source) }
+    {
+        match Track::resumed(alloc, profile, info.without_totals()) {
+            Ok(track) => Ok(Decoder::over(BitReader::new(source), track)),
+            Err(why) => Err(Refused {
+                fault: Fault {
+                    at: Place::Marker,
+                    why,
+                },
+                left: source,
+            }),
+        }
+    }
+}
+
 impl<R: Source + Drop> Decoder<BitReader<R>> {
     /// Makes a decoder that begins at the first byte of a frame, in a stream with this STREAMINFO. The offset of a seek
     /// point says where such a byte is (RFC 9639, section 8.5). It allocates for one frame.
@@ -273,12 +308,9 @@ impl<R: Source + Drop> Decoder<BitReader<R>> {
         ensures names { IfOk result (λ d. d.container.names ≡ R.names source) }
         ensures memory { IfErr result (λ f. f ≡ record { at = Place.Marker; why = Why.Memory }) }
     {
-        match Track::resumed(alloc, profile, info.without_totals()) {
-            Ok(track) => Ok(Decoder::over(BitReader::new(source), track)),
-            Err(why) => Err(Fault {
-                at: Place::Marker,
-                why,
-            }),
+        match Decoder::resume_returning(alloc, source, info, profile) {
+            Ok(decoder) => Ok(decoder),
+            Err(refused) => Err(refused.fault),
         }
     }
 }

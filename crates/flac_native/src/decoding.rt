@@ -154,7 +154,7 @@ pub fn hand_out<C: Container, S: Sink>(
     requires { C.stands container.old (stand_of track.old) ≡ true }
     ensures hands { (p : Progress) → IsAt track.old p → C.known container.old ≡ true → S.known sink.old ≡ true → (parts : List Piece) (end : Option (Place × Why)) → C.gives container.old p parts end →
         HandsFirst (taken S.takes) S.errors p parts end ((C.errors container.new ≡ C.errors container.old) × (C.raised container.new ≡ C.raised container.old)) (BreaksBehind C.Container p container.old container.new) sink.old sink.new (outcome_of told result) }
-    ensures met { IfOk result (λ _. (C.known container.old ≡ true → C.known container.new ≡ true) × (C.errors container.new ≡ C.errors container.old) × (C.raised container.new ≡ C.raised container.old)) }
+    ensures met { IfOk result (λ _. (C.known container.old ≡ true → C.known container.new ≡ true) × (C.errors container.new ≡ C.errors container.old) × (C.raised container.new ≡ C.raised container.old) × (C.met container.new ≡ C.met container.old)) }
     ensures kept { C.errors container.old ≤ C.errors container.new }
     ensures read { IfErr result (λ f. C.known container.old ≡ true → f.why ≡ Why.Read → C.clear container.old track.old → C.raised container.old < C.raised container.new) }
     // An error of the device and of the sink is counted, if the count can rise, whatever is known of them: no other

@@ -79,6 +79,49 @@ impl fmt::Display for Fault {
 
 impl std::error::Error for Fault {}
 
+/// Why a call did not read what it was given, and what it leaves of that: the source or the decoder, from which it may
+/// have read. `?` turns it into the [`Fault`] in a function that returns one. It prints as the fault.
+///
+/// ```
+/// match open_native(rt.alloc(), Counted::new(file), Profile::Subset, Keep::Tags) {
+///     Ok(reader) => play(reader),
+///     Err(refused) => print(refused.fault, refused.left.last_error()),
+/// }
+/// ```
+#[derive(Drop)]
+pub struct Refused<T> {
+    /// Where and why.
+    pub fault: Fault,
+    /// What the call was given. Bytes that were pulled from it are lost.
+    pub left: T,
+}
+
+impl<T: Drop> From<Refused<T>> for Fault {
+    ghost from_gives = { λ refused fault. fault ≡ refused.fault };
+
+    fn from(refused: Refused<T>) -> Fault {
+        refused.fault
+    }
+}
+
+impl<T> fmt::Display for Refused<T> {
+    ghost output = { λ refused. Some (fault_text refused.fault) };
+
+    fn fmt<W: fmt::Write>(&self, f: &mut fmt::Formatter<W>) -> fmt::Result {
+        let fault = self.fault;
+        write!(f, "{fault}")
+    }
+}
+
+impl<T> fmt::Debug for Refused<T> {
+    fn fmt<W: fmt::Write>(&self, f: &mut fmt::Formatter<W>) -> fmt::Result {
+        let fault = self.fault;
+        write!(f, "{fault:?}")
+    }
+}
+
+impl<T: Drop> std::error::Error for Refused<T> {}
+
 /// Why encoding failed. Each reason has a number, see [`EncodeFault::number`]. [`crate::encode`] and `encode_ogg` of
 /// `flac_ogg` return no other than `Memory`, `RepeatedBlock`, `BadMapping` and `Write`.
 ///

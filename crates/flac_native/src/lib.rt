@@ -39,7 +39,7 @@ pub use decoder::Decoder;
 pub use decoding::{Sink, SinkFault, decode, hand_out};
 pub use digest::{put_rows, sample_width};
 pub use encoding::{encode, send_head};
-pub use fault::{EncodeFault, Fault, Place};
+pub use fault::{EncodeFault, Fault, Place, Refused};
 pub use flac_bits::{
     BitReader, BitWriter, Collected, Counted, Memory, Pieces, Source, Target, Why,
 };

@@ -1,6 +1,6 @@
 //! A native stream as a container: the bits from the marker `fLaC` on (RFC 9639, section 6).
 
-ghost use Rattle.std.specs.Prelude.{◌≡◌, ◌≢◌, ◌≤◌, ◌+◌, ◌&&◌, true, OnOk, IfOk, IfErr, IfSome, MatchOption, ⊤};
+ghost use Rattle.std.specs.Prelude.{◌≡◌, ◌≢◌, ◌≤◌, ◌+◌, ◌&&◌, true, OnOk, IfOk, IfErr, IfSome, MatchOption, Some, ⊤};
 ghost use Rattle.flac_bits.specs.Bits.{is_nil};
 ghost use Rattle.flac_bits.specs.Fencing.{lifted};
 ghost use Rattle.flac_bits.specs.Reading.{Counts, Reads, Call};
@@ -9,7 +9,7 @@ ghost use Rattle.flac_bits.specs.Handing.{reason_of, IsOutside};
 ghost use Rattle.flac_bits.specs.inner.Handing.{StepsTo};
 ghost use Rattle.flac_native.specs.Stream.{marker, layout, room_in, Progress, grammar, may_end_in, next};
 ghost use Rattle.flac_bits.specs.inner.Within.{ReadsWithinInRoom};
-ghost use Rattle.flac_native.specs.Track.{IsAt, IsMadeAs, piece_of, stand_of, info_in, is_behind_blocks};
+ghost use Rattle.flac_native.specs.Track.{IsAt, IsMadeAs, IsInOrder, piece_of, stand_of, info_in, is_behind_blocks};
 ghost use Rattle.flac_native.specs.Item.{told};
 ghost use Rattle.flac_native.specs.Coming.{PartsCome};
 
@@ -43,7 +43,7 @@ fn read_part<R: Source>(reader: &mut BitReader<R>, track: &mut Track) -> Result<
     ensures memory { (stand_of track.old).phase ≡ Phase.Frames → IfErr result (λ e. e ≢ Why.Memory) }
     ensures reads { ReadsWithinInRoom (room_in (stand_of track.old).phase) (λ part. piece_of track.new part) (layout (stand_of track.old)) reader.old reader.new result }
     ensures made { IfOk result (λ part. IsMadeAs part track.old track.new) }
-    ensures later { IfOk result (λ part. part ≡ Part.Frame → is_behind_blocks (stand_of track.old).phase ≡ true) }
+    ensures ordered { IfOk result (λ part. IsInOrder (Some part) track.old track.new) }
     ensures next { IfOk result (λ part. (p : Progress) → IsAt track.old p → IsAt track.new (next p (piece_of track.new part))) }
 {
     match track.position.phase {
@@ -98,8 +98,8 @@ pub(crate) fn advance<R: Source>(
     ensures broken { (p : Progress) → IsAt track.old p → IfErr result (λ f. IsOutside f.why → f.at ≡ grammar.place p) }
     ensures steps { (p : Progress) → IsAt track.old p → StepsTo (λ part. piece_of track.new part) told (step_at grammar p (lifted reader.old).cursor) (lifted reader.old) reader.new result }
     ensures made { IfOk result (λ o. IfSome o (λ part. IsMadeAs part track.old track.new)) }
-    // No frame and no end comes before the last metadata block.
-    ensures later { IfOk result (λ o. MatchOption o (is_behind_blocks (stand_of track.old).phase ≡ true) (λ part. part ≡ Part.Frame → is_behind_blocks (stand_of track.old).phase ≡ true)) }
+    // No frame and no end comes before the last metadata block, and no block after it.
+    ensures ordered { IfOk result (λ o. IsInOrder o track.old track.new) }
     ensures next { IfOk result (λ o. IfSome o (λ part. (p : Progress) → IsAt track.old p → IsAt track.new (next p (piece_of track.new part)))) }
 {
     reader.lift();

@@ -1,9 +1,12 @@
 //! How samples are divided into frames.
 
-ghost use Rattle.std.specs.Prelude.{◌≡◌, ◌<◌, ◌≤◌, ◌*◌, ◌^◌, ◌++◌, [], MatchResult, IfOk, OnOk, IfErr, true, Some, None};
-ghost use Rattle.flac_native.specs.Given.{IsRange, blocks_in, has_point, points_before, cut_in, with_predictors, fits_plan, predictors_fault, cutting_fault, plan_fault};
+ghost use Rattle.std.specs.Prelude.{◌≡◌, ◌<◌, ◌≤◌, ◌*◌, ◌^◌, ◌++◌, [], map, slice_index_or, All, MatchResult, IfOk, OnOk, IfErr, true, Some, None};
+ghost use Rattle.flac_native.specs.Given.{IsRange, blocks_in, has_point, points_before, cut_in, with_predictors, with_found, tried, fits_plan, predictors_fault, cutting_fault, plan_fault};
 ghost use Rattle.flac_native.specs.Seeking.{point_at};
 ghost use Rattle.flac_frame.specs.Audio.{samples_each};
+ghost use Rattle.flac_frame.specs.Frame.{limits_at};
+ghost use Rattle.flac_subframe.specs.Handed.{AreWithin};
+ghost use Rattle.flac_subframe.specs.declared.linear.LinearPredictor.{LinearPredictor};
 
 use flac_bits::Why;
 use flac_frame::{Audio, SetupFault, format_fault, greatest_order};
@@ -28,6 +31,8 @@ pub struct Plan {
     asked: Asked,
     /// `None` stands for an empty list.
     predictors: Option<Vec<LinearPredictor>>,
+    /// A list for each of the first frames; `None` stands for no list.
+    found: Option<Vec<Vec<LinearPredictor>>>,
 }
 
 impl Drop for Plan {
@@ -35,6 +40,7 @@ impl Drop for Plan {
         let Plan {
             asked: _,
             predictors: _,
+            found: _,
         } = self;
     }
 }
@@ -52,14 +58,19 @@ struct Asked {
 }
 
 impl Model for Plan {
-    ghost use Rattle.std.specs.Prelude.{◌≡◌, None};
-    ghost use Rattle.flac_native.specs.Given.{Cut, listed, plan_fault};
+    ghost use Rattle.std.specs.Prelude.{◌≡◌, None, All};
+    ghost use Rattle.flac_frame.specs.Frame.{limits_at};
+    ghost use Rattle.flac_subframe.specs.Handed.{AreWithin};
+    ghost use Rattle.flac_native.specs.Given.{Cut, listed, listed_each, plan_fault};
 
     ghost Value = { Cut };
 
-    ghost view = { λ p. record { profile = p.asked.profile; block_size = p.asked.block_size; rate = p.asked.rate; bits = p.asked.bits; channels = p.asked.channels; total = p.asked.total; seek_every = p.asked.seek_every; predictors = listed p.predictors } };
+    ghost view = { λ p. record { profile = p.asked.profile; block_size = p.asked.block_size; rate = p.asked.rate; bits = p.asked.bits; channels = p.asked.channels; total = p.asked.total; seek_every = p.asked.seek_every; predictors = listed p.predictors; found = listed_each p.found } };
 
-    ghost invariant = { λ p. plan_fault (record { profile = p.asked.profile; block_size = p.asked.block_size; rate = p.asked.rate; bits = p.asked.bits; channels = p.asked.channels; total = p.asked.total; seek_every = p.asked.seek_every; predictors = listed p.predictors }) ≡ None };
+    ghost invariant = { λ p. record {
+      good : plan_fault (record { profile = p.asked.profile; block_size = p.asked.block_size; rate = p.asked.rate; bits = p.asked.bits; channels = p.asked.channels; total = p.asked.total; seek_every = p.asked.seek_every; predictors = listed p.predictors; found = listed_each p.found }) ≡ None;
+      orders : All (AreWithin (limits_at p.asked.profile p.asked.rate).linear) (listed_each p.found);
+    } };
 }
 
 /// Why linear predictors cannot be tried in a profile at a rate in Hz, or `None` if they can: `TooManyPredictors` if
@@ -79,6 +90,21 @@ pub fn predictors_fault(
         return Some(SetupFault::PredictorOrder);
     }
     None
+}
+
+/// The list of this number, or `other` if there are not that many lists.
+fn list_at<'a>(
+    lists: &'a [Vec<LinearPredictor>],
+    number: u64,
+    other: &'a [LinearPredictor],
+) -> &'a [LinearPredictor]
+    ensures { result.now ≡ slice_index_or (map (λ l. l.items) lists.now) number other.now }
+{
+    let at = number as usize;
+    if at < lists.len() {
+        return lists[at].as_slice();
+    }
+    other
 }
 
 /// Whether the frame of this number holds a sample whose index is a multiple of `every`; false if `every` is 0.
@@ -118,7 +144,7 @@ fn count_points(size: u64, total: u64, every: u64) -> u64
 /// Why samples whose format can be encoded cannot be divided into blocks, or `None` if they can.
 #[tactic(auto, unfolding(crate::specs::Given::cutting_fault, crate::specs::Given::predictors_fault))]
 fn cutting_fault(asked: &Asked) -> Option<SetupFault>
-    ensures { result ≡ cutting_fault (record { profile = asked.now.profile; block_size = asked.now.block_size; rate = asked.now.rate; bits = asked.now.bits; channels = asked.now.channels; total = asked.now.total; seek_every = asked.now.seek_every; predictors = [] }) }
+    ensures { result ≡ cutting_fault (record { profile = asked.now.profile; block_size = asked.now.block_size; rate = asked.now.rate; bits = asked.now.bits; channels = asked.now.channels; total = asked.now.total; seek_every = asked.now.seek_every; predictors = []; found = [] }) }
 {
     if !asked.profile.allows_block(asked.block_size, asked.rate) {
         return Some(SetupFault::BadBlockSize);
@@ -137,7 +163,7 @@ fn cutting_fault(asked: &Asked) -> Option<SetupFault>
 /// Why samples of this format and length cannot be divided into blocks, or `None` if they can.
 #[tactic(auto, unfolding(crate::specs::Given::plan_fault))]
 fn fault_of(asked: &Asked) -> Option<SetupFault>
-    ensures { result ≡ plan_fault (record { profile = asked.now.profile; block_size = asked.now.block_size; rate = asked.now.rate; bits = asked.now.bits; channels = asked.now.channels; total = asked.now.total; seek_every = asked.now.seek_every; predictors = [] }) }
+    ensures { result ≡ plan_fault (record { profile = asked.now.profile; block_size = asked.now.block_size; rate = asked.now.rate; bits = asked.now.bits; channels = asked.now.channels; total = asked.now.total; seek_every = asked.now.seek_every; predictors = []; found = [] }) }
 {
     let channels = asked.channels as usize;
     if let Some(fault) = format_fault(asked.profile, asked.rate, asked.bits, channels) {
@@ -206,6 +232,7 @@ impl Plan {
         Ok(Plan {
             asked,
             predictors: None,
+            found: None,
         })
     }
 
@@ -235,7 +262,38 @@ impl Plan {
         Ok(Plan {
             asked,
             predictors: Some(predictors),
+            found: None,
         })
+    }
+
+    /// The same plan, with lists of linear predictors, one for each frame from the first one on. The frame of a number is
+    /// then a shortest one over constant, verbatim and fixed predictors and those of the list of this number; a frame
+    /// after the last list is as without. The lists take the place of those that the plan had. Each order must be at
+    /// most 32 in [`Profile::Lax`] and above 48000 Hz, else at most 12 (RFC 9639, sections 7 and 9.2.6).
+    ///
+    /// ```
+    /// let mut first = Vec::new(rt.alloc());
+    /// if let Some(doubled) = LinearPredictor::new(3, 0, &[2, -1]) {
+    ///     first.push(doubled)?;
+    /// }
+    /// let mut found = Vec::new(rt.alloc());
+    /// found.push(first)?;
+    /// let plan = Plan::new(4096, &audio, 0)?.with_found(found);
+    /// ```
+    pub fn with_found(self, found: Vec<Vec<LinearPredictor>>) -> Plan
+        requires orders { All (λ l. AreWithin (limits_at self.profile self.rate).linear l.items) found.items }
+        ensures { result ≡ with_found self (map (λ l. l.items) found.items) }
+    {
+        let Plan {
+            asked,
+            predictors,
+            found: _,
+        } = self;
+        Plan {
+            asked,
+            predictors,
+            found: Some(found),
+        }
     }
 
     /// Whether these samples have the profile, rate, depth, channels and length of those that the plan was made for.
@@ -256,12 +314,33 @@ impl Plan {
         self.asked.profile
     }
 
-    /// The linear predictors that are tried for each frame, at most 64.
+    /// The linear predictors of the one list, at most 64: those that are tried for a frame that has no list of its own.
     pub fn predictors(&self) -> &[LinearPredictor]
-        ensures { result.now ≡ self.now.predictors }
+        ensures list { result.now ≡ self.now.predictors }
+        ensures orders { AreWithin (limits_at self.now.profile self.now.rate).linear self.now.predictors }
     {
         match &self.predictors {
             Some(predictors) => predictors.as_slice(),
+            None => &[],
+        }
+    }
+
+    /// The linear predictors that are tried for the frame of a number, counted from 0: those of its own list
+    /// ([`Plan::with_found`]), or, if it has none, those of [`Plan::predictors`].
+    pub fn predictors_at(&self, number: u64) -> &[LinearPredictor]
+        ensures tried { result.now ≡ tried self.now number }
+        ensures orders { AreWithin (limits_at self.now.profile self.now.rate).linear result.now }
+    {
+        list_at(self.found(), number, self.predictors())
+    }
+
+    /// The lists of linear predictors of the first frames.
+    fn found(&self) -> &[Vec<LinearPredictor>]
+        ensures lists { map (λ l. l.items) result.now ≡ self.now.found }
+        ensures orders { All (AreWithin (limits_at self.now.profile self.now.rate).linear) self.now.found }
+    {
+        match &self.found {
+            Some(found) => found.as_slice(),
             None => &[],
         }
     }

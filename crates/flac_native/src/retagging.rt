@@ -12,7 +12,7 @@ ghost use Rattle.flac_native.specs.Stream.{Piece, Progress, Stand, grammar, layo
 ghost use Rattle.flac_native.specs.Track.{is_behind_blocks, position_of};
 ghost use Rattle.flac_native.specs.Item.{told};
 ghost use Rattle.flac_native.specs.Places.{retag_text};
-ghost use Rattle.flac_native.specs.Retag.{is_before_frames, BreaksAt, IsRefused, not_read, not_written, BeginsWith, HasHead, Retags, BeginsRetagging, retagged, too_long, no_memory};
+ghost use Rattle.flac_native.specs.Retag.{is_before_frames, BreaksAt, IsRefused, not_read, not_written, BeginsWith, HasHead, Retags, BeginsRetagging, CopiesPart, retagged, too_long, no_memory};
 ghost use Rattle.flac_native.specs.inner.Retag.{stand_at, piece_in, keeps, AreKept, MayBeHead, new_head};
 ghost use Rattle.flac_bits.specs.Bits.{bits_of};
 ghost use Rattle.flac_bits.specs.Written.{Adds, Fails};
@@ -289,6 +289,8 @@ fn retag_from<R: Source, W: Target>(
     ensures nothing { IfErr result (λ f. f ≢ not_read → f ≢ not_written → target.new ≡ target.old) }
     ensures begun { IfErr result (λ f. (f ≡ not_read) ⊎ (f ≡ not_written) → reader.old.known ≡ true → W.known target.old ≡ true
         → BeginsRetagging (lifted reader.old).cursor.mark (lifted reader.old).cursor.left comments.now (bits_of (W.sent target.old)) (bits_of (W.sent target.new))) }
+    ensures copied { IfErr result (λ f. f ≡ not_read → reader.old.known ≡ true → W.known target.old ≡ true
+        → CopiesPart (lifted reader.old).cursor.mark (lifted reader.old).cursor.left comments.now (bits_of (W.sent target.old)) (bits_of (W.sent target.new))) }
     ensures output { IfErr result (λ f. IfSome f.at (λ _. of_output f.why ≡ false)) }
     ensures placeless { IfErr result (λ f. f.at ≡ None → f ≡ not_written) }
     ensures read { IfErr result (λ f. f.why ≡ Why.Read → reader.old.known ≡ true → reader.old.raised < reader.new.raised) }
@@ -346,7 +348,8 @@ fn retag_from<R: Source, W: Target>(
 /// - A reason of the marker or of a metadata block, at its place, as [`crate::decode`] refuses it. Nothing was written.
 /// - [`Why::Read`] at the marker or at a block: the source returned an error there. Nothing was written.
 /// - [`Why::Memory`] at the marker, at a block, or at frame 0: an allocation failed there. Nothing was written.
-/// - [`Why::Read`] at frame 0: the source returned an error after the metadata. A prefix of the output was written.
+/// - [`Why::Read`] at frame 0: the source returned an error after the metadata. The new metadata and a prefix of the
+///   rest were written.
 /// - [`Why::Write`] without a place: the target returned an error. A prefix of the output was written.
 pub fn retag<R: Source, W: Target>(
     alloc: Global,
@@ -389,6 +392,10 @@ pub fn retag<R: Source, W: Target>(
     // If a device failed after the blocks, a prefix of the output was written.
     ensures begun { IfErr result (λ f. (f ≡ not_read) ⊎ (f ≡ not_written) → R.known source.old ≡ true → W.known target.old ≡ true
         → BeginsRetagging (beginning (short_of ((R.behind source.old).fails))) (bits_of (R.coming source.old)) comments.now (bits_of (W.sent target.old)) (bits_of (W.sent target.new))) }
+    // An error of the source is reported after the blocks only when the new blocks were written whole: the target's
+    // bytes say so, and which prefix of the rest was copied.
+    ensures copied { IfErr result (λ f. f ≡ not_read → R.known source.old ≡ true → W.known target.old ≡ true
+        → CopiesPart (beginning (short_of ((R.behind source.old).fails))) (bits_of (R.coming source.old)) comments.now (bits_of (W.sent target.old)) (bits_of (W.sent target.new))) }
     // Only faults of the comments and of the target have no place. A device's error that is returned is counted.
     ensures placeless { IfErr result (λ f. f.at ≡ None → (f ≡ too_long) ⊎ (f ≡ not_written)) }
     // So an error of a target is never at a place, and none is of a sink.

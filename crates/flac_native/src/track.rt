@@ -215,6 +215,7 @@ impl Track {
     pub fn next_frame<R: Source>(&mut self, bits: &mut BitReader<R>) -> Result<(), Why>
         ensures reading { CallInPlace 40 (λ _. MeansWithin (Some 16777215) (λ _. shown self.new) (frame_behind (stand_of self.old).profile (stand_of self.old).info (stand_of self.old).before) bits.old) (lifted bits.old) bits.new result }
         ensures next { OnOk result ((p : Progress) → IsAt self.old p → IsAt self.new (next p (framed (shown self.new)))) }
+        ensures phase { OnOk result ((stand_of self.new).phase ≡ (stand_of self.old).phase) }
         ensures made { OnOk result (is_some (stand_of self.new).info ≡ true) }
         // The block that Track::next_block keeps does not change.
         ensures last { self.new.last ≡ self.old.last }
@@ -228,6 +229,7 @@ impl Track {
     pub(crate) fn next_frame_here<R: Source>(&mut self, bits: &mut BitReader<R>) -> Result<(), Why>
         ensures reading { CallInPlace 40 (λ _. ReadsWithin (Some 16777215) (λ _. shown self.new) (frame_behind (stand_of self.old).profile (stand_of self.old).info (stand_of self.old).before) bits.old) (lifted bits.old) bits.new result }
         ensures next { OnOk result ((p : Progress) → IsAt self.old p → IsAt self.new (next p (framed (shown self.new)))) }
+        ensures phase { OnOk result ((stand_of self.new).phase ≡ (stand_of self.old).phase) }
         ensures made { OnOk result (is_some (stand_of self.new).info ≡ true) }
         ensures last { self.new.last ≡ self.old.last }
         ensures kept { self.new.block ≡ self.old.block }

@@ -11,7 +11,7 @@ ghost use Rattle.flac_native.specs.declared.decoder.Course.TheVariants.{Begun};
 ghost use Rattle.flac_native.specs.declared.fault.Place.{Place as Where};
 ghost use Rattle.flac_bits.specs.declared.why.Why.{Why as Reason};
 ghost use Rattle.flac_ogg.specs.Stream.{start, OggStream, OggRefused};
-ghost use Rattle.flac_pages.specs.Packets.{ahead};
+ghost use Rattle.flac_pages.specs.Packets.{ahead, at_front};
 ghost use Rattle.flac_ogg.specs.Coming.{ItemsCome, IsClear};
 ghost use Rattle.flac_bits.specs.Handing.{Hands, Decides, outcome_of};
 ghost use Rattle.flac_native.specs.Item.{told};
@@ -21,10 +21,60 @@ ghost use Rattle.flac_ogg.specs.Either.{begins_page, read_either, read_any};
 
 use crate::packets::OggPackets;
 use flac_bits::{Source, Why};
-use flac_native::{Decoder, Fault, Place, Profile, Sink, Track, decode, hand_out};
+use flac_native::{Decoder, Fault, Place, Profile, Refused, Sink, Track, decode, hand_out};
 use flac_pages::{CAPTURE_PATTERN, PageRoom, Pages};
 use std::alloc::Global;
 use std::io;
+
+/// The pages of a source, with room for one. If the allocation of that fails, the source is returned.
+fn pages_of<R: Source>(alloc: Global, source: R) -> Result<Pages<R>, Refused<R>>
+    ensures ok { IfOk result (λ p. p ≡ at_front (R.known source) (R.errors source) (R.raised source) (8 * R.most source) (R.names source) (bits_of (R.coming source)) (short_of ((R.behind source).fails))) }
+    ensures memory { IfErr result (λ x. x.fault ≡ record { at = Place.Marker; why = Why.Memory }) }
+    ensures left { IfErr result (λ x. x.left ≡ source) }
+{
+    match PageRoom::new(alloc) {
+        Ok(room) => Ok(Pages::over(room, source)),
+        Err(why) => Err(Refused {
+            fault: Fault {
+                at: Place::Marker,
+                why,
+            },
+            left: source,
+        }),
+    }
+}
+
+/// Does what [`ogg_decoder`] does, and returns the source with an error.
+///
+/// # Errors
+/// Those of [`ogg_decoder`]. Nothing was read from the source.
+pub fn ogg_decoder_returning<R: Source>(
+    alloc: Global,
+    source: R,
+    profile: Profile,
+) -> Result<Decoder<OggPackets<R>>, Refused<R>>
+    ensures track { IfOk result (λ d. IsAt (stage_of d).track (start profile)) }
+    ensures course { IfOk result (λ d. (stage_of d).course ≡ Begun) }
+    ensures known { IfOk result (λ d. (stage_of d).container.pages.known ≡ R.known source) }
+    ensures errors { IfOk result (λ d. (stage_of d).container.pages.errors ≡ R.errors source) }
+    ensures met { IfOk result (λ d. (stage_of d).container.pages.raised ≡ R.raised source) }
+    ensures most { IfOk result (λ d. ((stage_of d).container.pages.most ≡ 8 * R.most source) × ((stage_of d).container.pages.body ≡ [])) }
+    ensures names { IfOk result (λ d. (stage_of d).container.pages.names ≡ R.names source) }
+    // What is still to come is what the input is.
+    ensures stream { IfOk result (λ d. (items : List Piece) → OggStream profile (beginning (short_of ((R.behind source).fails))) items (bits_of (R.coming source)) → ItemsCome (start profile) (ahead (stage_of d).container.pages) items None) }
+    ensures refused { IfOk result (λ d. (items : List Piece) (at : Where) (why : Reason) → OggRefused profile (beginning (short_of ((R.behind source).fails))) items (bits_of (R.coming source)) at why → ItemsCome (start profile) (ahead (stage_of d).container.pages) items (Some (at, why))) }
+    // No page was read.
+    ensures front { IfOk result (λ d. R.known source ≡ true → IsFront (beginning (short_of ((R.behind source).fails))) (bits_of (R.coming source)) (stage_of d).container.pages) }
+    // Read is returned only if the source returns an error in the call, unless one is announced.
+    ensures clear { IfOk result (λ d. (R.behind source).fails ≡ None → IsClear (stage_of d).container.pages (stage_of d).track) }
+    ensures memory { IfErr result (λ x. x.fault ≡ record { at = Place.Marker; why = Why.Memory }) }
+    ensures left { IfErr result (λ x. x.left ≡ source) }
+{
+    match pages_of(alloc, source) {
+        Ok(pages) => Ok(Decoder::over(OggPackets::over(pages), Track::new(alloc, profile))),
+        Err(refused) => Err(refused),
+    }
+}
 
 /// Makes a decoder of an Ogg stream, whose first page begins at the source's next byte (RFC 9639, section 10.1). It has
 /// the calls of [`Decoder`], and lends a block or a frame once its packet has ended. They report [`Why::Read`] at the
@@ -62,12 +112,9 @@ pub fn ogg_decoder<R: Source + Drop>(
     ensures memory { IfErr result (λ f. f.why ≡ Why.Memory) }
     ensures place { IfErr result (λ f. f.at ≡ Place.Marker) }
 {
-    match Pages::new(alloc, source) {
-        Ok(pages) => Ok(Decoder::over(OggPackets::over(pages), Track::new(alloc, profile))),
-        Err(why) => Err(Fault {
-            at: Place::Marker,
-            why,
-        }),
+    match ogg_decoder_returning(alloc, source, profile) {
+        Ok(decoder) => Ok(decoder),
+        Err(refused) => Err(refused.fault),
     }
 }
 
@@ -109,6 +156,7 @@ pub fn decode_ogg<R: Source, S: Sink>(
     ensures write { IfErr result (λ f. f.why ≢ Why.Write) }
     // Ok only if the source returned no error in the call, unless one was announced, whatever is known of its bytes.
     ensures counted { OnOk result (R.errors source.new ≡ R.errors source.old) }
+    ensures raised { OnOk result (R.raised source.new ≡ R.raised source.old) }
     ensures kept { R.errors source.old ≤ R.errors source.new }
     ensures names { S.names sink.new ≡ S.names sink.old }
     ensures source_names { R.names source.new ≡ R.names source.old }
@@ -232,6 +280,7 @@ fn decode_as<R: Source, S: Sink>(
         Decides (read_either profile is_ogg (beginning (short_of ((R.behind source.old).fails))) (bits_of (R.coming source.old))) (outcome_of told result) }
     // Ok only if the source returned no error in the call, unless one was announced, whatever is known of its bytes.
     ensures counted { OnOk result (R.errors source.new ≡ R.errors source.old) }
+    ensures raised { OnOk result (R.raised source.new ≡ R.raised source.old) }
     ensures kept { R.errors source.old ≤ R.errors source.new }
     ensures read { IfErr result (λ f. R.known source.old ≡ true → (R.behind source.old).fails ≡ None → f.why ≡ Why.Read → (R.errors source.old < R.errors source.new) ⊎ (R.raised source.old < R.raised source.new)) }
     // An error of the source and of the sink is counted, if the count can rise, whatever is known of them: no other
@@ -275,6 +324,7 @@ pub fn decode_any<R: Source, S: Sink>(
         Decides (read_any profile (begins_page (R.coming source.old)) (beginning (short_of ((R.behind source.old).fails))) (bits_of (R.coming source.old))) (outcome_of told result) }
     // Ok only if the source returned no error in the call, unless one was announced, whatever is known of its bytes.
     ensures counted { OnOk result (R.errors source.new ≡ R.errors source.old) }
+    ensures raised { OnOk result (R.raised source.new ≡ R.raised source.old) }
     ensures kept { R.errors source.old ≤ R.errors source.new }
     // Read is returned only if the source returned an error in the call, unless one was announced.
     ensures read { IfErr result (λ f. R.known source.old ≡ true → (R.behind source.old).fails ≡ None → f.why ≡ Why.Read → (R.errors source.old < R.errors source.new) ⊎ (R.raised source.old < R.raised source.new)) }

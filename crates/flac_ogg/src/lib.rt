@@ -23,7 +23,9 @@ mod laws;
 mod packets;
 mod verifying;
 
-pub use decoding::{Fronted, begins_page, decode_any, decode_ogg, ogg_decoder, pull_front};
+pub use decoding::{
+    Fronted, begins_page, decode_any, decode_ogg, ogg_decoder, ogg_decoder_returning, pull_front,
+};
 pub use encoding::{begins_with_comment, encode_ogg};
 pub use flac_bits::{Collected, Counted, Memory, Pieces, Source, Target, Why};
 pub use flac_frame::{Audio, FrameView, SetupFault};
@@ -32,8 +34,8 @@ pub use flac_meta::{
     Picture, SeekPoint, SeekTable, StreamInfo, Texts,
 };
 pub use flac_native::{
-    Decoder, EncodeFault, Fault, Item, LinearPredictor, Place, Plan, Profile, Sink, SinkFault,
-    decode,
+    Decoder, EncodeFault, Fault, Item, LinearPredictor, Place, Plan, Profile, Refused, Sink,
+    SinkFault, decode,
 };
 pub use flac_pages::{PacketBytes, Pages};
 pub use headers::{Headers, headers_of};

@@ -4,7 +4,7 @@ ghost use Rattle.std.specs.Prelude.{◌≡◌, ◌≢◌, ◌≤◌, ◌+◌, On
 ghost use Rattle.flac_bits.specs.Reading.{Counts, Reads, ReadsInRoom, Call, CallInPlace};
 ghost use Rattle.flac_ogg.specs.Mapping.{mapping, is_first_block, page_place, item_place, packet_place, packet_layout};
 ghost use Rattle.flac_native.specs.Stream.{Stand, place_in, Progress, next, room_in, layout_in, framed, frame_behind};
-ghost use Rattle.flac_native.specs.Track.{stand_of, IsAt, IsMadeAs, piece_of, kept, shown};
+ghost use Rattle.flac_native.specs.Track.{stand_of, IsAt, IsMadeAs, AreAtFrames, IsInOrder, is_behind_blocks, piece_of, kept, shown};
 ghost use Rattle.flac_bits.specs.Fencing.{lifted};
 ghost use Rattle.flac_bits.specs.Within.{ReadsWithin};
 ghost use Rattle.flac_bits.specs.inner.Within.{ReadsWithinInRoom};
@@ -115,6 +115,7 @@ fn read_block<R: Source>(bits: &mut BitReader<R>, track: &mut Track) -> Result<P
     ensures counts { Counts bits.old bits.new result }
     ensures reads { ReadsInRoom (λ part. piece_of track.new part) (block_packet (stand_of track.old)) bits.old bits.new result }
     ensures made { IfOk result (λ part. IsMadeAs part track.old track.new) }
+    ensures ordered { IfOk result (λ part. is_behind_blocks (stand_of track.old).phase ≡ false → IsInOrder (Some part) track.old track.new) }
     ensures next { IfOk result (λ part. (p : Progress) → IsAt track.old p → IsAt track.new (next p (piece_of track.new part))) }
 {
     block_here(bits, track)?;
@@ -127,6 +128,7 @@ fn read_first_block<R: Source>(bits: &mut BitReader<R>, track: &mut Track) -> Re
     ensures counts { Counts bits.old bits.new result }
     ensures reads { ReadsInRoom (λ part. piece_of track.new part) (first_packet (stand_of track.old)) bits.old bits.new result }
     ensures made { IfOk result (λ part. IsMadeAs part track.old track.new) }
+    ensures ordered { IfOk result (λ part. is_behind_blocks (stand_of track.old).phase ≡ false → IsInOrder (Some part) track.old track.new) }
     ensures next { IfOk result (λ part. (p : Progress) → IsAt track.old p → IsAt track.new (next p (piece_of track.new part))) }
 {
     read_mapping(bits)?;
@@ -137,6 +139,7 @@ fn read_first_block<R: Source>(bits: &mut BitReader<R>, track: &mut Track) -> Re
 fn frame_here<R: Source>(bits: &mut BitReader<R>, track: &mut Track) -> Result<(), Why>
     ensures reading { CallInPlace 40 (λ _. ReadsWithin (Some 16777215) (λ _. shown track.new) (frame_behind (stand_of track.old).profile (stand_of track.old).info (stand_of track.old).before) bits.old) (lifted bits.old) bits.new result }
     ensures next { OnOk result ((p : Progress) → IsAt track.old p → IsAt track.new (next p (framed (shown track.new)))) }
+    ensures phase { OnOk result ((stand_of track.new).phase ≡ (stand_of track.old).phase) }
     ensures made { OnOk result (is_some (stand_of track.new).info ≡ true) }
     ensures last { track.new.last ≡ track.old.last }
     ensures kept { track.new.block ≡ track.old.block }
@@ -151,6 +154,7 @@ fn read_frame<R: Source>(bits: &mut BitReader<R>, track: &mut Track) -> Result<P
     ensures counts { Counts (lifted bits.old) bits.new result }
     ensures reads { ReadsWithin (Some 16777215) (λ part. piece_of track.new part) (layout_in Frames (stand_of track.old)) bits.old bits.new result }
     ensures made { IfOk result (λ part. IsMadeAs part track.old track.new) }
+    ensures ordered { IfOk result (λ part. (stand_of track.old).phase ≡ Frames → IsInOrder (Some part) track.old track.new) }
     ensures next { IfOk result (λ part. (p : Progress) → IsAt track.old p → IsAt track.new (next p (piece_of track.new part))) }
 {
     frame_here(bits, track)?;
@@ -165,6 +169,7 @@ pub(crate) fn read_part<R: Source>(bits: &mut BitReader<R>, track: &mut Track) -
     ensures memory { (stand_of track.old).phase ≡ Frames → IfErr result (λ e. e ≢ Why.Memory) }
     ensures reads { (stand_of track.old).phase ≢ Opening → ReadsWithinInRoom (room_in (stand_of track.old).phase) (λ part. piece_of track.new part) (packet_layout (stand_of track.old)) bits.old bits.new result }
     ensures made { IfOk result (λ part. IsMadeAs part track.old track.new) }
+    ensures ordered { IfOk result (λ part. IsInOrder (Some part) track.old track.new) }
     ensures next { IfOk result (λ part. (p : Progress) → IsAt track.old p → IsAt track.new (next p (piece_of track.new part))) }
 {
     if track.is_past_metadata() {
@@ -201,6 +206,7 @@ pub(crate) fn read_packet<R: Source>(
     ensures goes { OnOk result ((pages.old.known ≡ true → pages.new.known ≡ true) × (pages.new.errors ≡ pages.old.errors)) }
     ensures ahead { OnOk result ((stand_of track.old).phase ≢ Opening → pages.old.known ≡ true → HasBehind pages.old pages.new) }
     ensures made { IfOk result (λ part. IsMadeAs part track.old track.new) }
+    ensures ordered { IfOk result (λ part. IsInOrder (Some part) track.old track.new) }
     ensures next { IfOk result (λ part. (p : Progress) → IsAt track.old p → IsAt track.new (next p (piece_of track.new part))) }
 {
     let mut bits = packet_bits(PacketBytes::over(pages));
@@ -228,6 +234,7 @@ fn end_here(track: &mut Track) -> Result<(), Fault>
     ensures memory { IfErr result (λ f. f.why ≢ Why.Memory) }
     ensures quiet { IfErr result (λ f. f.why ≢ Why.Read) }
     ensures output { IfErr result (λ f. of_output f.why ≡ false) }
+    ensures ordered { OnOk result (AreAtFrames track.old track.new) }
     ensures ends { (p : Progress) → IsAt track.old p → IsUnderWay p.stand → EndIs (without_packet p None) result }
 {
     if !track.is_past_metadata() {
@@ -292,6 +299,7 @@ pub(crate) fn advance<R: Source>(
     ensures spends { IfOk result (λ o. IfSome o (λ _. pages.new.most + length pages.new.body < pages.old.most + length pages.old.body)) }
     ensures goes { IfOk result (λ _. (pages.old.known ≡ true → pages.new.known ≡ true) × (pages.new.errors ≡ pages.old.errors)) }
     ensures made { IfOk result (λ o. IfSome o (λ part. IsMadeAs part track.old track.new)) }
+    ensures ordered { IfOk result (λ o. IsInOrder o track.old track.new) }
     ensures next { IfOk result (λ o. IfSome o (λ part. (p : Progress) → IsAt track.old p → IsAt track.new (next p (piece_of track.new part)))) }
 {
     match pages.next_packet() {

@@ -1,5 +1,5 @@
 -- A stream that is cut at a frame, and the bytes from there on.
-use Rattle.std.proofs.Common.{◌≡◌, ℕ, List, [], ◌∷◌, ◌++◌, map, take, drop, Option, Some, None, Result, Ok, Err, refl, sym, ap, subst, ◌∙◌}
+use Rattle.std.proofs.Common.{◌≡◌, ℕ, Bool, List, [], ◌∷◌, ◌++◌, map, take, drop, Option, Some, None, refl, sym, ap, subst, ◌∙◌}
 use Rattle.std.proofs.lemmas.List.{append-nil, take-append-drop}
 use Rattle.flac_bits.specs.Bits.{bits_of}
 use Rattle.flac_bits.specs.State.{Mark}
@@ -13,7 +13,7 @@ use Rattle.flac_header.specs.declared.subset.Profile.{Profile}
 use Rattle.flac_frame.specs.Frame.{Frame}
 use Rattle.flac_native.specs.Decoding.{beginning}
 use Rattle.flac_native.specs.Item.{frame, told}
-use Rattle.flac_native.specs.Giving.{items_of}
+use Rattle.flac_native.specs.Giving.{items_of, Stage}
 use Rattle.flac_native.specs.Stream.{framed, grammar, opening}
 use Rattle.flac_native.specs.Resuming.{resumed}
 use Rattle.flac_native.specs.declared.fault.Place.{Place}
@@ -21,8 +21,7 @@ use Rattle.flac_native.specs.declared.fault.Fault.{Fault}
 use Rattle.flac_native.specs.declared.container.Container as container
 use Rattle.flac_native.proofs.Onwards.{same_info, one_place, ends_well, frames_are_resumed}
 use Rattle.flac_reader.specs.Opening.{IsReadAs}
-use Rattle.flac_reader.specs.Seeking.{Cuts, SeeksTo, SeeksFrames}
-use Rattle.flac_reader.specs.declared.reader.Reader.{Reader}
+use Rattle.flac_reader.specs.Seeking.{Cuts, Finds, PassedBy}
 
 abbrev first : Mark
 first = beginning Truncated
@@ -55,11 +54,19 @@ cut_read profile stream info at frames c = record { parts = map framed frames; r
 abbrev none : Option (Place × Why)
 none = None
 
+-- what is read from the cut on
+abbrev FromCut : Profile → List ℕ → ℕ → Info → List Frame → Option (Place × Why) → Type 0
+FromCut profile stream at info frames end = IsReadAs (by_grammar grammar (resumed profile info) first (bits_of (drop at stream))) [] frames end
+
 -- so what is sought in the rest is sought among these frames
-pub cut_found : {C : Type 0} {g : container.Ghosts C} (profile : Profile) (stream : List ℕ) (info : Info) (sample at : ℕ) (frames : List Frame) (result : Result (Reader C g) Fault) → SeeksTo info sample (by_grammar grammar (resumed profile info) first (bits_of (drop at stream))) result
-    → Cuts profile stream info at frames → SeeksFrames info sample frames result
-cut_found profile stream info sample at frames (Ok reader) found c = found frames None (cut_read profile stream info at frames c)
-cut_found profile stream info sample at frames (Err f) found c = λ other. no_end (told f) (found other frames None (cut_read profile stream info at frames c)).1
+pub cut_found : {C : Type 0} {g : container.Ghosts C} (profile : Profile) (stream : List ℕ) (info : Info) (sample at : ℕ) (frames : List Frame) (ahead : Bool) (s : Stage C)
+    → ((others : List Frame) (end : Option (Place × Why)) → FromCut profile stream at info others end → Finds g info sample others end ahead s) → Cuts profile stream info at frames → Finds g info sample frames None ahead s
+cut_found profile stream info sample at frames ahead s found c = found frames None (cut_read profile stream info at frames c)
+
+-- and is not refused
+pub cut_refused : (profile : Profile) (stream : List ℕ) (info : Info) (sample at : ℕ) (frames : List Frame) (f : Fault)
+    → ((others : List Frame) (end : Option (Place × Why)) → FromCut profile stream at info others end → PassedBy info sample others × (end ≡ Some (told f))) → Cuts profile stream info at frames → ⊥
+cut_refused profile stream info sample at frames f refused c = no_end (told f) (refused frames None (cut_read profile stream info at frames c)).1
   where
     no_end : (x : Place × Why) → none ≡ Some x → ⊥
     no_end x e = absurd cc

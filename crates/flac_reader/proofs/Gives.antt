@@ -1,5 +1,5 @@
 -- What a call of a reader gives, seen in two ways.
-use Rattle.std.proofs.Common.{◌≡◌, ◌+◌, min, List, [], ◌∷◌, map, Option, Some, None, IfSome, Result, Ok, Err, sym, ap, subst, ◌∙◌}
+use Rattle.std.proofs.Common.{◌≡◌, ◌+◌, min, List, [], ◌∷◌, map, Option, Some, None, Result, Ok, Err, sym, ap, subst, ◌∙◌}
 use Rattle.flac_bits.specs.declared.why.Why.{Why}
 use Rattle.flac_frame.specs.Frame.{Frame}
 use Rattle.flac_native.specs.Item.{Item, frame}
@@ -7,7 +7,7 @@ use Rattle.flac_native.specs.Giving.{Stage, stage_of}
 use Rattle.flac_native.specs.declared.fault.Place.{Place}
 use Rattle.flac_native.specs.declared.fault.Fault.{Fault}
 use Rattle.flac_native.specs.declared.container.Container as container
-use Rattle.flac_reader.specs.Coming.{IsFirst, IsPast, only_frame, size_of}
+use Rattle.flac_reader.specs.Coming.{IsFirst, only_frame, size_of}
 use Rattle.flac_reader.specs.Giving.{last_frame, Gives}
 use Rattle.flac_reader.specs.declared.reader.Reader.{Reader}
 use Rattle.flac_reader.proofs.Heads.{room, same_room, ok_counts, err_counts}
@@ -56,7 +56,7 @@ gives_shown {g = g} old new view seen x y same h = record {
   counts = ok_counts g (stage_of old.decoder) (stage_of new.decoder) x y h.counts;
   given = λ e. ((h.given e).0, ap answer same ∙ (h.given e).1);
   memory = λ k. tt;
-  past = λ k. subst (λ o. IfSome o (λ _. IsPast (stage_of new.decoder))) (sym same) (h.past k);
+  past = h.past;
   ahead = h.ahead;
   samples = (h.samples.0, h.samples.1 ∙ ap (λ k. min (old.behind + size_of k) 18446744073709551615) (sym same));
   blocks = h.blocks;

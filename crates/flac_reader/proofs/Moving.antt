@@ -11,12 +11,14 @@ use Rattle.flac_frame.specs.Frame.{Frame}
 use Rattle.flac_native.specs.Item.{Item, metadata, frame, told}
 use Rattle.flac_bits.specs.Items.{after}
 use Rattle.flac_native.specs.Stream.{Piece, marked, block, framed, Progress, grammar, next}
-use Rattle.flac_native.specs.Track.{IsAt, stand_of}
-use Rattle.flac_native.specs.Giving.{StillGives, Stage, held, seen_by, handed, IsBeforeItem, PassesItem, Goes, MovesFrom, Moves, IsFirst as First}
+use Rattle.flac_native.specs.Track.{IsAt, is_behind_blocks, is_going}
+use Rattle.flac_native.specs.Giving.{StillGives, ComesInOrder, Stage, held, seen_by, Goes, MovesFrom, Moves, IsFirst as First}
 use Rattle.flac_native.specs.declared.fault.Place.{Place}
 use Rattle.flac_native.specs.declared.fault.Fault.{Fault}
 use Rattle.flac_native.specs.declared.container.Part.{Part}
-use Rattle.flac_native.specs.declared.track.Phase.TheVariants.{Opening, Frames}
+use Rattle.flac_native.specs.declared.track.Phase.{Phase}
+use Rattle.flac_native.specs.declared.track.Phase.TheVariants.{Frames}
+use Rattle.flac_native.specs.declared.track.Track.{Track}
 use Rattle.flac_native.specs.declared.decoder.Course.{Course}
 use Rattle.flac_native.specs.declared.decoder.Course.TheVariants as course
 use Rattle.flac_native.specs.declared.container.Container as container
@@ -143,16 +145,10 @@ moves_counted {C} {X} g old new view result moves = go old.course moves
 
 -- ---- after the last metadata block
 
-past_phase : {C : Type 0} (s : Stage C) (p : Progress) → IsAt s.track p → p.stand.phase ≡ Frames → (stand_of s.track).phase ≡ Frames
-past_phase s p at frames = ap (λ k. k.phase) at.stand ∙ frames
-
 -- no allocation fails
 pub moves_memory : {C X : Type 0} (g : container.Ghosts C) (old new : Stage C) (view : X → Option Item) (f : Fault) → Moves g old new view (Err f) → IsPast old → f.why ≢ Memory
-moves_memory {C} {X} g old new view f moves (p, at, frames) = go old.course moves
+moves_memory {C} {X} g old new view f moves past = go old.course moves
   where
-    goes : Goes g old new view (Err f) → f.why ≢ Memory
-    goes h = h.memory (past_phase old p at frames)
-
     spent : (place : Place) → failure {X = Option Item} f ≡ Err (record { at = place; why = Spent }) → f.why ≢ Memory
     spent place e is = absurd (other (sym (ap (λ (w : Fault). w.why) (same_fault {X = Option Item} f _ e)) ∙ is))
       where
@@ -160,71 +156,64 @@ moves_memory {C} {X} g old new view f moves (p, at, frames) = go old.course move
         other e = absurd cc
 
     go : (k : Course) → MovesFrom g k old new view (Err f) → f.why ≢ Memory
-    go course.Begun h = goes h
-    go (course.Read part) h = goes h
+    go course.Begun h = h.memory past
+    go (course.Read part) h = h.memory past
     go course.Over h = absurd (ok_err None f (sym h.0))
     go (course.Spent place) h = spent place h.0
 
--- a frame that comes is after the last block too
-frame_past : (p : Progress) (part : Piece) (f : Frame) → p.stand.phase ≡ Frames → handed part ≡ item (frame f) → (next p part).stand.phase ≡ Frames
-frame_past p marked f frames is = absurd (other is)
+not_before : (k : Phase) → is_behind_blocks k ≡ false → k ≡ Frames → ⊥
+not_before k e is =
+    let behind : is_behind_blocks k ≡ true = ap is_behind_blocks is in
+    absurd cc
+
+-- what comes after the last block is no block
+still_past : {C : Type 0} (old new : Stage C) (o : Option Item) → ComesInOrder old.track new.track o → IsPast old → IsPast new
+still_past old new None h past = h.1
+still_past old new (Some (metadata b)) h past = absurd (not_before old.track.position.phase h past)
+still_past old new (Some (frame f)) h past = h.1
+
+pub moves_past : {C X : Type 0} (g : container.Ghosts C) (old new : Stage C) (view : X → Option Item) (x : X) → Moves g old new view (Ok x) → IsPast old → IsPast new
+moves_past {C} {X} g old new view x moves past = go old.course moves
   where
-    other : handed marked ≡ item (frame f) → ⊥
-    other e = absurd cc
-frame_past p (block last b) f frames is = absurd (block_frame b f (inside is))
+    go : (k : Course) → MovesFrom g k old new view (Ok x) → IsPast new
+    go course.Begun h = still_past old new (view x) h.ordered past
+    go (course.Read part) h = still_past old new (view x) h.ordered past
+    go course.Over h = subst IsPast (sym h.1) past
+    go (course.Spent at) h = subst IsPast (sym h.1) past
+
+-- a frame, and the end, come after the last block
+first_past : {C : Type 0} (old new : Stage C) (o : Option Item) → only_frame o ≡ o → ComesInOrder old.track new.track o → IsPast new
+first_past old new None is h = h.1
+first_past old new (Some (metadata b)) is h = absurd (no_block is)
   where
-    inside : item (metadata b) ≡ item (frame f) → metadata b ≡ frame f
-    inside e = cc
-frame_past p (framed x) f frames is = frames
+    no_block : only_frame (Some (metadata b)) ≡ item (metadata b) → ⊥
+    no_block e = absurd cc
+first_past old new (Some (frame f)) is h = h.1
 
-item_past : {C : Type 0} (g : container.Ghosts C) (p : Progress) (old new : Stage C) (f : Frame) → p.stand.phase ≡ Frames → PassesItem g p old.container new.container new.track (frame f) → IsPast new
-item_past g p old new f frames h = go h.front h.before h.at
+pub comes_past : {C X : Type 0} (g : container.Ghosts C) (old new : Stage C) (view : X → Option Item) (x : X) → Moves g old new view (Ok x) → only_frame (view x) ≡ view x → is_going old.course ≡ true → IsPast new
+comes_past {C} {X} g old new view x moves is going = go old.course moves going
   where
-    not_opening : p.stand.phase ≡ Opening → ⊥
-    not_opening e = other (sym e ∙ frames)
-      where
-        other : Opening ≡ Frames → ⊥
-        other e = absurd cc
+    go : (k : Course) → MovesFrom g k old new view (Ok x) → is_going k ≡ true → IsPast new
+    go course.Begun h e = first_past old new (view x) is h.ordered
+    go (course.Read part) h e = first_past old new (view x) is h.ordered
+    go course.Over h e = absurd cc
+    go (course.Spent at) h e = absurd cc
 
-    none : (front : List Piece) → front ≡ [] → IsAt new.track (after grammar p (front ++ h.part ∷ [])) → IsPast new
-    none front e at = let there : IsAt new.track (next p h.part) = subst (λ k. IsAt new.track (after grammar p (k ++ h.part ∷ []))) e at in (next p h.part, there, frame_past p h.part f frames h.shown)
-
-    go : (front : List Piece) → IsBeforeItem p front → IsAt new.track (after grammar p (front ++ h.part ∷ [])) → IsPast new
-    go front (inl e) at = none front e at
-    go front (inr (opening, e)) at = absurd (not_opening opening)
-
-pub moves_past : {C X : Type 0} (g : container.Ghosts C) (old new : Stage C) (view : X → Option Item) (x : X) → Moves g old new view (Ok x) → IsPast old → IfSome (only_frame (view x)) (λ _. IsPast new)
-moves_past {C} {X} g old new view x moves past = shown (view x) (λ f is. go f is old.course moves)
-  where
-    shown : (h : Option Item) → ((f : Frame) → h ≡ Some (frame f) → IsPast new) → IfSome (only_frame h) (λ _. IsPast new)
-    shown None to = tt
-    shown (Some (metadata b)) to = tt
-    shown (Some (frame f)) to = to f refl
-
-    goes : (f : Frame) → view x ≡ Some (frame f) → Goes g old new view (Ok x) → IsPast new
-    goes f is h = item_past g past.0 old new f past.2 (subst (λ o. IfSome o (λ i. PassesItem g past.0 old.container new.container new.track i)) is (h.passes past.0 past.1))
-
-    go : (f : Frame) → view x ≡ Some (frame f) → (k : Course) → MovesFrom g k old new view (Ok x) → IsPast new
-    go f is course.Begun h = goes f is h
-    go f is (course.Read part) h = goes f is h
-    go f is course.Over h = subst IsPast (sym h.1) past
-    go f is (course.Spent at) h = subst IsPast (sym h.1) past
+-- an item that is held was read
+pub held_going : (k : Course) (t : Track) (i : Item) → item i ≡ held k t → is_going k ≡ true
+held_going course.Begun t i e = absurd cc
+held_going (course.Read part) t i e = refl
+held_going course.Over t i e = absurd cc
+held_going (course.Spent at) t i e = absurd cc
 
 -- whatever the result is
 pub memory_kept : {C X : Type 0} (g : container.Ghosts C) (old new : Stage C) (view : X → Option Item) (result : Result X Fault) → Moves g old new view result → IsPast old → IfErr result (λ f. f.why ≢ Memory)
 memory_kept g old new view (Ok x) moves past = tt
 memory_kept g old new view (Err f) moves past = moves_memory g old new view f moves past
 
-pub past_kept : {C X : Type 0} (g : container.Ghosts C) (old new : Stage C) (result : Result X Fault) → Moves g old new (λ _. held new.course new.track) result → IsPast old → OnOk result (IfSome (only_frame (held new.course new.track)) (λ _. IsPast new))
+pub past_kept : {C X : Type 0} (g : container.Ghosts C) (old new : Stage C) (result : Result X Fault) → Moves g old new (λ _. held new.course new.track) result → IsPast old → OnOk result (IsPast new)
 past_kept g old new (Ok x) moves past = moves_past g old new (λ _. held new.course new.track) x moves past
 past_kept g old new (Err f) moves past = tt
-
-pub stays_past : {C : Type 0} (s : Stage C) → IsPast s → IfSome (only_frame (held s.course s.track)) (λ _. IsPast s)
-stays_past s past = go (only_frame (held s.course s.track))
-  where
-    go : (o : Option Item) → IfSome o (λ _. IsPast s)
-    go None = tt
-    go (Some x) = past
 
 -- ---- what was given first
 

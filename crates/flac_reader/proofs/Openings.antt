@@ -13,7 +13,7 @@ use Rattle.flac_native.specs.Giving.{Stage, stage_of, StillGives}
 use Rattle.flac_native.specs.declared.fault.Place.{Place}
 use Rattle.flac_native.specs.declared.decoder.Course.TheVariants as course
 use Rattle.flac_native.specs.declared.container.Container as container
-use Rattle.flac_reader.specs.Coming.{Comes, ComesBehind, HeadOf, stream_items}
+use Rattle.flac_reader.specs.Coming.{Comes, ComesBehind, HeadOf, IsPast, stream_items}
 use Rattle.flac_reader.specs.Kept.{first_info}
 use Rattle.flac_reader.specs.Opening.{IsReadAs, Opens, Starts}
 use Rattle.flac_reader.specs.declared.keep.Keep.{Keep}
@@ -40,13 +40,14 @@ opens_over {g = g} r keep reader s p begun at gives known head info = record {
 -- where the decoder was over this source
 pub starts_over : {C : Type 0} {g : container.Ghosts C} (reader : Reader C g) (s : Stage C) (keep : Keep) (known : Bool) (errors raised : ℕ) (names : List GName)
     → g.known s.container ≡ known → g.errors s.container ≡ errors → g.met s.container ≡ raised → g.names s.container ≡ names
-    → HeadOf g s (stage_of reader.decoder) keep reader.blocks.items reader.ahead reader.start → first_info reader.blocks.items ≡ Some reader.info → reader.ahead ≡ true → (reader.first ≡ 0) × (reader.behind ≡ 0) → Starts known errors raised names reader
-starts_over reader s keep known errors raised names is e m n head info ahead numbers = record {
+    → HeadOf g s (stage_of reader.decoder) keep reader.blocks.items reader.ahead reader.start → first_info reader.blocks.items ≡ Some reader.info → reader.ahead ≡ true → (reader.first ≡ 0) × (reader.behind ≡ 0) → IsPast (stage_of reader.decoder) → Starts known errors raised names reader
+starts_over reader s keep known errors raised names is e m n head info ahead numbers past = record {
   info = info;
   ahead = ahead;
   first = numbers.0;
   next = numbers.1;
   source = record { known = λ k. head.known (is ∙ k); errors = head.errors ∙ e; met = head.met ∙ m; names = head.names ∙ n };
+  past = past;
 }
 
 -- the input is a stream, or is refused

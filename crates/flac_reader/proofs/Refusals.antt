@@ -91,12 +91,12 @@ pub refuses_input : {C : Type 0} {g : container.Ghosts C} (r : Reading Piece Pla
     → s.course ≡ course.Begun → IsAt s.track p → ((parts : List Piece) (end : Option (Place × Why)) → ReadAs r parts end → g.gives s.container p parts end)
     → g.known s.container ≡ known → g.errors s.container ≡ errors → g.met s.container ≡ raised → g.errors last.container ≡ errors_left → g.met last.container ≡ raised_left
     → (errors_left ≡ errors → raised_left ≡ raised → g.raised last.container ≡ g.raised s.container)
-    → RefusedHead g s last f → f.why ≢ Memory → RefusesInput r known errors raised errors_left raised_left f
-refuses_input {g = g} r s last p f known errors raised errors_left raised_left begun at gives is_known e m e' m' quiet h other = record {
+    → RefusedHead g s last f → RefusesInput r known errors raised errors_left raised_left f
+refuses_input {g = g} r s last p f known errors raised errors_left raised_left begun at gives is_known e m e' m' quiet h = record {
   kept = omega (arith, h.kept, e, e');
   risen = λ is. subst (λ n. Rises raised n) m' (subst (λ n. Rises n (g.met last.container)) m (h.risen is));
   output = h.output;
-  refused = λ k same_errors same_raised blocks frames end is.
+  refused = λ k same_errors same_raised other blocks frames end is.
       h.refused (is_known ∙ k, e' ∙ same_errors ∙ sym e, quiet same_errors same_raised) other blocks frames end
       (begun_comes g s p (stream_items blocks frames) end begun at (is.parts, sym is.items, gives is.parts end is.read));
 }
@@ -109,7 +109,7 @@ refuses_as r q known knows errors raised now_errors now_raised errors_left raise
   kept = omega (arith, h.kept, e);
   risen = λ is. subst (λ k. Rises k raised_left) n (h.risen is);
   output = h.output;
-  refused = λ k same_errors same_raised blocks frames end is. h.refused (told k) (same_errors ∙ sym e) (same_raised ∙ sym n) blocks frames end (same k blocks frames end is);
+  refused = λ k same_errors same_raised other blocks frames end is. h.refused (told k) (same_errors ∙ sym e) (same_raised ∙ sym n) other blocks frames end (same k blocks frames end is);
 }
 
 -- of an input whose first byte could not be read
@@ -118,8 +118,20 @@ refuses_unread r known errors raised errors_left raised_left f kept risen output
   kept = kept;
   risen = λ is. risen;
   output = output;
-  refused = λ k same_errors same_raised blocks frames end is. absurd (omega (arith, more k, same_raised));
+  refused = λ k same_errors same_raised other blocks frames end is. absurd (omega (arith, more k, same_raised));
 }
+
+-- of which nothing was read, since memory ran out
+pub refuses_memory : (r : Reading Piece Place) (known : Bool) (errors raised : ℕ) (f : Fault) → f.why ≡ Memory → RefusesInput r known errors raised errors raised f
+refuses_memory r known errors raised f e = record {
+  kept = omega arith;
+  risen = λ is. absurd (other (sym e ∙ is));
+  output = ap of_output e;
+  refused = λ k same_errors same_raised room. absurd (room e);
+}
+  where
+    other : Memory ≡ Read → ⊥
+    other e = absurd cc
 
 same_page : (front : Option ℕ) (coming now : List ℕ) → coming ≡ front_bytes front ++ now → (front ≡ None → coming ≡ []) → begins_page coming ≡ begins_page (front_bytes front)
 same_page None coming now e over = ap begins_page (over refl)

@@ -211,7 +211,7 @@ turn {g = g} old now next new far same fewer none gives left enters =
       raised = met.met.2 ∙ far.raised;
       met = met.met.3 ∙ far.met;
       names = met.names ∙ far.names;
-      past = λ k. subst (λ o. IfSome o (λ _. IsPast (stage_of new.reader.decoder))) enters.1 (gives.past (subst (λ (r : Reader _ g). IsPast (stage_of r.decoder)) (sym same) (far.past k)));
+      past = λ k. gives.past (subst (λ (r : Reader _ g). IsPast (stage_of r.decoder)) (sym same) (far.past k));
       reads = inr (
         p.0,
         f,

@@ -1,15 +1,15 @@
 -- A search for the frame that holds a sample.
-use Rattle.std.proofs.Common.{◌≡◌, ℕ, Bool, true, IfOk, IfErr, IfSome, MatchOption, List, [], ◌∷◌, ◌++◌, append_assoc, map, Option, Some, None, Result, Ok, Err, refl, sym, ap, subst, ◌∙◌, arith}
+use Rattle.std.proofs.Common.{◌≡◌, ℕ, Bool, true, List, [], ◌∷◌, ◌++◌, append_assoc, map, Option, Some, None, Result, Ok, Err, refl, sym, ap, subst, ◌∙◌, arith}
 use Rattle.std.specs.Prelude.{◌≢◌}
 use Rattle.std.specs.Borrow.{GName}
 use Rattle.std.specs.List.{list_any}
 use Rattle.std.proofs.lemmas.List.{append-nil}
 use Rattle.std.proofs.lemmas.List.Folds.{list_any-append}
-use Rattle.flac_bits.specs.Bits.{bits_of}
-use Rattle.flac_bits.specs.State.{Rises, Cursor}
+use Rattle.flac_bits.specs.Reasons.{of_output}
+use Rattle.flac_bits.specs.State.{Rises}
 use Rattle.flac_bits.specs.Handing.{Reading}
 use Rattle.flac_bits.specs.declared.why.Why.{Why}
-use Rattle.flac_bits.specs.declared.why.Why.TheVariants.{Memory, Read, Truncated}
+use Rattle.flac_bits.specs.declared.why.Why.TheVariants.{Memory, Read}
 use Rattle.flac_info.specs.Info.{Info}
 use Rattle.flac_frame.specs.Frame.{Frame}
 use Rattle.flac_native.specs.Stream.{Piece, Progress}
@@ -18,15 +18,13 @@ use Rattle.flac_native.specs.Coming.{ReadAs}
 use Rattle.flac_native.specs.declared.decoder.Course.TheVariants as course
 use Rattle.flac_native.specs.Item.{Item, frame, told}
 use Rattle.flac_native.specs.Giving.{Stage, stage_of, held}
-use Rattle.flac_native.specs.Decoding.{beginning}
 use Rattle.flac_native.specs.declared.decoder.Decoder.{Decoder}
 use Rattle.flac_native.specs.declared.fault.Place.{Place}
 use Rattle.flac_native.specs.declared.fault.Fault.{Fault}
 use Rattle.flac_native.specs.declared.container.Container as container
 use Rattle.flac_reader.specs.Coming.{Comes, IsFirst, IsCalm, IsPast, HadRoom, Counted, only_frame}
 use Rattle.flac_reader.specs.Opening.{IsReadAs, IsOver}
-use Rattle.flac_reader.specs.Giving.{last_frame}
-use Rattle.flac_reader.specs.Seeking.{holds, PassedBy, HoldsFirst, Finds, Sought, SeeksTo, RefusesSeek}
+use Rattle.flac_reader.specs.Seeking.{holds, PassedBy, HoldsFirst, Finds, RefusesSeek}
 use Rattle.flac_reader.specs.inner.Seeking.{FirstIfHeld, Passes}
 use Rattle.flac_reader.specs.declared.reader.Reader.{Reader}
 use Rattle.flac_reader.proofs.Heads.{room, same_room}
@@ -176,12 +174,6 @@ pub none_passes : {C : Type 0} (g : container.Ghosts C) (info : Info) (sample : 
     → IsFirst g (map frame frames) end (Ok (held s.course s.track)) s → Passes g info sample frames end (Ok (Some n)) s
 none_passes g info sample frames end s n none first = (none_first g info sample frames end (held s.course s.track) s none first, first)
 
--- it is after the last metadata block, whether it holds the sample or not
-pub frame_past : {C : Type 0} (s : Stage C) (r : Option ℕ) (f : Frame) → held s.course s.track ≡ Some (frame f) → IfSome (only_frame (held s.course s.track)) (λ _. IsPast s)
-    → MatchOption r (IsPast s) (λ _. IfSome (only_frame (held s.course s.track)) (λ _. IsPast s))
-frame_past s None f is past = subst (λ h. IfSome (only_frame h) (λ _. IsPast s)) is past
-frame_past s (Some n) f is past = past
-
 -- ---- over an input
 
 -- a decoder that was to give what the input is
@@ -199,14 +191,14 @@ pub seek_refuses : {C : Type 0} {g : container.Ghosts C} (r : Reading Piece Plac
     → (stage_of d).course ≡ course.Begun → IsAt (stage_of d).track p → ((parts : List Piece) (end : Option (Place × Why)) → ReadAs r parts end → g.gives (stage_of d).container p parts end)
     → g.known (stage_of d).container ≡ known → g.errors (stage_of d).container ≡ errors → g.raised (stage_of d).container ≡ raised → g.met (stage_of d).container ≡ raised
     → g.errors (stage_of new).container ≡ errors_left → g.raised (stage_of new).container ≡ raised_left → g.met (stage_of new).container ≡ raised_left
-    → f.why ≢ Memory → Counted {X = ℕ} g (stage_of d) (stage_of new) (Err f)
+    → Counted {X = ℕ} g (stage_of d) (stage_of new) (Err f)
     → (IsCalm g (stage_of d) (stage_of new) → HadRoom {X = ℕ} (Err f) → (frames : List Frame) (end : Option (Place × Why)) → Comes g (stage_of d) (map frame frames) end → PassedBy info sample frames × (end ≡ Some (told f)))
     → RefusesSeek info sample r known errors raised errors_left raised_left f
-seek_refuses {g = g} r info sample d new p f known errors raised errors_left raised_left begun at gives is_known e r0 m e' r' m' other counts refused = record {
+seek_refuses {g = g} r info sample d new p f known errors raised errors_left raised_left begun at gives is_known e r0 m e' r' m' counts refused = record {
   kept = omega (arith, counts.kept, e, e');
   risen = λ is. subst (λ n. Rises raised n) m' (subst (λ n. Rises n (g.met (stage_of new).container)) m (counts.risen is));
   output = counts.output;
-  refused = λ k same_errors same_raised frames end is.
+  refused = λ k same_errors same_raised other frames end is.
       refused (is_known ∙ k, e' ∙ same_errors ∙ sym e, r' ∙ same_raised ∙ sym r0) (had_room f other) frames end (input_comes g r (stage_of d) p begun at gives frames end is);
 }
 
@@ -224,18 +216,20 @@ over_at {g = g} reader old d n known errors raised names is k e m l counts =
     let c = subst P (sym is) counts in
     record { known = λ h. c.met.0 (k ∙ h); errors = c.met.1 ∙ e; met = c.met.3 ∙ m; names = c.names ∙ l }
 
-pub past_at : {C : Type 0} {g : container.Ghosts C} (reader : Reader C g) (d : Decoder C g) → reader.decoder ≡ d → IfSome (only_frame (held (stage_of d).course (stage_of d).track)) (λ _. IsPast (stage_of d)) → IfSome (last_frame reader) (λ _. IsPast (stage_of reader.decoder))
-past_at {g = g} reader d is past = subst (λ (x : Decoder _ g). IfSome (only_frame (held (stage_of x).course (stage_of x).track)) (λ _. IsPast (stage_of x))) (sym is) past
+pub past_at : {C : Type 0} {g : container.Ghosts C} (reader : Reader C g) (d : Decoder C g) → reader.decoder ≡ d → IsPast (stage_of d) → IsPast (stage_of reader.decoder)
+past_at {g = g} reader d is past = subst (λ (x : Decoder _ g). IsPast (stage_of x)) (sym is) past
 
--- where bytes in memory begin
-abbrev pub memory_cursor : List ℕ → Cursor
-memory_cursor bytes = record { left = bits_of bytes; mark = beginning Truncated }
-
--- over bytes in memory no error of the source comes
-pub seeks_memory : {C : Type 0} (S N : Type 0) {g : container.Ghosts C} (info : Info) (sample : ℕ) (r : Reading Piece Place) (result : Result (Reader C g) Fault) → IfOk result (λ x. true ≡ true → Sought info sample r x)
-    → IfErr result (λ f. f.why ≢ Memory → (left : S) × N × RefusesSeek info sample r true 0 0 0 0 f) → SeeksTo info sample r result
-seeks_memory S N info sample r (Ok x) sought refused = sought refl
-seeks_memory S N info sample r (Err f) sought refused = λ other. (refused other).2.refused refl refl refl
+-- memory ran out before anything was read
+pub seek_unread : (info : Info) (sample : ℕ) (r : Reading Piece Place) (known : Bool) (errors raised : ℕ) (f : Fault) → f.why ≡ Memory → RefusesSeek info sample r known errors raised errors raised f
+seek_unread info sample r known errors raised f e = record {
+  kept = omega arith;
+  risen = λ is. absurd (other (sym e ∙ is));
+  output = ap of_output e;
+  refused = λ k same_errors same_raised room. absurd (room e);
+}
+  where
+    other : Memory ≡ Read → ⊥
+    other e = absurd cc
 
 pub search_no_more : {C X : Type 0} (g : container.Ghosts C) (old now : Stage C) (info : Info) (sample : ℕ) (at : Place) → SearchSoFar g old now info sample → Counted {X = X} g old now (Err (record { at = at; why = Memory }))
 search_no_more g old now info sample at far = record {

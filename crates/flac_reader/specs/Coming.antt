@@ -11,7 +11,7 @@ use Rattle.flac_frame.specs.Frame.{Frame}
 use Rattle.flac_frame.specs.Lent.{frame_of}
 use Rattle.flac_frame.specs.declared.view.FrameView.{FrameView}
 use Rattle.flac_native.specs.Stream.{Progress}
-use Rattle.flac_native.specs.Track.{IsAt}
+use Rattle.flac_native.specs.Track.{IsAt, stand_of}
 use Rattle.flac_native.specs.Item.{Item, metadata, frame, told}
 use Rattle.flac_native.specs.Giving.{StillGives, EndsBy, Stage, held, seen_by}
 use Rattle.flac_native.specs.declared.fault.Place.{Place}
@@ -64,9 +64,9 @@ pub record Counted {C X : Type 0} (g : container.Ghosts C) (old new : Stage C) (
   pub output : IfErr result (λ f. of_output f.why ≡ false)
   pub names : g.names new.container ≡ g.names old.container
 
--- the last metadata block was read, so that a frame or the end comes next
+-- the last metadata block was read, so that only frames and the end are still to come
 abbrev pub IsPast : {C : Type 0} → Stage C → Type 0
-IsPast s = (p : Progress) × IsAt s.track p × (p.stand.phase ≡ Frames)
+IsPast s = (stand_of s.track).phase ≡ Frames
 
 -- ---- the metadata
 

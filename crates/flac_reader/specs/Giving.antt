@@ -1,5 +1,5 @@
 -- What one call of a reader returns.
-use Rattle.std.specs.Prelude.{◌≡◌, ◌≢◌, ◌+◌, min, true, false, Option, Result, Ok, IfOk, IfErr, IfSome, MatchResult}
+use Rattle.std.specs.Prelude.{◌≡◌, ◌≢◌, ◌+◌, min, true, false, Option, Result, Ok, IfOk, IfErr, MatchResult}
 use Rattle.flac_bits.specs.declared.why.Why.TheVariants.{Memory}
 use Rattle.flac_native.specs.Item.{Item}
 use Rattle.flac_native.specs.Giving.{stage_of, held, seen_by}
@@ -22,7 +22,7 @@ pub record Gives {C X : Type 0} {g : container.Ghosts C} (old new : Reader C g) 
   -- what was read ahead is returned, without an error
   pub given : old.ahead ≡ true → (new.decoder ≡ old.decoder) × (seen_by view result ≡ Ok (last_frame old))
   pub memory : IsPast (stage_of old.decoder) → IfErr result (λ f. f.why ≢ Memory)
-  pub past : IsPast (stage_of old.decoder) → IfOk result (λ x. IfSome (view x) (λ _. IsPast (stage_of new.decoder)))
+  pub past : IsPast (stage_of old.decoder) → IfOk result (λ _. IsPast (stage_of new.decoder))
   pub samples : MatchResult result (λ x. (new.first ≡ old.behind) × (new.behind ≡ min (old.behind + size_of (view x)) 18446744073709551615)) (λ _. (new.first ≡ old.first) × (new.behind ≡ old.behind))
   pub blocks : new.blocks ≡ old.blocks
   pub info : new.info ≡ old.info

@@ -12,7 +12,7 @@ use Rattle.flac_native.specs.declared.fault.Place.{Place}
 use Rattle.flac_native.specs.declared.container.Container as container
 use Rattle.flac_reader.specs.Kept.{keeps, first_info}
 use Rattle.flac_reader.specs.Starting.{frames_start}
-use Rattle.flac_reader.specs.Coming.{FramesCome, stream_items}
+use Rattle.flac_reader.specs.Coming.{FramesCome, IsPast, stream_items}
 use Rattle.flac_reader.specs.declared.keep.Keep.{Keep}
 use Rattle.flac_reader.specs.declared.reader.Reader.{Reader}
 
@@ -38,11 +38,12 @@ pub record IsOver {C : Type 0} {g : container.Ghosts C} (is_known : Bool) (error
   pub met : g.met (stage_of reader.decoder).container ≡ raised_count
   pub names : g.names (stage_of reader.decoder).container ≡ references
 
--- Such a reader was opened, whether the bytes are known or not: STREAMINFO is among the blocks that it keeps, the first
--- frame or the end is read ahead, and no sample was given.
+-- Such a reader was opened, whether the bytes are known or not: STREAMINFO is among the blocks that it keeps, the last
+-- metadata block was read, the first frame or the end is read ahead, and no sample was given.
 pub record Starts {C : Type 0} {g : container.Ghosts C} (known : Bool) (errors raised : ℕ) (names : List GName) (reader : Reader C g) : Type 0 where
   pub info : first_info reader.blocks.items ≡ Some reader.info
   pub ahead : reader.ahead ≡ true
   pub first : reader.first ≡ 0
   pub next : reader.behind ≡ 0
   pub source : IsOver known errors raised names reader
+  pub past : IsPast (stage_of reader.decoder)

@@ -33,14 +33,10 @@ pub record RefusedHead {C : Type 0} (g : container.Ghosts C) (old last : Stage C
   pub names : g.names last.container ≡ g.names old.container
   pub refused : IsCalm g old last → f.why ≢ Memory → (blocks : List Block) (frames : List Frame) (end : Option (Place × Why)) → Comes g old (stream_items blocks frames) end → IsRefusal blocks frames end f
 
--- some decoder was left in such a state, unless memory ran out
-abbrev pub IsRefusedHead : {C : Type 0} → container.Ghosts C → Stage C → Fault → Type 0
-IsRefusedHead {C} g old f = f.why ≢ Memory → (last : Stage C) × RefusedHead g old last f
-
 -- The input was not opened for this reason. An error of the source raised its counts, and none of the output is met;
--- without one, and if the input is known, it is refused in this way.
+-- without one, if the input is known and memory did not run out, it is refused in this way.
 pub record RefusesInput (r : Reading Piece Place) (known : Bool) (errors raised errors_left raised_left : ℕ) (f : Fault) : Type 0 where
   pub kept : errors ≤ errors_left
   pub risen : f.why ≡ Read → Rises raised raised_left
   pub output : of_output f.why ≡ false
-  pub refused : known ≡ true → errors_left ≡ errors → raised_left ≡ raised → (blocks : List Block) (frames : List Frame) (end : Option (Place × Why)) → IsReadAs r blocks frames end → IsRefusal blocks frames end f
+  pub refused : known ≡ true → errors_left ≡ errors → raised_left ≡ raised → f.why ≢ Memory → (blocks : List Block) (frames : List Frame) (end : Option (Place × Why)) → IsReadAs r blocks frames end → IsRefusal blocks frames end f

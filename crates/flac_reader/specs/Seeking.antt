@@ -86,12 +86,13 @@ SeeksTo info sample r (Ok reader) = Sought info sample r reader
 SeeksTo info sample r (Err f) = f.why ≢ Memory → (frames : List Frame) (end : Option (Place × Why)) → IsReadAs r [] frames end → PassedBy info sample frames × (end ≡ Some (told f))
 
 -- No reader was made over the input of a source, for this reason. An error of the source raised its counts, and none of
--- the output is met; without one, and if the input is known, it is refused after frames that do not hold the sample.
+-- the output is met; without one, if the input is known and memory did not run out, it is refused after frames that do
+-- not hold the sample.
 pub record RefusesSeek (info : Info) (sample : ℕ) (r : Reading Piece Place) (known : Bool) (errors raised errors_left raised_left : ℕ) (f : Fault) : Type 0 where
   pub kept : errors ≤ errors_left
   pub risen : f.why ≡ Read → Rises raised raised_left
   pub output : of_output f.why ≡ false
-  pub refused : known ≡ true → errors_left ≡ errors → raised_left ≡ raised → (frames : List Frame) (end : Option (Place × Why)) → IsReadAs r [] frames end → PassedBy info sample frames × (end ≡ Some (told f))
+  pub refused : known ≡ true → errors_left ≡ errors → raised_left ≡ raised → f.why ≢ Memory → (frames : List Frame) (end : Option (Place × Why)) → IsReadAs r [] frames end → PassedBy info sample frames × (end ≡ Some (told f))
 
 -- ---- in a whole stream
 

@@ -1,6 +1,6 @@
 //! Opens streams in either container.
 
-ghost use Rattle.std.specs.Prelude.{◌≡◌, ◌≢◌, ◌++◌, true, IfOk, IfErr, Ok};
+ghost use Rattle.std.specs.Prelude.{◌≡◌, ◌++◌, true, IfOk, IfErr, Ok};
 ghost use Rattle.flac_bits.specs.Bits.{bits_of};
 ghost use Rattle.flac_bits.specs.State.{short_of};
 ghost use Rattle.flac_native.specs.Decoding.{beginning};
@@ -13,7 +13,7 @@ use crate::keep::Keep;
 use crate::opening::{open_native, open_ogg};
 use crate::reader::Reader;
 use flac_bits::BitReader;
-use flac_native::{Fault, Profile, Source, Why};
+use flac_native::{Profile, Refused, Source};
 use flac_ogg::{Fronted, OggPackets, begins_page, pull_front};
 use std::alloc::Global;
 
@@ -26,6 +26,18 @@ pub enum Opened<N, O> {
     Ogg(O),
 }
 
+/// The same with the source alone.
+fn without_front<R: Source>(refused: Refused<Fronted<R>>) -> Refused<R>
+    ensures { result ≡ record { fault = refused.fault; left = refused.left.source } }
+{
+    let Refused { fault, left } = refused;
+    let Fronted { front: _, source } = left;
+    Refused {
+        fault,
+        left: source,
+    }
+}
+
 /// Opens a stream in the container that its first byte names.
 fn open_as<R: Source + Drop>(
     alloc: Global,
@@ -33,20 +45,21 @@ fn open_as<R: Source + Drop>(
     source: Fronted<R>,
     profile: Profile,
     keep: Keep,
-) -> Result<Opened<Reader<BitReader<Fronted<R>>>, Reader<OggPackets<Fronted<R>>>>, Fault>
+) -> Result<Opened<Reader<BitReader<Fronted<R>>>, Reader<OggPackets<Fronted<R>>>>, Refused<R>>
     ensures opens { IfOk result (λ o. R.known source.source ≡ true → OpensEither (read_either profile is_ogg (beginning (short_of ((R.behind source.source).fails))) (bits_of (front_bytes source.front ++ R.coming source.source))) keep o) }
     ensures starts { IfOk result (λ o. StartsEither (R.known source.source) (R.errors source.source) (R.raised source.source) (R.names source.source) o) }
-    ensures refused { IfErr result (λ f. f.why ≢ Why.Memory → (left : R) × (R.names left ≡ R.names source.source) × RefusesInput (read_either profile is_ogg (beginning (short_of ((R.behind source.source).fails))) (bits_of (front_bytes source.front ++ R.coming source.source))) (R.known source.source) (R.errors source.source) (R.raised source.source) (R.errors left) (R.raised left) f) }
+    ensures refused { IfErr result (λ x. RefusesInput (read_either profile is_ogg (beginning (short_of ((R.behind source.source).fails))) (bits_of (front_bytes source.front ++ R.coming source.source))) (R.known source.source) (R.errors source.source) (R.raised source.source) (R.errors x.left) (R.raised x.left) x.fault) }
+    ensures names { IfErr result (λ x. R.names x.left ≡ R.names source.source) }
 {
     if is_ogg {
         match open_ogg(alloc, source, profile, keep) {
             Ok(reader) => Ok(Opened::Ogg(reader)),
-            Err(fault) => Err(fault),
+            Err(refused) => Err(without_front(refused)),
         }
     } else {
         match open_native(alloc, source, profile, keep) {
             Ok(reader) => Ok(Opened::Native(reader)),
-            Err(fault) => Err(fault),
+            Err(refused) => Err(without_front(refused)),
         }
     }
 }
@@ -62,21 +75,23 @@ fn open_as<R: Source + Drop>(
 /// ```
 ///
 /// # Errors
-/// [`Why::Read`] if the source returns an error for the first byte. Else those of [`open_ogg`] or of [`open_native`].
+/// [`Why::Read`](crate::Why::Read) if the source returns an error for the first byte. Else those of [`open_ogg`] or of
+/// [`open_native`]. The source is returned with them.
 pub fn open<R: Source + Drop>(
     alloc: Global,
     source: R,
     profile: Profile,
     keep: Keep,
-) -> Result<Opened<Reader<BitReader<Fronted<R>>>, Reader<OggPackets<Fronted<R>>>>, Fault>
+) -> Result<Opened<Reader<BitReader<Fronted<R>>>, Reader<OggPackets<Fronted<R>>>>, Refused<R>>
     // The blocks that are kept, and the frames to come, are those of the stream that the bytes are in the container
     // that the first of them names.
     ensures opens { IfOk result (λ o. R.known source ≡ true → OpensEither (read_either profile (begins_page (R.coming source)) (beginning (short_of ((R.behind source).fails))) (bits_of (R.coming source))) keep o) }
     // The numbers are 0, and no error of the source was met.
     ensures starts { IfOk result (λ o. StartsEither (R.known source) (R.errors source) (R.raised source) (R.names source) o) }
     // Refused only as the input is, before its first frame; or because memory runs out, or because of an error of the
-    // source, which is then counted.
-    ensures refused { IfErr result (λ f. f.why ≢ Why.Memory → (left : R) × (R.names left ≡ R.names source) × RefusesInput (read_either profile (begins_page (R.coming source)) (beginning (short_of ((R.behind source).fails))) (bits_of (R.coming source))) (R.known source) (R.errors source) (R.raised source) (R.errors left) (R.raised left) f) }
+    // source, which the source that is returned has counted.
+    ensures refused { IfErr result (λ x. RefusesInput (read_either profile (begins_page (R.coming source)) (beginning (short_of ((R.behind source).fails))) (bits_of (R.coming source))) (R.known source) (R.errors source) (R.raised source) (R.errors x.left) (R.raised x.left) x.fault) }
+    ensures names { IfErr result (λ x. R.names x.left ≡ R.names source) }
 {
     let mut source = source;
     match pull_front(&mut source) {
@@ -87,6 +102,9 @@ pub fn open<R: Source + Drop>(
             profile,
             keep,
         ),
-        Err(fault) => Err(fault),
+        Err(fault) => Err(Refused {
+            fault,
+            left: source,
+        }),
     }
 }

@@ -29,7 +29,7 @@ mod time;
 pub use either::{Opened, open};
 pub use flac_native::{
     BitReader, Block, Comments, Container, Counted, Decoder, Fault, FrameView, Item, Memory, Place,
-    Profile, SeekPoint, Source, StreamInfo, Why,
+    Profile, Refused, SeekPoint, Source, StreamInfo, Why,
 };
 pub use flac_ogg::{Fronted, OggPackets};
 pub use head::read_blocks;

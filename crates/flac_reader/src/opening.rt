@@ -1,6 +1,6 @@
 //! Opens native and Ogg streams.
 
-ghost use Rattle.std.specs.Prelude.{◌≡◌, ◌≢◌, IfOk, IfErr, true};
+ghost use Rattle.std.specs.Prelude.{◌≡◌, IfOk, IfErr, true};
 ghost use Rattle.flac_bits.specs.Bits.{bits_of};
 ghost use Rattle.flac_bits.specs.State.{short_of};
 ghost use Rattle.flac_bits.specs.Handing.{by_grammar};
@@ -13,8 +13,8 @@ ghost use Rattle.flac_reader.specs.Refusing.{RefusesInput};
 use crate::keep::Keep;
 use crate::reader::Reader;
 use flac_bits::BitReader;
-use flac_native::{Decoder, Fault, Profile, Source, Why};
-use flac_ogg::{OggPackets, ogg_decoder};
+use flac_native::{Decoder, Profile, Refused, Source};
+use flac_ogg::{OggPackets, ogg_decoder_returning};
 use std::alloc::Global;
 
 /// Opens a native stream (RFC 9639, section 6): reads its metadata, and the first frame, which [`Reader::next`] lends
@@ -25,28 +25,28 @@ use std::alloc::Global;
 /// ```
 ///
 /// # Errors
-/// Those of [`Reader::over`].
+/// Those of [`Reader::over`]. The source is returned with them.
 pub fn open_native<R: Source + Drop>(
     alloc: Global,
     source: R,
     profile: Profile,
     keep: Keep,
-) -> Result<Reader<BitReader<R>>, Fault>
+) -> Result<Reader<BitReader<R>>, Refused<R>>
     // The blocks that are kept, and the frames to come, are those of the stream that the bytes are.
     ensures opens { IfOk result (λ r. R.known source ≡ true → Opens (by_grammar grammar (opening profile) (beginning (short_of ((R.behind source).fails))) (bits_of (R.coming source))) keep r) }
     // The numbers are 0, and no error of the source was met.
     ensures starts { IfOk result (λ r. Starts (R.known source) (R.errors source) (R.raised source) (R.names source) r) }
     // Refused only as the input is, before its first frame; or because memory runs out, or because of an error of the
-    // source, which is then counted.
-    ensures refused { IfErr result (λ f. f.why ≢ Why.Memory → (left : R) × (R.names left ≡ R.names source) × RefusesInput (by_grammar grammar (opening profile) (beginning (short_of ((R.behind source).fails))) (bits_of (R.coming source))) (R.known source) (R.errors source) (R.raised source) (R.errors left) (R.raised left) f) }
+    // source, which the source that is returned has counted.
+    ensures refused { IfErr result (λ x. RefusesInput (by_grammar grammar (opening profile) (beginning (short_of ((R.behind source).fails))) (bits_of (R.coming source))) (R.known source) (R.errors source) (R.raised source) (R.errors x.left) (R.raised x.left) x.fault) }
+    ensures names { IfErr result (λ x. R.names x.left ≡ R.names source) }
 {
-    match Reader::begin(alloc, Decoder::new(alloc, source, profile), keep) {
+    match Reader::over(alloc, Decoder::new(alloc, source, profile), keep) {
         Ok(reader) => Ok(reader),
         Err(refused) => {
             let fault = refused.fault;
-            // Given back only for the proof: the clause names its counts of errors.
-            let _source = refused.into_decoder().into_source();
-            Err(fault)
+            let left = refused.left.into_source();
+            Err(Refused { fault, left })
         }
     }
 }
@@ -59,32 +59,33 @@ pub fn open_native<R: Source + Drop>(
 /// ```
 ///
 /// # Errors
-/// Those of [`Reader::over`], and [`Why::Memory`] if the allocation of 65025 bytes for a page fails.
+/// Those of [`Reader::over`], and [`Why::Memory`](crate::Why::Memory) if the allocation of 65025 bytes for a page
+/// fails. The source is returned with them.
 pub fn open_ogg<R: Source + Drop>(
     alloc: Global,
     source: R,
     profile: Profile,
     keep: Keep,
-) -> Result<Reader<OggPackets<R>>, Fault>
+) -> Result<Reader<OggPackets<R>>, Refused<R>>
     // The blocks that are kept, and the frames to come, are those of the stream that the bytes are.
     ensures opens { IfOk result (λ r. R.known source ≡ true → Opens (ogg_reading profile (beginning (short_of ((R.behind source).fails))) (bits_of (R.coming source))) keep r) }
     // The numbers are 0, and no error of the source was met.
     ensures starts { IfOk result (λ r. Starts (R.known source) (R.errors source) (R.raised source) (R.names source) r) }
     // Refused only as the input is, before its first frame; or because memory runs out, or because of an error of the
-    // source, which is then counted.
-    ensures refused { IfErr result (λ f. f.why ≢ Why.Memory → (left : R) × (R.names left ≡ R.names source) × RefusesInput (ogg_reading profile (beginning (short_of ((R.behind source).fails))) (bits_of (R.coming source))) (R.known source) (R.errors source) (R.raised source) (R.errors left) (R.raised left) f) }
+    // source, which the source that is returned has counted.
+    ensures refused { IfErr result (λ x. RefusesInput (ogg_reading profile (beginning (short_of ((R.behind source).fails))) (bits_of (R.coming source))) (R.known source) (R.errors source) (R.raised source) (R.errors x.left) (R.raised x.left) x.fault) }
+    ensures names { IfErr result (λ x. R.names x.left ≡ R.names source) }
 {
-    let decoder = match ogg_decoder(alloc, source, profile) {
+    let decoder = match ogg_decoder_returning(alloc, source, profile) {
         Ok(decoder) => decoder,
-        Err(fault) => return Err(fault),
+        Err(refused) => return Err(refused),
     };
-    match Reader::begin(alloc, decoder, keep) {
+    match Reader::over(alloc, decoder, keep) {
         Ok(reader) => Ok(reader),
         Err(refused) => {
             let fault = refused.fault;
-            // Given back only for the proof: the clause names its counts of errors.
-            let _source = refused.into_decoder().into_container().into_source();
-            Err(fault)
+            let left = refused.left.into_container().into_source();
+            Err(Refused { fault, left })
         }
     }
 }

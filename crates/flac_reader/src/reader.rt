@@ -10,16 +10,16 @@ ghost use mathlib.Core.Option.{none};
 ghost use Rattle.flac_native.specs.Giving.{stage_of, held};
 ghost use Rattle.flac_meta.specs.SeekTable.{last_before};
 ghost use Rattle.flac_reader.specs.Kept.{first_info, first_comments, first_points};
-ghost use Rattle.flac_reader.specs.Refusing.{RefusedHead, IsRefusedHead};
+ghost use Rattle.flac_reader.specs.Refusing.{RefusedHead};
 ghost use Rattle.flac_reader.specs.Seeking.{offset_before};
-ghost use Rattle.flac_reader.specs.Coming.{lent, only_frame, size_of, FramesCome, HeadOf};
+ghost use Rattle.flac_reader.specs.Coming.{lent, only_frame, size_of, FramesCome, HeadOf, IsPast};
 
 use crate::head::{Head, forward, read_head};
 use crate::keep::Keep;
 use crate::samples::Samples;
 use crate::time::time_of;
 use flac_native::{
-    Block, Comments, Container, Decoder, Fault, FrameView, Item, SeekPoint, StreamInfo,
+    Block, Comments, Container, Decoder, Fault, FrameView, Item, Refused, SeekPoint, StreamInfo,
 };
 use std::alloc::Global;
 use std::time::Duration;
@@ -56,63 +56,37 @@ pub struct Reader<C: Container> {
     pub(crate) behind: u64,
 }
 
-/// A decoder whose metadata was refused, and the fault.
-#[derive(Drop)]
-pub(crate) struct Refused<C: Container> {
-    pub(crate) fault: Fault,
-    pub(crate) decoder: Decoder<C>,
-}
-
-impl<C: Container> Refused<C> {
-    /// The decoder.
-    pub(crate) fn into_decoder(self) -> Decoder<C>
-        ensures { result ≡ self.decoder }
-    {
-        let Refused { fault: _, decoder } = self;
-        decoder
-    }
-}
-
 impl<C: Container + Drop> Reader<C> {
-    /// Does what [`Reader::over`] does, and returns the decoder with an error.
-    pub(crate) fn begin(
-        alloc: Global,
-        decoder: Decoder<C>,
-        keep: Keep,
-    ) -> Result<Reader<C>, Refused<C>>
-        ensures info { IfOk result (λ r. first_info r.blocks.items ≡ Some r.info) }
-        ensures ahead { IfOk result (λ r. r.ahead ≡ true) }
-        ensures start { IfOk result (λ r. (r.first ≡ 0) × (r.behind ≡ 0)) }
-        ensures head { IfOk result (λ r. HeadOf C.Container (stage_of decoder) (stage_of r.decoder) keep r.blocks.items r.ahead r.start) }
-        ensures refused { IfErr result (λ x. RefusedHead C.Container (stage_of decoder) (stage_of x.decoder) x.fault) }
-    {
-        let mut decoder = decoder;
-        let mut blocks = Vec::new(alloc);
-        match read_head(&mut decoder, keep, &mut blocks) {
-            Ok(head) => Ok(Reader::before_frame(decoder, head, blocks, 0)),
-            Err(fault) => Err(Refused { fault, decoder }),
-        }
-    }
-
     /// Makes a reader of a decoder of which nothing was read yet. It reads all metadata, of which it keeps the wanted
     /// blocks, and the first frame, which [`Reader::next`] lends then.
     ///
     /// # Errors
     /// Those of [`crate::read_blocks`], and [`Why::NotStreamInfoFirst`](crate::Why::NotStreamInfoFirst) if there is no
-    /// STREAMINFO.
-    pub fn over(alloc: Global, decoder: Decoder<C>, keep: Keep) -> Result<Reader<C>, Fault>
+    /// STREAMINFO. The decoder is returned with them.
+    pub fn over(
+        alloc: Global,
+        decoder: Decoder<C>,
+        keep: Keep,
+    ) -> Result<Reader<C>, Refused<Decoder<C>>>
         ensures info { IfOk result (λ r. first_info r.blocks.items ≡ Some r.info) }
         ensures ahead { IfOk result (λ r. r.ahead ≡ true) }
         ensures start { IfOk result (λ r. (r.first ≡ 0) × (r.behind ≡ 0)) }
+        // The last metadata block was read: no allocation fails from then on.
+        ensures past { IfOk result (λ r. IsPast (stage_of r.decoder)) }
         // All wanted blocks are kept, and the frames come next: those of the stream that the decoder was to give.
         ensures head { IfOk result (λ r. HeadOf C.Container (stage_of decoder) (stage_of r.decoder) keep r.blocks.items r.ahead r.start) }
         // Refused only as the stream is that the decoder was to give, before its first frame, or because memory runs
-        // out.
-        ensures refused { IfErr result (λ f. IsRefusedHead C.Container (stage_of decoder) f) }
+        // out. The decoder that is returned has counted an error of the device.
+        ensures refused { IfErr result (λ x. RefusedHead C.Container (stage_of decoder) (stage_of x.left) x.fault) }
     {
-        match Reader::begin(alloc, decoder, keep) {
-            Ok(reader) => Ok(reader),
-            Err(refused) => Err(refused.fault),
+        let mut decoder = decoder;
+        let mut blocks = Vec::new(alloc);
+        match read_head(&mut decoder, keep, &mut blocks) {
+            Ok(head) => Ok(Reader::before_frame(decoder, head, blocks, 0)),
+            Err(fault) => Err(Refused {
+                fault,
+                left: decoder,
+            }),
         }
     }
 }

@@ -1,11 +1,11 @@
 //! Finds the frame that holds a sample.
 
-ghost use Rattle.std.specs.Prelude.{◌≡◌, ◌≢◌, ◌-◌, ◌^◌, List, Option, IfOk, IfErr, IfSome, MatchOption, map, true};
+ghost use Rattle.std.specs.Prelude.{◌≡◌, ◌≢◌, ◌-◌, ◌^◌, List, Option, IfOk, IfErr, IfSome, map, true};
 ghost use Rattle.flac_frame.specs.Frame.{Frame};
 ghost use Rattle.flac_frame.specs.Lent.{frame_of};
 ghost use Rattle.flac_native.specs.Item.{frame as framed};
 ghost use Rattle.flac_native.specs.Giving.{stage_of, held};
-ghost use Rattle.flac_reader.specs.Coming.{Comes, IsCalm, IsPast, HadRoom, Counted, only_frame};
+ghost use Rattle.flac_reader.specs.Coming.{Comes, IsCalm, IsPast, HadRoom, Counted};
 ghost use Rattle.flac_reader.specs.Seeking.{number_of};
 ghost use Rattle.flac_reader.specs.inner.Seeking.{FirstIfHeld, Passes, Searches};
 
@@ -31,7 +31,7 @@ fn pass_frame<C: Container>(
 ) -> Result<Option<u64>, Fault>
     ensures counts { Counted C.Container (stage_of decoder.old) (stage_of decoder.new) result }
     ensures memory { IsPast (stage_of decoder.old) → IfErr result (λ f. f.why ≢ Why.Memory) }
-    ensures past { IsPast (stage_of decoder.old) → IfOk result (λ o. MatchOption o (IsPast (stage_of decoder.new)) (λ _. IfSome (only_frame (held (stage_of decoder.new).course (stage_of decoder.new).track)) (λ _. IsPast (stage_of decoder.new)))) }
+    ensures past { IsPast (stage_of decoder.old) → IfOk result (λ _. IsPast (stage_of decoder.new)) }
     ensures first { IfOk result (λ o. IfSome o (λ n. n ≡ number_of info.now (held (stage_of decoder.new).course (stage_of decoder.new).track))) }
     ensures passes { IsCalm C.Container (stage_of decoder.old) (stage_of decoder.new) → HadRoom result → (frames : List Frame) (end : Option (Place × Why)) → Comes C.Container (stage_of decoder.old) (map framed frames) end →
         Passes C.Container info.now sample frames end result (stage_of decoder.new) }
@@ -56,7 +56,7 @@ pub(crate) fn find_frame<C: Container>(
 ) -> Result<u64, Fault>
     ensures counts { Counted C.Container (stage_of decoder.old) (stage_of decoder.new) result }
     ensures memory { IsPast (stage_of decoder.old) → IfErr result (λ f. f.why ≡ Why.Memory → f ≡ record { at = Place.Frame (2 ^ 64 - 1); why = Why.Memory }) }
-    ensures past { IsPast (stage_of decoder.old) → IfOk result (λ _. IfSome (only_frame (held (stage_of decoder.new).course (stage_of decoder.new).track)) (λ _. IsPast (stage_of decoder.new))) }
+    ensures past { IsPast (stage_of decoder.old) → IfOk result (λ _. IsPast (stage_of decoder.new)) }
     ensures first { IfOk result (λ n. n ≡ number_of info.now (held (stage_of decoder.new).course (stage_of decoder.new).track)) }
     ensures finds { IsCalm C.Container (stage_of decoder.old) (stage_of decoder.new) → HadRoom result → (frames : List Frame) (end : Option (Place × Why)) → Comes C.Container (stage_of decoder.old) (map framed frames) end →
         Searches C.Container info.now sample frames end true result (stage_of decoder.new) }

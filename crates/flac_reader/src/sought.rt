@@ -1,6 +1,6 @@
 //! Readers of native streams at the frame that holds a sample. The frames of an Ogg stream are not sought.
 
-ghost use Rattle.std.specs.Prelude.{◌≡◌, ◌≢◌, ◌⊎◌, ◌-◌, ◌^◌, IfOk, IfErr, IfSome, drop, true, is_some, List, []};
+ghost use Rattle.std.specs.Prelude.{◌≡◌, ◌⊎◌, ◌-◌, ◌^◌, IfOk, IfErr, drop, true, is_some, List, []};
 ghost use Rattle.flac_bits.specs.Bits.{bits_of};
 ghost use Rattle.flac_bits.specs.State.{short_of};
 ghost use Rattle.flac_bits.specs.Handing.{by_grammar};
@@ -13,15 +13,16 @@ ghost use Rattle.flac_native.specs.Giving.{stage_of, held};
 ghost use Rattle.flac_reader.specs.Kept.{first_points};
 ghost use Rattle.flac_reader.specs.Coming.{IsPast};
 ghost use Rattle.flac_reader.specs.Opening.{IsOver};
-ghost use Rattle.flac_reader.specs.Giving.{last_frame};
-ghost use Rattle.flac_reader.specs.Moved.{IsMoved, read_resumed, not_moved};
+ghost use Rattle.flac_reader.specs.Moved.{IsMoved, IsNotMoved, read_resumed};
 ghost use Rattle.flac_reader.specs.Seeking.{offset_before, search_start, number_of, Sought, SeeksTo, RefusesSeek, Cuts, SeeksFrames};
 
 use crate::head::Head;
 use crate::reader::Reader;
 use crate::seeking::find_frame;
 use flac_bits::BitReader;
-use flac_native::{Counted, Decoder, Fault, Memory, Place, Profile, Source, Why, bytes_from};
+use flac_native::{
+    Counted, Decoder, Fault, Memory, Place, Profile, Refused, Source, Why, bytes_from,
+};
 use std::alloc::Global;
 use std::io::{Read, Seek, SeekFrom};
 
@@ -83,8 +84,8 @@ impl<R: Source + Drop> Reader<BitReader<R>> {
         ensures ahead { IfOk result (λ r. r.ahead ≡ true) }
         ensures first { IfOk result (λ r. (r.first ≡ r.behind) × (r.behind ≡ number_of self.info (held (stage_of r.decoder).course (stage_of r.decoder).track))) }
         ensures source { IfOk result (λ r. IsOver true 0 0 [] r) }
-        // If a frame comes, the last metadata block was read: no allocation fails from then on.
-        ensures past { IfOk result (λ r. IfSome (last_frame r) (λ _. IsPast (stage_of r.decoder))) }
+        // The last metadata block was read: no allocation fails from then on.
+        ensures past { IfOk result (λ r. IsPast (stage_of r.decoder)) }
         // Memory runs out before a frame is read, or after as many frames as can be counted.
         ensures memory { IfErr result (λ f. f.why ≡ Why.Memory → (f.at ≡ Place.Marker) ⊎ (f.at ≡ Place.Frame (2 ^ 64 - 1))) }
         // Of the frames from that point on, the first that holds the sample comes next, and then all others; refused
@@ -93,7 +94,10 @@ impl<R: Source + Drop> Reader<BitReader<R>> {
     {
         let offset = self.offset_before(sample);
         let source = Memory::new(bytes_from(frames, offset));
-        self.seek_from(alloc, source, profile, sample)
+        match self.seek_from(alloc, source, profile, sample) {
+            Ok(reader) => Ok(reader),
+            Err(refused) => Err(refused.fault),
+        }
     }
 
     /// Does what [`Reader::seek`] does. `stream` has all bytes of the native stream.
@@ -116,8 +120,8 @@ impl<R: Source + Drop> Reader<BitReader<R>> {
         ensures ahead { IfOk result (λ r. r.ahead ≡ true) }
         ensures first { IfOk result (λ r. (r.first ≡ r.behind) × (r.behind ≡ number_of self.info (held (stage_of r.decoder).course (stage_of r.decoder).track))) }
         ensures source { IfOk result (λ r. IsOver true 0 0 [] r) }
-        // If a frame comes, the last metadata block was read: no allocation fails from then on.
-        ensures past { IfOk result (λ r. IfSome (last_frame r) (λ _. IsPast (stage_of r.decoder))) }
+        // The last metadata block was read: no allocation fails from then on.
+        ensures past { IfOk result (λ r. IsPast (stage_of r.decoder)) }
         // Memory runs out before a frame is read, or after as many frames as can be counted.
         ensures memory { IfErr result (λ f. f.why ≡ Why.Memory → (f.at ≡ Place.Marker) ⊎ (f.at ≡ Place.Frame (2 ^ 64 - 1))) }
         // Of the frames from that point on, the first that holds the sample comes next, and then all others; refused
@@ -129,7 +133,10 @@ impl<R: Source + Drop> Reader<BitReader<R>> {
     {
         let offset = self.seek_offset(sample);
         let source = Memory::new(bytes_from(stream, offset));
-        self.seek_from(alloc, source, profile, sample)
+        match self.seek_from(alloc, source, profile, sample) {
+            Ok(reader) => Ok(reader),
+            Err(refused) => Err(refused.fault),
+        }
     }
 
     /// Does what [`Reader::seek`] does. The source gives the bytes of the native stream from [`Reader::seek_offset`]
@@ -141,27 +148,28 @@ impl<R: Source + Drop> Reader<BitReader<R>> {
     /// ```
     ///
     /// # Errors
-    /// Those of [`Reader::seek`].
+    /// Those of [`Reader::seek`]. The source is returned with them.
     pub fn seek_from<S: Source + Drop>(
         self,
         alloc: Global,
         source: S,
         profile: Profile,
         sample: u64,
-    ) -> Result<Reader<BitReader<S>>, Fault>
+    ) -> Result<Reader<BitReader<S>>, Refused<S>>
         ensures blocks { IfOk result (λ r. (r.blocks ≡ self.blocks) × (r.info ≡ self.info) × (r.start ≡ self.start)) }
         ensures ahead { IfOk result (λ r. r.ahead ≡ true) }
         ensures first { IfOk result (λ r. (r.first ≡ r.behind) × (r.behind ≡ number_of self.info (held (stage_of r.decoder).course (stage_of r.decoder).track))) }
         ensures source { IfOk result (λ r. IsOver (S.known source) (S.errors source) (S.raised source) (S.names source) r) }
-        // If a frame comes, the last metadata block was read: no allocation fails from then on.
-        ensures past { IfOk result (λ r. IfSome (last_frame r) (λ _. IsPast (stage_of r.decoder))) }
+        // The last metadata block was read: no allocation fails from then on.
+        ensures past { IfOk result (λ r. IsPast (stage_of r.decoder)) }
         // Memory runs out before a frame is read, or after as many frames as can be counted.
-        ensures memory { IfErr result (λ f. f.why ≡ Why.Memory → (f.at ≡ Place.Marker) ⊎ (f.at ≡ Place.Frame (2 ^ 64 - 1))) }
+        ensures memory { IfErr result (λ x. x.fault.why ≡ Why.Memory → (x.fault.at ≡ Place.Marker) ⊎ (x.fault.at ≡ Place.Frame (2 ^ 64 - 1))) }
         // Of the frames of the source, the first that holds the sample comes next, and then all others.
         ensures found { IfOk result (λ r. S.known source ≡ true → Sought self.info sample (by_grammar grammar (resumed profile self.info) (beginning (short_of ((S.behind source).fails))) (bits_of (S.coming source))) r) }
         // Refused only as the input is, with no such frame before; or because memory runs out, or because of an error
-        // of the source, which is then counted.
-        ensures refused { IfErr result (λ f. f.why ≢ Why.Memory → (left : S) × (S.names left ≡ S.names source) × RefusesSeek self.info sample (by_grammar grammar (resumed profile self.info) (beginning (short_of ((S.behind source).fails))) (bits_of (S.coming source))) (S.known source) (S.errors source) (S.raised source) (S.errors left) (S.raised left) f) }
+        // of the source, which the source that is returned has counted.
+        ensures refused { IfErr result (λ x. RefusesSeek self.info sample (by_grammar grammar (resumed profile self.info) (beginning (short_of ((S.behind source).fails))) (bits_of (S.coming source))) (S.known source) (S.errors source) (S.raised source) (S.errors x.left) (S.raised x.left) x.fault) }
+        ensures names { IfErr result (λ x. S.names x.left ≡ S.names source) }
     {
         let Reader {
             decoder: _,
@@ -172,9 +180,9 @@ impl<R: Source + Drop> Reader<BitReader<R>> {
             first: _,
             behind: _,
         } = self;
-        let mut decoder = match Decoder::resume(alloc, source, &info, profile) {
+        let mut decoder = match Decoder::resume_returning(alloc, source, &info, profile) {
             Ok(decoder) => decoder,
-            Err(fault) => return Err(fault),
+            Err(refused) => return Err(refused),
         };
         match find_frame(&mut decoder, &info, sample) {
             Ok(first) => {
@@ -182,9 +190,8 @@ impl<R: Source + Drop> Reader<BitReader<R>> {
                 Ok(Reader::before_frame(decoder, head, blocks, first))
             }
             Err(fault) => {
-                // Given back only for the proof: the clause names its counts of errors.
-                let _source = decoder.into_source();
-                Err(fault)
+                let left = decoder.into_source();
+                Err(Refused { fault, left })
             }
         }
     }
@@ -199,36 +206,42 @@ impl<R: Source + Drop> Reader<BitReader<R>> {
     /// ```
     ///
     /// # Errors
-    /// [`Why::Read`] at frame 0 if the device cannot be moved. Else those of [`Reader::seek`].
+    /// [`Why::Read`] at frame 0 if the device cannot be moved. Else those of [`Reader::seek`]. The device is returned
+    /// with them, with its last error if that came of reading ([`Counted::last_error`]).
     pub fn seek_file<T: Read + Seek + Drop>(
         self,
         alloc: Global,
         device: T,
         profile: Profile,
         sample: u64,
-    ) -> Result<Reader<BitReader<Counted<T>>>, Fault>
+    ) -> Result<Reader<BitReader<Counted<T>>>, Refused<Counted<T>>>
         ensures blocks { IfOk result (λ r. (r.blocks ≡ self.blocks) × (r.info ≡ self.info) × (r.start ≡ self.start)) }
         ensures ahead { IfOk result (λ r. r.ahead ≡ true) }
         ensures first { IfOk result (λ r. (r.first ≡ r.behind) × (r.behind ≡ number_of self.info (held (stage_of r.decoder).course (stage_of r.decoder).track))) }
-        // If a frame comes, the last metadata block was read: no allocation fails from then on.
-        ensures past { IfOk result (λ r. IfSome (last_frame r) (λ _. IsPast (stage_of r.decoder))) }
+        // The last metadata block was read: no allocation fails from then on.
+        ensures past { IfOk result (λ r. IsPast (stage_of r.decoder)) }
         // Memory runs out before a frame is read, or after as many frames as can be counted.
-        ensures memory { IfErr result (λ f. f.why ≡ Why.Memory → (f.at ≡ Place.Marker) ⊎ (f.at ≡ Place.Frame (2 ^ 64 - 1))) }
+        ensures memory { IfErr result (λ x. x.fault.why ≡ Why.Memory → (x.fault.at ≡ Place.Marker) ⊎ (x.fault.at ≡ Place.Frame (2 ^ 64 - 1))) }
         // Of the frames of the device from that point on, the first that holds the sample comes next, and then all
         // others.
         ensures found { IfOk result (λ r. (moved : T) × IsMoved T.stream_position T.stream_bytes device moved (search_start self.start sample (first_points self.blocks.items)) × IsOver (is_some (T.remaining moved)) 0 0 [] r × (is_some (T.remaining moved) ≡ true → Sought self.info sample (read_resumed profile self.info (T.remaining moved)) r)) }
-        // Refused only if the device cannot be moved, or as its bytes from there on are, with no such frame before; or
-        // because memory runs out, or because of an error of the device.
-        ensures refused { IfErr result (λ f. f.why ≢ Why.Memory → (f ≡ not_moved) ⊎ ((moved : T) × (left : Counted T) × IsMoved T.stream_position T.stream_bytes device moved (search_start self.start sample (first_points self.blocks.items)) × RefusesSeek self.info sample (read_resumed profile self.info (T.remaining moved)) (is_some (T.remaining moved)) 0 0 left.errors left.errors f)) }
+        // Refused only if the device could not be moved, and is returned where it was, with no error counted; or as its
+        // bytes from there on are, with no such frame before; or because memory runs out, or because of an error of the
+        // device, which is returned with its errors counted.
+        ensures refused { IfErr result (λ x. IsNotMoved T.stream_position T.stream_bytes device x ⊎ ((moved : T) × IsMoved T.stream_position T.stream_bytes device moved (search_start self.start sample (first_points self.blocks.items)) × RefusesSeek self.info sample (read_resumed profile self.info (T.remaining moved)) (is_some (T.remaining moved)) 0 0 x.left.errors x.left.errors x.fault)) }
     {
         let mut device = device;
         let offset = self.seek_offset(sample);
         match device.seek(SeekFrom::Start(offset)) {
             Ok(_) => self.seek_from(alloc, Counted::new(device), profile, sample),
-            Err(_) => Err(Fault {
-                at: Place::Frame(0),
-                why: Why::Read,
-            }),
+            Err(_) => {
+                let left = Counted::new(device);
+                let fault = Fault {
+                    at: Place::Frame(0),
+                    why: Why::Read,
+                };
+                Err(Refused { fault, left })
+            }
         }
     }
 }

@@ -63,7 +63,7 @@ fn tags_and_peak(alloc: Global, stream: &[u8], keep: Keep) -> Result<Printed, Fa
     match open(alloc, Memory::new(stream), Profile::Subset, keep) {
         Ok(Opened::Native(reader)) => printed_and_dropped(reader),
         Ok(Opened::Ogg(reader)) => printed_and_dropped(reader),
-        Err(fault) => Err(fault),
+        Err(refused) => Err(refused.fault),
     }
 }
 

@@ -94,7 +94,7 @@ fn resumed_past_metadata(rt: HostRuntime) -> Result<(), Fail> {
 
 /// A reader of an Ogg stream in memory.
 fn opened_ogg<'a>(alloc: Global, pages: &'a [u8]) -> Result<Reader<OggPackets<Memory<'a>>>, Fault> {
-    open_ogg(alloc, Memory::new(pages), Profile::Subset, Keep::Tags)
+    Ok(open_ogg(alloc, Memory::new(pages), Profile::Subset, Keep::Tags)?)
 }
 
 /// The fault at which an Ogg stream in memory is refused, if it is not opened.
@@ -117,6 +117,30 @@ fn pages_refused_before_frames(rt: HostRuntime) -> Result<(), Fail> {
     Ok(())
 }
 
+/// How a native stream of this device is refused, as text, and whether the device that is returned met no error.
+fn returned(alloc: Global, stream: &[u8]) -> Result<(String, bool), Fail> {
+    let source = Counted::new(Cursor::new(stream));
+    match open_native(alloc, source, Profile::Subset, Keep::Tags) {
+        Ok(_) => Ok((String::from_str(alloc, "opened")?, true)),
+        Err(refused) => {
+            let text = format!(in alloc; "{refused}");
+            let calm = refused.left.last_error().is_none();
+            drop(refused);
+            Ok((text?, calm))
+        }
+    }
+}
+
+/// The source is returned with the fault, which is what the refusal prints.
+#[test]
+fn source_returned(rt: HostRuntime) -> Result<(), Fail> {
+    let (text, calm) = returned(rt.alloc(), b"fLa")?;
+    assert!(rt; text.as_str() == "marker: 3 Truncated" && calm);
+    let (text, calm) = returned(rt.alloc(), b"flac")?;
+    assert!(rt; text.as_str() == "marker: 4 BadMarker" && calm);
+    Ok(())
+}
+
 /// What is seen of a frame that is sought: the number of its first sample, and that sample.
 type Sought = Option<(u64, i32)>;
 
@@ -126,7 +150,7 @@ fn opened<'a>(
     stream: &'a [u8],
     keep: Keep,
 ) -> Result<Reader<BitReader<Memory<'a>>>, Fault> {
-    open_native(alloc, Memory::new(stream), Profile::Subset, keep)
+    Ok(open_native(alloc, Memory::new(stream), Profile::Subset, keep)?)
 }
 
 /// What is seen of the next frame.

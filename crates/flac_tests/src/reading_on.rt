@@ -43,7 +43,7 @@ fn frame_with(alloc: Global, stream: &[u8], profile: Profile, sample: u64) -> Re
     streams_are_cut(); // for its clauses alone
     let reader = match open_native(alloc, Memory::new(stream), profile, Keep::Tags) {
         Ok(reader) => reader,
-        Err(fault) => return Err(fault),
+        Err(refused) => return Err(refused.fault),
     };
     let mut reader = match reader.seek_in(alloc, stream, profile, sample) {
         Ok(reader) => reader,

@@ -121,7 +121,7 @@ fn opened<'a>(
     stream: &'a [u8],
     keep: Keep,
 ) -> Result<Reader<BitReader<Memory<'a>>>, Fault> {
-    open_native(alloc, Memory::new(stream), Profile::Subset, keep)
+    Ok(open_native(alloc, Memory::new(stream), Profile::Subset, keep)?)
 }
 
 /// Takes samples that rise by 1 from a first one on: how many there are, and what comes in place of the next.

@@ -4,7 +4,7 @@ use Rattle.flac_frame.specs.Encoding.{block_of}
 use Rattle.flac_frame.specs.Frame.{limits_at}
 use Rattle.flac_subframe.specs.Handed.{AreWithin}
 use Rattle.flac_subframe.specs.Room.{Room}
-use Rattle.flac_native.proofs.Planned.{planned, fit, orders_of, partition_of}
+use Rattle.flac_native.proofs.Planned.{fit, orders_at, partition_of}
 use Rattle.flac_native.proofs.Gathered.{choice_back}
 use Rattle.flac_native.proofs.Spelled.{chosen_of, came_out}
 use Rattle.flac_native.proofs.chosen_frames.write_chosen.Goals as goal
@@ -32,7 +32,7 @@ write_frame-requires-clause-chosen g c =
     let r = c.range-range.result in
     let n = r.end - r.start in
     let k = c.range-range.ensures.range in
-    subst (λ ps. IsChoiceWith ps a n c.args.number (block_of r.start n a.channels) c.index-choices-at.result) (sym c.predictors-predictors.ensures) (choice_back p a c.args.number r.start n _ k.start k.size is.chosen)
+    subst (λ ps. IsChoiceWith ps a n c.args.number (block_of r.start n a.channels) c.index-choices-at.result) (sym c.predictors_at-predictors.ensures.tried) (choice_back p a c.args.number r.start n _ k.start k.size is.chosen)
 
 pub write_frame-requires-clause-places : goal.write_frame-requires-clause-places
 write_frame-requires-clause-places g c = (c.requires.ready.chosen c.args.number c.index-choices-at.result (omega arith) c.index-choices-at.is).places
@@ -56,19 +56,19 @@ pub encode_frame_with-requires-clause-orders : goal.encode_frame_with-requires-c
 encode_frame_with-requires-clause-orders g c =
     let p = c.args.plan.now in
     let a = c.args.audio.now in
-    subst (AreWithin (limits_at a.profile a.rate).linear) (sym c.predictors-predictors.ensures) (orders_of p a (planned p c.range-range.ensures.good) (fit p a c.requires.ready.fits))
+    orders_at p a _ (fit p a c.requires.ready.fits) c.predictors_at-predictors.ensures.orders
 
 pub returns-then-at-choices-clause-wrote : goal.returns-then-at-choices-clause-wrote
 returns-then-at-choices-clause-wrote g c =
     let r = c.range-range in
-    chosen_of c.args.plan.now c.args.audio.now c.args.number r.result.start r.result.end _ c.args.writer.now c.write_frame.new.writer _ r.ensures.range c.predictors-predictors.ensures c.write_frame.ensures.wrote
+    chosen_of c.args.plan.now c.args.audio.now c.args.number r.result.start r.result.end _ c.args.writer.now c.write_frame.new.writer _ r.ensures.range c.predictors_at-predictors.ensures.tried c.write_frame.ensures.wrote
 
 pub returns-in-Ok-clause-wrote : goal.returns-in-Ok-clause-wrote
 returns-in-Ok-clause-wrote g c =
     let r = c.range-range in
-    chosen_of c.args.plan.now c.args.audio.now c.args.number r.result.start r.result.end _ c.args.writer.now c.encode_frame_with.new.writer came_out r.ensures.range c.predictors-predictors.ensures c.in-Ok.ensures.wrote
+    chosen_of c.args.plan.now c.args.audio.now c.args.number r.result.start r.result.end _ c.args.writer.now c.encode_frame_with.new.writer came_out r.ensures.range c.predictors_at-predictors.ensures.tried c.in-Ok.ensures.wrote
 
 pub returns-in-Err-clause-wrote : goal.returns-in-Err-clause-wrote
 returns-in-Err-clause-wrote g c =
     let r = c.range-range in
-    chosen_of c.args.plan.now c.args.audio.now c.args.number r.result.start r.result.end _ c.args.writer.now c.encode_frame_with.new.writer (Err c.in-Err.why) r.ensures.range c.predictors-predictors.ensures c.in-Err.ensures.wrote
+    chosen_of c.args.plan.now c.args.audio.now c.args.number r.result.start r.result.end _ c.args.writer.now c.encode_frame_with.new.writer (Err c.in-Err.why) r.ensures.range c.predictors_at-predictors.ensures.tried c.in-Err.ensures.wrote

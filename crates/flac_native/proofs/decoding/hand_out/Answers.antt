@@ -31,7 +31,7 @@ returns-in-Ok-None g c =
           let far = inv.far p at known receives parts end come in
           all_done (C.gives c.loop-part.container) (C.gives c.next.new.self) _ (taken g.S.Sink.takes) g.S.Sink.errors p parts end c.loop-part.track c.args.sink.now c.loop-part.sink (piece_of c.next.new.track) _ (BreaksBehind C p c.args.container.now c.next.new.self) far
           (λ calm. gives far.q far.at (inv.knows known) (calm.0 ∙ sym inv.errors) (calm.1 ∙ sym inv.raised) (no_fault None) far.left end far.comes);
-      met = (λ known. step.counts.0 (inv.knows known), step.counts.1 ∙ inv.errors, step.counts.2 ∙ inv.raised);
+      met = (λ known. step.counts.0 (inv.knows known), step.counts.1 ∙ inv.errors, step.counts.2 ∙ inv.raised, step.counts.3 ∙ inv.met);
       kept = no_fewer _ _ (step.counts.1 ∙ inv.errors);
       read = tt;
       risen = tt;

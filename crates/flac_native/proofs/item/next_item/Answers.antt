@@ -7,7 +7,7 @@ use Rattle.flac_bits.specs.Handing.{IsOutside, reason_of}
 use Rattle.flac_native.specs.Item.{told}
 use Rattle.flac_native.specs.Giving.{IsFirst, BreaksOff, seen_by, found}
 use Rattle.flac_native.specs.declared.container.Part.TheVariants as part
-use Rattle.flac_native.proofs.Giving.{item_first, behind_marker, inside, made_as, made_behind}
+use Rattle.flac_native.proofs.Giving.{item_first, behind_marker, inside, made_as, made_behind, in_order, marker_before}
 use Rattle.flac_native.proofs.Handed.{no_fault}
 use Rattle.flac_native.proofs.Passing.{passes_none, passes_one, passes_found, ok_inside, err_both}
 use Rattle.flac_native.proofs.SameStart.{less_at, most_at, rises_at}
@@ -78,6 +78,24 @@ returns-then-is_marker-clause-gives g c = λ p at known same quiet room items en
     (inside result (λ y is made. made_behind mid.track now.track y first.made.1 made) second.made)
     (inside result (λ y is noted. noted (next p marked) stands) second.next) later.0 end
     (second.gives (next p marked) stands told (same ∙ sym first.counts.1) (quiet ∙ sym first.counts.2) room later.0 end later.2))
+
+pub returns-clause-ordered : goal.returns-clause-ordered
+returns-clause-ordered g c =
+    let result = c.next-outcome.result in
+    let now = c.next-outcome.new in
+    let ens = c.next-outcome.ensures in
+    in_order c.args.track.now now.track result
+    (inside result (λ y is made. made_as c.args.track.now now.track y (λ e. c.is_marker.ensures.other c.if-is_marker.false (is ∙ ap (λ k. Ok (Some k)) e)) made) ens.made) ens.ordered
+
+pub returns-then-is_marker-clause-ordered : goal.returns-then-is_marker-clause-ordered
+returns-then-is_marker-clause-ordered g c =
+    let first = rw (c.is_marker.ensures.is c.if-is_marker.true) at c.next-outcome.ensures in
+    let mid = c.next-outcome.new in
+    let result = c.next.result in
+    let now = c.next.new in
+    let ens = c.next.ensures in
+    marker_before c.args.track.now mid.track now.track result first.made.0 first.made.1
+    (in_order mid.track now.track result (inside result (λ y is made. made_behind mid.track now.track y first.made.1 made) ens.made) ens.ordered)
 
 pub returns-clause-passes : goal.returns-clause-passes
 returns-clause-passes g c = λ p at.

@@ -1,9 +1,13 @@
-use Rattle.std.proofs.Common.{◌≡◌, ℕ, ◌+◌, ◌≤◌, Result, Ok, Err, inl, inr, sym, ap, ◌∙◌, arith}
+use Rattle.std.proofs.Common.{◌≡◌, ℕ, ◌+◌, ◌≤◌, true, Result, Ok, Err, inl, inr, sym, ap, ◌∙◌, rules, arith}
 use Rattle.flac_bits.specs.State.{without_fence}
 use Rattle.flac_bits.specs.Fencing.{lifted}
 use Rattle.flac_bits.specs.declared.why.Why.{Why}
 use Rattle.flac_bits.proofs.Bounds.{lifted_same}
 use Rattle.flac_native.specs.Stream.{Stand, place_in}
+use Rattle.flac_native.specs.Track.{is_behind_blocks}
+use Rattle.flac_native.specs.declared.track.Phase.{Phase}
+use Rattle.flac_native.specs.declared.track.Phase.TheVariants.{Frames}
+use Rattle.flac_native.specs.declared.track.Track.{Track}
 use Rattle.flac_native.proofs.Advancing.{over_here, refused_here, part_here, part_refused_here}
 use Rattle.flac_native.proofs.RetagFaults.{no_fewer}
 use Rattle.flac_native.proofs.SameStart.{less_at, most_at, rises_at}
@@ -24,9 +28,13 @@ answers x e is = absurd cc
 same_reason : {X : Type 0} (v w : Why) → wrong {X = X} v ≡ wrong w → v ≡ w
 same_reason v w e = cc
 
+behind_frames : (k : Phase) → is_behind_blocks k ≡ true → k ≡ Frames
+behind_frames k e = search rules
+
 pub returns-in-Ok : goal.returns-in-Ok
 returns-in-Ok g c =
     let ends = rw c.lift.ensures at c.in-Ok-true.ensures in
+    let frames = behind_frames _ (ends.later c.in-Ok-true.field-0-test) in
     record {
       spends = ends.spends;
       counts = ends.counts;
@@ -35,7 +43,7 @@ returns-in-Ok g c =
       steps = λ p at known same quiet.
           over_here c.args.track.now p (lifted c.args.reader.now).cursor c.in-Ok-true.field-0 at c.in-Ok-true.field-0-test (ends.over known).1 (c.in-Ok.ensures.judged p at);
       made = tt;
-      later = ends.later c.in-Ok-true.field-0-test;
+      ordered = (frames, ap (λ (t : Track). t.position.phase) c.in-Ok.ensures.stays ∙ frames);
       next = tt;
     }
 
@@ -52,7 +60,7 @@ returns-in-Err-end g c =
       steps = λ p at known same quiet room.
           refused_here c.args.track.now p (lifted c.args.reader.now).cursor c.in-Ok-true.field-0 c.in-Err-end.why at c.in-Ok-true.field-0-test (ends.over known).1 (ended.judged p at);
       made = tt;
-      later = tt;
+      ordered = tt;
       next = tt;
     }
 
@@ -72,7 +80,7 @@ returns-in-Ok-read_part g c =
           part_here c.args.track.now p (lifted c.args.reader.now).cursor (lifted c.ends_here.new.reader).cursor c.in-Ok-false.field-0 _ _ at c.in-Ok-false.field-0-test over.1 (lifted_same c.args.reader.now c.ends_here.new.reader over.0 (went.3 known))
           (part.reads (λ is. absurd (answers _ _ is)) (went.0 known) (same ∙ sym went.1));
       made = part.made;
-      later = part.later;
+      ordered = part.ordered;
       next = part.next;
     }
 
@@ -92,7 +100,7 @@ returns-in-Err-read_part g c =
           part_refused_here c.args.track.now p (lifted c.args.reader.now).cursor (lifted c.ends_here.new.reader).cursor c.in-Ok-false.field-0 _ _ at c.in-Ok-false.field-0-test over.1 (lifted_same c.args.reader.now c.ends_here.new.reader over.0 (went.3 known))
           c.place-at.ensures (part.reads (λ is. room (same_reason _ _ is)) (went.0 known) (same ∙ sym went.1));
       made = tt;
-      later = tt;
+      ordered = tt;
       next = tt;
     }
 

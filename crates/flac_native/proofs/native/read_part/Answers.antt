@@ -8,7 +8,6 @@ use Rattle.flac_bits.specs.Fencing.{lifted}
 use Rattle.flac_bits.specs.declared.why.Why.{Why}
 use Rattle.flac_native.specs.Stream.{Progress, framed, marked, frame_behind, layout, next}
 use Rattle.flac_native.specs.Track.{IsAt, profile_in, info_in, before_in}
-use Rattle.flac_native.specs.declared.container.Part.TheVariants as part
 use Rattle.flac_native.specs.declared.format.Format.{Format}
 use Rattle.flac_native.specs.declared.track.Phase.TheVariants as phase
 use Rattle.flac_native.specs.declared.track.Track.{Track}
@@ -21,12 +20,6 @@ opening_frames e = absurd cc
 
 blocks_frames : phase.Blocks ≡ phase.Frames → ⊥
 blocks_frames e = absurd cc
-
-marker_frame : part.Marker ≡ part.Frame → ⊥
-marker_frame e = absurd cc
-
-block_frame : part.Block ≡ part.Frame → ⊥
-block_frame e = absurd cc
 
 abbrev answer : {X : Type 0} → X → Result X Why
 answer x = Ok x
@@ -75,7 +68,7 @@ returns-in_err-read_marker-in-Opening g c =
       memory = λ is. absurd (opening_frames (sym c.in-Opening.is ∙ is));
       reads = rw c.in-Opening.is (λ room known same. rw (e.reads known same) refl);
       made = tt;
-      later = tt;
+      ordered = tt;
       next = tt;
     })
 
@@ -90,7 +83,7 @@ returns-in_ok-read_marker-in-Opening g c =
       memory = λ is. tt;
       reads = rw c.in-Opening.is (λ room known same. rw (e.reads known same) refl);
       made = (c.in-Opening.is, refl);
-      later = λ is. absurd (marker_frame is);
+      ordered = rw c.in-Opening.is refl;
       next = λ p at. marked_at c.args.track.now p at;
     }
 
@@ -106,7 +99,7 @@ returns-in_err-next_block_here-in-Blocks g c =
       memory = λ is. absurd (blocks_frames (sym c.in-Blocks.is ∙ is));
       reads = rw c.in-Blocks.is (λ room. e.reads (λ is. room (same_why _ _ is)));
       made = tt;
-      later = tt;
+      ordered = tt;
       next = tt;
     })
 
@@ -122,7 +115,7 @@ returns-in_ok-next_block_here-in-Blocks g c =
       memory = λ is. tt;
       reads = rw c.in-Blocks.is (λ room. e.reads (λ is. absurd (answers _ _ is)));
       made = ok.made;
-      later = λ is. absurd (block_frame is);
+      ordered = rw c.in-Blocks.is refl;
       next = ok.next;
     }
 
@@ -140,7 +133,7 @@ returns-in_err-next_frame_here-in-Frames g c =
           refused_within 16777215 (frame_behind (profile_in t.profile t.format) (info_in t.format) (before_in t.format)) framed
           (started (lifted c.args.reader.now)).cursor _ (e.reads known same));
       made = tt;
-      later = tt;
+      ordered = tt;
       next = tt;
     })
 
@@ -158,6 +151,6 @@ returns-in_ok-next_frame_here-in-Frames g c =
           given_within 16777215 (frame_behind (profile_in t.profile t.format) (info_in t.format) (before_in t.format)) framed
           (started (lifted c.args.reader.now)).cursor _ _ (e.reads known same));
       made = info_format _ ok.made;
-      later = λ is. rw c.in-Frames.is refl;
+      ordered = (c.in-Frames.is, ok.phase ∙ c.in-Frames.is);
       next = ok.next;
     }

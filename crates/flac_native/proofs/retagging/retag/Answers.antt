@@ -75,6 +75,11 @@ returns-clause-begun g c =
     let begun = rw c.new-reader.ensures at c.retag_from-outcome.ensures.begun in
     rw (append-nil (bits_of (g.R.Source.coming c.args.source.now))) at begun
 
+pub returns-clause-copied : goal.returns-clause-copied
+returns-clause-copied g c =
+    let copied = rw c.new-reader.ensures at c.retag_from-outcome.ensures.copied in
+    rw (append-nil (bits_of (g.R.Source.coming c.args.source.now))) at copied
+
 pub returns-clause-exact : goal.returns-clause-exact
 returns-clause-exact g c =
     let written = rw c.new-reader.ensures at c.retag_from-outcome.ensures.written in
@@ -116,6 +121,7 @@ returns-then-length-gt-MOST_BYTES g c = record {
   shown = λ few. absurd (none_within _ _ c.length.ensures c.if-length-gt-MOST_BYTES.true few);
   nothing = λ one other. refl;
   begun = λ either. absurd (long_device either);
+  copied = λ is. absurd (long_device (inl is));
   placeless = λ none. inl refl;
   output = tt;
   read = λ is. absurd (length_no_read is);

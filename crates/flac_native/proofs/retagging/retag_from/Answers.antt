@@ -13,7 +13,7 @@ use Rattle.flac_native.specs.Retag.{BreaksAt, IsRefused}
 use Rattle.flac_native.proofs.Broken.{breaks_after, none_before, copy_placed, copy_foretold}
 use Rattle.flac_native.proofs.NewHead.{kept_may_be_head}
 use Rattle.flac_native.proofs.RetagFaults.{placed, placed_some, before_device, unread_device, write_no_read, has_head, no_fewer, no_rise, both_err, copy_calm, copy_behind, copy_placeless, copy_output}
-use Rattle.flac_native.proofs.Retagged.{all_retagged, some_retagged, head_begun}
+use Rattle.flac_native.proofs.Retagged.{all_retagged, some_retagged, part_retagged, head_begun}
 use Rattle.flac_native.proofs.retagging.retag_from.Goals as goal
 
 -- what is claimed of a call that answered Ok, or of one that answered an error
@@ -43,6 +43,7 @@ returns-in-Err g c =
       found = λ either known. absurd (before_device at why (e.at known) either);
       nothing = λ one other. refl;
       begun = λ either known told. absurd (before_device at why (e.at known) either);
+      copied = λ is known told. absurd (before_device at why (e.at known) (inl is));
       placeless = λ none. absurd (placed_some at none);
       output = e.counts.5;
       read = λ read known. e.counts.2 known read;
@@ -69,6 +70,7 @@ returns-in-Err-made g c =
       found = λ either known. absurd (unread_device (place.Frame 0) w unread either);
       nothing = λ one other. refl;
       begun = λ either known told. absurd (unread_device (place.Frame 0) w unread either);
+      copied = λ is known told. absurd (unread_device (place.Frame 0) w unread (inl is));
       placeless = λ none. absurd (placed_some (place.Frame 0) none);
       output = c.in-Err-made.ensures.output;
       read = λ read known. absurd (unread read);
@@ -97,6 +99,7 @@ returns-in-Err-sent g c =
           let is = c.in-Ok-made.ensures.head ∙ ap (new_head c.args.comments.now) c.as_slice.ensures.value in
           let begun = sends.begun told in
           head_begun (lifted c.args.reader.now).cursor c.in-Ok.kept.items c.read_kept.new.reader.cursor.left c.args.comments.now c.in-Ok-made.head.items (kept known) is _ _ begun.0 begun.1 (sym c.as_slice-2.ensures.value ∙ begun.2) begun.3;
+      copied = λ is. absurd (write_no_read (ap (λ (x : RetagFault). x.why) is));
       placeless = λ none. refl;
       output = tt;
       read = λ read known. absurd (write_no_read read);
@@ -131,6 +134,10 @@ returns-in-Ok-sent g c =
           let sent = sends.sent told ∙ ap (λ k. g.W.Target.sent c.args.target.now ++ k) c.as_slice-2.ensures.value in
           let some = begun (counts.0 known) (sends.known told) in
           some_retagged cursor c.in-Ok.kept.items c.read_kept.new.reader.cursor.left c.args.comments.now c.in-Ok-made.head.items (kept known) is _ (g.W.Target.sent c.send_all-sent.new.target) _ some.0 some.1 sent some.2 some.3) copy.begun;
+      copied = when_err r (λ f begun at_source known told.
+          let sent = sends.sent told ∙ ap (λ k. g.W.Target.sent c.args.target.now ++ k) c.as_slice-2.ensures.value in
+          let some = begun (counts.0 known) (sends.known told) in
+          part_retagged cursor c.in-Ok.kept.items c.read_kept.new.reader.cursor.left c.args.comments.now c.in-Ok-made.head.items (kept known) is _ (g.W.Target.sent c.send_all-sent.new.target) _ some.0 some.1 sent some.2 some.3) copy.begun;
       placeless = IfErr-weaker r _ _ (λ f. copy_placeless f) copy.fault;
       output = IfErr-weaker r _ _ (λ f. copy_output f) copy.fault;
       read = IfErr-weaker r _ _ (λ f read is known. rw (← counts.2) (read is (counts.0 known))) copy.read;

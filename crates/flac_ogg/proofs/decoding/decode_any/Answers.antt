@@ -88,6 +88,7 @@ returns-in_err-front g c =
           (λ at why is. let told = same_end _ at _ why is in (sym told.0 ∙ e.place, sym told.1 ∙ e.why));
       decides = λ known receives errors raised same. absurd (not_risen _ _ (e.rises known) raised);
       counted = tt;
+      raised = tt;
       kept = e.kept;
       read = λ known calm is. inr (e.rises known);
       risen = λ is. e.risen;

@@ -10,3 +10,6 @@ returns-else-is_ogg-clause-hands g c = λ known receives. rw c.if-is_ogg.false (
 
 pub returns-else-is_ogg-clause-counted : goal.returns-else-is_ogg-clause-counted
 returns-else-is_ogg-clause-counted g c = on_ok_weaker c.decode.result (λ q. q.0) c.decode.ensures.counted
+
+pub returns-else-is_ogg-clause-raised : goal.returns-else-is_ogg-clause-raised
+returns-else-is_ogg-clause-raised g c = on_ok_weaker c.decode.result (λ q. q.1) c.decode.ensures.counted

@@ -67,3 +67,9 @@ returns-clause-counted g c =
     let last = ap (λ (p : Place). p.errors) (sym c.into_pages-pages.ensures) in
     let first = ap (λ (p : Place). p.errors) c.over-packets.ensures in
     IfOk-weaker c.hand_out-outcome.result _ _ (λ x met. search (rules, met.1, last, first)) c.hand_out-outcome.ensures.met
+
+pub returns-clause-raised : goal.returns-clause-raised
+returns-clause-raised g c =
+    let last = ap (λ (p : Place). p.raised) (sym c.into_pages-pages.ensures) in
+    let first = ap (λ (p : Place). p.raised) c.over-packets.ensures in
+    IfOk-weaker c.hand_out-outcome.result _ _ (λ x met. search (rules, met.3, last, first)) c.hand_out-outcome.ensures.met

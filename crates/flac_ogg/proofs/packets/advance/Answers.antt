@@ -45,6 +45,7 @@ returns-in-Ok g c =
       spends = spends_then _ _ _ begun.room ok.spends;
       goes = (λ known. ok.goes.0 (begun.known known), ok.goes.1 ∙ begun.errors);
       made = ok.made;
+      ordered = ok.ordered;
       next = ok.next;
     }
 
@@ -73,6 +74,7 @@ returns-in-Err-read_packet g c =
       spends = tt;
       goes = tt;
       made = tt;
+      ordered = tt;
       next = tt;
     }
 
@@ -94,6 +96,7 @@ returns-in-Ok-end_here g c =
       spends = tt;
       goes = (over.known, over.errors);
       made = tt;
+      ordered = c.in-Ok-end_here.ensures.ordered;
       next = tt;
     }
 
@@ -116,6 +119,7 @@ returns-in-Err-end_here g c =
       spends = tt;
       goes = tt;
       made = tt;
+      ordered = tt;
       next = tt;
     }
 
@@ -140,5 +144,6 @@ returns-in-Err g c =
       spends = tt;
       goes = tt;
       made = tt;
+      ordered = tt;
       next = tt;
     }

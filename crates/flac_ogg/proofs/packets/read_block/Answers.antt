@@ -16,6 +16,7 @@ returns-in_err-block_here g c =
       counts = reading.counts;
       reads = λ room. reading.reads (same_room room);
       made = tt;
+      ordered = tt;
       next = tt;
     })
 
@@ -27,5 +28,6 @@ returns g c =
       counts = ok.reading.counts;
       reads = λ room. ok.reading.reads had_room;
       made = ok.made;
+      ordered = λ before. before;
       next = ok.next;
     }

@@ -33,6 +33,7 @@ returns-in_err-read_mapping g c =
       counts = reading.counts;
       reads = λ room. told_fault c.args.bits.now c.read_mapping.new.bits _ reading.reads;
       made = tt;
+      ordered = tt;
       next = tt;
     })
 
@@ -47,5 +48,6 @@ returns g c =
       counts = counts_then old mid read.new.bits read.result reading.counts read.ensures.counts;
       reads = λ room. gives_then (λ part. piece_of read.new.track part) old mid read.new.bits _ read.result reading.counts reading.reads (read.ensures.reads room);
       made = read.ensures.made;
+      ordered = read.ensures.ordered;
       next = read.ensures.next;
     }

@@ -44,6 +44,7 @@ returns-in_err-frame_here g c =
       counts = reading.counts;
       reads = λ known same. piece_is (run (frame_behind s.profile s.info s.before) (fenced 16777215 at)) (unfenced 16777215 at) (reading.reads known same);
       made = tt;
+      ordered = tt;
       next = tt;
     })
 
@@ -58,5 +59,6 @@ returns g c =
       counts = ok.reading.counts;
       reads = λ known same. piece_is (run (frame_behind s.profile s.info s.before) (fenced 16777215 at)) (unfenced 16777215 at) (ok.reading.reads known same);
       made = format_known c.frame_here.new.track ok.made;
+      ordered = λ is. (is, ok.phase ∙ is);
       next = ok.next;
     }

@@ -1,5 +1,6 @@
 use Rattle.std.specs.Prelude.{OnOk}
-use Rattle.std.proofs.Common.{◌≡◌, ◌<◌, true, false, Result, Ok, Err, sym, ap, subst, ◌∙◌}
+use Rattle.std.proofs.Common.{◌≡◌, ◌<◌, true, false, Result, Ok, Err, sym, ap, subst, ◌∙◌, rules}
+use Rattle.std.proofs.lemmas.Result.{IfOk-weaker}
 use Rattle.flac_bits.specs.State.{State, started}
 use Rattle.flac_bits.specs.Fencing.{lifted}
 use Rattle.flac_bits.specs.Reading.{Counts}
@@ -27,6 +28,9 @@ no_frames ph e is =
     let behind : is_behind_blocks ph ≡ true = ap is_behind_blocks is in
     absurd cc
 
+at_frames : (ph : Phase) → is_behind_blocks ph ≡ true → ph ≡ Frames
+at_frames ph e = search rules
+
 pub returns-then-is_past_metadata : goal.returns-then-is_past_metadata
 returns-then-is_past_metadata g c =
     let read = c.read_frame in
@@ -39,6 +43,7 @@ returns-then-is_past_metadata g c =
           frame_told (λ part. piece_of read.new.track part) (stand_of c.args.track.now) c.args.bits.now read.new.bits read.result
           (sym c.is_past_metadata.ensures ∙ c.if-is_past_metadata.true) read.ensures.reads;
       made = read.ensures.made;
+      ordered = IfOk-weaker read.result _ _ (λ part ordered. ordered (at_frames _ (sym c.is_past_metadata.ensures ∙ c.if-is_past_metadata.true))) read.ensures.ordered;
       next = read.ensures.next;
     }
 
@@ -57,6 +62,7 @@ returns-then-is_first_block g c =
           first_told (λ part. piece_of read.new.track part) (stand_of c.args.track.now) c.args.bits.now read.new.bits read.result
           begun past (sym c.is_first_block.ensures ∙ c.if-is_first_block.true) (rw at at read.ensures.reads);
       made = read.ensures.made;
+      ordered = IfOk-weaker read.result _ _ (λ part ordered. ordered past) read.ensures.ordered;
       next = read.ensures.next;
     }
 
@@ -75,5 +81,6 @@ returns g c =
           block_told (λ part. piece_of read.new.track part) (stand_of c.args.track.now) c.args.bits.now read.new.bits read.result
           begun past (sym c.is_first_block.ensures ∙ c.if-is_first_block.false) (rw at at read.ensures.reads);
       made = read.ensures.made;
+      ordered = IfOk-weaker read.result _ _ (λ part ordered. ordered past) read.ensures.ordered;
       next = read.ensures.next;
     }

@@ -1,7 +1,7 @@
 use Rattle.std.proofs.Common.{map}
 use Rattle.flac_native.specs.Item.{frame}
 use Rattle.flac_native.specs.Giving.{stage_of, held}
-use Rattle.flac_reader.proofs.Moving.{moves_first, moves_counted, memory_kept, past_kept, stays_past}
+use Rattle.flac_reader.proofs.Moving.{moves_first, moves_counted, memory_kept, past_kept}
 use Rattle.flac_reader.proofs.Heads.{same_counts}
 use Rattle.flac_reader.proofs.head.forward.Goals as goal
 
@@ -12,7 +12,7 @@ pub returns-then-ahead-clause-frame : goal.returns-then-ahead-clause-frame
 returns-then-ahead-clause-frame g c = rw c.if-ahead.true (λ calm roomy frames end comes. comes)
 
 pub returns-then-ahead-clause-past : goal.returns-then-ahead-clause-past
-returns-then-ahead-clause-past g c = stays_past (stage_of c.args.decoder.now)
+returns-then-ahead-clause-past g c = λ past. past
 
 pub returns-clause-memory : goal.returns-clause-memory
 returns-clause-memory g c =

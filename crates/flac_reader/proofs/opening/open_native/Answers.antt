@@ -22,23 +22,22 @@ returns-in-Ok-clause-starts g c =
     let R = g.R.Source in
     let source = c.args.source in
     starts_over c.in-Ok.reader (stage_of c.new.result) c.args.keep (R.known source) (R.errors source) (R.raised source) (R.names source) c.new.ensures.known c.new.ensures.errors.0 c.new.ensures.errors.1 c.new.ensures.names
-    c.in-Ok.ensures.head c.in-Ok.ensures.info c.in-Ok.ensures.ahead c.in-Ok.ensures.start
+    c.in-Ok.ensures.head c.in-Ok.ensures.info c.in-Ok.ensures.ahead c.in-Ok.ensures.start c.in-Ok.ensures.past
 
 pub returns-in-Err-clause-refused : goal.returns-in-Err-clause-refused
-returns-in-Err-clause-refused g c = λ other.
+returns-in-Err-clause-refused g c =
     let R = g.R.Source in
     let source = c.args.source in
-    let left = c.into_source-source.result in
-    let last = c.in-Err.refused.decoder in
-    let errors : last.container.errors ≡ R.errors left = rw (← c.into_decoder.ensures) (sym c.into_source-source.ensures.errors.0) in
-    let raised : last.container.raised ≡ R.raised left = rw (← c.into_decoder.ensures) (sym c.into_source-source.ensures.errors.1) in
-    let names : last.container.names ≡ R.names left = rw (← c.into_decoder.ensures) (sym c.into_source-source.ensures.names) in (
-      left,
-      sym names ∙ c.in-Err.ensures.refused.names ∙ c.new.ensures.names,
-      refuses_input (by_grammar grammar (opening c.args.profile) (beginning (short_of ((R.behind source).fails))) (bits_of (R.coming source))) (stage_of c.new.result) (stage_of last) (opening c.args.profile) c.in-Err.refused.fault (R.known source) (R.errors source) (R.raised source) (R.errors left) (R.raised left)
-          c.new.ensures.course c.new.ensures.track
-          (λ parts end read. subst (λ k. PartsCome (opening c.args.profile) k parts end) (sym c.new.ensures.cursor) read)
-          c.new.ensures.known c.new.ensures.errors.0 c.new.ensures.errors.1 errors raised
-          (λ _ same. raised ∙ same ∙ sym c.new.ensures.errors.1)
-          c.in-Err.ensures.refused other,
-    )
+    let left = c.into_source-left.result in
+    let last = c.in-Err.refused.left in
+    let errors : last.container.errors ≡ R.errors left = sym c.into_source-left.ensures.errors.0 in
+    let raised : last.container.raised ≡ R.raised left = sym c.into_source-left.ensures.errors.1 in
+    refuses_input (by_grammar grammar (opening c.args.profile) (beginning (short_of ((R.behind source).fails))) (bits_of (R.coming source))) (stage_of c.new.result) (stage_of last) (opening c.args.profile) c.in-Err.refused.fault (R.known source) (R.errors source) (R.raised source) (R.errors left) (R.raised left)
+    c.new.ensures.course c.new.ensures.track
+    (λ parts end read. subst (λ k. PartsCome (opening c.args.profile) k parts end) (sym c.new.ensures.cursor) read)
+    c.new.ensures.known c.new.ensures.errors.0 c.new.ensures.errors.1 errors raised
+    (λ _ same. raised ∙ same ∙ sym c.new.ensures.errors.1)
+    c.in-Err.ensures.refused
+
+pub returns-in-Err-clause-names : goal.returns-in-Err-clause-names
+returns-in-Err-clause-names g c = c.into_source-left.ensures.names ∙ c.in-Err.ensures.refused.names ∙ c.new.ensures.names

@@ -4,7 +4,7 @@ use Rattle.flac_native.specs.Giving.{stage_of, held}
 use Rattle.flac_reader.specs.Coming.{only_frame}
 use Rattle.flac_reader.proofs.Moving.{moves_first, moves_counted, moves_memory, moves_past, took_refused}
 use Rattle.flac_reader.proofs.Heads.{room, same_room, err_counts}
-use Rattle.flac_reader.proofs.Searches.{frame_passes, none_passes, frame_past}
+use Rattle.flac_reader.proofs.Searches.{frame_passes, none_passes}
 use Rattle.flac_reader.proofs.seeking.pass_frame.Goals as goal
 
 pub returns-in-Err-clause-counts : goal.returns-in-Err-clause-counts
@@ -19,10 +19,9 @@ returns-in-Err-clause-memory g c =
     moves_memory g.C.Container (stage_of c.args.decoder.now) (stage_of new) (λ _. held new.course new.track) c.in-Err.fault c.in-Err.ensures
 
 pub returns-in-Frame-clause-past : goal.returns-in-Frame-clause-past
-returns-in-Frame-clause-past g c = λ past.
+returns-in-Frame-clause-past g c =
     let new = c.step.new.self in
-    frame_past (stage_of new) c.first_if_held.result _ (sym c.in-Frame.ensures)
-    (moves_past g.C.Container (stage_of c.args.decoder.now) (stage_of new) (λ _. held new.course new.track) c.in-Ok.field-0 c.in-Ok.ensures past)
+    moves_past g.C.Container (stage_of c.args.decoder.now) (stage_of new) (λ _. held new.course new.track) c.in-Ok.field-0 c.in-Ok.ensures
 
 pub returns-in-Block-clause-past : goal.returns-in-Block-clause-past
 returns-in-Block-clause-past g c =

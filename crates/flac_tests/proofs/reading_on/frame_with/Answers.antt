@@ -13,7 +13,7 @@ use Rattle.flac_tests.proofs.reading_on.frame_with.Goals as goal
 pub returns-in-Err : goal.returns-in-Err
 returns-in-Err c = λ blocks frames info few is told other.
     let there = subst (λ b. IsReadAs (by_grammar grammar (opening c.args.profile) (beginning Truncated) (bits_of b)) blocks frames None) (sym c.new.ensures) is in
-    not_refused blocks frames info c.in-Err.fault told ((c.in-Err.ensures.refused other).2.refused refl refl refl blocks frames None there)
+    not_refused blocks frames info c.in-Err.refused.fault told (c.in-Err.ensures.refused.refused refl refl refl other blocks frames None there)
 
 pub returns-in-Err-seek_in : goal.returns-in-Err-seek_in
 returns-in-Err-seek_in c = λ blocks frames info few is told.

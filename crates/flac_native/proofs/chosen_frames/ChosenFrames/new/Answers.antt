@@ -14,12 +14,12 @@ use Rattle.flac_frame.specs.Chosen.{IsChoiceWith, HasPlaces}
 use Rattle.flac_frame.specs.Encoding.{block_of, most_in}
 use Rattle.flac_frame.specs.Frame.{limits_at}
 use Rattle.flac_frame.specs.declared.frame_choice.FrameChoice.{FrameChoice}
-use Rattle.flac_native.specs.Given.{Cut, blocks_in, size_of, room_of, sound_message}
+use Rattle.flac_native.specs.Given.{Cut, tried, blocks_in, size_of, room_of, sound_message}
 use Rattle.flac_native.specs.Message.{sample_width, rows_bytes}
 use Rattle.flac_native.specs.Writing.{AreChoices, AreCounted, IsChoiceOf}
 use Rattle.md5.specs.Md5.{Holds}
 use Rattle.flac_native.proofs.Messages.{fed_none, fed_more, fed_all}
-use Rattle.flac_native.proofs.Planned.{Planned, planned, fit, block_small, orders_of, partition_of}
+use Rattle.flac_native.proofs.Planned.{Planned, planned, fit, block_small, orders_at, partition_of}
 use Rattle.flac_native.proofs.Tables.{table_good}
 use Rattle.flac_native.proofs.Gathered.{Gathered, least_with, gathered_none, gathered_more, choice_of, kept_choice, no_choices, choices_more, still_some, all_gathered, all_counted}
 use Rattle.flac_native.proofs.chosen_frames.ChosenFrames.new.Goals as goal
@@ -167,7 +167,7 @@ pub choose_frame-requires-clause-orders : goal.choose_frame-requires-clause-orde
 choose_frame-requires-clause-orders c =
     let p = c.args.plan.now in
     let a = c.args.audio.now in
-    subst (AreWithin (limits_at a.profile a.rate).linear) (sym c.predictors-predictors.ensures) (orders_of p a (planned p c.block_size-size.ensures.good) (fit p a c.requires.fits))
+    orders_at p a _ (fit p a c.requires.fits) c.predictors_at-predictors.ensures.orders
 
 pub choose_frame-requires-clause-room : goal.choose_frame-requires-clause-room
 choose_frame-requires-clause-room c = room_at _ _ _ c.range-range.ensures.range.room (ap (λ (r : Room). r.block) c.loop-start.invariant.buffers)
@@ -220,8 +220,8 @@ loop-start-preserved c =
     let k = c.range-range.ensures.range in
     let size : ℕ = r.end - r.start in
     let choice = c.choose_frame.new.choice in
-    let is : IsChoiceWith p.predictors a size n (block_of r.start size a.channels) choice =
-    subst (λ ps. IsChoiceWith ps a size n (block_of r.start size a.channels) choice) c.predictors-predictors.ensures c.choose_frame.ensures.chosen in
+    let is : IsChoiceWith (tried p n) a size n (block_of r.start size a.channels) choice =
+    subst (λ ps. IsChoiceWith ps a size n (block_of r.start size a.channels) choice) c.predictors_at-predictors.ensures.tried c.choose_frame.ensures.chosen in
     let from : c.loop-start.start ≡ r.start = same_start _ _ _ _ inv.start more k.start in
     let to : r.start + size ≡ r.end = whole_size _ _ k.some in
     let fed = fed_more a c.loop-start.hasher c.feed_block.new.hasher r.start size size refl c.feed_block.ensures (subst (λ at. Holds c.loop-start.hasher (rows_bytes (sample_width a.bits) a.channels at 0)) from inv.fed) in

@@ -10,6 +10,7 @@ returns-in-Ok-None g c =
       passes = λ p at. tt;
       broken = λ p at. tt;
       memory = λ phase. tt;
+      ordered = found.ordered;
       going = tt;
       ends = λ e. refl;
       refused = tt;

@@ -10,7 +10,7 @@ use Rattle.flac_native.proofs.plan.Plan.range.Goals as goal
 pub overflow_mul-start : goal.overflow_mul-start
 overflow_mul-start c =
     let p = c.args.self.now in
-    let q = subst Planned c.self.view_is (planned _ c.self.invariant) in
+    let q = subst Planned c.self.view_is (planned _ c.self.invariant.good) in
     let block = ap (λ (x : Cut). x.block_size) c.self.view_is in
     let start = mul_comm c.args.number c.self.inside.asked.block_size ∙ ap (λ k. k * c.args.number) block in
     let at : p.block_size * c.args.number < samples_each c.args.audio.now.channels = least_part p.block_size _ c.args.number q.least c.requires.few in
@@ -19,7 +19,7 @@ overflow_mul-start c =
 pub overflow_sub-total : goal.overflow_sub-total
 overflow_sub-total c =
     let p = c.args.self.now in
-    let q = subst Planned c.self.view_is (planned _ c.self.invariant) in
+    let q = subst Planned c.self.view_is (planned _ c.self.invariant.good) in
     let block = ap (λ (x : Cut). x.block_size) c.self.view_is in
     let start = mul_comm c.args.number c.self.inside.asked.block_size ∙ ap (λ k. k * c.args.number) block in
     let at : p.block_size * c.args.number < samples_each c.args.audio.now.channels = least_part p.block_size _ c.args.number q.least c.requires.few in
@@ -31,4 +31,4 @@ returns-clause-range c =
     let a = c.args.audio.now in
     let block = ap (λ (x : Cut). x.block_size) c.self.view_is in
     let start = mul_comm c.args.number c.self.inside.asked.block_size ∙ ap (λ k. k * c.args.number) block in
-    range_is p a c.args.number _ _ (subst Planned c.self.view_is (planned _ c.self.invariant)) (fit p a c.requires.fits) c.requires.few start (omega (arith, c.min.ensures, c.len-total.ensures, block))
+    range_is p a c.args.number _ _ (subst Planned c.self.view_is (planned _ c.self.invariant.good)) (fit p a c.requires.fits) c.requires.few start (omega (arith, c.min.ensures, c.len-total.ensures, block))

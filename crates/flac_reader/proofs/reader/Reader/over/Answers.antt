@@ -1,5 +1,8 @@
-use Rattle.flac_native.specs.Giving.{stage_of}
+use Rattle.std.proofs.Common.{rules}
 use Rattle.flac_reader.proofs.reader.Reader.over.Goals as goal
 
-pub returns-in-Err-clause-refused : goal.returns-in-Err-clause-refused
-returns-in-Err-clause-refused g c = λ other. (stage_of c.in-Err.refused.decoder, c.in-Err.ensures.refused)
+pub returns-in-Ok-clause-head : goal.returns-in-Ok-clause-head
+returns-in-Ok-clause-head g c = search rules
+
+pub returns-in-Ok-clause-past : goal.returns-in-Ok-clause-past
+returns-in-Ok-clause-past g c = search rules

@@ -1,4 +1,4 @@
-use Rattle.std.proofs.Common.{inr}
+use Rattle.std.proofs.Common.{inl, inr, refl}
 use Rattle.std.proofs.lemmas.Result.{IfOk-weaker, IfErr-weaker}
 use Rattle.flac_reader.specs.Kept.{first_points}
 use Rattle.flac_reader.specs.Seeking.{search_start}
@@ -26,6 +26,14 @@ returns-in-Ok-clause-refused g c =
       there = there (T.Seek.stream_position c.args.device) (T.Seek.stream_position moved) at c.seek_offset-offset.result c.in-Ok.field-0 c.seek_offset-offset.ensures c.in-Ok.ensures.moves;
       kept = c.in-Ok.ensures.bytes;
     } in
-    IfErr-weaker c.seek_from.result _ _ (λ f p other.
-    let q = p other in
-    inr (moved, q.0, is, moved_refused T.Read.remaining moved c.new.result.device c.new.result.errors c.new.result.room q.0.errors c.args.profile c.args.self.info c.args.sample f c.new.ensures.0 c.new.ensures.1 c.new.ensures.2 q.2)) c.seek_from.ensures.refused
+    IfErr-weaker c.seek_from.result _ _ (λ x p. inr (moved, is, moved_refused T.Read.remaining moved c.new.result.device c.new.result.errors c.new.result.room x.left.errors c.args.profile c.args.self.info c.args.sample x.fault c.new.ensures.0 c.new.ensures.1 c.new.ensures.2 p)) c.seek_from.ensures.refused
+
+pub returns-in-Err-clause-refused : goal.returns-in-Err-clause-refused
+returns-in-Err-clause-refused g c =
+    let counted = c.new-left.ensures in
+    inl (record {
+      fault = refl;
+      stays = rw counted.0 c.in-Err.ensures.moves;
+      kept = rw counted.0 c.in-Err.ensures.bytes;
+      unread = counted.1;
+    })

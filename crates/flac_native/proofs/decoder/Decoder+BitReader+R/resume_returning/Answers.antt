@@ -1,5 +1,5 @@
 use Rattle.std.proofs.Common.{rules}
-use Rattle.flac_native.proofs.decoder.Decoder+BitReader+R.resume.Goals as goal
+use Rattle.flac_native.proofs.decoder.Decoder+BitReader+R.resume_returning.Goals as goal
 
 pub returns-in-Ok-clause-track : goal.returns-in-Ok-clause-track
 returns-in-Ok-clause-track g c = search rules

@@ -5,7 +5,7 @@ use Rattle.flac_native.specs.Decoding.{beginning}
 use Rattle.flac_ogg.specs.Stream.{start}
 use Rattle.flac_ogg.specs.Coming.{ItemsCome}
 use Rattle.flac_ogg.proofs.Arriving.{front_ahead, begins_at, stream_comes, refusal_comes, clear_start}
-use Rattle.flac_ogg.proofs.decoding.ogg_decoder.Goals as goal
+use Rattle.flac_ogg.proofs.decoding.ogg_decoder_returning.Goals as goal
 
 pub returns-in-Ok-clause-stream : goal.returns-in-Ok-clause-stream
 returns-in-Ok-clause-stream g c = λ items s.
@@ -38,4 +38,4 @@ returns-in-Ok-clause-clear g c = λ none.
     let fails = (R.behind source).fails in
     let text = bits_of (R.coming source) in
     let front = front_ahead c.in-Ok.pages (R.known source) (R.errors source) (R.raised source) (8 * R.most source) _ text (short_of fails) c.in-Ok.ensures.ok in
-    rw (c.over-in-Ok.ensures.container, c.over.ensures, c.over-in-Ok.ensures.track) (clear_start c.args.profile c.in-Ok.pages c.new-in-Ok.result fails text front c.new-in-Ok.ensures none)
+    rw (c.over-in-Ok.ensures.container, c.over.ensures, c.over-in-Ok.ensures.track) (clear_start c.args.profile c.in-Ok.pages c.new.result fails text front c.new.ensures none)
