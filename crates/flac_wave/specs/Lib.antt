@@ -4,5 +4,6 @@ pub mod Format
 pub mod Kept
 pub mod Plain
 pub mod Reasons
+pub mod Shift
 pub mod Wave
 pub mod inner

@@ -13,12 +13,12 @@ pub(crate) const DATA: u32 = 0x6174_6164;
 
 pub(crate) const FORMAT: u32 = 0x2074_6D66;
 
-const LONG_SIZES: u32 = 0x3436_7364;
+pub(crate) const LONG_SIZES: u32 = 0x3436_7364;
 
 /// `RIFF`, `RF64`, `BW64` and `WAVE`.
 pub(crate) const RIFF: u32 = 0x4646_4952;
 
-const RF64: u32 = 0x3436_4652;
+pub(crate) const RF64: u32 = 0x3436_4652;
 
 const BW64: u32 = 0x3436_5742;
 

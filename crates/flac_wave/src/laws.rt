@@ -1,8 +1,9 @@
 //! Laws of WAV files.
 
-ghost use Rattle.std.specs.Prelude.{◌≡◌, ◌++◌, ℕ, List, Option};
+ghost use Rattle.std.specs.Prelude.{◌≡◌, ◌<◌, ◌++◌, ℕ, List, Option};
 ghost use Rattle.flac_wave.specs.Wave.{Parts, IsWave, IsNoWave, ArePiecesAfter, restored};
-ghost use Rattle.flac_wave.specs.Plain.{IsPlain, plain_file, plain_parts};
+ghost use Rattle.flac_wave.specs.Plain.{CanBeWritten, IsPlain, plain_format, plain_file, plain_parts, plain_pieces};
+ghost use Rattle.flac_wave.specs.Shift.{SamplesComeBack};
 ghost use Rattle.flac_wave.specs.declared.format.WaveFormat.{WaveFormat};
 ghost use Rattle.flac_wave.specs.declared.why.WaveWhy.{WaveWhy};
 
@@ -18,7 +19,15 @@ pub fn waves_are_read_once()
     ensures refused { (bytes : List ℕ) (chunk other : Option ℕ) (why reason : WaveWhy) → IsNoWave bytes chunk why → IsNoWave bytes other reason → (chunk ≡ other) × (why ≡ reason) }
 {}
 
-/// A plain WAV file is read as what it was made of.
+/// A plain WAV file is read as what it was made of (`read`), which the format of a stream can be (`format`). It is made of
+/// pieces and samples as the file that a stream keeps (`made`).
 pub fn plain_files_are_read()
-    ensures { (format : WaveFormat) (samples : List ℕ) → IsPlain format samples → IsWave (plain_file format samples) (plain_parts format samples) }
+    ensures format { (rate channels bits : ℕ) → rate < 134217728 → 0 < channels → channels < 9 → 0 < bits → bits < 33 → CanBeWritten (plain_format rate channels bits) }
+    ensures read { (format : WaveFormat) (total : ℕ) (samples : List ℕ) → IsPlain format total samples → IsWave (plain_file format total samples) (plain_parts format total samples) }
+    ensures made { (format : WaveFormat) (total : ℕ) (samples : List ℕ) → restored (plain_pieces format total) samples ≡ plain_file format total samples }
+{}
+
+/// Samples whose lowest bits are zeros come back when they were lowered and raised.
+pub fn samples_come_back()
+    ensures { SamplesComeBack }
 {}

@@ -1,6 +1,9 @@
 //! Each call as a program makes it.
 
-use crate::{WaveError, WaveFault, WaveFormat, WaveWhy, cut, plain_pieces, wave_of};
+ghost use Rattle.std.specs.Prelude.{◌<◌};
+ghost use Rattle.flac_wave.specs.Plain.{CanBeWritten};
+
+use crate::{WaveError, WaveFault, WaveFormat, WaveWhy, cut, lower, plain_pieces, raise, wave_of};
 use std::alloc::Global;
 use std::test::Fail;
 
@@ -106,10 +109,69 @@ fn what_is_no_file_is_refused(rt: HostRuntime) -> Result<(), Fail> {
     Ok(())
 }
 
+/// Whether these are the pieces of a plain file, one after another, and this their number.
+fn is_plain(
+    alloc: Global,
+    format: WaveFormat,
+    total: u64,
+    count: usize,
+    all: &[u8],
+) -> Result<bool, Fail>
+    requires format { CanBeWritten format }
+    requires total { total < 68719476736 }
+{
+    let pieces = plain_pieces(alloc, &format, total)?;
+    let made = joined(alloc, pieces.as_slice())?;
+    Ok(pieces.len() == count && made.as_slice() == all)
+}
+
+/// Before four inter-channel samples of six channels of 20 bits at 48000 Hz.
+const WIDE: [u8; 68] = [
+    0x52, 0x49, 0x46, 0x46, 0x84, 0x00, 0x00, 0x00, 0x57, 0x41, 0x56, 0x45, 0x66, 0x6d, 0x74, 0x20,
+    0x28, 0x00, 0x00, 0x00, 0xfe, 0xff, 0x06, 0x00, 0x80, 0xbb, 0x00, 0x00, 0x00, 0x2f, 0x0d, 0x00,
+    0x12, 0x00, 0x18, 0x00, 0x16, 0x00, 0x14, 0x00, 0x3f, 0x00, 0x00, 0x00, 0x01, 0x00, 0x00, 0x00,
+    0x00, 0x00, 0x10, 0x00, 0x80, 0x00, 0x00, 0xaa, 0x00, 0x38, 0x9b, 0x71, 0x64, 0x61, 0x74, 0x61,
+    0x48, 0x00, 0x00, 0x00,
+];
+
+/// Before 2^31 inter-channel samples of [`FORMAT`], 8 GiB.
+const LONG: [u8; 80] = [
+    0x52, 0x46, 0x36, 0x34, 0xff, 0xff, 0xff, 0xff, 0x57, 0x41, 0x56, 0x45, 0x64, 0x73, 0x36, 0x34,
+    0x1c, 0x00, 0x00, 0x00, 0x48, 0x00, 0x00, 0x00, 0x02, 0x00, 0x00, 0x00, 0x00, 0x00, 0x00, 0x00,
+    0x02, 0x00, 0x00, 0x00, 0x00, 0x00, 0x00, 0x80, 0x00, 0x00, 0x00, 0x00, 0x00, 0x00, 0x00, 0x00,
+    0x66, 0x6d, 0x74, 0x20, 0x10, 0x00, 0x00, 0x00, 0x01, 0x00, 0x02, 0x00, 0x44, 0xac, 0x00, 0x00,
+    0x10, 0xb1, 0x02, 0x00, 0x04, 0x00, 0x10, 0x00, 0x64, 0x61, 0x74, 0x61, 0xff, 0xff, 0xff, 0xff,
+];
+
 #[test]
 fn plain_files_are_written(rt: HostRuntime) -> Result<(), Fail> {
-    let pieces = plain_pieces(rt.alloc(), &FORMAT, 8)?;
-    let all = joined(rt.alloc(), pieces.as_slice())?;
-    assert!(rt; pieces.len() == 3 && all.as_slice() == &STEREO[..44]);
+    let alloc = rt.alloc();
+    let format = WaveFormat::plain(44100, 2, 16);
+    let short = is_plain(alloc, format, 2, 3, &STEREO[..44])?;
+    let wide = is_plain(alloc, WaveFormat::plain(48000, 6, 20), 4, 3, &WIDE)?;
+    let long = is_plain(alloc, format, 2_147_483_648, 4, &LONG)?;
+    // If the number of samples is unknown, both lengths are FFFFFFFF, and a piece without a byte comes last.
+    let mut open = STEREO;
+    open[4..8].copy_from_slice(&[255; 4]);
+    open[40..44].copy_from_slice(&[255; 4]);
+    let unknown = is_plain(alloc, format, 0, 4, &open[..44])?;
+    assert!(rt; format == FORMAT && short && wide && long && unknown);
+    Ok(())
+}
+
+#[test]
+fn samples_are_lowered_and_raised(rt: HostRuntime) -> Result<(), Fail> {
+    // -2048, 2047 and -1 of 12 bits, as they are in two bytes of a file, and in two of a stream.
+    let file = [0x00, 0x80, 0xf0, 0x7f, 0xf0, 0xff];
+    let format = WaveFormat::plain(44100, 1, 12);
+    assert!(rt; format.depth_of(&file) == 12 && format.depth_of(&[0x00, 0x80, 0xf8, 0x7f]) == 16);
+    let low = lower(rt.alloc(), 2, 2, 4, &file)?;
+    assert!(rt; low.as_slice() == [0x00, 0xf8, 0xff, 0x07, 0xff, 0xff].as_slice());
+    let mut again = [1u8; 8];
+    let count = raise(2, 2, 4, low.as_slice(), &mut again);
+    assert!(rt; count == 6 && &again[..6] == file.as_slice() && again[7] == 1);
+    // -2 of 8 bits in a byte of a stream, and in three bytes of a file.
+    let wide = raise(1, 3, 16, &[0xfe], &mut again);
+    assert!(rt; wide == 3 && &again[..3] == [0x00, 0x00, 0xfe].as_slice());
     Ok(())
 }
