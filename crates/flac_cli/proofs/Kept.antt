@@ -1,5 +1,5 @@
 -- A WAV file that a stream keeps comes back.
-use Rattle.std.proofs.Common.{◌≡◌, ◌+◌, ◌*◌, ◌/◌, ℕ, Bool, true, false, cond, List, [], ◌∷◌, ◌++◌, map, Some, None, refl, ap, sym, subst, ◌∙◌, ◌⊎◌, inl, inr}
+use Rattle.std.proofs.Common.{◌≡◌, ◌+◌, ◌*◌, ◌/◌, arith, ℕ, Bool, true, false, cond, List, [], ◌∷◌, ◌++◌, map, Some, None, refl, ap, sym, subst, ◌∙◌, ◌⊎◌, inl, inr}
 use Rattle.std.specs.Prelude.{nat_lt}
 use Rattle.std.proofs.lemmas.Bool.{eq-eqb}
 use Rattle.std.specs.Int.Bits.{xor_assoc, xor_zero_r}
@@ -15,9 +15,12 @@ use Rattle.flac_native.specs.Seeking.{points_of, table_of}
 use Rattle.flac_cli.specs.Asked.{Asked}
 use Rattle.flac_cli.specs.Encoded.{EncodesIn, BeginsIn, parts_in, cut_as}
 use Rattle.flac_cli.specs.Predictors.{AreListed}
-use Rattle.flac_cli.specs.Waves.{turned, wave_samples, depth_for, riff_block, pieces_in, depth_of, wave_in, kept_list, piece_fault, kept_fault, Keeps, BeginsWave}
+use Rattle.flac_cli.specs.inner.Searching.{IsSearched}
+use Rattle.flac_cli.specs.Waves.{turned, wave_samples, file_samples, depth_for, riff_block, pieces_in, depth_of, plain_of, file_pieces, wave_in, kept_list, piece_fault, kept_fault, Keeps, BeginsWave}
 use Rattle.flac_cli.specs.declared.held_wave.KeptFault.TheVariants as kept
 use Rattle.flac_cli.proofs.Back.{given_back}
+use Rattle.flac_cli.proofs.Waved.{high_same}
+use Rattle.flac_cli.proofs.Searched.{cut_is, are_found}
 use Rattle.flac_jobs.specs.declared.formats.ContainerKind.{ContainerKind}
 use Rattle.flac_jobs.specs.declared.formats.ContainerKind.TheVariants as container
 use Rattle.flac_jobs.specs.declared.formats.RawFormat.{RawFormat}
@@ -102,39 +105,42 @@ parts_told (container.Ogg serial) p a list words qs h before after e =
     record { pieces = t.pieces; depth = t.depth }
 
 -- the file of what is given
-given_wave : (p : Cut) (a : Sound) (words qs : List (List ℕ)) (points : List SeekPoint) (least greatest : ℕ) → plan_fault p ≡ None
-    → wave_in (given p (kept_list words qs ++ table_of points) a least greatest) ≡ restored qs (wave_samples a.bits (sound_message a))
-given_wave p a words qs points least greatest good =
+given_wave : (p : Cut) (a : Sound) (words qs : List (List ℕ)) (points : List SeekPoint) (least greatest : ℕ) → has_head qs ≡ true → plan_fault p ≡ None
+    → wave_in (given p (kept_list words qs ++ table_of points) a least greatest) ≡ restored qs (file_samples a.bits (sound_message a))
+given_wave p a words qs points least greatest head good =
     let fs = map framed (frames_of p.block_size a) in
     let ts = table_of points in
     let q = quiet points in
     let pieces : pieces_in (closing (map riff_block qs ++ ts) ++ fs) ≡ qs = pieces_kept qs ts fs ∙ (ap (λ l. qs ++ l) (q.pieces fs ∙ no_pieces (frames_of p.block_size a)) ∙ append-nil qs) in
     let depth : depth_of a.bits (closing (map riff_block qs ++ ts) ++ fs) ≡ a.bits = depth_kept a.bits qs ts fs ∙ (q.depth a.bits fs ∙ same_depth a.bits (frames_of p.block_size a)) in
     let samples : samples_from 0 a.bits (closing (map riff_block qs ++ ts) ++ fs) ≡ sound_message a = samples_kept a.bits qs ts fs ∙ (q.samples a.bits fs ∙ given_back p a [] [] least greatest good) in
-    ap (λ l. restored l (wave_samples (depth_of a.bits (closing (map riff_block qs ++ ts) ++ fs)) (samples_from 0 a.bits (closing (map riff_block qs ++ ts) ++ fs)))) pieces
-    ∙ (ap (λ d. restored qs (wave_samples d (samples_from 0 a.bits (closing (map riff_block qs ++ ts) ++ fs)))) depth
-    ∙ ap (λ l. restored qs (wave_samples a.bits l)) samples)
+    let plain = plain_of [] (given p (kept_list words qs ++ ts) a least greatest) in
+    ap (λ l. restored (file_pieces l plain) (file_samples (depth_of a.bits (closing (map riff_block qs ++ ts) ++ fs)) (samples_from 0 a.bits (closing (map riff_block qs ++ ts) ++ fs)))) pieces
+    ∙ (ap (λ c. restored (cond c qs plain) (file_samples (depth_of a.bits (closing (map riff_block qs ++ ts) ++ fs)) (samples_from 0 a.bits (closing (map riff_block qs ++ ts) ++ fs)))) head
+    ∙ (ap (λ d. restored qs (file_samples d (samples_from 0 a.bits (closing (map riff_block qs ++ ts) ++ fs)))) depth
+    ∙ ap (λ l. restored qs (file_samples a.bits l)) samples))
 
 -- native or in Ogg, where no seek table stands
-parts_wave : (c : ContainerKind) (p : Cut) (a : Sound) (list : List Block) (words qs : List (List ℕ)) → list ≡ kept_list words qs → (before after : List Bool) (e : EncodesIn c p list a before after)
-    → plan_fault p ≡ None → wave_in (parts_in c p list a before after e) ≡ restored qs (wave_samples a.bits (sound_message a))
-parts_wave container.Native p a list words qs h before after e good =
-    ap (λ l. wave_in (given p (l ++ table_of (points_of p e.frames)) a e.least e.greatest)) h ∙ given_wave p a words qs (points_of p e.frames) e.least e.greatest good
-parts_wave (container.Ogg serial) p a list words qs h before after e good =
-    ap (λ l. wave_in (given p l a e.are.least e.are.greatest)) (h ∙ sym (append-nil (kept_list words qs))) ∙ given_wave p a words qs [] e.are.least e.are.greatest good
+parts_wave : (c : ContainerKind) (p : Cut) (a : Sound) (list : List Block) (words qs : List (List ℕ)) → list ≡ kept_list words qs → has_head qs ≡ true → (before after : List Bool) (e : EncodesIn c p list a before after)
+    → plan_fault p ≡ None → wave_in (parts_in c p list a before after e) ≡ restored qs (file_samples a.bits (sound_message a))
+parts_wave container.Native p a list words qs h head before after e good =
+    ap (λ l. wave_in (given p (l ++ table_of (points_of p e.frames)) a e.least e.greatest)) h ∙ given_wave p a words qs (points_of p e.frames) e.least e.greatest head good
+parts_wave (container.Ogg serial) p a list words qs h head before after e good =
+    ap (λ l. wave_in (given p l a e.are.least e.are.greatest)) (h ∙ sym (append-nil (kept_list words qs))) ∙ given_wave p a words qs [] e.are.least e.are.greatest head good
 
 -- the file that is kept comes back
-pub kept_back : (asked : Asked) (bytes : List ℕ) (format : RawFormat) (a : Sound) (list : List Block) (ps : List LinearPredictor) (before after : List Bool) (k : Keeps asked bytes format a list)
-    (e : EncodesIn asked.container (cut_as (record asked { format = format }) a ps) list a before after) → plan_fault (cut_as (record asked { format = format }) a ps) ≡ None
-    → wave_in (parts_in asked.container (cut_as (record asked { format = format }) a ps) list a before after e) ≡ bytes
-kept_back asked bytes format a list ps before after k e good =
+pub kept_back : (asked : Asked) (bytes : List ℕ) (format : RawFormat) (a : Sound) (list : List Block) (p : Cut) (before after : List Bool) (k : Keeps asked bytes format a list)
+    (e : EncodesIn asked.container p list a before after) → plan_fault p ≡ None → wave_in (parts_in asked.container p list a before after e) ≡ bytes
+kept_back asked bytes format a list p before after k e good =
     let qs = k.file.pieces ++ k.pieces in
     let raw = k.raw in
-    parts_wave asked.container (cut_as (record asked { format = format }) a ps) a list asked.words qs k.blocks before after e good
-    ∙ (ap (λ d. restored qs (wave_samples d (sound_message a))) raw.bits
+    let w = wave_tells bytes k.file k.pieces k.wave in
+    parts_wave asked.container p a list asked.words qs k.blocks w.head before after e good
+    ∙ (ap (λ d. restored qs (file_samples d (sound_message a))) raw.bits
+    ∙ (ap (λ l. restored qs (wave_samples (depth_for k.file.format) l)) (high_same (depth_for k.file.format) (sound_message a) (omega arith))
     ∙ (ap (λ l. restored qs (wave_samples (depth_for k.file.format) l)) raw.samples
     ∙ (ap (λ l. restored qs l) (wave_again (depth_for k.file.format) k.file.samples)
-    ∙ comes_back bytes k.file k.pieces k.wave k.cut)))
+    ∙ comes_back bytes k.file k.pieces k.wave k.cut))))
 
 fits_by : (head : Bool) (bits width depth : ℕ) → head ≡ true → bits ≡ width → depth ≡ 8 * ((width + 7) / 8) → piece_fault head bits depth ≡ None
 fits_by head bits width depth h b d =
@@ -153,16 +159,18 @@ kept_fits asked bytes format a list p before after k e =
     ∙ fits_by (has_head qs) (bits_in 0 qs) k.file.format.bits a.bits w.head w.bits k.raw.bits)
 
 -- what a call that writes a stream has begun, it has begun of the file that these bytes are
-pub begun_wave : {X : Type 0} (asked : Asked) (ps : List LinearPredictor) (bytes all : List ℕ) (format : RawFormat) (p : Cut) (l : List Block) (a : Sound) (before after : List Bool)
-    → bytes ≡ all → Keeps asked bytes format a l → AreListed asked.list ps → p ≡ cut_as (record asked { format = format }) a ps → (X → after ≡ before)
-    → X ⊎ BeginsIn asked.container p l a before after → (after ≡ before) ⊎ BeginsWave asked all before after
-begun_wave asked ps bytes all format p l a before after is keeps listed plan same (inl x) = inl (same x)
-begun_wave asked ps bytes all format p l a before after is keeps listed plan same (inr b) = inr (record {
+pub begun_wave : {X : Type 0} (asked : Asked) (ps : List LinearPredictor) (bytes all : List ℕ) (format : RawFormat) (p q : Cut) (l : List Block) (a : Sound) (before after : List Bool)
+    → bytes ≡ all → Keeps asked bytes format a l → AreListed asked.list ps → p ≡ cut_as (record asked { format = format }) a ps → IsSearched asked.effort p q → (X → after ≡ before)
+    → X ⊎ BeginsIn asked.container q l a before after → (after ≡ before) ⊎ BeginsWave asked all before after
+begun_wave asked ps bytes all format p q l a before after is keeps listed plan tried same (inl x) = inl (same x)
+begun_wave asked ps bytes all format p q l a before after is keeps listed plan tried same (inr b) = inr (record {
   format = format;
   audio = a;
   list = l;
   predictors = ps;
   keeps = subst (λ bs. Keeps asked bs format a l) is keeps;
   listed = listed;
-  begins = subst (λ k. BeginsIn asked.container k l a before after) plan b;
+  found = tried.found;
+  sought = are_found (record asked { format = format }) a ps p q plan tried;
+  begins = subst (λ k. BeginsIn asked.container k l a before after) (cut_is (record asked { format = format }) a ps p q plan tried) b;
 })

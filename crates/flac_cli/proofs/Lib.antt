@@ -15,6 +15,7 @@ pub mod ReadKept
 pub mod Refused
 pub mod Reported
 pub mod Rows
+pub mod Searched
 pub mod WaveDecoded
 pub mod Waved
 pub mod WaveRefused

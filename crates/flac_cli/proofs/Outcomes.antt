@@ -23,6 +23,8 @@ use Rattle.flac_cli.specs.Encoded.{comment_list, cut_as, BeginsIn, BeginsRaw}
 use Rattle.flac_cli.specs.Predictors.{AreListed}
 use Rattle.flac_cli.specs.Raw.{IsRaw}
 use Rattle.flac_cli.specs.Streams.{IsStream}
+use Rattle.flac_cli.specs.inner.Searching.{IsSearched}
+use Rattle.flac_cli.proofs.Searched.{cut_is, are_found}
 
 -- What holds where nothing was refused holds at Ok.
 pub at_ok : {A X : Type 0} (r : Result A Fault) → (outcome_of told r ≡ None → X) → OnOk r X
@@ -71,16 +73,18 @@ same_or_begun X known (Err Spent) old new begun same = λ k. inl (same (λ e. le
 same_or_begun X known (Err (Setup f)) old new begun same = λ k. inl (same (λ e. absurd (no_write f e)))
 
 -- What a call that writes a stream has begun, it has begun of the samples that these bytes are.
-pub begun_raw : {X : Type 0} (asked : Asked) (ps : List LinearPredictor) (bytes : List ℕ) (p : Cut) (l : List Block) (a : Sound) (before after : List Bool)
-    → IsRaw asked.profile asked.format bytes a → AreListed asked.list ps → p ≡ cut_as asked a ps → l ≡ comment_list asked.words → (X → after ≡ before)
-    → X ⊎ BeginsIn asked.container p l a before after → (after ≡ before) ⊎ BeginsRaw asked bytes before after
-begun_raw asked ps bytes p l a before after raw listed plan list same (inl x) = inl (same x)
-begun_raw asked ps bytes p l a before after raw listed plan list same (inr b) = inr (record {
+pub begun_raw : {X : Type 0} (asked : Asked) (ps : List LinearPredictor) (bytes : List ℕ) (p q : Cut) (l : List Block) (a : Sound) (before after : List Bool)
+    → IsRaw asked.profile asked.format bytes a → AreListed asked.list ps → p ≡ cut_as asked a ps → IsSearched asked.effort p q → l ≡ comment_list asked.words → (X → after ≡ before)
+    → X ⊎ BeginsIn asked.container q l a before after → (after ≡ before) ⊎ BeginsRaw asked bytes before after
+begun_raw asked ps bytes p q l a before after raw listed plan tried list same (inl x) = inl (same x)
+begun_raw asked ps bytes p q l a before after raw listed plan tried list same (inr b) = inr (record {
   audio = a;
   predictors = ps;
   raw = raw;
   listed = listed;
-  begins = subst (λ k. BeginsIn asked.container k (comment_list asked.words) a before after) plan (subst (λ k. BeginsIn asked.container p k a before after) list b);
+  found = tried.found;
+  sought = are_found asked a ps p q plan tried;
+  begins = subst (λ k. BeginsIn asked.container k (comment_list asked.words) a before after) (cut_is asked a ps p q plan tried) (subst (λ k. BeginsIn asked.container q k a before after) list b);
 })
 
 -- What is read in either container is a stream.

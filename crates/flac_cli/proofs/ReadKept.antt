@@ -16,7 +16,7 @@ use Rattle.flac_ogg.specs.Verifying.{bytes_reading}
 use Rattle.flac_ogg.proofs.MeaningReadings.{one_ogg_reading}
 use Rattle.flac_ogg.proofs.RoundTrips.{native_bytes, ogg_bytes}
 use Rattle.flac_cli.specs.Outcomes.{streamed, IsWaveAnswer, KeptFilesAreRead, KeptFilesAreDecoded}
-use Rattle.flac_cli.specs.Encoded.{EncodesIn, parts_in, cut_as}
+use Rattle.flac_cli.specs.Encoded.{EncodesIn, parts_in, cut_found}
 use Rattle.flac_cli.specs.Waves.{wave_in, KeptFilesComeBack}
 use Rattle.flac_cli.proofs.Kept.{kept_fits}
 use Rattle.flac_jobs.specs.declared.formats.ContainerKind.{ContainerKind}
@@ -40,7 +40,7 @@ one_reading (container.Ogg serial) p list a stream small e parts whole =
 
 pub kept_files_come_back : KeptFilesComeBack
 kept_files_come_back asked bytes stream small w parts whole =
-    let p = cut_as (record asked { format = w.format }) w.audio w.predictors in
+    let p = cut_found (record asked { format = w.format }) w.audio w.predictors w.found in
     let raw = w.keeps.raw in
     let read = subst (λ q. (bytes_reading q stream).whole parts) (sym raw.profiled) whole in
     ap wave_in (one_reading asked.container p w.list w.audio stream small w.encodes parts read) ∙ w.back
@@ -60,7 +60,7 @@ given_reading (container.Ogg serial) p list a stream small e =
 
 pub kept_files_are_read : KeptFilesAreRead
 kept_files_are_read asked bytes stream small w =
-    let p = cut_as (record asked { format = w.format }) w.audio w.predictors in
+    let p = cut_found (record asked { format = w.format }) w.audio w.predictors w.found in
     let parts = parts_in asked.container p w.list w.audio [] (bits_of stream) w.encodes in
     let whole = given_reading asked.container p w.list w.audio stream small w.encodes in (
       parts,

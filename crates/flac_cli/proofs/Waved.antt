@@ -1,12 +1,18 @@
 -- Steps of writing a WAV file.
-use Rattle.std.proofs.Common.{◌≡◌, ◌≤◌, ◌<◌, ◌+◌, ◌%◌, ℕ, zero, suc, ℤ, Bool, true, false, cond, List, [], ◌∷◌, ◌++◌, length, take, drop, map, get_or, refl, ap, sym, ◌∙◌, append_assoc, arith, slice_set, length-append}
-use Rattle.std.specs.Prelude.{nat_lt, Vec}
+use Rattle.std.proofs.Common.{◌≡◌, ◌≤◌, ◌<◌, ◌+◌, ◌*◌, ◌-◌, ◌/◌, ◌%◌, ℕ, zero, suc, ℤ, pos, Bool, true, false, cond, List, [], ◌∷◌, ◌++◌, length, take, drop, map, get_or, refl, ap, sym, inl, inr, ◌∙◌, append_assoc, arith, slice_set, length-append}
+use Rattle.std.specs.Prelude.{nat_lt, nat_eq, slice_index_or, Vec}
+use Rattle.std.proofs.Math.Nat.{add-mul, add-mul-div_right, mul-div_cancel, mul-mod_left}
+use Rattle.std.specs.Int.{to_le_bytes, cast_unsigned, w32}
+use Rattle.std.proofs.lemmas.Nat.{div-add-mod'}
 use Rattle.std.specs.Global.{Global}
-use Rattle.std.proofs.lemmas.List.{take_more, map-append, append-nil}
-use Rattle.flac_native.specs.Message.{rows_bytes}
+use Rattle.std.proofs.lemmas.Bool.{lt-ltb, eqb-false, eq-eqb, cases_lt}
+use Rattle.std.proofs.lemmas.List.{take_more, map-append, append-nil, length-take-le}
+use Rattle.flac_native.specs.Message.{sample_width, sample_bytes, row_bytes, rows_bytes}
 use Rattle.flac_native.proofs.Messages.{rows_split}
 use Rattle.flac_wave.specs.Wave.{all_of}
-use Rattle.flac_cli.specs.Waves.{turned, wave_samples}
+use Rattle.flac_wave.specs.Shift.{raised}
+use Rattle.flac_wave.proofs.Shifts.{raised_append, raised_long}
+use Rattle.flac_cli.specs.Waves.{turned, wave_samples, high_samples, file_samples}
 
 pub map_taken : {A B : Type 0} (f : A → B) (n : ℕ) (xs : List A) → map f (take n xs) ≡ take n (map f xs)
 map_taken f zero xs = refl
@@ -17,6 +23,15 @@ pub map_dropped : {A B : Type 0} (f : A → B) (n : ℕ) (xs : List A) → map f
 map_dropped f zero xs = refl
 map_dropped f (suc n) [] = refl
 map_dropped f (suc n) (x ∷ xs) = map_dropped f n xs
+
+-- the pieces of a file that is kept, or else those of a plain one
+pub none_kept : {A : Type 0} (head : ℕ) (kept plain : A) → head ≡ 0 → plain ≡ cond (nat_lt 0 head) kept plain
+none_kept zero kept plain none = refl
+none_kept (suc n) kept plain none = absurd (omega (arith, none))
+
+pub some_kept : {A : Type 0} (head : ℕ) (kept plain : A) → (head ≡ 0 → ⊥) → kept ≡ cond (nat_lt 0 head) kept plain
+some_kept zero kept plain some = absurd (some refl)
+some_kept (suc n) kept plain some = ap (λ b. cond b kept plain) (sym (lt-ltb 0 (suc n) (omega arith)))
 
 -- one byte more is turned
 pub turn_next : (xs : List ℕ) (i : ℕ) → i < length xs → slice_set (map turned (take i xs) ++ drop i xs) i (turned (get_or (map turned (take i xs) ++ drop i xs) i 0)) ≡ map turned (take (suc i) xs) ++ drop (suc i) xs
@@ -59,15 +74,90 @@ none_by false = refl
 pub wave_none : (depth : ℕ) (xs : List ℕ) → xs ≡ [] → wave_samples depth xs ≡ []
 wave_none depth xs none = ap (λ l. wave_samples depth l) none ∙ none_by (nat_lt depth 9)
 
+-- ---- as the highest bits
+
+-- whole samples of so many bytes
+abbrev pub Whole : (width : ℕ) → List ℕ → Type 0
+Whole width xs = (n : ℕ) × (length xs ≡ n * width)
+
+pub whole_append : (width : ℕ) (xs ys : List ℕ) → Whole width xs → Whole width ys → Whole width (xs ++ ys)
+whole_append width xs ys a b = (a.0 + b.0, length-append xs ys ∙ (ap (λ k. k + length ys) a.1 ∙ (ap (λ k. a.0 * width + k) b.1 ∙ sym (add-mul a.0 b.0 width))))
+
+pub whole_rest : (width : ℕ) (xs : List ℕ) → Whole width xs → length xs % width ≡ 0
+whole_rest width xs a = ap (λ k. k % width) a.1 ∙ mul-mod_left a.0 width
+
+pub rest_whole : (width : ℕ) (xs : List ℕ) → length xs % width ≡ 0 → Whole width xs
+rest_whole width xs none = (length xs / width, let e = div-add-mod' (length xs) width in omega (arith, e, none))
+
+some_width : (depth : ℕ) → nat_eq (depth % 8) 0 ≡ false → 0 < sample_width depth
+some_width depth e =
+    let other = eqb-false (depth % 8) 0 e in
+    elim (cases_lt 0 (depth % 8)) [ inl some ↦ omega (arith, some) | inr few ↦ absurd (other (omega (arith, few))) ]
+
+-- so many samples
+count_of : (w n : ℕ) (xs : List ℕ) → 0 < w → length xs ≡ n * w → length xs / w ≡ n
+count_of w n xs some long = ap (λ k. k / w) long ∙ mul-div_cancel n some
+
+count_both : (w n : ℕ) (xs ys : List ℕ) → 0 < w → length xs ≡ n * w → length (xs ++ ys) / w ≡ n + length ys / w
+count_both w n xs ys some long =
+    let e : length (xs ++ ys) ≡ length ys + n * w = length-append xs ys ∙ omega (arith, long) in
+    ap (λ k. k / w) e ∙ (add-mul-div_right (length ys) n some ∙ omega arith)
+
+high_by : (b : Bool) (w gap n : ℕ) (xs ys : List ℕ) → (b ≡ false → 0 < w) → length xs ≡ n * w
+    → cond b (xs ++ ys) (raised w w gap (length (xs ++ ys) / w) (xs ++ ys)) ≡ cond b xs (raised w w gap (length xs / w) xs) ++ cond b ys (raised w w gap (length ys / w) ys)
+high_by true w gap n xs ys some long = refl
+high_by false w gap n xs ys some long =
+    ap (λ k. raised w w gap k (xs ++ ys)) (count_both w n xs ys (some refl) long)
+    ∙ (raised_append w w gap n (length ys / w) xs ys long ∙ ap (λ k. raised w w gap k xs ++ raised w w gap (length ys / w) ys) (sym (count_of w n xs (some refl) long)))
+
+high_none_by : (b : Bool) (w gap : ℕ) → (b ≡ false → 0 < w) → cond b [] (raised w w gap (length {A = ℕ} [] / w) []) ≡ []
+high_none_by true w gap some = refl
+high_none_by false w gap some = ap (λ k. raised w w gap k []) (count_of w 0 [] (some refl) (omega arith))
+
+high_long_by : (b : Bool) (w gap n : ℕ) (xs : List ℕ) → (b ≡ false → 0 < w) → length xs ≡ n * w → length (cond b xs (raised w w gap (length xs / w) xs)) ≡ length xs
+high_long_by true w gap n xs some long = refl
+high_long_by false w gap n xs some long = raised_long w w gap (length xs / w) xs ∙ (ap (λ k. k * w) (count_of w n xs (some refl) long) ∙ sym long)
+
+pub high_long : (depth : ℕ) (xs : List ℕ) → Whole (sample_width depth) xs → length (high_samples depth xs) ≡ length xs
+high_long depth xs a = high_long_by (nat_eq (depth % 8) 0) (sample_width depth) (8 * sample_width depth - depth) a.0 xs (some_width depth) a.1
+
+-- of whole bytes they stay
+pub high_same : (depth : ℕ) (xs : List ℕ) → depth % 8 ≡ 0 → high_samples depth xs ≡ xs
+high_same depth xs whole = ap (λ b. cond b xs (raised (sample_width depth) (sample_width depth) (8 * sample_width depth - depth) (length xs / sample_width depth) xs)) (eq-eqb (depth % 8) 0 whole)
+
+pub file_append : (depth : ℕ) (xs ys : List ℕ) → Whole (sample_width depth) xs → file_samples depth (xs ++ ys) ≡ file_samples depth xs ++ file_samples depth ys
+file_append depth xs ys a =
+    ap (λ l. wave_samples depth l) (high_by (nat_eq (depth % 8) 0) (sample_width depth) (8 * sample_width depth - depth) a.0 xs ys (some_width depth) a.1)
+    ∙ wave_append depth (high_samples depth xs) (high_samples depth ys)
+
+pub file_none : (depth : ℕ) (xs : List ℕ) → xs ≡ [] → file_samples depth xs ≡ []
+file_none depth xs none =
+    ap (λ l. file_samples depth l) none
+    ∙ (ap (λ l. wave_samples depth l) (high_none_by (nat_eq (depth % 8) 0) (sample_width depth) (8 * sample_width depth - depth) (some_width depth)) ∙ wave_none depth [] refl)
+
+-- rows have whole samples
+row_whole : (w : ℕ) (channels : List (List ℤ)) (i : ℕ) → w ≤ 4 → Whole w (row_bytes w channels i)
+unfolding row_bytes
+row_whole w [] i few = (0, omega arith)
+row_whole w (c ∷ cs) i few =
+    let z = cast_unsigned w32 (slice_index_or c i (pos 0)) in
+    whole_append w (sample_bytes w (slice_index_or c i (pos 0))) (row_bytes w cs i) (1, let e = length-take-le w (to_le_bytes w32 z) (omega (arith, few)) in omega (arith, e)) (row_whole w cs i few)
+
+pub rows_whole : (w : ℕ) (channels : List (List ℤ)) (n i : ℕ) → w ≤ 4 → Whole w (rows_bytes w channels n i)
+unfolding rows_bytes
+rows_whole w channels zero i few = (0, omega arith)
+rows_whole w channels (suc n) i few = whole_append w (row_bytes w channels i) (rows_bytes w channels n (i + 1)) (row_whole w channels i few) (rows_whole w channels n (i + 1) few)
+
 -- n rows were sent; k more are sent
-pub rows_more : (depth width : ℕ) (channels : List (List ℤ)) (n k : ℕ) (whole sent later piece : List ℕ)
-    → sent ≡ whole ++ wave_samples depth (rows_bytes width channels n 0) → piece ≡ rows_bytes width channels k n → later ≡ sent ++ wave_samples depth piece
-    → later ≡ whole ++ wave_samples depth (rows_bytes width channels (n + k) 0)
-rows_more depth width channels n k whole sent later piece before put more =
+pub rows_more : (depth : ℕ) (channels : List (List ℤ)) (n k : ℕ) (whole sent later piece : List ℕ) → depth ≤ 32
+    → sent ≡ whole ++ file_samples depth (rows_bytes (sample_width depth) channels n 0) → piece ≡ rows_bytes (sample_width depth) channels k n → later ≡ sent ++ file_samples depth piece
+    → later ≡ whole ++ file_samples depth (rows_bytes (sample_width depth) channels (n + k) 0)
+rows_more depth channels n k whole sent later piece small before put more =
+    let width = sample_width depth in
     let e : 0 + n ≡ n = omega arith in
     let grown : rows_bytes width channels (n + k) 0 ≡ rows_bytes width channels n 0 ++ rows_bytes width channels k n = rows_split width channels n k 0 ∙ ap (λ j. rows_bytes width channels n 0 ++ rows_bytes width channels k j) e in
-    more ∙ (ap (λ l. l ++ wave_samples depth piece) before ∙ (append_assoc whole (wave_samples depth (rows_bytes width channels n 0)) (wave_samples depth piece)
-    ∙ ap (λ l. whole ++ l) (ap (λ l. wave_samples depth (rows_bytes width channels n 0) ++ wave_samples depth l) put ∙ (sym (wave_append depth (rows_bytes width channels n 0) (rows_bytes width channels k n)) ∙ ap (λ l. wave_samples depth l) (sym grown)))))
+    more ∙ (ap (λ l. l ++ file_samples depth piece) before ∙ (append_assoc whole (file_samples depth (rows_bytes width channels n 0)) (file_samples depth piece)
+    ∙ ap (λ l. whole ++ l) (ap (λ l. file_samples depth (rows_bytes width channels n 0) ++ file_samples depth l) put ∙ (sym (file_append depth (rows_bytes width channels n 0) (rows_bytes width channels k n) (rows_whole width channels n 0 (omega (arith, small)))) ∙ ap (λ l. file_samples depth l) (sym grown)))))
 
 -- their number is odd or even
 pub odd_none : (o n : ℕ) → o < 2 → n ≡ 0 → o ≡ (o + n) % 2

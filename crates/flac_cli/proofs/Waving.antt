@@ -1,5 +1,5 @@
 -- What a writer of a WAV file has written.
-use Rattle.std.proofs.Common.{◌≡◌, ◌≤◌, ◌<◌, ◌+◌, ◌%◌, ℕ, zero, suc, Bool, true, false, cond, List, [], ◌∷◌, ◌++◌, length, take, drop, map, refl, ap, sym, ◌∙◌, subst, append_assoc, append-nil, arith, length-append}
+use Rattle.std.proofs.Common.{◌≡◌, ◌≤◌, ◌<◌, ◌+◌, ◌-◌, ◌%◌, ℕ, zero, suc, Bool, true, false, cond, List, [], ◌∷◌, ◌++◌, length, take, drop, map, refl, ap, sym, ◌∙◌, subst, append_assoc, append-nil, arith, length-append}
 use Rattle.std.specs.Prelude.{nat_lt, nat_eq, ◌&&◌, None, is_none}
 use Rattle.std.proofs.Math.Nat.{mod-lt}
 use Rattle.std.proofs.lemmas.Bool.{false≢true, ltb-true, ltb-false, eqb-true, eqb-false}
@@ -10,12 +10,16 @@ use Rattle.flac_meta.specs.declared.block.Block.TheVariants as block_of
 use Rattle.flac_native.specs.Stream.{Piece, marked, block, framed}
 use Rattle.flac_native.specs.Item.{Item, metadata, frame}
 use Rattle.flac_native.specs.Decoding.{taken}
+use Rattle.flac_native.specs.Message.{sample_width}
 use Rattle.flac_native.specs.Samples.{samples_from, frame_bytes, depth_after}
 use Rattle.flac_wave.specs.Kept.{has_head, bits_after, bits_in}
-use Rattle.flac_wave.specs.Wave.{is_head, front_of, pieces_after, all_of, restored}
-use Rattle.flac_cli.specs.Waves.{turned, is_riff, wave_samples, piece_of, pieces_in, depth_of, piece_fault, kept_fault, wave_in}
-use Rattle.flac_cli.specs.inner.Waving.{Held, nothing_held, with_piece, with_depth, with_block, with_samples, with_frame, held_after, held_fault, writes, front_left, adds, end_pad, ending}
-use Rattle.flac_cli.proofs.Waved.{joined_push, wave_append, wave_none}
+use Rattle.flac_wave.specs.Plain.{plain_format, plain_front, plain_back, plain_pieces}
+use Rattle.flac_wave.specs.Wave.{is_head, front_of, pieces_after, all_of, pad_of, restored}
+use Rattle.flac_wave.specs.declared.format.WaveFormat.{WaveFormat}
+use Rattle.flac_wave.proofs.PlainFiles.{plain_made}
+use Rattle.flac_cli.specs.Waves.{turned, is_riff, wave_samples, high_samples, file_samples, piece_of, pieces_in, depth_of, plain_after, plain_of, piece_fault, kept_fault, file_pieces, wave_in}
+use Rattle.flac_cli.specs.inner.Waving.{Held, nothing_held, with_piece, with_plain, with_block, with_samples, with_frame, held_after, held_fault, writes, front_pieces, back_pieces, front_left, adds, end_pad, ending}
+use Rattle.flac_cli.proofs.Waved.{joined_push, Whole, whole_append, rows_whole, high_long, file_append, file_none}
 
 -- ---- runs
 
@@ -69,10 +73,52 @@ module _ {S : Type 0} (is_known : S → Bool) (bytes : S → List ℕ) (view : S
       let k = h.1 in
       all_added h.0 xs new h.2 (k.known t) ∙ (ap (λ l. l ++ added (view h.0) xs) (k.sent t) ∙ (append_assoc (bytes old) (adds (view old) (frame f)) (added (view h.0) xs) ∙ ap (λ s. bytes old ++ (adds (view old) (frame f) ++ added s xs)) k.held))
 
+-- ---- a plain file
+
+-- these pieces, of which so many come before the samples, make a file of any samples
+abbrev pub MakesFile : (made : List (List ℕ)) (cut : ℕ) → Type 0
+MakesFile made cut =
+    (samples : List ℕ) (odd : ℕ) → odd ≡ length samples % 2 → all_of (take cut made) ++ (samples ++ (end_pad odd (drop cut made) ++ all_of (drop cut made))) ≡ restored made samples
+
+none_makes : MakesFile [] 0
+none_makes samples odd is = ap (λ o. samples ++ (end_pad o [] ++ [])) is
+
+split_at : (xs ys : List (List ℕ)) (n : ℕ) → n ≡ length xs → (take n (xs ++ ys) ≡ xs) × (drop n (xs ++ ys) ≡ ys)
+split_at [] ys zero is = (refl, refl)
+split_at [] ys (suc n) is = absurd (omega (arith, is))
+split_at (x ∷ xs) ys zero is = absurd (omega (arith, is))
+split_at (x ∷ xs) ys (suc n) is = let k = split_at xs ys n (omega (arith, is)) in (ap (λ l. x ∷ l) k.0, k.1)
+
+-- the last piece of a file of unknown length has no byte
+none_behind : (b : Bool) → all_of (cond b ([] ∷ []) []) ≡ []
+none_behind true = refl
+none_behind false = refl
+
+one_behind : (b : Bool) → length {A = List ℕ} (cond b ([] ∷ []) []) ≡ cond b 1 0
+one_behind true = refl
+one_behind false = refl
+
+plain_cut : (n m k : ℕ) → m ≡ k → n + m - k ≡ n
+plain_cut n m k e = omega (arith, e)
+
+plain_makes : (f : WaveFormat) (total : ℕ) → MakesFile (plain_pieces f total) (length (plain_pieces f total) - cond (nat_eq total 0) 1 0)
+plain_makes f total samples odd is =
+    let front = plain_front f total in
+    let back = plain_back total in
+    let n = length (front ++ back) - cond (nat_eq total 0) 1 0 in
+    let e : n ≡ length front = ap (λ l. l - cond (nat_eq total 0) 1 0) (length-append front back) ∙ plain_cut (length front) (length back) (cond (nat_eq total 0) 1 0) (one_behind (nat_eq total 0)) in
+    let k = split_at front back n e in
+    ap (λ qs. all_of qs ++ (samples ++ (end_pad odd (drop n (front ++ back)) ++ all_of (drop n (front ++ back))))) k.0
+    ∙ (ap (λ qs. all_of front ++ (samples ++ (end_pad odd qs ++ all_of qs))) k.1
+    ∙ (ap (λ l. all_of front ++ (samples ++ (end_pad odd back ++ l))) (none_behind (nat_eq total 0))
+    ∙ (ap (λ l. all_of front ++ (samples ++ l)) (append-nil (end_pad odd back))
+    ∙ (ap (λ o. all_of front ++ (samples ++ end_pad o back)) is ∙ sym (plain_made f total samples)))))
+
 -- ---- the header of the samples among the pieces
 
 pub record Headed (s : Held) : Type 0 where
   pub within : s.head ≤ length s.pieces
+  pub plain : MakesFile s.made s.cut
   pub front_none : s.head ≡ 0 → (ps : List (List ℕ)) → front_of (s.pieces ++ ps) ≡ all_of s.pieces ++ front_of ps
   pub after_none : s.head ≡ 0 → (ps : List (List ℕ)) → pieces_after (s.pieces ++ ps) ≡ pieces_after ps
   pub front_some : 0 < s.head → (ps : List (List ℕ)) → front_of (s.pieces ++ ps) ≡ all_of (take s.head s.pieces)
@@ -85,6 +131,7 @@ pub record Headed (s : Held) : Type 0 where
 headed_nothing : Headed nothing_held
 headed_nothing = record {
   within = omega arith;
+  plain = none_makes;
   front_none = λ none ps. refl;
   after_none = λ none ps. refl;
   front_some = λ some ps. absurd (omega (arith, some));
@@ -97,12 +144,13 @@ headed_nothing = record {
 
 -- the head after one more piece, by tests
 headed_by : (s : Held) (p : List ℕ) (none here : Bool) → nat_eq s.head 0 ≡ none → is_head p ≡ here → Headed s
-    → Headed (record { pieces = s.pieces ++ p ∷ []; head = cond (none && here) (length s.pieces + 1) s.head; bits = cond none (cond here s.bits (bits_after s.bits p)) s.bits; depth = s.depth; begun = s.begun; odd = s.odd })
+    → Headed (record { pieces = s.pieces ++ p ∷ []; head = cond (none && here) (length s.pieces + 1) s.head; bits = cond none (cond here s.bits (bits_after s.bits p)) s.bits; made = s.made; cut = s.cut; depth = s.depth; begun = s.begun; odd = s.odd })
 headed_by s p true true n e h =
     let empty : s.head ≡ 0 = eqb-true s.head 0 n in
     let long : length (s.pieces ++ p ∷ []) ≡ length s.pieces + 1 = length-append s.pieces (p ∷ []) in
     record {
       within = omega (arith, long);
+      plain = h.plain;
       front_none = λ none ps. absurd (omega (arith, none));
       after_none = λ none ps. absurd (omega (arith, none));
       front_some = λ some ps.
@@ -127,6 +175,7 @@ headed_by s p true false n e h =
     let long : length (s.pieces ++ p ∷ []) ≡ length s.pieces + 1 = length-append s.pieces (p ∷ []) in
     record {
       within = omega (arith, empty);
+      plain = h.plain;
       front_none = λ none ps.
           ap front_of (append_assoc s.pieces (p ∷ []) ps) ∙ (h.front_none empty (p ∷ ps) ∙ (ap (λ b. all_of s.pieces ++ cond b p (p ++ front_of ps)) e
           ∙ (sym (append_assoc (all_of s.pieces) p (front_of ps)) ∙ ap (λ l. l ++ front_of ps) (sym (joined_push s.pieces p)))));
@@ -143,6 +192,7 @@ headed_by s p false here n e h =
     let long : length (s.pieces ++ p ∷ []) ≡ length s.pieces + 1 = length-append s.pieces (p ∷ []) in
     record {
       within = omega (arith, long, h.within);
+      plain = h.plain;
       front_none = λ none ps. absurd (other none);
       after_none = λ none ps. absurd (other none);
       front_some = λ some ps.
@@ -163,16 +213,18 @@ headed_piece s p h = headed_by s p _ _ refl refl h
 record Blocked (s t : Held) (b : Block) : Type 0 where
   pieces : t.pieces ≡ s.pieces ++ piece_of b
   depth : t.depth ≡ depth_after s.depth b
+  made : t.made ≡ plain_after s.made b
   begun : t.begun ≡ s.begun
   odd : t.odd ≡ s.odd
   headed : Headed s → Headed t
 
-same_held : (s : Held) (b : Block) → piece_of b ≡ [] → depth_after s.depth b ≡ s.depth → Blocked s s b
-same_held s b none depth = record { pieces = sym (append-nil s.pieces) ∙ ap (λ l. s.pieces ++ l) (sym none); depth = sym depth; begun = refl; odd = refl; headed = λ h. h }
+same_held : (s : Held) (b : Block) → piece_of b ≡ [] → depth_after s.depth b ≡ s.depth → plain_after s.made b ≡ s.made → Blocked s s b
+same_held s b none depth made = record { pieces = sym (append-nil s.pieces) ∙ ap (λ l. s.pieces ++ l) (sym none); depth = sym depth; made = sym made; begun = refl; odd = refl; headed = λ h. h }
 
-deeper : (s : Held) (d : ℕ) → Headed s → Headed (with_depth s d)
-deeper s d h = record {
+planned : (s : Held) (made : List (List ℕ)) (total depth : ℕ) → MakesFile made (length made - cond (nat_eq total 0) 1 0) → Headed s → Headed (with_plain s made total depth)
+planned s made total depth makes h = record {
   within = h.within;
+  plain = makes;
   front_none = h.front_none;
   after_none = h.after_none;
   front_some = h.front_some;
@@ -184,18 +236,18 @@ deeper s d h = record {
 }
 
 riff_by : (s : Held) (id bytes : List ℕ) (b : Bool) → is_riff id ≡ b → Blocked s (cond b (with_piece s bytes) s) (block_of.Application id bytes)
-riff_by s id bytes true e = record { pieces = ap (λ b. s.pieces ++ cond b (bytes ∷ []) []) (sym e); depth = refl; begun = refl; odd = refl; headed = headed_piece s bytes }
-riff_by s id bytes false e = record { pieces = sym (append-nil s.pieces) ∙ ap (λ b. s.pieces ++ cond b (bytes ∷ []) []) (sym e); depth = refl; begun = refl; odd = refl; headed = λ h. h }
+riff_by s id bytes true e = record { pieces = ap (λ b. s.pieces ++ cond b (bytes ∷ []) []) (sym e); depth = refl; made = refl; begun = refl; odd = refl; headed = headed_piece s bytes }
+riff_by s id bytes false e = record { pieces = sym (append-nil s.pieces) ∙ ap (λ b. s.pieces ++ cond b (bytes ∷ []) []) (sym e); depth = refl; made = refl; begun = refl; odd = refl; headed = λ h. h }
 
 blocked : (s : Held) (b : Block) → Blocked s (with_block s b) b
-blocked s (block_of.StreamInfo info) = record { pieces = sym (append-nil s.pieces); depth = refl; begun = refl; odd = refl; headed = deeper s info.depth }
+blocked s (block_of.StreamInfo info) = record { pieces = sym (append-nil s.pieces); depth = refl; made = refl; begun = refl; odd = refl; headed = planned s _ info.total info.depth (plain_makes (plain_format info.rate info.channels info.depth) info.total) }
 blocked s (block_of.Application id bytes) = riff_by s id bytes _ refl
-blocked s (block_of.Padding n) = same_held s (block_of.Padding n) refl refl
-blocked s (block_of.SeekTable points) = same_held s (block_of.SeekTable points) refl refl
-blocked s (block_of.VorbisComment comments) = same_held s (block_of.VorbisComment comments) refl refl
-blocked s (block_of.CueSheet sheet) = same_held s (block_of.CueSheet sheet) refl refl
-blocked s (block_of.Picture picture) = same_held s (block_of.Picture picture) refl refl
-blocked s (block_of.Other kind bytes) = same_held s (block_of.Other kind bytes) refl refl
+blocked s (block_of.Padding n) = same_held s (block_of.Padding n) refl refl refl
+blocked s (block_of.SeekTable points) = same_held s (block_of.SeekTable points) refl refl refl
+blocked s (block_of.VorbisComment comments) = same_held s (block_of.VorbisComment comments) refl refl refl
+blocked s (block_of.CueSheet sheet) = same_held s (block_of.CueSheet sheet) refl refl refl
+blocked s (block_of.Picture picture) = same_held s (block_of.Picture picture) refl refl refl
+blocked s (block_of.Other kind bytes) = same_held s (block_of.Other kind bytes) refl refl refl
 
 -- ---- after the first frame
 
@@ -206,12 +258,17 @@ length_by false xs = refl
 wave_length : (depth : ℕ) (xs : List ℕ) → length (wave_samples depth xs) ≡ length xs
 wave_length depth xs = length_by (nat_lt depth 9) xs
 
+file_length : (depth : ℕ) (xs : List ℕ) → Whole (sample_width depth) xs → length (file_samples depth xs) ≡ length xs
+file_length depth xs whole = wave_length depth (high_samples depth xs) ∙ high_long depth xs whole
+
 record Framed (t u : Held) (xs : List Piece) (text : List ℕ) : Type 0 where
   none : pieces_in xs ≡ []
   same : (d : ℕ) → depth_of d xs ≡ d
-  sent : text ≡ wave_samples t.depth (samples_from 0 t.depth xs)
-  pieces : u.pieces ≡ t.pieces
-  head : u.head ≡ t.head
+  made : (m : List (List ℕ)) → plain_of m xs ≡ m
+  whole : Whole (sample_width t.depth) (samples_from 0 t.depth xs)
+  sent : text ≡ file_samples t.depth (samples_from 0 t.depth xs)
+  front : front_pieces u ≡ front_pieces t
+  back : back_pieces u ≡ back_pieces t
   begun : u.begun ≡ true
   odd : u.odd ≡ (t.odd + length (samples_from 0 t.depth xs)) % 2
 
@@ -229,37 +286,45 @@ record Quiet (t u : Held) (xs : List Piece) : Type 0 where
   none : pieces_in xs ≡ []
   same : (d : ℕ) → depth_of d xs ≡ d
   fault : held_fault u ≡ held_fault t
+  depth : u.depth ≡ t.depth
 
 fault_after : (b : Bool) (t : Held) (n : ℕ) → held_fault (with_frame b t n) ≡ held_fault t
 fault_after true t n = refl
 fault_after false t n = refl
 
+depth_same : (b : Bool) (t : Held) (n : ℕ) → (with_frame b t n).depth ≡ t.depth
+depth_same true t n = refl
+depth_same false t n = refl
+
 quiet : (t : Held) (xs : List Piece) → Ordered true xs → Quiet t (after_parts t xs) xs
-quiet t [] o = record { none = refl; same = λ d. refl; fault = refl }
-quiet t (marked ∷ xs) o = let k = quiet t xs o in record { none = k.none; same = k.same; fault = k.fault }
+quiet t [] o = record { none = refl; same = λ d. refl; fault = refl; depth = refl }
+quiet t (marked ∷ xs) o = let k = quiet t xs o in record { none = k.none; same = k.same; fault = k.fault; depth = k.depth }
 quiet t (block last x ∷ xs) o = absurd (false≢true (sym o.0))
 quiet t (framed f ∷ xs) o =
     let n = length (frame_bytes 0 t.depth f) in
     let k = quiet (with_frame (writes t) t n) xs o in
-    record { none = k.none; same = k.same; fault = k.fault ∙ fault_after (writes t) t n }
+    record { none = k.none; same = k.same; fault = k.fault ∙ fault_after (writes t) t n; depth = k.depth ∙ depth_same (writes t) t n }
 
-framed_only : (t : Held) (xs : List Piece) → t.begun ≡ true → t.odd < 2 → writes t ≡ true → Ordered true xs → Framed t (after_parts t xs) xs (added t xs)
-framed_only t [] b few w o = record { none = refl; same = λ d. refl; sent = sym (wave_none t.depth [] refl); pieces = refl; head = refl; begun = b; odd = odd_same t.odd few }
-framed_only t (marked ∷ xs) b few w o =
-    let k = framed_only t xs b few w o in
-    record { none = k.none; same = k.same; sent = k.sent; pieces = k.pieces; head = k.head; begun = k.begun; odd = k.odd }
-framed_only t (block last x ∷ xs) b few w o = absurd (false≢true (sym o.0))
-framed_only t (framed f ∷ xs) b few w o =
+framed_only : (t : Held) (xs : List Piece) → t.depth ≤ 32 → t.begun ≡ true → t.odd < 2 → writes t ≡ true → Ordered true xs → Framed t (after_parts t xs) xs (added t xs)
+framed_only t [] deep b few w o = record { none = refl; same = λ d. refl; made = λ m. refl; whole = (0, omega arith); sent = sym (file_none t.depth [] refl); front = refl; back = refl; begun = b; odd = odd_same t.odd few }
+framed_only t (marked ∷ xs) deep b few w o =
+    let k = framed_only t xs deep b few w o in
+    record { none = k.none; same = k.same; made = k.made; whole = k.whole; sent = k.sent; front = k.front; back = k.back; begun = k.begun; odd = k.odd }
+framed_only t (block last x ∷ xs) deep b few w o = absurd (false≢true (sym o.0))
+framed_only t (framed f ∷ xs) deep b few w o =
+    let here = rows_whole (sample_width t.depth) f.channels f.size 0 (omega (arith, deep)) in
     let n = length (frame_bytes 0 t.depth f) in
-    let text = front_left t ++ wave_samples t.depth (frame_bytes 0 t.depth f) in
-    let k = framed_only (with_samples t n) xs refl (mod-lt (t.odd + n) {m = 2} (omega arith)) w o in
+    let text = front_left t ++ file_samples t.depth (frame_bytes 0 t.depth f) in
+    let k = framed_only (with_samples t n) xs deep refl (mod-lt (t.odd + n) {m = 2} (omega arith)) w o in
     let all : Framed t (after_parts (with_samples t n) xs) (framed f ∷ xs) (text ++ added (with_samples t n) xs) = record {
       none = k.none;
       same = k.same;
-      sent = ap (λ c. (cond c [] (all_of (take t.head t.pieces)) ++ wave_samples t.depth (frame_bytes 0 t.depth f)) ++ added (with_samples t n) xs) b
-          ∙ (ap (λ l. wave_samples t.depth (frame_bytes 0 t.depth f) ++ l) k.sent ∙ sym (wave_append t.depth (frame_bytes 0 t.depth f) (samples_from 0 t.depth xs)));
-      pieces = k.pieces;
-      head = k.head;
+      made = k.made;
+      whole = whole_append (sample_width t.depth) (frame_bytes 0 t.depth f) (samples_from 0 t.depth xs) here k.whole;
+      sent = ap (λ c. (cond c [] (all_of (front_pieces t)) ++ file_samples t.depth (frame_bytes 0 t.depth f)) ++ added (with_samples t n) xs) b
+          ∙ (ap (λ l. file_samples t.depth (frame_bytes 0 t.depth f) ++ l) k.sent ∙ sym (file_append t.depth (frame_bytes 0 t.depth f) (samples_from 0 t.depth xs) here));
+      front = k.front;
+      back = k.back;
       begun = k.begun;
       odd = k.odd ∙ (odd_twice t.odd n (length (samples_from 0 t.depth xs)) ∙ ap (λ m. (t.odd + m) % 2) (sym (length-append (frame_bytes 0 t.depth f) (samples_from 0 t.depth xs))));
     } in
@@ -268,67 +333,81 @@ framed_only t (framed f ∷ xs) b few w o =
 -- ---- the whole file
 
 -- what comes before the samples, these, and what follows them
-closed : (s : Held) (h : Headed s) (samples : List ℕ) (odd : ℕ) → 0 < s.head → odd ≡ length samples % 2
+kept_closed : (s : Held) (h : Headed s) (samples : List ℕ) (odd : ℕ) → 0 < s.head → odd ≡ length samples % 2
     → all_of (take s.head s.pieces) ++ (samples ++ (end_pad odd (drop s.head s.pieces) ++ all_of (drop s.head s.pieces))) ≡ restored (s.pieces ++ []) samples
-closed s h samples odd some is =
+kept_closed s h samples odd some is =
     let after : drop s.head s.pieces ≡ pieces_after (s.pieces ++ []) = sym (append-nil (drop s.head s.pieces)) ∙ sym (h.after_some some []) in
     ap (λ l. l ++ (samples ++ (end_pad odd (drop s.head s.pieces) ++ all_of (drop s.head s.pieces)))) (sym (h.front_some some []))
     ∙ (ap (λ qs. front_of (s.pieces ++ []) ++ (samples ++ (end_pad odd qs ++ all_of qs))) after
     ∙ ap (λ o. front_of (s.pieces ++ []) ++ (samples ++ (end_pad o (pieces_after (s.pieces ++ [])) ++ all_of (pieces_after (s.pieces ++ []))))) is)
 
-head_there : (b : Bool) (bits depth : ℕ) → piece_fault b bits depth ≡ None → b ≡ true
-head_there true bits depth e = refl
-head_there false bits depth e = absurd cc
+closed_by : (s : Held) (b : Bool) → nat_lt 0 s.head ≡ b → (h : Headed s) (samples : List ℕ) (odd : ℕ) → odd ≡ length samples % 2
+    → all_of (cond b (take s.head s.pieces) (take s.cut s.made))
+    ++ (samples ++ (end_pad odd (cond b (drop s.head s.pieces) (drop s.cut s.made)) ++ all_of (cond b (drop s.head s.pieces) (drop s.cut s.made))))
+    ≡ restored (file_pieces (s.pieces ++ []) s.made) samples
+closed_by s true e h samples odd is =
+    let some = ltb-true 0 s.head e in
+    kept_closed s h samples odd some is ∙ ap (λ c. restored (cond c (s.pieces ++ []) s.made) samples) (sym (h.has_some some []))
+closed_by s false e h samples odd is =
+    let none : s.head ≡ 0 = omega (arith, ltb-false 0 s.head e) in
+    h.plain samples odd is ∙ ap (λ c. restored (cond c (s.pieces ++ []) s.made) samples) (sym (h.has_none none []))
 
-some_head : (s : Held) → held_fault s ≡ None → 0 < s.head
-some_head s e = ltb-true 0 s.head (head_there (nat_lt 0 s.head) s.bits s.depth e)
+closed : (s : Held) (h : Headed s) (samples : List ℕ) (odd : ℕ) → odd ≡ length samples % 2
+    → all_of (front_pieces s) ++ (samples ++ (end_pad odd (back_pieces s) ++ all_of (back_pieces s))) ≡ restored (file_pieces (s.pieces ++ []) s.made) samples
+closed s h samples odd is = closed_by s _ refl h samples odd is
 
-pub whole_wave : (s : Held) (xs : List Piece) → s.begun ≡ false → s.odd ≡ 0 → Headed s → Ordered false xs → held_fault (after_parts s xs) ≡ None
-    → added s xs ++ ending (after_parts s xs) ≡ restored (s.pieces ++ pieces_in xs) (wave_samples (depth_of s.depth xs) (samples_from 0 s.depth xs))
-whole_wave s [] b o h order good =
-    ap (λ c. cond c [] (all_of (take s.head s.pieces)) ++ (end_pad s.odd (drop s.head s.pieces) ++ all_of (drop s.head s.pieces))) b
-    ∙ (closed s h [] s.odd (some_head s good) o ∙ ap (λ l. restored (s.pieces ++ []) l) (sym (wave_none s.depth [] refl)))
-whole_wave s (marked ∷ xs) b o h order good = whole_wave s xs b o h order good
-whole_wave s (block last x ∷ xs) b o h order good =
+pub whole_wave : (s : Held) (xs : List Piece) → (after_parts s xs).depth ≤ 32 → s.begun ≡ false → s.odd ≡ 0 → Headed s → Ordered false xs → held_fault (after_parts s xs) ≡ None
+    → added s xs ++ ending (after_parts s xs) ≡ restored (file_pieces (s.pieces ++ pieces_in xs) (plain_of s.made xs)) (file_samples (depth_of s.depth xs) (samples_from 0 s.depth xs))
+whole_wave s [] deep b o h order good =
+    ap (λ c. cond c [] (all_of (front_pieces s)) ++ (end_pad s.odd (back_pieces s) ++ all_of (back_pieces s))) b
+    ∙ (closed s h [] s.odd o ∙ ap (λ l. restored (file_pieces (s.pieces ++ []) s.made) l) (sym (file_none s.depth [] refl)))
+whole_wave s (marked ∷ xs) deep b o h order good = whole_wave s xs deep b o h order good
+whole_wave s (block last x ∷ xs) deep b o h order good =
+    let low : (after_parts (with_block s x) xs).depth ≤ 32 = subst (λ c. (after_parts (cond c s (with_block s x)) xs).depth ≤ 32) b deep in
     let k = blocked s x in
-    let end = restored (s.pieces ++ (piece_of x ++ pieces_in xs)) (wave_samples (depth_of (depth_after s.depth x) xs) (samples_from 0 (depth_after s.depth x) xs)) in
+    let end = restored (file_pieces (s.pieces ++ (piece_of x ++ pieces_in xs)) (plain_of (plain_after s.made x) xs)) (file_samples (depth_of (depth_after s.depth x) xs) (samples_from 0 (depth_after s.depth x) xs)) in
     let fine : held_fault (after_parts (with_block s x) xs) ≡ None = subst (λ c. held_fault (after_parts (cond c s (with_block s x)) xs) ≡ None) b good in
     let all : added (with_block s x) xs ++ ending (after_parts (with_block s x) xs) ≡ end =
-    whole_wave (with_block s x) xs (k.begun ∙ b) (k.odd ∙ o) (k.headed h) order.1 fine
-    ∙ (ap (λ ps. restored (ps ++ pieces_in xs) (wave_samples (depth_of (with_block s x).depth xs) (samples_from 0 (with_block s x).depth xs))) k.pieces
-    ∙ (ap (λ ps. restored ps (wave_samples (depth_of (with_block s x).depth xs) (samples_from 0 (with_block s x).depth xs))) (append_assoc s.pieces (piece_of x) (pieces_in xs))
-    ∙ ap (λ d. restored (s.pieces ++ (piece_of x ++ pieces_in xs)) (wave_samples (depth_of d xs) (samples_from 0 d xs))) k.depth)) in
+    whole_wave (with_block s x) xs low (k.begun ∙ b) (k.odd ∙ o) (k.headed h) order.1 fine
+    ∙ (ap (λ ps. restored (file_pieces (ps ++ pieces_in xs) (plain_of (with_block s x).made xs)) (file_samples (depth_of (with_block s x).depth xs) (samples_from 0 (with_block s x).depth xs))) k.pieces
+    ∙ (ap (λ ps. restored (file_pieces ps (plain_of (with_block s x).made xs)) (file_samples (depth_of (with_block s x).depth xs) (samples_from 0 (with_block s x).depth xs))) (append_assoc s.pieces (piece_of x) (pieces_in xs))
+    ∙ (ap (λ m. restored (file_pieces (s.pieces ++ (piece_of x ++ pieces_in xs)) (plain_of m xs)) (file_samples (depth_of (with_block s x).depth xs) (samples_from 0 (with_block s x).depth xs))) k.made
+    ∙ ap (λ d. restored (file_pieces (s.pieces ++ (piece_of x ++ pieces_in xs)) (plain_of (plain_after s.made x) xs)) (file_samples (depth_of d xs) (samples_from 0 d xs))) k.depth))) in
     subst (λ c. added (cond c s (with_block s x)) xs ++ ending (after_parts (cond c s (with_block s x)) xs) ≡ end) (sym b) all
-whole_wave s (framed f ∷ xs) b o h order good =
+whole_wave s (framed f ∷ xs) deep b o h order good =
     let fb = frame_bytes 0 s.depth f in
     let n = length fb in
     let t = with_samples s n in
     let q = quiet (with_frame (writes s) s n) xs order in
+    let low : s.depth ≤ 32 = subst (λ d. d ≤ 32) (q.depth ∙ depth_same (writes s) s n) deep in
+    let here = rows_whole (sample_width s.depth) f.channels f.size 0 (omega (arith, low)) in
     let fine : held_fault s ≡ None = sym (fault_after (writes s) s n) ∙ (sym q.fault ∙ good) in
     let w : writes s ≡ true = ap is_none fine in
-    let k = framed_only t xs refl (mod-lt (s.odd + n) {m = 2} (omega arith)) w order in
+    let k = framed_only t xs low refl (mod-lt (s.odd + n) {m = 2} (omega arith)) w order in
     let u = after_parts t xs in
     let all = fb ++ samples_from 0 s.depth xs in
-    let front = all_of (take s.head s.pieces) in
-    let text = front_left s ++ wave_samples s.depth fb in
-    let odd : u.odd ≡ length (wave_samples s.depth all) % 2 =
-    k.odd ∙ (odd_twice s.odd n (length (samples_from 0 s.depth xs)) ∙ (ap (λ z. (z + (n + length (samples_from 0 s.depth xs))) % 2) o ∙ (zero_sum (n + length (samples_from 0 s.depth xs)) ∙ ap (λ m. m % 2) (sym (length-append fb (samples_from 0 s.depth xs)) ∙ sym (wave_length s.depth all))))) in
-    let last : ending u ≡ end_pad u.odd (drop s.head s.pieces) ++ all_of (drop s.head s.pieces) =
-    ap (λ c. cond c [] (all_of (take u.head u.pieces)) ++ (end_pad u.odd (drop u.head u.pieces) ++ all_of (drop u.head u.pieces))) k.begun
-    ∙ (ap (λ m. end_pad u.odd (drop m u.pieces) ++ all_of (drop m u.pieces)) k.head ∙ ap (λ ps. end_pad u.odd (drop s.head ps) ++ all_of (drop s.head ps)) k.pieces) in
-    let sent : text ++ added t xs ≡ front ++ wave_samples s.depth all =
-    ap (λ c. (cond c [] front ++ wave_samples s.depth fb) ++ added t xs) b ∙ (append_assoc front (wave_samples s.depth fb) (added t xs)
-    ∙ ap (λ l. front ++ l) (ap (λ l. wave_samples s.depth fb ++ l) k.sent ∙ sym (wave_append s.depth fb (samples_from 0 s.depth xs)))) in
-    let end = restored (s.pieces ++ pieces_in xs) (wave_samples (depth_of s.depth xs) all) in
+    let front = all_of (front_pieces s) in
+    let text = front_left s ++ file_samples s.depth fb in
+    let odd : u.odd ≡ length (file_samples s.depth all) % 2 =
+    k.odd ∙ (odd_twice s.odd n (length (samples_from 0 s.depth xs)) ∙ (ap (λ z. (z + (n + length (samples_from 0 s.depth xs))) % 2) o ∙ (zero_sum (n + length (samples_from 0 s.depth xs)) ∙ ap (λ m. m % 2) (sym (length-append fb (samples_from 0 s.depth xs)) ∙ sym (file_length s.depth all (whole_append (sample_width s.depth) fb (samples_from 0 s.depth xs) here k.whole)))))) in
+    let last : ending u ≡ end_pad u.odd (back_pieces s) ++ all_of (back_pieces s) =
+    ap (λ c. cond c [] (all_of (front_pieces u)) ++ (end_pad u.odd (back_pieces u) ++ all_of (back_pieces u))) k.begun
+    ∙ ap (λ qs. end_pad u.odd qs ++ all_of qs) k.back in
+    let sent : text ++ added t xs ≡ front ++ file_samples s.depth all =
+    ap (λ c. (cond c [] front ++ file_samples s.depth fb) ++ added t xs) b ∙ (append_assoc front (file_samples s.depth fb) (added t xs)
+    ∙ ap (λ l. front ++ l) (ap (λ l. file_samples s.depth fb ++ l) k.sent ∙ sym (file_append s.depth fb (samples_from 0 s.depth xs) here))) in
+    let end = restored (file_pieces (s.pieces ++ pieces_in xs) (plain_of s.made xs)) (file_samples (depth_of s.depth xs) all) in
     let whole : (text ++ added t xs) ++ ending u ≡ end =
-    ap (λ l. l ++ ending u) sent ∙ (append_assoc front (wave_samples s.depth all) (ending u) ∙ (ap (λ l. front ++ (wave_samples s.depth all ++ l)) last
-    ∙ (closed s h (wave_samples s.depth all) u.odd (some_head s fine) odd
-    ∙ (ap (λ ps. restored (s.pieces ++ ps) (wave_samples s.depth all)) (sym k.none) ∙ ap (λ d. restored (s.pieces ++ pieces_in xs) (wave_samples d all)) (sym (k.same s.depth)))))) in
+    ap (λ l. l ++ ending u) sent ∙ (append_assoc front (file_samples s.depth all) (ending u) ∙ (ap (λ l. front ++ (file_samples s.depth all ++ l)) last
+    ∙ (closed s h (file_samples s.depth all) u.odd odd
+    ∙ (ap (λ ps. restored (file_pieces (s.pieces ++ ps) s.made) (file_samples s.depth all)) (sym k.none)
+    ∙ (ap (λ m. restored (file_pieces (s.pieces ++ pieces_in xs) m) (file_samples s.depth all)) (sym (k.made s.made))
+    ∙ ap (λ d. restored (file_pieces (s.pieces ++ pieces_in xs) (plain_of s.made xs)) (file_samples d all)) (sym (k.same s.depth))))))) in
     subst (λ c. (cond c text [] ++ added (with_frame c s n) xs) ++ ending (after_parts (with_frame c s n) xs) ≡ end) (sym w) whole
 
 -- from nothing
-pub wave_written : (xs : List Piece) → Ordered false xs → held_fault (after_parts nothing_held xs) ≡ None → added nothing_held xs ++ ending (after_parts nothing_held xs) ≡ wave_in xs
-wave_written xs order good = whole_wave nothing_held xs refl refl headed_nothing order good
+pub wave_written : (xs : List Piece) → (after_parts nothing_held xs).depth ≤ 32 → Ordered false xs → held_fault (after_parts nothing_held xs) ≡ None → added nothing_held xs ++ ending (after_parts nothing_held xs) ≡ wave_in xs
+wave_written xs deep order good = whole_wave nothing_held xs deep refl refl headed_nothing order good
 
 -- ---- why there is no file
 

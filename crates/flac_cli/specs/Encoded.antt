@@ -1,15 +1,16 @@
 -- What an encoding of raw samples has written.
-use Rattle.std.specs.Prelude.{◌≡◌, ℕ, Bool, List, [], ◌∷◌, ◌++◌, ◌⊎◌, map, codes, Option, Some, None}
+use Rattle.std.specs.Prelude.{◌≡◌, ℕ, Bool, List, [], ◌∷◌, ◌++◌, ◌⊎◌, All, map, codes, Option, Some, None}
 use Rattle.flac_meta.specs.declared.comments.Comments.{Comments}
 use Rattle.flac_meta.specs.declared.block.Block.{Block}
 use Rattle.flac_meta.specs.declared.block.Block.TheVariants.{StreamInfo, VorbisComment}
 use Rattle.flac_frame.specs.Audio.{Sound}
 use Rattle.flac_subframe.specs.declared.linear.LinearPredictor.{LinearPredictor}
-use Rattle.flac_native.specs.Given.{Cut, cut_of, with_predictors, info_of, frames_of, closing, given}
+use Rattle.flac_native.specs.Given.{Cut, cut_of, with_predictors, with_found, info_of, frames_of, closing, given}
 use Rattle.flac_native.specs.Stream.{Piece, framed}
 use Rattle.flac_native.specs.Seeking.{points_of, table_of}
 use Rattle.flac_native.specs.Writing.{Encodes, BeginsEncoding}
 use Rattle.flac_ogg.specs.Writing.{EncodesOgg, BeginsOgg}
+use Rattle.flac_predict.specs.Found.{IsPrefixOf}
 use Rattle.flac_cli.specs.Asked.{Asked}
 use Rattle.flac_cli.specs.Predictors.{AreListed}
 use Rattle.flac_cli.specs.Raw.{IsRaw}
@@ -20,6 +21,8 @@ use Rattle.flac_jobs.specs.declared.formats.ContainerKind.{ContainerKind}
 use Rattle.flac_jobs.specs.declared.formats.ContainerKind.TheVariants as container
 use Rattle.flac_jobs.specs.declared.jobs.Job.{Job}
 use Rattle.flac_jobs.specs.declared.jobs.Job.TheVariants as job
+use Rattle.flac_jobs.specs.declared.search_effort.SearchEffort.{SearchEffort}
+use Rattle.flac_jobs.specs.declared.search_effort.SearchEffort.TheVariants as efforts
 
 -- the program's name, and the words as comments (RFC 9639, section 8.6)
 abbrev pub comments_of : List (List ℕ) → Comments
@@ -43,22 +46,34 @@ parts_in (container.Ogg serial) p list a before after e = closing (StreamInfo (i
 abbrev pub cut_as : Asked → Sound → List LinearPredictor → Cut
 cut_as asked a ps = with_predictors (cut_of asked.format.block a asked.format.seek_every) ps
 
+-- the same, and for the frame of each block those of its list
+abbrev pub cut_found : Asked → Sound → List LinearPredictor → (found : List (List LinearPredictor)) → Cut
+cut_found asked a ps found = with_found (cut_as asked a ps) found
+
+-- The lists of linear predictors that are tried for the blocks: none without a search; else each begins with these
+-- predictors. Nothing is said of the others, which were found for its block.
+pub record AreFound (effort : SearchEffort) (ps : List LinearPredictor) (found : List (List LinearPredictor)) : Type 0 where
+  pub none : effort ≡ efforts.None → found ≡ []
+  pub begins : All (IsPrefixOf ps) found
+
 -- After the bits that were there, a stream was written as it is asked for, native or Ogg: of the samples that these
--- bytes are, each frame a shortest one over the fixed predictors and those of the list too, with the words as comments,
--- and in a native one after them the seek table. The samples of its frames are these bytes again, so decoding it gives
--- them back.
+-- bytes are, with the words as comments, and in a native one after them the seek table. Each frame is a shortest one
+-- over constant and verbatim subframes, the fixed predictors, those of the list, and those that were found for its block,
+-- if any were sought. The samples of its frames are these bytes again, so decoding it gives them back.
 pub record EncodesRaw (asked : Asked) (bytes : List ℕ) (before after : List Bool) : Type 0 where
   pub audio : Sound
   pub predictors : List LinearPredictor
   pub raw : IsRaw asked.profile asked.format bytes audio
   pub listed : AreListed asked.list predictors
-  pub encodes : EncodesIn asked.container (cut_as asked audio predictors) (comment_list asked.words) audio before after
-  pub back : all_samples 0 (parts_in asked.container (cut_as asked audio predictors) (comment_list asked.words) audio before after encodes) ≡ bytes
+  pub found : List (List LinearPredictor)
+  pub sought : AreFound asked.effort predictors found
+  pub encodes : EncodesIn asked.container (cut_found asked audio predictors found) (comment_list asked.words) audio before after
+  pub back : all_samples 0 (parts_in asked.container (cut_found asked audio predictors found) (comment_list asked.words) audio before after encodes) ≡ bytes
 
 -- what a job asks for whose list has this text, if it is an encoding
 abbrev pub asked_for : Job → (list : List ℕ) → Option Asked
-asked_for (job.Encode input output format c comments lax predictors raw) list =
-    Some (record { profile = profile_of lax; format = format; container = c; words = map (λ w. w.now) comments.items; list = list; any = raw })
+asked_for (job.Encode input output format c comments lax predictors effort raw) list =
+    Some (record { profile = profile_of lax; format = format; container = c; words = map (λ w. w.now) comments.items; list = list; effort = effort; any = raw })
 asked_for other list = None
 
 abbrev pub asked_by : Task → Option Asked
@@ -80,7 +95,9 @@ pub record BeginsRaw (asked : Asked) (bytes : List ℕ) (before after : List Boo
   pub predictors : List LinearPredictor
   pub raw : IsRaw asked.profile asked.format bytes audio
   pub listed : AreListed asked.list predictors
-  pub begins : BeginsIn asked.container (cut_as asked audio predictors) (comment_list asked.words) audio before after
+  pub found : List (List LinearPredictor)
+  pub sought : AreFound asked.effort predictors found
+  pub begins : BeginsIn asked.container (cut_found asked audio predictors found) (comment_list asked.words) audio before after
 
 -- nothing was written, or such a prefix, if the job is an encoding
 abbrev pub HasBegun : Option Asked → (bytes : List ℕ) → (before after : List Bool) → Type 0

@@ -91,13 +91,13 @@ pub record Reports (outside is : Outcome → Type 0) (path : List ℕ) (status :
 
 -- ---- decoding to a WAV file
 
--- What is reported: of the stream, or why its blocks keep no WAV file of its samples.
+-- What is reported: of the stream, or why there is no WAV file of its samples.
 pub data WaveOutcome : Type 0 where
   streamed : Outcome → WaveOutcome
   unkept : KeptFault → WaveOutcome
 
--- The input is a stream that keeps a WAV file; or a stream that keeps none, for this reason; or it is refused at this
--- place and for this reason.
+-- The input is a stream that becomes a WAV file; or a stream that becomes none, for this reason; or it is refused at
+-- this place and for this reason.
 abbrev pub ReadsWave : Profile → List ℕ → Behind → WaveOutcome → Type 0
 ReadsWave profile bytes behind (streamed None) = (items : List Piece) × (input_reading profile bytes behind).whole items × (kept_fault items ≡ None)
 ReadsWave profile bytes behind (streamed (Some f)) = Reads profile bytes behind (Some f)
@@ -109,7 +109,6 @@ IsWaveOutOfMemory outcome = (at : Place) × (outcome ≡ streamed (Some (Some at
 
 -- the number and the name
 abbrev pub text_of_kept : KeptFault → List ℕ
-text_of_kept kept.NotKept = codes "71 NotKept"
 text_of_kept kept.OtherBits = codes "72 OtherBits"
 
 abbrev pub IsWaveAnswer : WaveOutcome → (path : List ℕ) → (status : ℕ) → (before after : List ℕ) → Type 0
@@ -122,7 +121,7 @@ pub record ReportsWaveDecoding (profile : Profile) (bytes : List ℕ) (behind : 
   pub answer : IsWaveAnswer outcome path status before after
   pub fits : Fits IsWaveOutOfMemory (ReadsWave profile bytes behind) outcome
 
--- The bytes of a stream that was encoded of a WAV file are a stream that keeps a WAV file.
+-- The bytes of a stream that was encoded of a WAV file are a stream that becomes a WAV file.
 abbrev pub KeptFilesAreRead : Type 0
 KeptFilesAreRead = (asked : Asked) (bytes stream : List ℕ) → AreBytes stream → EncodesWave asked bytes [] (bits_of stream) → ReadsWave asked.profile stream the_end (streamed None)
 
@@ -143,8 +142,8 @@ abbrev pub ReportsInput : Job → (bytes : List ℕ) → Behind → (served prin
 ReportsInput (job.Test input lax) bytes behind served printed status before after = printed → Reports IsOutOfMemory (Reads (profile_of lax) bytes behind) input.now status before after
 ReportsInput (job.Decode input output lax) bytes behind served printed status before after = served → Reports IsOutOfMemory (Reads (profile_of lax) bytes behind) input.now status before after
 ReportsInput (job.List input lax) bytes behind served printed status before after = Reports (IsUnlisted printed) (Reads (profile_of lax) bytes behind) input.now status before after
-ReportsInput (job.Encode input output format c comments lax predictors raw) bytes behind served printed status before after = Unit {0}
+ReportsInput (job.Encode input output format c comments lax predictors effort raw) bytes behind served printed status before after = Unit {0}
 ReportsInput (job.DecodeWave input output lax) bytes behind served printed status before after = served → ReportsWaveDecoding (profile_of lax) bytes behind input.now status before after
-ReportsInput (job.EncodeWave input output block seek_every c comments lax predictors) bytes behind served printed status before after = Unit {0}
+ReportsInput (job.EncodeWave input output block seek_every c comments lax predictors effort) bytes behind served printed status before after = Unit {0}
 ReportsInput (job.Retag input output comments) bytes behind served printed status before after =
     served → Reports IsRetagOutOfMemory (IsRetagged (map (λ c. c.now) comments.items) bytes behind) input.now status before after

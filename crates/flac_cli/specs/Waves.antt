@@ -1,5 +1,5 @@
--- WAV files: which stream keeps one, and which file a stream keeps.
-use Rattle.std.specs.Prelude.{◌≡◌, ℕ, ◌+◌, ◌*◌, ◌/◌, Bool, true, cond, nat_lt, nat_eq, List, [], ◌∷◌, ◌++◌, ◌⊎◌, map, bit_xor, Option, Some, None}
+-- WAV files: which stream keeps one, and which file a stream becomes.
+use Rattle.std.specs.Prelude.{◌≡◌, ℕ, ◌+◌, ◌*◌, ◌/◌, ◌%◌, ◌-◌, Bool, true, cond, nat_lt, nat_eq, List, [], ◌∷◌, ◌++◌, ◌⊎◌, length, map, bit_xor, Option, Some, None}
 use Rattle.byteorder.specs.Endian.{little_number}
 use Rattle.flac_bits.specs.Bits.{bits_of}
 use Rattle.flac_bits.specs.Forms.{AreBytes}
@@ -7,14 +7,17 @@ use Rattle.flac_meta.specs.declared.block.Block.{Block}
 use Rattle.flac_meta.specs.declared.block.Block.TheVariants as block_of
 use Rattle.flac_frame.specs.Audio.{Sound}
 use Rattle.flac_subframe.specs.declared.linear.LinearPredictor.{LinearPredictor}
+use Rattle.flac_native.specs.Message.{sample_width}
 use Rattle.flac_native.specs.Samples.{depth_after}
 use Rattle.flac_native.specs.Stream.{Piece, marked, block, framed}
 use Rattle.flac_ogg.specs.Verifying.{bytes_reading}
 use Rattle.flac_wave.specs.Kept.{has_head, bits_in}
+use Rattle.flac_wave.specs.Plain.{plain_format, plain_pieces}
+use Rattle.flac_wave.specs.Shift.{raised}
 use Rattle.flac_wave.specs.Wave.{Parts, IsWave, ArePiecesAfter, restored}
 use Rattle.flac_wave.specs.declared.format.WaveFormat.{WaveFormat}
 use Rattle.flac_cli.specs.Asked.{Asked}
-use Rattle.flac_cli.specs.Encoded.{EncodesIn, BeginsIn, comment_list, cut_as, parts_in}
+use Rattle.flac_cli.specs.Encoded.{EncodesIn, BeginsIn, AreFound, comment_list, cut_found, parts_in}
 use Rattle.flac_cli.specs.Predictors.{AreListed}
 use Rattle.flac_cli.specs.Raw.{IsRaw}
 use Rattle.flac_cli.specs.Samples.{all_samples}
@@ -35,6 +38,16 @@ turned byte = bit_xor byte 128
 -- unsigned in a WAV file, and the others the same.
 abbrev pub wave_samples : (depth : ℕ) → List ℕ → List ℕ
 wave_samples depth samples = cond (nat_lt depth 9) (map turned samples) samples
+
+-- the samples of a stream as the highest bits of their bytes, where they have fewer
+abbrev pub high_samples : (depth : ℕ) → List ℕ → List ℕ
+high_samples depth samples =
+    cond (nat_eq (depth % 8) 0) samples
+    (raised (sample_width depth) (sample_width depth) (8 * sample_width depth - depth) (length samples / sample_width depth) samples)
+
+-- the same as those of a WAV file
+abbrev pub file_samples : (depth : ℕ) → List ℕ → List ℕ
+file_samples depth samples = wave_samples depth (high_samples depth samples)
 
 -- how many bits of a stream's samples hold those of a file: all of their bytes
 abbrev pub depth_for : WaveFormat → ℕ
@@ -68,18 +81,34 @@ depth_of depth (marked ∷ xs) = depth_of depth xs
 depth_of depth (block last b ∷ xs) = depth_of (depth_after depth b) xs
 depth_of depth (framed f ∷ xs) = depth_of depth xs
 
--- Why pieces are no WAV file of samples of this depth: the header of the samples is not there; or the bytes of a sample
--- are others than the stream's samples have.
-abbrev pub piece_fault : (head : Bool) (bits depth : ℕ) → Option KeptFault
-piece_fault head bits depth = cond head (cond (nat_eq (8 * ((bits + 7) / 8)) depth) None (Some kept.OtherBits)) (Some kept.NotKept)
+-- the pieces of a plain WAV file after this block: STREAMINFO states its format, and how many samples it has
+abbrev pub plain_after : List (List ℕ) → Block → List (List ℕ)
+plain_after made (block_of.StreamInfo info) = plain_pieces (plain_format info.rate info.channels info.depth) info.total
+plain_after made other = made
 
--- why the blocks of a stream keep no WAV file of its samples
+-- those after all blocks
+abbrev pub plain_of : List (List ℕ) → List Piece → List (List ℕ)
+plain_of made [] = made
+plain_of made (marked ∷ xs) = plain_of made xs
+plain_of made (block last b ∷ xs) = plain_of (plain_after made b) xs
+plain_of made (framed f ∷ xs) = plain_of made xs
+
+-- Why there is no WAV file of samples of this depth: the header of the samples is kept, and the bytes of a sample of the
+-- file are others than the stream's samples have.
+abbrev pub piece_fault : (head : Bool) (bits depth : ℕ) → Option KeptFault
+piece_fault head bits depth = cond head (cond (nat_eq (8 * ((bits + 7) / 8)) depth) None (Some kept.OtherBits)) None
+
+-- why a stream becomes no WAV file of its samples
 abbrev pub kept_fault : List Piece → Option KeptFault
 kept_fault parts = piece_fault (has_head (pieces_in parts)) (bits_in 0 (pieces_in parts)) (depth_of 0 parts)
 
--- the WAV file of a stream: the pieces that its blocks keep, and its samples
+-- the pieces of a file: those that are kept, if the header of the samples is one of them, else those of a plain file
+abbrev pub file_pieces : (kept plain : List (List ℕ)) → List (List ℕ)
+file_pieces kept plain = cond (has_head kept) kept plain
+
+-- the WAV file of a stream: these pieces, and its samples
 abbrev pub wave_in : List Piece → List ℕ
-wave_in parts = restored (pieces_in parts) (wave_samples (depth_of 0 parts) (all_samples 0 parts))
+wave_in parts = restored (file_pieces (pieces_in parts) (plain_of [] parts)) (file_samples (depth_of 0 parts) (all_samples 0 parts))
 
 -- ---- encoding
 
@@ -108,9 +137,10 @@ pub record Keeps (asked : Asked) (bytes : List ℕ) (format : RawFormat) (a : So
   pub raw : IsRaw asked.profile (format_as asked.format file.format) (wave_samples (depth_for file.format) file.samples) a
   pub blocks : list ≡ kept_list asked.words (file.pieces ++ pieces)
 
--- After the bits that were there, a stream was written of the samples of the WAV file that these bytes are, each frame a
--- shortest one over the fixed predictors and those of the list too, with the words as comments, the pieces of the file
--- in blocks `riff`, and after them the seek table. The WAV file of its blocks and frames is these bytes, byte for byte.
+-- After the bits that were there, a stream was written of the samples of the WAV file that these bytes are, with the
+-- words as comments, the pieces of the file in blocks `riff`, and after them the seek table. Each frame is a shortest one
+-- over constant and verbatim subframes, the fixed predictors, those of the list, and those that were found for its block,
+-- if any were sought. The WAV file of its blocks and frames is these bytes, byte for byte.
 pub record EncodesWave (asked : Asked) (bytes : List ℕ) (before after : List Bool) : Type 0 where
   pub format : RawFormat
   pub audio : Sound
@@ -118,8 +148,10 @@ pub record EncodesWave (asked : Asked) (bytes : List ℕ) (before after : List B
   pub predictors : List LinearPredictor
   pub keeps : Keeps asked bytes format audio list
   pub listed : AreListed asked.list predictors
-  pub encodes : EncodesIn asked.container (cut_as (record asked { format = format }) audio predictors) list audio before after
-  pub back : wave_in (parts_in asked.container (cut_as (record asked { format = format }) audio predictors) list audio before after encodes) ≡ bytes
+  pub found : List (List LinearPredictor)
+  pub sought : AreFound asked.effort predictors found
+  pub encodes : EncodesIn asked.container (cut_found (record asked { format = format }) audio predictors found) list audio before after
+  pub back : wave_in (parts_in asked.container (cut_found (record asked { format = format }) audio predictors found) list audio before after encodes) ≡ bytes
 
 -- After the bits that were there, a prefix of such a stream was written.
 pub record BeginsWave (asked : Asked) (bytes : List ℕ) (before after : List Bool) : Type 0 where
@@ -129,12 +161,14 @@ pub record BeginsWave (asked : Asked) (bytes : List ℕ) (before after : List Bo
   pub predictors : List LinearPredictor
   pub keeps : Keeps asked bytes format audio list
   pub listed : AreListed asked.list predictors
-  pub begins : BeginsIn asked.container (cut_as (record asked { format = format }) audio predictors) list audio before after
+  pub found : List (List LinearPredictor)
+  pub sought : AreFound asked.effort predictors found
+  pub begins : BeginsIn asked.container (cut_found (record asked { format = format }) audio predictors found) list audio before after
 
 -- what a job asks for whose list has this text, if it is an encoding of a WAV file; the format is the file's own
 abbrev pub asked_for_wave : Job → (list : List ℕ) → Option Asked
-asked_for_wave (job.EncodeWave input output size seek_every c comments lax predictors) list =
-    Some (record { profile = profile_of lax; format = record { rate = 0; channels = 0; bits = 0; block = size; seek_every = seek_every }; container = c; words = map (λ w. w.now) comments.items; list = list; any = true })
+asked_for_wave (job.EncodeWave input output size seek_every c comments lax predictors effort) list =
+    Some (record { profile = profile_of lax; format = record { rate = 0; channels = 0; bits = 0; block = size; seek_every = seek_every }; container = c; words = map (λ w. w.now) comments.items; list = list; effort = effort; any = true })
 asked_for_wave other list = None
 
 -- this holds if the job is such an encoding

@@ -4,6 +4,7 @@ pub mod Outcomes
 pub mod Predictors
 pub mod Preparing
 pub mod Raw
+pub mod Searching
 pub mod Taking
 pub mod WaveOutcomes
 pub mod Waving

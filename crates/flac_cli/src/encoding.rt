@@ -17,9 +17,10 @@ use crate::fronted::Fronted;
 use crate::lines::At;
 use crate::predictors::{ListFault, predictors_in};
 use crate::raw::{fill, read_channels};
+use crate::searching::searched;
 use flac_bits::{Source, Target, Why};
 use flac_frame::{Audio, SetupFault, format_fault};
-use flac_jobs::{ContainerKind, RawFormat, file_kind};
+use flac_jobs::{ContainerKind, RawFormat, SearchEffort, file_kind};
 use flac_meta::{BlockList, Bytes, Comments, Texts};
 use flac_native::{EncodeFault, Plan, Profile, encode, sample_width};
 use flac_ogg::encode_ogg;
@@ -42,6 +43,8 @@ pub(crate) struct Encoding<'a> {
     pub(crate) comments: &'a [&'a str],
     /// The text of a list of predictors that the encoder tries too, empty if there is none.
     pub(crate) list: &'a [u8],
+    /// How far other predictors are sought for each block.
+    pub(crate) effort: SearchEffort,
     /// Whether any bytes are taken as samples, also those that begin as a file that may hold a song.
     pub(crate) any: bool,
 }
@@ -281,6 +284,11 @@ pub(crate) fn write_stream<W: Target>(
 /// Encodes the raw samples of a source, and writes the stream. After an error, nothing or a prefix of the stream was
 /// sent.
 ///
+/// The encoder tries for each block constant and verbatim subframes, the fixed predictors and those of the list. If it is
+/// asked to, it also seeks linear predictors for each block before, and tries those that it finds: one for each channel
+/// that a frame is likely to keep, or several. They are found by floating-point arithmetic, and nothing is claimed of how
+/// good they are; the frame is a shortest one over all that are tried.
+///
 /// # Errors
 /// The first reason for which the samples cannot be encoded as asked for: a line of the list, for which the source is
 /// not read; the format, a file that may hold a song, the samples; the block size and the seek points, the predictors,
@@ -303,6 +311,7 @@ pub(crate) fn encode_raw<R: Source, W: Target>(
     let audio = samples_of(alloc, encoding, source)?;
     let plan = plan_of(encoding.format, &audio, predictors)?;
     let list = comment_list(alloc, encoding.comments)?;
-    write_stream(alloc, encoding.container, &plan, &list, &audio, target)?;
+    let tried = searched(alloc, encoding.effort, plan, &audio)?;
+    write_stream(alloc, encoding.container, &tried, &list, &audio, target)?;
     Ok(())
 }

@@ -1,33 +1,31 @@
 //! What is held of a WAV file while its stream is decoded.
 
-ghost use Rattle.std.specs.Prelude.{◌≡◌, ◌<◌, ◌≤◌, ◌%◌, ◌+◌, ℕ, length, map, take, drop, OnOk};
+ghost use Rattle.std.specs.Prelude.{◌≡◌, ◌<◌, ◌≤◌, ◌%◌, ◌+◌, ℕ, length, map, OnOk};
 ghost use Rattle.flac_wave.specs.Kept.{bits_after};
 ghost use Rattle.flac_wave.specs.Wave.{is_head};
 ghost use Rattle.flac_cli.specs.Outcomes.{text_of_kept};
 ghost use Rattle.flac_cli.specs.Waves.{is_riff};
-ghost use Rattle.flac_cli.specs.inner.Waving.{Held, nothing_held, with_piece, with_block, with_samples, with_begun, held_fault};
+ghost use Rattle.flac_cli.specs.inner.Waving.{Held, nothing_held, with_piece, with_info, with_block, with_samples, with_begun, held_fault, front_pieces, back_pieces};
 
 use byteorder::{ByteOrder, LittleEndian};
-use flac_meta::Block;
+use flac_meta::{Block, StreamInfo};
+use flac_wave::{WaveFormat, plain_pieces};
 use std::alloc::{AllocError, Global};
 use std::marker::Model;
 
-/// Why the blocks of a stream keep no WAV file of its samples.
+/// Why there is no WAV file of a stream's samples.
 #[derive(Clone, Copy)]
 pub(crate) enum KeptFault {
-    /// They keep none.
-    NotKept,
-    /// They keep one whose samples have other bits than the stream's.
+    /// The blocks of the stream keep one whose samples have other bits than the stream's.
     OtherBits,
 }
 
 impl KeptFault {
-    /// The number and the name of the reason, as `71 NotKept`.
+    /// The number and the name of the reason, as `72 OtherBits`.
     pub(crate) fn as_str(self) -> &'static str
         ensures { result.now ≡ text_of_kept self }
     {
         match self {
-            KeptFault::NotKept => "71 NotKept",
             KeptFault::OtherBits => "72 OtherBits",
         }
     }
@@ -39,6 +37,10 @@ pub(crate) struct HeldWave {
     pieces: Vec<Vec<u8>>,
     /// How many pieces there are up to the header of the samples; 0 before it came.
     head: usize,
+    /// The pieces of a plain file, which is written if `head` is 0; none before STREAMINFO came.
+    made: Vec<Vec<u8>>,
+    /// How many of them come before the samples.
+    cut: usize,
     depth: u8,
     begun: bool,
     odd: usize,
@@ -52,9 +54,9 @@ impl Model for HeldWave {
 
     ghost Value = { Held };
 
-    ghost view = { λ h. record { pieces = map (λ p. p.items) h.pieces.items; head = h.head; bits = h.bits; depth = h.depth; begun = h.begun; odd = h.odd } };
+    ghost view = { λ h. record { pieces = map (λ p. p.items) h.pieces.items; head = h.head; bits = h.bits; made = map (λ p. p.items) h.made.items; cut = h.cut; depth = h.depth; begun = h.begun; odd = h.odd } };
 
-    ghost invariant = { λ h. (h.depth ≤ 32) × (h.odd < 2) × (h.head ≤ length h.pieces.items) };
+    ghost invariant = { λ h. (h.depth ≤ 32) × (h.odd < 2) × (h.head ≤ length h.pieces.items) × (h.cut ≤ length h.made.items) };
 }
 
 /// Whether a piece is the header of the samples, alone.
@@ -90,6 +92,8 @@ impl HeldWave {
         HeldWave {
             pieces: Vec::new(alloc),
             head: 0,
+            made: Vec::new(alloc),
+            cut: 0,
             depth: 0,
             begun: false,
             odd: 0,
@@ -113,15 +117,31 @@ impl HeldWave {
         Ok(())
     }
 
+    /// Takes the format and the number of samples that a plain file has.
+    fn plan(&mut self, alloc: Global, info: &StreamInfo) -> Result<(), AllocError>
+        ensures ok { OnOk result (self.new ≡ with_info self.old info.now.rate info.now.channels info.now.depth info.now.total) }
+    {
+        let format = WaveFormat::plain(
+            info.rate(),
+            u32::from(info.channels()),
+            u32::from(info.depth()),
+        );
+        self.made = plain_pieces(alloc, &format, info.total())?;
+        self.cut = if info.total() == 0 {
+            self.made.len().saturating_sub(1)
+        } else {
+            self.made.len()
+        };
+        self.depth = info.depth();
+        Ok(())
+    }
+
     /// Takes what a block has of the file.
     pub(crate) fn take_block(&mut self, alloc: Global, block: &Block) -> Result<(), AllocError>
         ensures ok { OnOk result (self.new ≡ with_block self.old block.now) }
     {
         match block {
-            Block::StreamInfo(info) => {
-                self.depth = info.depth();
-                Ok(())
-            }
+            Block::StreamInfo(info) => self.plan(alloc, info),
             Block::Application { id, bytes } => {
                 if is_riff(id) {
                     return self.add(alloc, bytes.as_slice());
@@ -148,13 +168,13 @@ impl HeldWave {
         self.begun = true;
     }
 
-    /// Why the pieces are no WAV file of the stream's samples: the header of the samples did not come, or its samples
-    /// have other bits.
+    /// Why there is no WAV file of the stream's samples: those of the file that is kept have other bits.
     pub(crate) fn fault(&self) -> Option<KeptFault>
-        ensures { result ≡ held_fault self.now }
+        ensures value { result ≡ held_fault self.now }
+        ensures few { self.now.depth ≤ 32 }
     {
         if self.head == 0 {
-            return Some(KeptFault::NotKept);
+            return None;
         }
         if 8 * ((u32::from(self.bits) + 7) / 8) != u32::from(self.depth) {
             return Some(KeptFault::OtherBits);
@@ -187,15 +207,21 @@ impl HeldWave {
 
     /// The pieces before the samples.
     pub(crate) fn front(&self) -> &[Vec<u8>]
-        ensures { map (λ p. p.items) result.now ≡ take self.now.head self.now.pieces }
+        ensures { map (λ p. p.items) result.now ≡ front_pieces self.now }
     {
+        if self.head == 0 {
+            return &self.made[..self.cut];
+        }
         &self.pieces[..self.head]
     }
 
     /// The pieces after the samples.
     pub(crate) fn back(&self) -> &[Vec<u8>]
-        ensures { map (λ p. p.items) result.now ≡ drop self.now.head self.now.pieces }
+        ensures { map (λ p. p.items) result.now ≡ back_pieces self.now }
     {
+        if self.head == 0 {
+            return &self.made[self.cut..];
+        }
         &self.pieces[self.head..]
     }
 }

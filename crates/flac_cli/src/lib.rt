@@ -15,9 +15,10 @@ mod predictors;
 mod raw;
 mod retagging;
 mod runs;
+mod searching;
 mod wave_decoding;
 mod wave_encoding;
 
-pub use flac_jobs::{ContainerKind, Job, LineFault, RawFormat};
+pub use flac_jobs::{ContainerKind, Job, LineFault, RawFormat, SearchEffort};
 pub use laws::{kept_files_are_read, kept_files_come_back};
 pub use runs::{Task, run};

@@ -16,7 +16,7 @@ ghost use Rattle.flac_cli.specs.inner.Outcomes.{at_place};
 ghost use Rattle.flac_cli.specs.Refusals.{CanBeEncoded};
 ghost use Rattle.flac_cli.specs.Reports.{fault_line, path_of, line_text, files_of, Serves, Reports};
 ghost use Rattle.flac_cli.specs.Retagged.{HasRetagged, RetagsWith};
-ghost use Rattle.flac_cli.specs.Named.{NamesDecoding, NamesRetagging, NamesFault};
+ghost use Rattle.flac_cli.specs.Named.{NamesDecoding, NamesRetagging, NamesWaveDecoding, NamesWaveEncoding, NamesFault};
 ghost use Rattle.flac_bits.specs.Bits.{bits_of};
 ghost use Rattle.flac_cli.specs.Asked.{asked_of};
 ghost use Rattle.flac_cli.specs.Waves.{EncodesWave, BeginsWave, wave_in, asked_for_wave, HasEncodedWave, HasBegunWave};
@@ -297,7 +297,7 @@ fn refuse_wave<E: Target>(err: &mut E, path: &str, fault: WaveFault) -> u8
     1
 }
 
-/// Writes the line of a stream whose blocks keep no WAV file of its samples, and returns the status 1.
+/// Writes the line of a stream that becomes no WAV file of its samples, and returns the status 1.
 fn refuse_kept<E: Target>(err: &mut E, path: &str, fault: KeptFault) -> u8
     ensures status { result ≡ 1 }
     ensures line { E.known err.old ≡ true → E.errors err.new ≡ E.errors err.old → E.sent err.new ≡ E.sent err.old ++ fault_line path.now (text_of_kept fault) }
@@ -323,6 +323,7 @@ fn run_encode_wave<R: Source, W: Target, E: Target>(
         ⊎ BeginsWave (asked_of encoding.now) (R.coming source.old) (bits_of (W.sent target.old)) (bits_of (W.sent target.new)) }
     ensures refused { Tells R.Source source.old source.new → Serves W.Target target.old target.new → Serves E.Target err.old err.new →
         IsWaveReport (asked_of encoding.now) (R.coming source.old) (files_of job.now) result (E.sent err.old) (E.sent err.new) }
+    ensures named { result ≡ 1 → E.known err.old ≡ true → E.errors err.new ≡ E.errors err.old → NamesWaveEncoding (files_of job.now) (E.sent err.old) (E.sent err.new) }
 {
     match encode_wave(alloc, encoding, source, target) {
         Ok(()) => 0,
@@ -333,7 +334,7 @@ fn run_encode_wave<R: Source, W: Target, E: Target>(
     }
 }
 
-/// Decodes a stream to the WAV file that it keeps. Returns the status.
+/// Decodes a stream to its WAV file. Returns the status.
 fn run_decode_wave<R: Source, W: Target, E: Target>(
     alloc: Global,
     paths: &Paths<'_>,
@@ -347,6 +348,7 @@ fn run_decode_wave<R: Source, W: Target, E: Target>(
         (parts : List Piece) × (input_reading profile (R.coming source.old) (R.behind source.old)).whole parts × (W.sent target.new ≡ W.sent target.old ++ wave_in parts) }
     ensures reported { Tells R.Source source.old source.new → Serves W.Target target.old target.new → Serves E.Target err.old err.new →
         ReportsWaveDecoding profile (R.coming source.old) (R.behind source.old) paths.now.input.now result (E.sent err.old) (E.sent err.new) }
+    ensures named { result ≡ 1 → E.known err.old ≡ true → E.errors err.new ≡ E.errors err.old → NamesWaveDecoding paths.now.input.now paths.now.output.now (E.sent err.old) (E.sent err.new) }
 {
     match decode_wave(alloc, source, profile, target) {
         Ok(()) => 0,
@@ -473,13 +475,13 @@ pub fn run<R: Source, W: Target, O: Target, E: Target>(
     // If no device that the job uses fails: if the input is a stream, test, decode and list return 0 and add nothing to
     // standard error; if it is refused, they return 1 and add exactly the line of its place and reason. So does retag
     // for the marker, the blocks and comments that are too long. So does a decoding to a WAV file, which also refuses a
-    // stream that keeps no WAV file of its samples. Or memory ran out, or standard output failed while blocks were
+    // stream that becomes no WAV file of its samples. Or memory ran out, or standard output failed while blocks were
     // listed: then the line says that.
     ensures reported { Tells R.Source source.old source.new → Serves E.Target err.old err.new →
         ReportsInput task.now.job.now (R.coming source.old) (R.behind source.old) (Serves W.Target target.old target.new) (Serves O.Target out.old out.new) result (E.sent err.old) (E.sent err.new) }
-    // After status 1 of a decoding, an encoding or a retagging, whatever failed, its line was added to standard error, if
-    // that did not fail. It names the output if that could not be written (30 of a decoding, 39), and else the file at
-    // fault.
+    // After status 1 of a decoding, an encoding or a retagging, also of WAV files, whatever failed, its line was added to
+    // standard error, if that did not fail. It names the output if that could not be written (30 of a decoding, 39), and
+    // else the file at fault.
     ensures named { result ≡ 1 → E.known err.old ≡ true → E.errors err.new ≡ E.errors err.old → NamesFault task.now.job.now (E.sent err.old) (E.sent err.new) }
 {
     match task.job {
@@ -494,6 +496,7 @@ pub fn run<R: Source, W: Target, O: Target, E: Target>(
             container,
             comments,
             lax,
+            effort,
             raw,
             ..
         } => {
@@ -503,6 +506,7 @@ pub fn run<R: Source, W: Target, O: Target, E: Target>(
                 container: *container,
                 comments: comments.as_slice(),
                 list: task.list,
+                effort: *effort,
                 any: *raw,
             };
             match encode_raw(alloc, &encoding, source, target) {
@@ -520,6 +524,7 @@ pub fn run<R: Source, W: Target, O: Target, E: Target>(
             container,
             comments,
             lax,
+            effort,
             ..
         } => {
             let profile = profile_of(*lax);
@@ -536,6 +541,7 @@ pub fn run<R: Source, W: Target, O: Target, E: Target>(
                 container: *container,
                 comments: comments.as_slice(),
                 list,
+                effort: *effort,
                 any: true,
             };
             run_encode_wave(alloc, task.job, &encoding, source, target, err)

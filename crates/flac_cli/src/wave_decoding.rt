@@ -1,4 +1,4 @@
-//! Decoding of streams that keep a WAV file.
+//! Decoding of streams to WAV files.
 
 ghost use Rattle.std.specs.Prelude.{◌≡◌, ◌<◌, ◌≤◌, ◌+◌, ◌++◌, ◌∷◌, ◌%◌, true, false, nat_lt, length, map, IfOk, IfErr, OnOk, OnErr, List};
 ghost use Rattle.flac_bits.specs.Bits.{bit_value};
@@ -10,7 +10,7 @@ ghost use Rattle.flac_wave.specs.Wave.{all_of, begins_empty};
 ghost use Rattle.flac_cli.specs.Outcomes.{input_reading, Fits, ReadsWave, IsWaveOutOfMemory};
 ghost use Rattle.flac_cli.specs.Reports.{Serves};
 ghost use Rattle.flac_cli.specs.Streams.{Tells};
-ghost use Rattle.flac_cli.specs.Waves.{wave_samples, wave_in};
+ghost use Rattle.flac_cli.specs.Waves.{wave_samples, high_samples, file_samples, wave_in};
 ghost use Rattle.flac_cli.specs.inner.Waving.{nothing_held, held_after, adds, front_left, end_pad, ending};
 ghost use Rattle.flac_cli.specs.inner.WaveOutcomes.{fault_by, wave_outcome, IsOfInput};
 
@@ -20,6 +20,7 @@ use flac_frame::FrameView;
 use flac_meta::Block;
 use flac_native::{Failures, Fault, Profile, Sink, SinkFault, put_rows, sample_width};
 use flac_ogg::decode_any;
+use flac_wave::raise;
 use std::alloc::Global;
 use std::snapshot::Snapshot;
 
@@ -55,14 +56,40 @@ fn turn(depth: u8, bytes: &mut [u8])
     }
 }
 
-/// Sends samples as those of a WAV file, whose bytes are turned for it.
+/// Makes samples of `depth` bits the highest bits of their bytes, if they have fewer.
+fn lift(depth: u8, bytes: &mut [u8])
+    requires depth { depth ≤ 32 }
+    requires whole { length bytes.old % sample_width depth ≡ 0 }
+    requires room { length bytes.old ≤ 32768 }
+    ensures { bytes.new ≡ high_samples depth bytes.old }
+{
+    if depth % 8 == 0 {
+        return;
+    }
+    let width = sample_width(u32::from(depth));
+    let mut high = [0u8; ROOM];
+    let end = raise(
+        width,
+        width,
+        8 * width as u32 - u32::from(depth),
+        bytes,
+        &mut high,
+    );
+    bytes.copy_from_slice(&high[..end]);
+}
+
+/// Sends samples as those of a WAV file, whose bytes are changed for it.
 fn send_turned<W: Target>(depth: u8, bytes: &mut [u8], target: &mut W) -> Result<(), Why>
+    requires depth { depth ≤ 32 }
+    requires whole { length bytes.old % sample_width depth ≡ 0 }
+    requires room { length bytes.old ≤ 32768 }
     ensures known { OnOk result (W.known target.old ≡ true → W.known target.new ≡ true) }
-    ensures sent { OnOk result (W.known target.old ≡ true → W.sent target.new ≡ W.sent target.old ++ wave_samples depth bytes.old) }
+    ensures sent { OnOk result (W.known target.old ≡ true → W.sent target.new ≡ W.sent target.old ++ file_samples depth bytes.old) }
     ensures names { W.names target.new ≡ W.names target.old }
     ensures kept { W.errors target.old ≤ W.errors target.new }
     ensures rises { OnErr result (W.known target.old ≡ true → W.errors target.old < W.errors target.new) }
 {
+    lift(depth, bytes);
     turn(depth, bytes);
     send_all(target, bytes)
 }
@@ -77,7 +104,7 @@ fn send_samples<W: Target>(
     requires depth { depth ≤ 32 }
     requires odd { odd < 2 }
     ensures known { OnOk result (W.known target.old ≡ true → W.known target.new ≡ true) }
-    ensures sent { OnOk result (W.known target.old ≡ true → W.sent target.new ≡ W.sent target.old ++ wave_samples depth (rows_bytes (sample_width depth) (frame_of frame.now).channels (frame_of frame.now).size 0)) }
+    ensures sent { OnOk result (W.known target.old ≡ true → W.sent target.new ≡ W.sent target.old ++ file_samples depth (rows_bytes (sample_width depth) (frame_of frame.now).channels (frame_of frame.now).size 0)) }
     ensures odd { IfOk result (λ o. o ≡ (odd + length (rows_bytes (sample_width depth) (frame_of frame.now).channels (frame_of frame.now).size 0)) % 2) }
     ensures names { W.names target.new ≡ W.names target.old }
     ensures kept { W.errors target.old ≤ W.errors target.new }
@@ -172,9 +199,9 @@ fn send_ending<W: Target>(held: &HeldWave, target: &mut W) -> Result<(), Why>
     send_pieces(held.back(), target)
 }
 
-/// A sink that writes the WAV file which a stream keeps: what comes before the samples at the first frame, the samples
-/// as they come, and what follows them when it is ended. It holds the pieces of the file, and no samples. If the pieces
-/// are no WAV file of the stream's samples, it writes nothing.
+/// A sink that writes the WAV file of a stream: what comes before the samples at the first frame, the samples as they
+/// come, and what follows them when it is ended. It holds the pieces of the file, and no samples. If there is no WAV file
+/// of the stream's samples, it writes nothing.
 #[derive(Drop)]
 pub(crate) struct WaveWriter<W: Target> {
     target: W,
@@ -304,7 +331,7 @@ impl<W: Target> Sink for WaveWriter<W> {
 pub(crate) enum WaveFailure {
     /// The stream is refused, or a device or an allocation failed.
     Stream(Fault),
-    /// The blocks of the stream keep no WAV file of its samples.
+    /// There is no WAV file of the stream's samples.
     Kept(KeptFault),
     /// The target failed after the last frame.
     Write,
@@ -341,12 +368,12 @@ fn decode_into<R: Source, W: Target>(
     }
 }
 
-/// Decodes a stream, and writes the WAV file that its blocks keep. After an error nothing or a part of the file was
-/// written.
+/// Decodes a stream, and writes its WAV file: the one that its blocks keep, or else a plain one. After an error nothing or
+/// a part of the file was written.
 ///
 /// # Errors
-/// The first fault of the stream. If it has none: its blocks keep no WAV file of its samples. An error of the source
-/// or of the target, or out of memory.
+/// The first fault of the stream. If it has none: the file that it keeps has samples of other bytes. An error of the
+/// source or of the target, or out of memory.
 pub(crate) fn decode_wave<R: Source, W: Target>(
     alloc: Global,
     source: &mut R,

@@ -16,6 +16,7 @@ ghost use Rattle.flac_bits.specs.declared.why.Why.TheVariants as why;
 use crate::encoding::{Encoding, Refusal, audio_of, comments_of, plan_of, write_stream};
 use crate::predictors::{ListFault, predictors_in};
 use crate::raw::fill;
+use crate::searching::searched;
 use flac_bits::{Memory, Source, Target, Why};
 use flac_frame::{Audio, SetupFault};
 use flac_jobs::RawFormat;
@@ -239,7 +240,9 @@ fn taken_apart(
 }
 
 /// Encodes a WAV file, and writes the stream, which keeps all of the file. After an error, nothing or a prefix of the
-/// stream was sent.
+/// stream was sent. The encoder tries the predictors that [`encode_raw`] tries.
+///
+/// [`encode_raw`]: crate::encoding::encode_raw
 ///
 /// # Errors
 /// The first reason for which the file cannot be encoded as asked for: a line of the list, for which the source is not
@@ -263,10 +266,11 @@ pub(crate) fn encode_wave<R: Source, W: Target>(
     let bytes = read_all(alloc, source)?;
     let ready = taken_apart(alloc, encoding, predictors, bytes.as_slice())?;
     drop(bytes);
+    let tried = searched(alloc, encoding.effort, ready.plan, &ready.audio)?;
     write_stream(
         alloc,
         encoding.container,
-        &ready.plan,
+        &tried,
         &ready.list,
         &ready.audio,
         target,

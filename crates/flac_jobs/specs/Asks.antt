@@ -10,10 +10,10 @@ AsksDecode other = ⊥
 
 -- the job reads a whole stream
 abbrev pub AsksStream : Job → Type 0
-AsksStream (job.Encode input output format container comments lax predictors raw) = ⊥
+AsksStream (job.Encode input output format container comments lax predictors effort raw) = ⊥
 AsksStream (job.Retag input output comments) = ⊥
 AsksStream (job.DecodeWave input output lax) = ⊥
-AsksStream (job.EncodeWave input output block seek_every container comments lax predictors) = ⊥
+AsksStream (job.EncodeWave input output block seek_every container comments lax predictors effort) = ⊥
 AsksStream other = Unit {0}
 
 -- the job is a decoding to a WAV file
@@ -27,8 +27,8 @@ asks_lax (job.Test input lax) = lax
 asks_lax (job.Decode input output lax) = lax
 asks_lax (job.List input lax) = lax
 asks_lax (job.DecodeWave input output lax) = lax
-asks_lax (job.EncodeWave input output block seek_every container comments lax predictors) = lax
-asks_lax (job.Encode input output format container comments lax predictors raw) = lax
+asks_lax (job.EncodeWave input output block seek_every container comments lax predictors effort) = lax
+asks_lax (job.Encode input output format container comments lax predictors effort raw) = lax
 asks_lax other = false
 
 -- the path of the file that is read
@@ -36,22 +36,22 @@ abbrev pub input_of : Job → List ℕ
 input_of (job.Test input lax) = input.now
 input_of (job.Decode input output lax) = input.now
 input_of (job.List input lax) = input.now
-input_of (job.Encode input output format container comments lax predictors raw) = input.now
+input_of (job.Encode input output format container comments lax predictors effort raw) = input.now
 input_of (job.Retag input output comments) = input.now
 input_of (job.DecodeWave input output lax) = input.now
-input_of (job.EncodeWave input output block seek_every container comments lax predictors) = input.now
+input_of (job.EncodeWave input output block seek_every container comments lax predictors effort) = input.now
 
 -- the path of the file that is written, if there is one
 abbrev pub output_of : Job → Option (List ℕ)
 output_of (job.Decode input output lax) = Some output.now
-output_of (job.Encode input output format container comments lax predictors raw) = Some output.now
+output_of (job.Encode input output format container comments lax predictors effort raw) = Some output.now
 output_of (job.Retag input output comments) = Some output.now
 output_of (job.DecodeWave input output lax) = Some output.now
-output_of (job.EncodeWave input output block seek_every container comments lax predictors) = Some output.now
+output_of (job.EncodeWave input output block seek_every container comments lax predictors effort) = Some output.now
 output_of other = None
 
 -- the path of the list of predictors, if there is one
 abbrev pub list_of : Job → Option (List ℕ)
-list_of (job.Encode input output format container comments lax predictors raw) = option_map (λ path. path.now) predictors
-list_of (job.EncodeWave input output block seek_every container comments lax predictors) = option_map (λ path. path.now) predictors
+list_of (job.Encode input output format container comments lax predictors effort raw) = option_map (λ path. path.now) predictors
+list_of (job.EncodeWave input output block seek_every container comments lax predictors effort) = option_map (λ path. path.now) predictors
 list_of other = None

@@ -4,6 +4,7 @@ ghost use Rattle.std.specs.Prelude.{◌≡◌, option_map};
 ghost use Rattle.flac_jobs.specs.Asks.{input_of, list_of, output_of};
 
 use crate::formats::{ContainerKind, RawFormat};
+use crate::search_effort::SearchEffort;
 
 /// What the program is asked for: one variant for each command, with what was given on the command line.
 ///
@@ -30,7 +31,8 @@ pub enum Job<'a> {
     /// Encodes raw samples of this format to a native or an Ogg stream with these comments.
     ///
     /// `predictors` is the path of a list of linear predictors, which the encoder tries too; `None` if there is none.
-    /// With `raw` any bytes are samples, also those that begin as a file of another kind ([`file_kind`]).
+    /// `effort` is how far it seeks others for each block. With `raw` any bytes are samples, also those that begin as a
+    /// file of another kind ([`file_kind`]).
     ///
     /// [`file_kind`]: crate::file_kind
     Encode {
@@ -41,6 +43,7 @@ pub enum Job<'a> {
         comments: Vec<&'a str>,
         lax: bool,
         predictors: Option<&'a str>,
+        effort: SearchEffort,
         raw: bool,
     },
     /// Decodes a stream, and writes the WAV file that its blocks keep.
@@ -52,7 +55,7 @@ pub enum Job<'a> {
     /// Encodes a WAV file to a native or an Ogg stream with these comments, which keeps all of the file.
     ///
     /// `block` is the block size in inter-channel samples; `seek_every` the inter-channel samples from one seek point to
-    /// the next, 0 for no seek table; `predictors` as for `Encode`.
+    /// the next, 0 for no seek table; `predictors` and `effort` as for `Encode`.
     EncodeWave {
         input: &'a str,
         output: &'a str,
@@ -62,6 +65,7 @@ pub enum Job<'a> {
         comments: Vec<&'a str>,
         lax: bool,
         predictors: Option<&'a str>,
+        effort: SearchEffort,
     },
     /// Writes a stream with these comments in place of its own.
     Retag {

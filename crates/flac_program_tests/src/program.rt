@@ -2,10 +2,10 @@
 
 use crate::tables::{
     CHANGES, COME_BACK, ENCODINGS, JOBS, LAST_BYTE, LAX, LISTS, NATIVE, OGG, PIECES, PREDICTED,
-    PREFIXES, REPLACED, RETAGGINGS, SWEPT,
+    PREFIXES, REPLACED, RETAGGINGS, SWEPT, WAVES,
 };
 use flac_bits::{Collected, Counted, Memory, Pieces, Source, Target};
-use flac_cli::{ContainerKind, Job, LineFault, RawFormat, Task, run};
+use flac_cli::{ContainerKind, Job, LineFault, RawFormat, SearchEffort, Task, run};
 use flac_files::may_replace;
 use flac_vectors::{
     ALTERNATING, EXAMPLE, EXAMPLE_INFO, EXAMPLE_TAGGED, LEFT_SIDE, NO_SAMPLES, ONE_SAMPLE, PAGES,
@@ -378,6 +378,12 @@ fn retaggings(rt: HostRuntime) -> Result<(), Fail> {
     check_table(&rt, rt.alloc(), RETAGGINGS)
 }
 
+/// Decoding to a WAV file: a plain one, or the one that is kept.
+#[test]
+fn waves(rt: HostRuntime) -> Result<(), Fail> {
+    check_table(&rt, rt.alloc(), WAVES)
+}
+
 #[test]
 fn ogg(rt: HostRuntime) -> Result<(), Fail> {
     check_table(&rt, rt.alloc(), OGG)
@@ -638,6 +644,52 @@ fn comes_back(rt: HostRuntime) -> Result<(), Fail> {
     Ok(())
 }
 
+/// Samples of one channel of 16 bits that swing as a tone does, which linear predictors follow closer than fixed ones.
+fn swinging(alloc: Global, len: usize) -> Result<Vec<u8>, Fail> {
+    let mut bytes = Vec::new(alloc);
+    let mut before = 0i32;
+    let mut now = 3000i32;
+    for _ in 0..len {
+        let [low, high, _, _] = now.to_le_bytes();
+        bytes.push(low)?;
+        bytes.push(high)?;
+        let next = (now.wrapping_mul(15) / 8).wrapping_sub(before);
+        before = now;
+        now = next;
+    }
+    Ok(bytes)
+}
+
+/// How many bytes the stream of these samples has, which is encoded with these options and decoded to what was put in; 0
+/// if it is not.
+fn size_of_stream(alloc: Global, options: &str, raw: &[u8]) -> Result<usize, Fail> {
+    let line = format!(in alloc;
+        "flac encode a.raw a.flac --rate 44100 --channels 1 --bits 16 --block 256 {options}"
+    )?;
+    let encoded = commanded(alloc, &line, &[], raw, 4096)?;
+    let decoded = perform(alloc, &DECODE, &encoded.file, 4096);
+    if encoded.is(0, &encoded.file, "", "") && decoded.is(0, raw, "", "") {
+        Ok(encoded.file.len())
+    } else {
+        Ok(0)
+    }
+}
+
+/// Predictors that are sought for blocks of 256 samples, of which the last has 44, make a stream smaller.
+#[test]
+fn sought(rt: HostRuntime) -> Result<(), Fail> {
+    let alloc = rt.alloc();
+    let raw = swinging(alloc, 300)?;
+    let plain = size_of_stream(alloc, "", &raw)?;
+    let none = size_of_stream(alloc, "--search none", &raw)?;
+    let quick = size_of_stream(alloc, "--search quick", &raw)?;
+    let full = size_of_stream(alloc, "--search full", &raw)?;
+    assert!(rt; none == plain);
+    assert!(rt; 0 < quick && quick < plain, "{quick} {plain}");
+    assert!(rt; 0 < full && full <= quick, "{full} {quick}");
+    Ok(())
+}
+
 /// A writer without room.
 #[derive(Drop)]
 struct Full;
@@ -693,6 +745,7 @@ fn no_table_in_ogg(rt: HostRuntime) {
         comments: Vec::new(alloc),
         lax: false,
         predictors: None,
+        effort: SearchEffort::None,
         raw: false,
     };
     let found = perform(alloc, &job, &[0xF4, 0x63, 0xB0, 0x28], 4096);

@@ -391,7 +391,36 @@ pub(crate) const COME_BACK: &str = "--bits 8 --channels 1 | 17
 --bits 24 --channels 8 | 408
 --bits 32 --channels 1 | 68
 --bits 32 --channels 2 | 136
---bits 32 --channels 8 | 544";
+--bits 32 --channels 8 | 544
+--bits 16 --channels 1 --search quick | 34
+--bits 16 --channels 2 --search full | 68
+--bits 24 --channels 8 --search full | 408";
+
+/// Streams that are decoded to WAV files, in rows as those of native streams: those that keep none become plain ones.
+pub(crate) const WAVES: &str =
+    "# One sample of two channels of 16 bits: RIFF and a length, a chunk `fmt ` of 16 bytes, and the samples.
+decode a.flac a.wav | EXAMPLE | 0 | 52494646 28000000 57415645 666d7420 10000000 0100 0200 44ac0000 10b10200 0400 1000 64617461 04000000 f463b028
+# The same stream by an option, and in Ogg.
+decode --wav a.flac a.raw | EXAMPLE | 0 | 52494646 28000000 57415645 666d7420 10000000 0100 0200 44ac0000 10b10200 0400 1000 64617461 04000000 f463b028
+decode a.oga a.wav | PAGES | 0 | 52494646 28000000 57415645 666d7420 10000000 0100 0200 44ac0000 10b10200 0400 1000 64617461 04000000 f463b028
+# 127 of 8 bits, which is 255 in the file, and a zero after it.
+decode a.flac a.wav | 664c614380000022001010000000000000000ac440700000000183acb6e67e50e31db6ed341dd2de1595 fff8690200009a007fb547 | 0 | 52494646 26000000 57415645 666d742010000000 0100 0100 44ac0000 44ac0000 0100 0800 64617461 01000000 ff 00
+# STREAMINFO does not state the number of samples: then both lengths are FFFFFFFF, and no zero follows.
+decode a.flac a.wav | 664c614380000022001010000000000000000ac4407000000000 00*16 fff8690200009a007fb547 | 0 | 52494646 ffffffff 57415645 666d742010000000 0100 0100 44ac0000 44ac0000 0100 0800 64617461 ffffffff ff
+# 16 samples of two channels of 32 bits, whose format takes 40 bytes.
+decode a.flac a.wav | 664c614380000022001010000000000000000ac443f0 00*20 fff869ae000f05100015555555501ffffffff8c88021c7ffffff480000003ffffffa40000001ffffffd20000000ffffffe900000007ffffff480000003ffffffa40000001ffffffd20000000ffffffe89a26 | 0 | 52494646 ffffffff 57415645 666d7420 28000000 feff 0200 44ac0000 20620500 0800 2000 1600 2000 03000000 0100000000001000800000aa00389b71 64617461 ffffffff ffffff7f0000008000000080ffffff7f*8
+# 2^36 - 1 samples are stated: the front of an RF64 file, and the sample that came.
+decode a.flac a.wav | 664c614380000022001010000000000000000ac4407fffffffff83acb6e67e50e31db6ed341dd2de1595 fff8690200009a007fb547 | 1 | 52463634 ffffffff 57415645 64733634 1c000000 4800000010000000 ffffffff0f000000 ffffffff0f000000 00000000 666d742010000000 0100 0100 44ac0000 44ac0000 0100 0800 64617461 ffffffff ff |  | flac: a.flac: end: 28 TotalMismatch;
+# The header of a WAV file is kept, and no header of its samples: a plain file is written.
+decode a.flac a.wav | 664c614300000022001010000000000000000ac440700000000183acb6e67e50e31db6ed341dd2de1595 82000010 72696666 524946460000000057415645 fff8690200009a007fb547 | 0 | 52494646 26000000 57415645 666d742010000000 0100 0100 44ac0000 44ac0000 0100 0800 64617461 01000000 ff 00
+# Both are kept, with another rate and another length: they are written as they are.
+decode a.flac a.wav | 664c614300000022001010000000000000000ac440700000000183acb6e67e50e31db6ed341dd2de1595 02000010 72696666 524946460000000057415645 0200001c 72696666 666d742010000000 0100 0100 401f0000 401f0000 0100 0800 8200000c 72696666 6461746101000000 fff8690200009a007fb547 | 0 | 52494646 00000000 57415645 666d742010000000 0100 0100 401f0000 401f0000 0100 0800 64617461 01000000 ff 00
+# A file of samples of 16 bits is kept beside a sample of 8.
+decode a.flac a.wav | 664c614300000022001010000000000000000ac440700000000183acb6e67e50e31db6ed341dd2de1595 02000010 72696666 524946460000000057415645 0200001c 72696666 666d742010000000 0100 0100 401f0000 803e0000 0200 1000 8200000c 72696666 6461746101000000 fff8690200009a007fb547 | 1 |  |  | flac: a.flac: 72 OtherBits;
+# -1 of 12 bits, -2 of 20 and zeros of 5 are the highest bits of 2, 3 and 1 bytes.
+decode a.flac a.wav | 664c614380000022001010000000000000000ac440b000000001ab2a0d28de6b77ffdd6c72afead099ab fff869040000e700fff064e0 | 0 | 52494646 3e000000 57415645 666d7420 28000000 feff 0100 44ac0000 88580100 0200 1000 1600 0c00 04000000 0100000000001000800000aa00389b71 64617461 02000000 f0ff
+decode a.flac a.wav | 664c614380000022001010000000000000000ac441300000000196f87e53160ad1412550050a1e6f57d1 fff8690a0000cb00ffffe0ac1f | 0 | 52494646 40000000 57415645 666d7420 28000000 feff 0100 44ac0000 cc040200 0300 1800 1600 1400 04000000 0100000000001000800000aa00389b71 64617461 03000000 e0ffff 00
+decode --lax a.flac a.wav | 664c614380000022001000100000000000001000104000000010 00*16 fff86000000fc700000572 | 0 | 52494646 4c000000 57415645 666d7420 28000000 feff 0100 01000100 01000100 0100 0800 1600 0500 04000000 0100000000001000800000aa00389b71 64617461 10000000 80*16";
 
 /// Streams that are given other comments, in rows as those of native streams.
 pub(crate) const RETAGGINGS: &str =
@@ -523,16 +552,26 @@ flac retag a.flac TITLE=New/b A=b --force | 2 flac: command: OUT has the form of
 flac retag a.flac =b | 2 flac: command: OUT has the form of a comment; a file of that name is ./=b;
 flac retag a.flac TITLE=New none | 2 flac: command: comment without =;
 flac decode a.flac A=b | Decode { input: "a.flac", output: "A=b", lax: false }
-flac encode a.raw a.flac --rate 44100 --channels 2 --bits 16 --seek-every 5 A=b | Encode { input: "a.raw", output: "a.flac", format: RawFormat { rate: 44100, channels: 2, bits: 16, block: 4096, seek_every: 5 }, container: Native, comments: ["A=b"], lax: false, predictors: None, raw: false }
-flac encode a.raw a.oga --rate 44100 --channels 2 --bits 16 --ogg --serial 7 | Encode { input: "a.raw", output: "a.oga", format: RawFormat { rate: 44100, channels: 2, bits: 16, block: 4096, seek_every: 0 }, container: Ogg { serial: 7 }, comments: [], lax: false, predictors: None, raw: false }
-flac encode a.raw a.oga --rate 44100 --channels 2 --bits 16 --ogg --block 4096 | Encode { input: "a.raw", output: "a.oga", format: RawFormat { rate: 44100, channels: 2, bits: 16, block: 4096, seek_every: 0 }, container: Ogg { serial: 1 }, comments: [], lax: false, predictors: None, raw: false }
-flac encode a.raw a.oga --rate 44100 --channels 2 --bits 16 --seek-every=0 --serial 7 | Encode { input: "a.raw", output: "a.oga", format: RawFormat { rate: 44100, channels: 2, bits: 16, block: 4096, seek_every: 0 }, container: Native, comments: [], lax: false, predictors: None, raw: false }
-flac encode a.raw a.flac --rate 44100 --channels 2 --bits 5 --lax | Encode { input: "a.raw", output: "a.flac", format: RawFormat { rate: 44100, channels: 2, bits: 5, block: 4096, seek_every: 0 }, container: Native, comments: [], lax: true, predictors: None, raw: false }
-flac encode a.raw a.flac --rate 44100 --channels 2 --bits 16 --predictors a.txt | Encode { input: "a.raw", output: "a.flac", format: RawFormat { rate: 44100, channels: 2, bits: 16, block: 4096, seek_every: 0 }, container: Native, comments: [], lax: false, predictors: Some("a.txt"), raw: false }
-flac encode a.raw a.flac --rate 44100 --channels 2 --bits 16 --raw | Encode { input: "a.raw", output: "a.flac", format: RawFormat { rate: 44100, channels: 2, bits: 16, block: 4096, seek_every: 0 }, container: Native, comments: [], lax: false, predictors: None, raw: true }
-flac encode a.raw a.flac --rate 44100 --channels 2 --bits 16 --force | force Encode { input: "a.raw", output: "a.flac", format: RawFormat { rate: 44100, channels: 2, bits: 16, block: 4096, seek_every: 0 }, container: Native, comments: [], lax: false, predictors: None, raw: false }
-flac encode a.wav a.flac --force A=b | force EncodeWave { input: "a.wav", output: "a.flac", block: 4096, seek_every: 0, container: Native, comments: ["A=b"], lax: false, predictors: None }
-flac encode a.wav a.oga --ogg --block 16 --lax | EncodeWave { input: "a.wav", output: "a.oga", block: 16, seek_every: 0, container: Ogg { serial: 1 }, comments: [], lax: true, predictors: None }
+flac encode a.raw a.flac --rate 44100 --channels 2 --bits 16 --seek-every 5 A=b | Encode { input: "a.raw", output: "a.flac", format: RawFormat { rate: 44100, channels: 2, bits: 16, block: 4096, seek_every: 5 }, container: Native, comments: ["A=b"], lax: false, predictors: None, effort: None, raw: false }
+flac encode a.raw a.oga --rate 44100 --channels 2 --bits 16 --ogg --serial 7 | Encode { input: "a.raw", output: "a.oga", format: RawFormat { rate: 44100, channels: 2, bits: 16, block: 4096, seek_every: 0 }, container: Ogg { serial: 7 }, comments: [], lax: false, predictors: None, effort: None, raw: false }
+flac encode a.raw a.oga --rate 44100 --channels 2 --bits 16 --ogg --block 4096 | Encode { input: "a.raw", output: "a.oga", format: RawFormat { rate: 44100, channels: 2, bits: 16, block: 4096, seek_every: 0 }, container: Ogg { serial: 1 }, comments: [], lax: false, predictors: None, effort: None, raw: false }
+flac encode a.raw a.oga --rate 44100 --channels 2 --bits 16 --seek-every=0 --serial 7 | Encode { input: "a.raw", output: "a.oga", format: RawFormat { rate: 44100, channels: 2, bits: 16, block: 4096, seek_every: 0 }, container: Native, comments: [], lax: false, predictors: None, effort: None, raw: false }
+flac encode a.raw a.flac --rate 44100 --channels 2 --bits 5 --lax | Encode { input: "a.raw", output: "a.flac", format: RawFormat { rate: 44100, channels: 2, bits: 5, block: 4096, seek_every: 0 }, container: Native, comments: [], lax: true, predictors: None, effort: None, raw: false }
+flac encode a.raw a.flac --rate 44100 --channels 2 --bits 16 --predictors a.txt | Encode { input: "a.raw", output: "a.flac", format: RawFormat { rate: 44100, channels: 2, bits: 16, block: 4096, seek_every: 0 }, container: Native, comments: [], lax: false, predictors: Some("a.txt"), effort: None, raw: false }
+flac encode a.raw a.flac --rate 44100 --channels 2 --bits 16 --raw | Encode { input: "a.raw", output: "a.flac", format: RawFormat { rate: 44100, channels: 2, bits: 16, block: 4096, seek_every: 0 }, container: Native, comments: [], lax: false, predictors: None, effort: None, raw: true }
+flac encode a.raw a.flac --rate 44100 --channels 2 --bits 16 --force | force Encode { input: "a.raw", output: "a.flac", format: RawFormat { rate: 44100, channels: 2, bits: 16, block: 4096, seek_every: 0 }, container: Native, comments: [], lax: false, predictors: None, effort: None, raw: false }
+flac encode a.wav a.flac --force A=b | force EncodeWave { input: "a.wav", output: "a.flac", block: 4096, seek_every: 0, container: Native, comments: ["A=b"], lax: false, predictors: None, effort: Quick }
+flac encode a.wav a.oga --ogg --block 16 --lax | EncodeWave { input: "a.wav", output: "a.oga", block: 16, seek_every: 0, container: Ogg { serial: 1 }, comments: [], lax: true, predictors: None, effort: Quick }
+flac encode a.raw a.flac --rate 44100 --channels 2 --bits 16 --search none | Encode { input: "a.raw", output: "a.flac", format: RawFormat { rate: 44100, channels: 2, bits: 16, block: 4096, seek_every: 0 }, container: Native, comments: [], lax: false, predictors: None, effort: None, raw: false }
+flac encode a.raw a.flac --rate 44100 --channels 2 --bits 16 --search quick | Encode { input: "a.raw", output: "a.flac", format: RawFormat { rate: 44100, channels: 2, bits: 16, block: 4096, seek_every: 0 }, container: Native, comments: [], lax: false, predictors: None, effort: Quick, raw: false }
+flac encode a.raw a.flac --rate 44100 --channels 2 --bits 16 --search full | Encode { input: "a.raw", output: "a.flac", format: RawFormat { rate: 44100, channels: 2, bits: 16, block: 4096, seek_every: 0 }, container: Native, comments: [], lax: false, predictors: None, effort: Full, raw: false }
+flac encode a.wav a.flac --search none | EncodeWave { input: "a.wav", output: "a.flac", block: 4096, seek_every: 0, container: Native, comments: [], lax: false, predictors: None, effort: None }
+flac encode a.wav a.flac --search quick | EncodeWave { input: "a.wav", output: "a.flac", block: 4096, seek_every: 0, container: Native, comments: [], lax: false, predictors: None, effort: Quick }
+flac encode a.wav a.flac --search full | EncodeWave { input: "a.wav", output: "a.flac", block: 4096, seek_every: 0, container: Native, comments: [], lax: false, predictors: None, effort: Full }
+flac encode a.wav a.flac --search best | 2 error: invalid value 'best' for '--search <EFFORT>';  [possible values: none, quick, full];;For more information, try '--help'.;
+flac encode a.raw a.flac --rate 44100 --channels 2 --bits 16 --search 1 | 2 error: invalid value '1' for '--search <EFFORT>';  [possible values: none, quick, full];;For more information, try '--help'.;
+flac decode a.flac a.raw --search quick | 2 error: unexpected argument '--search' found*
+flac encode a.raw a.flac --search quick --raw | 2 flac: command: raw samples need --rate, --channels and --bits;
 flac encode a.wav a.flac none | 2 flac: command: comment without =;
 flac encode a.wav a.oga --ogg --seek-every 5 | 2 flac: command: --ogg with --seek-every;
 flac encode a.raw a.flac --rate 44100 --channels 2 | 2 flac: command: raw samples need --rate, --channels and --bits;

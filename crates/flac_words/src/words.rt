@@ -5,7 +5,7 @@ ghost use Rattle.std.specs.Prelude.{◌≤◌, IfErr, IfSome};
 use clap::builder::ValueParser;
 use clap::error::ErrorKind;
 use clap::{Arg, ArgAction, ArgMatches, Command};
-use flac_jobs::{CommandLine, ContainerKind, Job, LineFault, RawFormat};
+use flac_jobs::{CommandLine, ContainerKind, Job, LineFault, RawFormat, SearchEffort};
 use std::alloc::{AllocError, Global};
 use std::borrow::CowStr;
 
@@ -59,6 +59,10 @@ The encoder tries constant, verbatim and fixed predictors, and those of the list
 C1 for the nearest sample, # before a comment. Of equally short forms the first is
 written. A list has at most 64 predictors. Their orders are at most 12 at rates up to
 48000 Hz, and at most 32 at higher rates and with --lax.
+
+With --search quick the encoder also seeks linear predictors for each block, and tries
+them too; with --search full it seeks more. Files mostly get smaller, and take longer to
+encode. Without --search, WAV files are encoded as with quick, raw samples as with none.
 
 With --lax streams outside the streamable subset are written: rates up to 1048575 Hz, 4
 to 32 bits, blocks of up to 65535 samples, partition orders up to 15. Other players may
@@ -309,6 +313,7 @@ fn encode_job<'a>(alloc: Global, given: &ArgMatches<'a>) -> Result<Option<Job<'a
             comments,
             lax: given.get_flag("lax"),
             predictors: given.get_str("predictors"),
+            effort: effort_of(given, SearchEffort::Quick),
         }));
     };
     Ok(Some(Job::Encode {
@@ -319,6 +324,7 @@ fn encode_job<'a>(alloc: Global, given: &ArgMatches<'a>) -> Result<Option<Job<'a
         comments,
         lax: given.get_flag("lax"),
         predictors: given.get_str("predictors"),
+        effort: effort_of(given, SearchEffort::None),
         raw,
     }))
 }
@@ -354,6 +360,20 @@ fn format_of(given: &ArgMatches<'_>) -> Option<RawFormat> {
         block: given.get_one("block")?,
         seek_every: given.get_one("seek-every")?,
     })
+}
+
+/// How far linear predictors are sought: as far as `--search` says, else as far as is usual for the input.
+fn effort_of(given: &ArgMatches<'_>, usual: SearchEffort) -> SearchEffort {
+    let Some(word) = given.get_str("search") else {
+        return usual;
+    };
+    if word == "full" {
+        SearchEffort::Full
+    } else if word == "quick" {
+        SearchEffort::Quick
+    } else {
+        SearchEffort::None
+    }
 }
 
 /// Whether one of the options of a format is given.
@@ -407,6 +427,8 @@ enum WordKind {
     Wanted,
     /// An option with this default, whose value is such a number.
     Number(&'static str),
+    /// An option whose value is one of these words.
+    OneOf(&'static [&'static str]),
 }
 
 static TEST: Usage = Usage {
@@ -458,7 +480,7 @@ const DECODE_WORDS: [Word; 5] = [
     Word {
         name: "wav",
         kind: WordKind::Flag,
-        help: "Writes the WAV file that the stream was encoded of",
+        help: "Writes a WAV file: the one that the stream was encoded of, or else a plain one",
     },
     LAX,
     FORCE,
@@ -467,8 +489,11 @@ const DECODE_WORDS: [Word; 5] = [
 /// The arguments of `retag`.
 const RETAG_WORDS: [Word; 4] = [STREAM, STREAM_OUT, COMMENTS, FORCE];
 
+/// The words of `--search`.
+const EFFORTS: [&str; 3] = ["none", "quick", "full"];
+
 /// The arguments of `encode`.
-const ENCODE_WORDS: [Word; 14] = [
+const ENCODE_WORDS: [Word; 15] = [
     Word {
         name: "IN",
         kind: WordKind::File,
@@ -500,6 +525,11 @@ const ENCODE_WORDS: [Word; 14] = [
         name: "seek-every",
         kind: WordKind::Number("0"),
         help: "Samples from one point of a seek table to the next; 0: no table",
+    },
+    Word {
+        name: "search",
+        kind: WordKind::OneOf(&EFFORTS),
+        help: "How far linear predictors are sought; if not given, quick for WAV, none for raw samples",
     },
     Word {
         name: "ogg",
@@ -618,6 +648,9 @@ fn argument<'a>(alloc: Global, word: &Word) -> Arg<'a> {
         WordKind::List => option(argument, word.name, "LIST"),
         WordKind::Wanted => number(argument, word.name),
         WordKind::Number(default) => number(argument, word.name).default_value(default),
+        WordKind::OneOf(words) => {
+            option(argument, word.name, "EFFORT").value_parser(ValueParser::Names(words))
+        }
     }
 }
 

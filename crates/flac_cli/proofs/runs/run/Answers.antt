@@ -8,7 +8,7 @@ use Rattle.flac_cli.specs.Outcomes.{ReportsInput, input_reading}
 use Rattle.flac_cli.specs.WaveRefusals.{CanBeKept, ReportsWaveEncoding}
 use Rattle.flac_cli.specs.Waves.{asked_for_wave, HasEncodedWave, HasBegunWave, wave_in}
 use Rattle.flac_cli.specs.Refusals.{CanBeEncoded}
-use Rattle.flac_cli.specs.Named.{NamesFault}
+use Rattle.flac_cli.specs.Named.{NamesWaveEncoding, NamesFault}
 use Rattle.flac_cli.specs.Reports.{Serves, Reports, files_of, fault_line, path_of, line_text}
 use Rattle.flac_cli.specs.Retagged.{HasRetagged}
 use Rattle.flac_cli.specs.Samples.{all_samples}
@@ -188,7 +188,7 @@ returns-in-DecodeWave g c =
       wave_decoded = λ asks done tells known. subst (λ p. (parts : List Piece) × (input_reading p (g.R.Source.coming c.args.source.now) (g.R.Source.behind c.args.source.now)).whole parts × (g.W.Target.sent c.run_decode_wave.new.target ≡ g.W.Target.sent c.args.target.now ++ wave_in parts)) profile (e.decoded done tells known);
       status = e.status;
       reported = λ tells told. subst (λ j. ReportsInput j (g.R.Source.coming c.args.source.now) (g.R.Source.behind c.args.source.now) (Serves g.W.Target c.args.target.now c.run_decode_wave.new.target) (Serves g.O.Target c.args.out.now c.args.out.now) c.run_decode_wave.result (g.E.Target.sent c.args.err.now) (g.E.Target.sent c.run_decode_wave.new.err)) (sym is) (rw (← c.profile_of-in-DecodeWave.ensures) (λ served. e.reported tells served told));
-      named = λ failed known same. subst (λ j. NamesFault j (g.E.Target.sent c.args.err.now) (g.E.Target.sent c.run_decode_wave.new.err)) (sym is) tt;
+      named = λ failed known same. subst (λ j. NamesFault j (g.E.Target.sent c.args.err.now) (g.E.Target.sent c.run_decode_wave.new.err)) (sym is) (e.named failed known same);
     }
 
 pub returns-in-EncodeWave : goal.returns-in-EncodeWave
@@ -213,5 +213,5 @@ returns-in-EncodeWave g c =
       wave_decoded = λ asks. absurd (subst AsksDecodeWave is asks);
       status = e.status;
       reported = λ tells told. subst (λ j. ReportsInput j (g.R.Source.coming c.args.source.now) (g.R.Source.behind c.args.source.now) (Serves g.W.Target c.args.target.now c.run_encode_wave.new.target) (Serves g.O.Target c.args.out.now c.args.out.now) c.run_encode_wave.result (g.E.Target.sent c.args.err.now) (g.E.Target.sent c.run_encode_wave.new.err)) (sym is) tt;
-      named = λ failed known same. subst (λ j. NamesFault j (g.E.Target.sent c.args.err.now) (g.E.Target.sent c.run_encode_wave.new.err)) (sym is) tt;
+      named = λ failed known same. subst (λ j. NamesFault j (g.E.Target.sent c.args.err.now) (g.E.Target.sent c.run_encode_wave.new.err)) (sym is) (subst (λ j. NamesWaveEncoding (files_of j) (g.E.Target.sent c.args.err.now) (g.E.Target.sent c.run_encode_wave.new.err)) is (e.named failed known same));
     }

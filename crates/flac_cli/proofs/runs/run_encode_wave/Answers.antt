@@ -1,4 +1,7 @@
-use Rattle.std.proofs.Common.{None, refl, inl, arith}
+use Rattle.std.proofs.Common.{◌≡◌, ◌++◌, None, refl, ap, ◌∙◌, inl, arith}
+use Rattle.flac_cli.specs.Reports.{fault_line}
+use Rattle.flac_cli.specs.WaveRefusals.{wave_text}
+use Rattle.flac_cli.specs.declared.wave_encoding.WaveRefusal.TheVariants.{Wave, Refused}
 use Rattle.flac_cli.proofs.Jobs.{not_both}
 use Rattle.flac_cli.proofs.runs.run_encode_wave.Goals as goal
 
@@ -11,4 +14,14 @@ returns-in-Ok g c =
       accepted = λ done known. e.accepted known;
       begun = λ failed known sent. not_both _ failed refl;
       refused = λ tells served told. inl (None, e.accepted tells.0, (refl, refl));
+      named = λ failed known same. not_both _ failed refl;
     }
+
+pub returns-in-Wave-clause-named : goal.returns-in-Wave-clause-named
+returns-in-Wave-clause-named g c = λ one known same. (
+  Wave c.in-Wave.fault,
+  c.refuse_wave.ensures.line known same ∙ ap (λ p. g.E.Target.sent c.args.err.now ++ fault_line p (wave_text (Wave c.in-Wave.fault))) c.input.ensures,
+)
+
+pub returns-in-Refused-clause-named : goal.returns-in-Refused-clause-named
+returns-in-Refused-clause-named g c = λ one known same. (Refused c.in-Refused.reason, c.refuse_encoding.ensures.line known same)

@@ -15,11 +15,11 @@ use Rattle.flac_cli.proofs.Waving.{Ordered, after_parts, added, all_held, all_kn
 use Rattle.flac_cli.proofs.wave_decoding.decode_into.Goals as goal
 
 -- the parts of a stream, and what follows them, are its file
-joined : (xs : List Piece) (s t : Held) (old mid new : List ℕ) → s ≡ nothing_held → Ordered false xs → t ≡ after_parts s xs → held_fault t ≡ None → mid ≡ old ++ added s xs → new ≡ mid ++ ending t → new ≡ old ++ wave_in xs
-joined xs s t old mid new none order is good sent ended =
+joined : (xs : List Piece) (s t : Held) (old mid new : List ℕ) → t.depth ≤ 32 → s ≡ nothing_held → Ordered false xs → t ≡ after_parts s xs → held_fault t ≡ None → mid ≡ old ++ added s xs → new ≡ mid ++ ending t → new ≡ old ++ wave_in xs
+joined xs s t old mid new deep none order is good sent ended =
     let begun : t ≡ after_parts nothing_held xs = is ∙ ap (λ h. after_parts h xs) none in
     ended ∙ (ap (λ l. l ++ ending t) (sent ∙ ap (λ h. old ++ added h xs) none) ∙ (append_assoc old (added nothing_held xs) (ending t)
-    ∙ ap (λ l. old ++ l) (ap (λ h. added nothing_held xs ++ ending h) begun ∙ wave_written xs order (subst (λ h. held_fault h ≡ None) begun good))))
+    ∙ ap (λ l. old ++ l) (ap (λ h. added nothing_held xs ++ ending h) begun ∙ wave_written xs (subst (λ h. h.depth ≤ 32) begun deep) order (subst (λ h. held_fault h ≡ None) begun good))))
 
 same_rest : (a b k l : ℕ) (xs ys : List ℕ) → a ∷ (b ∷ xs) ≡ k ∷ (l ∷ ys) → xs ≡ ys
 same_rest a b k l xs ys e = ap (λ zs. drop 2 zs) e
@@ -36,7 +36,7 @@ returns-in-Ok g c =
     let sink = c.decode_any-decoded.new.sink in
     let known = counts_on _ c.requires.none in
     let e = c.in_default.ensures in
-    let good : held_fault sink.held ≡ None = sym c.fault.ensures ∙ c.in_default-fault.is in
+    let good : held_fault sink.held ≡ None = sym c.fault.ensures.value ∙ c.in_default-fault.is in
     record {
       written = λ tells sending.
           let d = (e.hands tells.0 known).done (tells.1, tells.2) refl in
@@ -45,7 +45,7 @@ returns-in-Ok g c =
           let sent = all_added (λ s. g.W.Target.known s.target) (λ s. g.W.Target.sent s.target) (λ s. s.held) old d.0 sink d.2 sending in (
             d.0,
             d.1,
-            joined d.0 old.held sink.held (g.W.Target.sent old.target) (g.W.Target.sent sink.target) _ c.requires.held (stream_ordered c.args.profile (begins_page bytes) _ d.0 _ d.1) held good sent (c.in-Ok.ensures.sent sends),
+            joined d.0 old.held sink.held (g.W.Target.sent old.target) (g.W.Target.sent sink.target) _ c.fault.ensures.few c.requires.held (stream_ordered c.args.profile (begins_page bytes) _ d.0 _ d.1) held good sent (c.in-Ok.ensures.sent sends),
           );
       outcome = λ tells served.
           let h = e.hands tells.0 known in
@@ -65,7 +65,7 @@ returns-in-Some g c =
     let sink = c.decode_any-decoded.new.sink in
     let known = counts_on _ c.requires.none in
     let e = c.in_default.ensures in
-    let bad = sym c.in-Some.is ∙ c.fault.ensures in
+    let bad = sym c.in-Some.is ∙ c.fault.ensures.value in
     record {
       written = λ tells sending. tt;
       outcome = λ tells served.

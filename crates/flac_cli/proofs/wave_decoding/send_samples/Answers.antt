@@ -1,11 +1,11 @@
-use Rattle.std.proofs.Common.{◌≡◌, ◌≤◌, ◌∙◌, ◌+◌, ◌*◌, ◌++◌, ℕ, List, min, ap, sym, refl, arith, append-nil, length, length-append, take, drop}
+use Rattle.std.proofs.Common.{◌≡◌, ◌≤◌, ◌∙◌, ◌+◌, ◌*◌, ◌%◌, ◌++◌, ℕ, List, min, ap, sym, refl, arith, append-nil, length, length-append, take, drop}
 use Rattle.std.proofs.lemmas.List.{length-take-le, length-drop}
 use Rattle.std.proofs.Math.Nat.{mod-lt}
 use Rattle.flac_frame.specs.Lent.{frame_of}
 use Rattle.flac_native.specs.Message.{sample_width, rows_bytes}
 use Rattle.flac_native.proofs.SampleRows.{rows_none}
 use Rattle.std.proofs.lemmas.Result.{err_from_is_err_and}
-use Rattle.flac_cli.proofs.Waved.{kept_more, rises_later, wave_none, rows_more, odd_none, odd_more}
+use Rattle.flac_cli.proofs.Waved.{kept_more, rises_later, file_none, rows_more, rows_whole, whole_rest, odd_none, odd_more}
 use Rattle.flac_cli.proofs.wave_decoding.send_samples.Goals as goal
 
 fits_out : (end count left room : ℕ) → end ≤ 32 * count → count ≡ min left 1024 → room ≡ 32768 → end ≤ room
@@ -22,11 +22,20 @@ loop-start-init g c =
       room = refl;
       few = c.requires.odd;
       known = λ k. k;
-      sent = λ k. sym (ap (λ l. g.W.Target.sent c.args.target.now ++ l) (wave_none c.args.depth _ none) ∙ append-nil (g.W.Target.sent c.args.target.now));
+      sent = λ k. sym (ap (λ l. g.W.Target.sent c.args.target.now ++ l) (file_none c.args.depth _ none) ∙ append-nil (g.W.Target.sent c.args.target.now));
       odd = odd_none c.args.odd _ c.requires.odd (ap length none);
       names = refl;
       kept = omega arith;
     }
+
+pub send_turned-requires-clause-whole : goal.send_turned-requires-clause-whole
+send_turned-requires-clause-whole g c =
+    let w : c.sample_width-width.result ≡ sample_width c.args.depth = c.sample_width-width.ensures ∙ ap sample_width c.from.ensures in
+    let rows = rows_bytes (sample_width c.args.depth) (frame_of c.args.frame.now).channels c.min-count.result c.loop-start.start in
+    let put : take c.put_rows-end.result c.put_rows-end.new.out ≡ rows =
+    c.put_rows-end.ensures.bytes ∙ ap (λ k. rows_bytes k (frame_of c.args.frame.now).channels c.min-count.result c.loop-start.start) w in
+    ap (λ l. length l % sample_width c.args.depth) put
+    ∙ whole_rest (sample_width c.args.depth) rows (rows_whole (sample_width c.args.depth) (frame_of c.args.frame.now).channels c.min-count.result c.loop-start.start (omega (arith, c.requires.depth)))
 
 pub loop-start-preserved : goal.loop-start-preserved
 loop-start-preserved g c =
@@ -43,7 +52,7 @@ loop-start-preserved g c =
       room = kept_room c.send_turned.new.bytes out end (c.send_turned.auto.bytes ∙ long) (fits_out end c.min-count.result _ (length out) c.put_rows-end.ensures.end c.min-count.ensures long_out) long_out;
       few = mod-lt (c.loop-start.odd + end) {m = 2} (omega arith);
       known = λ k. c.in_ok-send_turned.ensures.known (inv.known k);
-      sent = λ k. rows_more c.args.depth (sample_width c.args.depth) frame.channels c.loop-start.start c.min-count.result _ _ _ _ (inv.sent k) put (c.in_ok-send_turned.ensures.sent (inv.known k));
+      sent = λ k. rows_more c.args.depth frame.channels c.loop-start.start c.min-count.result _ _ _ _ c.requires.depth (inv.sent k) put (c.in_ok-send_turned.ensures.sent (inv.known k));
       odd = odd_more (sample_width c.args.depth) frame.channels c.loop-start.start c.min-count.result c.loop-start.odd c.args.odd end (take end out) inv.odd put long;
       names = c.in_ok-send_turned.ensures.names ∙ inv.names;
       kept = kept_more _ _ _ inv.kept c.in_ok-send_turned.ensures.kept;

@@ -1,13 +1,13 @@
-use Rattle.std.proofs.Common.{◌≡◌, ◌∙◌, None, refl, subst, ap, inl}
+use Rattle.std.proofs.Common.{◌≡◌, ◌∙◌, None, refl, subst, sym, ap, inl}
 use Rattle.std.proofs.lemmas.Result.{err_from_is_err_and}
 use Rattle.flac_bits.specs.Bits.{bits_of}
-use Rattle.flac_native.specs.Given.{plan_fault}
 use Rattle.flac_cli.specs.Asked.{asked_of}
-use Rattle.flac_cli.specs.Encoded.{cut_as, EncodesIn}
+use Rattle.flac_cli.specs.Encoded.{cut_found, EncodesIn}
 use Rattle.flac_cli.specs.Waves.{Keeps}
 use Rattle.flac_cli.specs.declared.encoding.Refusal.TheVariants.{Input}
 use Rattle.flac_cli.proofs.Failed.{not_list, not_input, same_output}
 use Rattle.flac_cli.proofs.Kept.{kept_back, begun_wave}
+use Rattle.flac_cli.proofs.Searched.{cut_is, are_found, found_good, same_stream, same_refusal}
 use Rattle.flac_cli.proofs.WaveRefused.{refused_line, listed_reason, file_reason, container_reason, not_refused, same_refused}
 use Rattle.flac_cli.proofs.wave_encoding.encode_wave.Goals as goal
 
@@ -20,13 +20,15 @@ returns g c =
     let before = bits_of (g.W.Target.sent c.args.target.now) in
     let after = bits_of (g.W.Target.sent c.write_stream.new.target) in
     let is = c.in_ok-ready.ensures.found in
+    let own = record asked { format = ready.format } in
+    let s = c.in_ok-tried.ensures.searched in
     record {
       written = λ known told.
-          let p = cut_as (record asked { format = ready.format }) ready.audio ps in
-          let good : plan_fault p ≡ None = subst (λ k. plan_fault k ≡ None) is.cut is.good in
+          let p = cut_found own ready.audio ps s.found in
+          let good = found_good own ready.audio ps ready.plan c.in_ok-tried.tried is.cut s is.good in
           let same = c.as_slice.ensures.value ∙ c.in_ok-bytes.ensures.bytes known in
           let keeps : Keeps asked bytes ready.format ready.audio ready.list = subst (λ b. Keeps asked b ready.format ready.audio ready.list) same is.keeps in
-          let all : EncodesIn asked.container p ready.list ready.audio before after = subst (λ k. EncodesIn asked.container k ready.list ready.audio before after) is.cut (c.in_ok-write_stream.ensures.written told) in
+          let all : EncodesIn asked.container p ready.list ready.audio before after = subst (λ k. EncodesIn asked.container k ready.list ready.audio before after) (cut_is own ready.audio ps ready.plan c.in_ok-tried.tried is.cut s) (c.in_ok-write_stream.ensures.written told) in
           record {
             format = ready.format;
             audio = ready.audio;
@@ -34,13 +36,16 @@ returns g c =
             predictors = ps;
             keeps = keeps;
             listed = c.in_ok-predictors.ensures.list;
+            found = s.found;
+            sought = are_found own ready.audio ps ready.plan c.in_ok-tried.tried is.cut s;
             encodes = all;
-            back = kept_back asked bytes ready.format ready.audio ready.list ps before after keeps all good;
+            back = kept_back asked bytes ready.format ready.audio ready.list p before after keeps all good;
           };
       begun = tt;
       accepted = λ known.
           file_reason asked ps c.as_slice.result.now bytes ready.format ready.plan ready.list ready.audio c.in_ok-predictors.ensures.list
-          (c.as_slice.ensures.value ∙ c.in_ok-bytes.ensures.bytes known) is c.in_ok-write_stream.ensures.accepted;
+          (c.as_slice.ensures.value ∙ c.in_ok-bytes.ensures.bytes known) is
+          (sym (same_stream asked.container ready.plan c.in_ok-tried.tried s.found ready.list s.is) ∙ c.in_ok-write_stream.ensures.accepted);
       refused = tt;
       failed = tt;
     }
@@ -81,6 +86,17 @@ returns-in_err-ready g c =
       failed = λ is. absurd (c.in_err-ready.ensures.unwritten is);
     })
 
+pub returns-in_err-tried : goal.returns-in_err-tried
+returns-in_err-tried g c =
+    let p = err_from_is_err_and c.from_residual-in_err-tried.result c.from_residual-in_err-tried.ensures.1 in
+    rw (p.1, p.2) (record {
+      written = tt;
+      begun = λ known told. inl refl;
+      accepted = tt;
+      refused = λ known same. inl (Input _, refl, inl (ap Input c.in_err-tried.ensures.memory));
+      failed = not_refused _ _ (not_input _ _);
+    })
+
 pub returns-in_err-write_stream : goal.returns-in_err-write_stream
 returns-in_err-write_stream g c =
     let p = err_from_is_err_and c.from_residual-in_err-write_stream.result c.from_residual-in_err-write_stream.ensures.1 in
@@ -89,15 +105,17 @@ returns-in_err-write_stream g c =
     let ps = c.in_ok-predictors.predictors.items in
     let bytes = g.R.Source.coming c.args.source.now in
     let is = c.in_ok-ready.ensures.found in
+    let s = c.in_ok-tried.ensures.searched in
     rw (p.1, p.2) (record {
       written = tt;
       begun = λ known told.
-          begun_wave asked ps c.as_slice.result.now bytes ready.format ready.plan ready.list ready.audio
+          begun_wave asked ps c.as_slice.result.now bytes ready.format ready.plan c.in_ok-tried.tried ready.list ready.audio
           (bits_of (g.W.Target.sent c.args.target.now)) (bits_of (g.W.Target.sent c.write_stream.new.target))
-          (c.as_slice.ensures.value ∙ c.in_ok-bytes.ensures.bytes known) is.keeps c.in_ok-predictors.ensures.list is.cut
+          (c.as_slice.ensures.value ∙ c.in_ok-bytes.ensures.bytes known) is.keeps c.in_ok-predictors.ensures.list is.cut s
           (λ same. ap (λ t. bits_of (g.W.Target.sent t)) same) (c.in_err-write_stream.ensures.begun told);
       accepted = tt;
       refused = λ known same. container_reason asked ps c.as_slice.result.now bytes ready.format ready.plan ready.list ready.audio c.in_ok-predictors.ensures.list
-          (c.as_slice.ensures.value ∙ c.in_ok-bytes.ensures.bytes known) is _ c.in_err-write_stream.ensures.refused;
+          (c.as_slice.ensures.value ∙ c.in_ok-bytes.ensures.bytes known) is _
+          (same_refusal asked.container ready.plan c.in_ok-tried.tried s.found ready.list _ s.is c.in_err-write_stream.ensures.refused);
       failed = λ is. c.in_err-write_stream.ensures.failed (same_output _ _ (same_refused _ _ is));
     })

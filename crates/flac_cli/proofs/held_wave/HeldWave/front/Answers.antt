@@ -1,8 +1,14 @@
 use Rattle.std.proofs.Common.{◌∙◌, ap, map, take}
-use Rattle.flac_cli.specs.inner.Waving.{Held}
-use Rattle.flac_cli.proofs.Waved.{map_taken, items}
+use Rattle.flac_cli.specs.inner.Waving.{front_pieces}
+use Rattle.flac_cli.proofs.Waved.{map_taken, items, none_kept, some_kept}
 use Rattle.flac_cli.proofs.held_wave.HeldWave.front.Goals as goal
+
+pub returns-then-self-eq0 : goal.returns-then-self-eq0
+returns-then-self-eq0 c =
+    let n = c.self.inside.cut in
+    ap (λ l. map items (take n l)) c.deref.ensures.value ∙ (map_taken items n c.self.inside.made.items ∙ (none_kept c.self.inside.head _ _ c.if-self-eq0.true ∙ ap front_pieces c.self.view_is))
 
 pub returns : goal.returns
 returns c =
-    ap (λ l. map items (take c.self.inside.head l)) c.deref.ensures.value ∙ (map_taken items c.self.inside.head c.self.inside.pieces.items ∙ ap (λ (h : Held). take h.head h.pieces) c.self.view_is)
+    let n = c.self.inside.head in
+    ap (λ l. map items (take n l)) c.deref-2.ensures.value ∙ (map_taken items n c.self.inside.pieces.items ∙ (some_kept n _ _ c.if-self-eq0.false ∙ ap front_pieces c.self.view_is))
