@@ -291,7 +291,7 @@ def own_list(form, seconds):
 
 
 def lists_for(form, seconds, folder):
-    """The lists of linear predictors with which a sound is encoded: names, and words of the program."""
+    """The lists of linear predictors with which a sound is encoded, and the searches for them: names, and words of the program."""
     first = os.path.join(folder, "first.txt")
     with open(lists.SHIPPED, encoding="ascii") as file, open(first, "w", encoding="ascii") as out:
         out.writelines([line for line in file if line.split("#")[0].strip()][:8])
@@ -301,10 +301,13 @@ def lists_for(form, seconds, folder):
     yield "no list", []
     for name, path in (("8 lines of music.txt", first), ("music.txt", lists.SHIPPED), (f"a list of its own, {made}", own)):
         yield name, ["--predictors", path]
+    for search in ("quick", "full"):
+        yield f"--search {search}", ["--search", search]
+    yield "music.txt, --search full", ["--predictors", lists.SHIPPED, "--search", "full"]
 
 
 def list_commands(form, seconds, folder):
-    """The reference at three levels, and the program with each list: for each name the command, and the file that it writes."""
+    """The reference at three levels, and the program with each list or search: for each name the command, and the file that it writes."""
     raw, commands = audio(form, seconds), {}
     for level in ("0", "5", "8"):
         words = ["--no-padding", "--no-seektable", *level_words(form, level), *raw_words(form)]
@@ -318,7 +321,7 @@ def list_commands(form, seconds, folder):
 
 
 def with_lists(seconds, runs):
-    """Bytes and time of encoding with lists of linear predictors, beside the reference's levels 0, 5 and 8."""
+    """Bytes and time of encoding with lists of linear predictors and with searches, beside the reference's levels 0, 5 and 8."""
     for form in (*FORMS, OTHER_FORMS[1]):
         head(f"encode, {form.label}", "s", "s : flac -5", "ns a sample", "bytes", "bytes : flac -0", "bytes : flac -5", "bytes : flac -8")
         with tempfile.TemporaryDirectory() as folder:
@@ -355,7 +358,7 @@ def main():
     parser.add_argument("--quick", action="store_true", help="20 seconds of audio and 3 runs instead of 180 and 5")
     parser.add_argument("--runs", type=int, default=None)
     parser.add_argument("--seconds", type=int, default=None, help="how long the audio of a row is")
-    parser.add_argument("--lists", action="store_true", help="the tables with lists of linear predictors alone")
+    parser.add_argument("--lists", action="store_true", help="the tables with lists of linear predictors, and with searches for them, alone")
     parser.add_argument("--quiet", action="store_true", help="only turns in which nothing else had a part of the processor; without lists")
     words = parser.parse_args()
     if not os.path.exists(PROGRAM):
