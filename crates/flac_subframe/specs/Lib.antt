@@ -1,15 +1,4 @@
-pub mod Numbers
-pub mod Prediction
-pub mod Residual
-pub mod Subframe
-pub mod Laws
-pub mod Spelling
-pub mod Least
-pub mod Cost
-pub mod Bodies
-pub mod Handed
-pub mod Chosen
-pub mod Wasted
-pub mod Family
-pub mod Room
-pub mod inner
+-- What a subframe is, how it is read and written, and which samples it has
+pub mod format
+-- The forms among which the search chooses the shortest
+pub mod search

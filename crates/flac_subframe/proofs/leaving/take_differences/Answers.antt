@@ -1,4 +1,0 @@
-use Rattle.flac_subframe.proofs.leaving.take_differences.Goals as goal
-
-pub returns-clause-range : goal.returns-clause-range
-returns-clause-range c = rw c.take_fixed.ensures.all at c.are_residual.ensures

@@ -1,8 +1,0 @@
-use Rattle.std.proofs.Common.{◌≡◌, map, take}
-use Rattle.std.specs.List.{range_with_len}
-use Rattle.flac_subframe.specs.Prediction.{fixed_coefficients}
-use Rattle.flac_subframe.specs.Bodies.{difference}
-use Rattle.flac_subframe.proofs.leaving.take_order.Given as goal
-
-abbrev pub invariant-loop-index : goal.invariant-loop-index
-invariant-loop-index l = take l.index l.values ≡ map (difference (fixed_coefficients l.order) 0 l.samples) (range_with_len 0 l.index)

@@ -1,7 +1,0 @@
-use Rattle.std.proofs.Common.{◌≡◌, ◌+◌, ◌<◌, ℕ}
-use Rattle.flac_subframe.specs.Numbers.{sample_at}
-use Rattle.flac_subframe.specs.inner.Packing.{paired}
-use Rattle.flac_subframe.proofs.packed.put_factors.Given as goal
-
-abbrev pub invariant-loop-j : goal.invariant-loop-j
-invariant-loop-j l = (k : ℕ) → k < l.j → sample_at l.factors k ≡ paired (sample_at l.coefficients k) (sample_at l.coefficients (k + l.half))

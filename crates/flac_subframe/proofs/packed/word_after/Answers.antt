@@ -1,5 +1,0 @@
-use Rattle.flac_subframe.proofs.Packing.{after_is}
-use Rattle.flac_subframe.proofs.packed.word_after.Goals as goal
-
-pub returns : goal.returns
-returns c = λ high low small is. after_is c.args.first high low _ c.ranges.first c.cast_unsigned.ensures small is

@@ -1,0 +1,24 @@
+use Rattle.std.proofs.Common.{◌≡◌, ◌^◌, length, pos, arith}
+use Rattle.std.proofs.lemmas.List.{get_or-replicate}
+use Rattle.flac_subframe.specs.format.Bodies.{differences}
+use Rattle.flac_subframe.proofs.lemmas.search.Lanes.{stays_below_wide, peak_of, no_sums, sums_below, differences_from}
+use Rattle.flac_subframe.proofs.search.wide_products.take_wide_products.Goals as goal
+
+pub add_all-requires-clause-small : goal.add_all-requires-clause-small
+add_all-requires-clause-small c = stays_below_wide c.args.coefficients.now c.args.samples.now c.requires.few c.requires.small (peak_of c.args.samples.now c.requires.fits)
+
+pub add_all-requires-clause-before : goal.add_all-requires-clause-before
+add_all-requires-clause-before c = no_sums c.args.coefficients.now c.args.samples.now c.fill.new.self (λ j h. rw (c.fill.ensures.after (λ y is. is)) (get_or-replicate _ j (pos 0) (pos 0) (omega (arith, h, c.fill.ensures.len))))
+
+pub leave-requires-clause-small : goal.leave-requires-clause-small
+leave-requires-clause-small c = λ j h.
+    sums_below (2 ^ 63) c.args.coefficients.now c.args.samples.now c.add_all.new.sums (length c.args.coefficients.now) c.add_all.ensures.after
+    (stays_below_wide c.args.coefficients.now c.args.samples.now c.requires.few c.requires.small (peak_of c.args.samples.now c.requires.fits)) j h
+
+pub returns-clause-all : goal.returns-clause-all
+returns-clause-all c = differences_from c.args.coefficients.now c.args.samples.now c.args.shift c.add_all.new.sums c.leave.new.values (omega arith) (omega arith) c.add_all.ensures.after c.leave.ensures.values
+
+pub returns-clause-range : goal.returns-clause-range
+returns-clause-range c =
+    let is : c.leave.new.values ≡ differences c.args.coefficients.now c.args.shift c.args.samples.now = differences_from c.args.coefficients.now c.args.samples.now c.args.shift c.add_all.new.sums c.leave.new.values (omega arith) (omega arith) c.add_all.ensures.after c.leave.ensures.values in
+    rw is at c.are_residual.ensures

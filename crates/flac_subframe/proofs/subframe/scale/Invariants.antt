@@ -1,5 +1,0 @@
-use Rattle.flac_subframe.proofs.Scaling.{ScaledTo}
-use Rattle.flac_subframe.proofs.subframe.scale.Given as goal
-
-abbrev pub invariant-loop-place : goal.invariant-loop-place
-invariant-loop-place l = ScaledTo l.fn.wasted l.fn.samples l.samples l.place-index
