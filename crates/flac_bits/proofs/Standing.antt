@@ -11,7 +11,7 @@ use Rattle.flac_bits.specs.Layout.{number_at, zeros_at, run, and_then}
 use Rattle.flac_bits.specs.Lists.{list_of, behind as put_behind}
 use Rattle.flac_bits.specs.inner.Stretches.{IsRead}
 use Rattle.flac_bits.specs.Reading.{HeldEnds}
-use Rattle.flac_bits.specs.inner.Reading.{Draws}
+use Rattle.flac_bits.specs.inner.Reading.{Draws, SameSource}
 use Rattle.flac_bits.proofs.Stretches.{stretch_read, stretch_ends}
 use Rattle.flac_bits.specs.Meaning.{unary_bits}
 use Rattle.flac_bits.specs.Rice.{rice, rice_value}
@@ -28,31 +28,31 @@ module _ (known : Bool) (errors raised most : ℕ) (behind : Behind) (names : Li
   t = state_of known errors raised most behind names coming new
 
   pub number_took : (n v : ℕ) → Takes (unsigned n v) old new → v < 2 ^ n
-      → (v < 2 ^ n) × (t.most + n ≡ s.most) × (t.known ≡ s.known) × (t.errors ≡ s.errors) × (t.raised ≡ s.raised) × (t.behind ≡ s.behind) × (t.names ≡ s.names) × (number_at n s.cursor ≡ Ok (v, t.cursor))
+      → (v < 2 ^ n) × (t.most + n ≡ s.most) × SameSource s t × (number_at n s.cursor ≡ Ok (v, t.cursor))
   number_took n v takes lt =
       let spent = taken_spends (unsigned n v) old new takes in
-      rw (← is, takes.3) (lt, omega (arith, spent, length-unsigned n v), refl, refl, refl, refl, refl, taken_read n v _ old new _ lt takes)
+      rw (← is, takes.3) (lt, omega (arith, spent, length-unsigned n v), (refl, refl, refl, refl, refl), taken_read n v _ old new _ lt takes)
 
   pub zeros_took : (limit : ℕ) (o : Option ℕ) → IfSome o (λ q. (q ≤ limit) × Takes (unary_bits q) old new)
-      → IfSome o (λ q. (q ≤ limit) × (t.most ≤ s.most) × (t.known ≡ s.known) × (t.errors ≡ s.errors) × (t.raised ≡ s.raised) × (t.behind ≡ s.behind) × (t.names ≡ s.names) × (zeros_at limit s.cursor ≡ Ok (Some q, t.cursor)))
+      → IfSome o (λ q. (q ≤ limit) × (t.most ≤ s.most) × SameSource s t × (zeros_at limit s.cursor ≡ Ok (Some q, t.cursor)))
   zeros_took limit None some = tt
   zeros_took limit (Some q) (le, takes) =
       let spent = taken_spends (unary_bits q) old new takes in
-      rw (← is, takes.3) (le, omega (arith, spent), refl, refl, refl, refl, refl, unary_read limit q _ old new _ le takes)
+      rw (← is, takes.3) (le, omega (arith, spent), (refl, refl, refl, refl, refl), unary_read limit q _ old new _ le takes)
 
   pub rice_took : (k limit : ℕ) (o : Option ℕ) → IfSome o (λ v. (q : ℕ) × (low : ℕ) × (q ≤ limit) × (low < 2 ^ k) × (v ≡ q * 2 ^ k + low) × Takes (unary_bits q ++ unsigned k low) old new)
-      → IfSome o (λ v. (t.most ≤ s.most) × (t.known ≡ s.known) × (t.errors ≡ s.errors) × (t.raised ≡ s.raised) × (t.behind ≡ s.behind) × (t.names ≡ s.names) × (run (rice k limit) s.cursor ≡ Ok (v, t.cursor)))
+      → IfSome o (λ v. (t.most ≤ s.most) × SameSource s t × (run (rice k limit) s.cursor ≡ Ok (v, t.cursor)))
   rice_took k limit None some = tt
   rice_took k limit (Some v) (q, low, le, lt, e, takes) =
       let spent = taken_spends (unary_bits q ++ unsigned k low) old new takes in
-      rw (← is, takes.3) (omega (arith, spent), refl, refl, refl, refl, refl, rice_read k limit q low v _ old new _ le lt e takes)
+      rw (← is, takes.3) (omega (arith, spent), (refl, refl, refl, refl, refl), rice_read k limit q low v _ old new _ le lt e takes)
 
   pub values_took : (k : ℕ) (text : List Bool) (us vs : List ℤ) (i j : ℕ) → Passes text old new → IsRead k text us i vs j
-      → ((t.most ≤ s.most) × (t.known ≡ s.known) × (t.errors ≡ s.errors) × (t.raised ≡ s.raised) × (t.behind ≡ s.behind) × (t.names ≡ s.names))
+      → ((t.most ≤ s.most) × SameSource s t)
       × (and_then (run (list_of (length us - i) (rice_value k)) s.cursor) (put_behind (take i us)) ≡ and_then (run (list_of (length us - j) (rice_value k)) t.cursor) (put_behind (take j vs)))
   values_took k text us vs i j passes read =
       let spent = ap (λ (bs : List Bool). length bs) passes.0 ∙ length-append text (new.word ++ bits_of new.bytes) in
-      rw (← is, passes.2) ((omega (arith, spent), refl, refl, refl, refl, refl), stretch_read k text us vs i j _ old new _ passes read)
+      rw (← is, passes.2) ((omega (arith, spent), (refl, refl, refl, refl, refl)), stretch_read k text us vs i j _ old new _ passes read)
 
   -- bits that were taken were held
   held_left : (n : ℕ) → length (old.word ++ bits_of old.bytes) ≡ n + length (new.word ++ bits_of new.bytes) → new.fence ≡ old.fence → s.held + length t.cursor.left ≡ t.held + length s.cursor.left

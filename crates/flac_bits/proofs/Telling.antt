@@ -29,3 +29,15 @@ gone_fault old now new more h is r = λ known same. sym (h.reads known) ∙ is �
 pub gone_then : {A Y : Type 0} {part : Result (A × Cursor) Reason} {rest whole : Result (Y × Cursor) Reason} {x : A} {d : Cursor} (old now new : State) (more : A → Cursor → Result (Y × Cursor) Reason)
     → Goes old now rest whole → rest ≡ and_then part more → (now.known ≡ true → new.errors ≡ now.errors → part ≡ Ok (x, d)) → Told whole (more x d) old new
 gone_then old now new more h is r = λ known same. sym (h.reads known) ∙ is ∙ ap (λ p. and_then p more) (r (h.known known) (same ∙ sym h.errors))
+
+-- ---- rules that are judged between what several calls read
+
+-- none of them is broken
+pub told_past : {Y : Type 0} {read : Result (Unit {0} × Cursor) Reason} {answer : Result (Y × Cursor) Reason} (old new : State) (place : Cursor) (more : Unit {0} → Cursor → Result (Y × Cursor) Reason)
+    → read ≡ Ok (tt, place) → Told (more tt place) answer old new → Told (and_then read more) answer old new
+told_past old new place more is q = λ known same. ap (λ p. and_then p more) is ∙ q known same
+
+-- one of them is broken
+pub told_broken : {Y : Type 0} {read : Result (Unit {0} × Cursor) Reason} {e : Why} (old new : State) (more : Unit {0} → Cursor → Result (Y × Cursor) Reason)
+    → read ≡ Err (because e) → Told (and_then read more) (Err (because e)) old new
+told_broken old new more is = λ known same. ap (λ p. and_then p more) is

@@ -25,4 +25,6 @@ pub mod Meant
 pub mod LittleEndian
 pub mod Unchecked
 pub mod Failing
+pub mod Devices
+pub mod Sources
 pub mod inner

@@ -1,8 +1,12 @@
 -- What a reading call does.
-use Rattle.std.specs.Prelude.{◌≡◌, ◌≢◌, ◌<◌, ◌≤◌, ◌+◌, ℕ, Bool, true, false, List, ◌++◌, length, take, Result, Ok, Err, OnOk, IfOk, IfErr, IsOkAnd, IsErrAnd, ◌⊎◌}
+use Rattle.std.specs.Prelude.{◌≡◌, ◌≢◌, ◌<◌, ◌≤◌, ◌+◌, ◌*◌, ℕ, ℤ, [], Bool, true, false, List, ◌++◌, length, take, Result, Ok, Err, OnOk, IfOk, IfErr, IsOkAnd, IsErrAnd, MatchResult, ◌⊎◌}
 use Rattle.flac_bits.specs.State.{Cursor, State, Rises, Consumes}
 use Rattle.flac_bits.specs.Reasons.{of_output}
-use Rattle.flac_bits.specs.Layout.{Layout, Reason, because, run}
+use Rattle.flac_bits.specs.Layout.{Layout, Reason, because, run, bits}
+use Rattle.flac_bits.specs.Lists.{list_of}
+use Rattle.flac_bits.specs.Rice.{rice_value}
+use Rattle.flac_bits.specs.Signed.{signed_field}
+use Rattle.flac_bits.specs.Bits.{bits_of, is_nil}
 use Rattle.flac_bits.specs.Meaning.{Spells, Shows, IsCut}
 use Rattle.flac_bits.specs.declared.why.Why.{Why}
 use Rattle.flac_bits.specs.declared.why.Why.TheVariants.{Memory, Read}
@@ -77,3 +81,42 @@ Means view layout old new result = old.known ≡ true → new.errors ≡ old.err
 -- the same unless memory ran out
 abbrev pub MeansInRoom : {X Y : Type 0} → (X → Y) → Layout Y → State → State → Result X Why → Type 0
 MeansInRoom view layout old new result = (result ≡ Err Memory → ⊥) → Means view layout old new result
+
+-- ---- calls that read a slice of values
+
+-- what was read are n bytes
+abbrev pub ReadsBytes : {X : Type 0} → ℕ → List ℕ → State → State → Result X Why → Type 0
+ReadsBytes n bytes old new result = Reads (λ _. bytes) (list_of n (bits 8)) old new result
+
+-- what was read are m residual values under the Rice parameter k (RFC 9639, section 9.2.7.2)
+abbrev pub ReadsRice : {X : Type 0} → (k m : ℕ) → List ℤ → State → State → Result X Why → Type 0
+ReadsRice k m values old new result = Reads (λ _. values) (list_of m (rice_value k)) old new result
+
+-- what was read are m signed numbers of n bits (section 5)
+abbrev pub ReadsSigned : {X : Type 0} → (n m : ℕ) → List ℤ → State → State → Result X Why → Type 0
+ReadsSigned n m values old new result = Reads (λ _. values) (list_of m (signed_field n)) old new result
+
+-- no bit is left, and no error comes in place of the end
+abbrev pub IsAtEnd : Cursor → Type 0
+IsAtEnd c = (c.left ≡ []) × (c.mark.short ≡ Read → ⊥)
+
+-- the error is one of the source; if the source did not count it, it is the one that comes in place of the end, and of
+-- the bits that were left P holds
+abbrev pub IsForetold : Type 0 → State → State → Why → Type 0
+IsForetold P old new e = (e ≡ Read) × (old.known ≡ true → new.errors ≡ old.errors → P × (old.cursor.mark.short ≡ Read))
+
+-- these bytes were read, if the bytes of the source are known
+abbrev pub ConsumesBytes : List ℕ → State → State → Type 0
+ConsumesBytes bytes old new = old.known ≡ true → Consumes (bits_of bytes) old.cursor new.cursor
+
+-- the source is asked for bytes only if fewer than these are held
+abbrev pub PullsBytes : ℕ → State → State → Result ℕ Why → Type 0
+PullsBytes most old new result = MatchResult result (λ n. old.held ≤ new.held + 8 * n) (λ _. old.held < 8 * most)
+
+-- whether no bit is left
+abbrev pub SaysOver : State → State → Bool → Type 0
+SaysOver old new over = old.known ≡ true → (new.cursor ≡ old.cursor) × (over ≡ is_nil old.cursor.left)
+
+-- the error if no bit is left and none comes in place of the end
+abbrev pub SaysShort : State → Why → Type 0
+SaysShort s why = s.known ≡ true → s.cursor.left ≡ [] → (s.cursor.mark.short ≡ Read → ⊥) → why ≡ s.cursor.mark.short

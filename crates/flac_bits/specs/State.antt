@@ -77,6 +77,10 @@ short_of (Some f) = Read
 abbrev pub with_short : Why → Mark → Mark
 with_short why m = record m { short = why }
 
+-- the mark at the start of a writer, and of a reader whose input ends
+abbrev pub first_mark : Mark
+first_mark = record { unread = 0; bytes = 0; check8 = 0; check16 = 0; short = Truncated }
+
 -- a mark at which the checks begin anew, as they do at a whole byte
 abbrev pub fresh : Mark → Mark
 fresh m = cond (nat_eq m.unread 0) (record m { check8 = 0; check16 = 0 }) m

@@ -59,3 +59,7 @@ pub record Restarts (old new : Written) : Type 0 where
 abbrev pub Starts : {X : Type 0} → Written → Written → Result X Why → Type 0
 Starts old new (Ok x) = Restarts old new
 Starts old new (Err e) = Fails old.bits old new e
+
+-- these bytes are all bits that were written, if those are whole bytes
+abbrev pub AreAll : Written → List ℕ → Type 0
+AreAll w bytes = w.known ≡ true → w.mark.unread ≡ 0 → bits_of bytes ≡ w.bits

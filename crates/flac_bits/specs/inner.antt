@@ -6,6 +6,7 @@ pub mod Forms
 pub mod Items
 pub mod Handing
 pub mod Stretches
+pub mod Ahead
 pub mod Runs
 pub mod Pulling
 pub mod Unchecked

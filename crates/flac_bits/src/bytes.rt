@@ -1,10 +1,9 @@
 //! Reading of whole slices of bytes.
 
 ghost use Rattle.std.specs.Prelude.{◌*◌, length};
-ghost use Rattle.flac_bits.specs.Layout.{bits as number, run};
-ghost use Rattle.flac_bits.specs.Lists.{list_of};
-ghost use Rattle.flac_bits.specs.Reading.{Gives, Reads, CallInPlace, PullsFor};
-ghost use Rattle.flac_bits.specs.Unchecked.{begun_anew};
+ghost use Rattle.flac_bits.specs.Forms.{AreBytes};
+ghost use Rattle.flac_bits.specs.Reading.{ReadsBytes, CallInPlace, PullsFor};
+ghost use Rattle.flac_bits.specs.Unchecked.{ReadsAnew};
 
 use crate::reader::BitReader;
 use crate::source::Source;
@@ -16,7 +15,7 @@ use crate::why::Why;
 /// Those of [`BitReader`], if fewer bytes are left: [`Why::Truncated`] at the end of the input, [`Why::FrameTooLong`]
 /// at a fence, [`Why::Read`] if the source fails. What `out` has then is not specified.
 pub fn read_bytes<R: Source>(bits: &mut BitReader<R>, out: &mut [u8]) -> Result<(), Why>
-    ensures reading { CallInPlace (8 * length out.old) (Reads (λ _. out.new) (list_of (length out.old) (number 8))) bits.old bits.new result }
+    ensures reading { CallInPlace (8 * length out.old) (ReadsBytes (length out.old) out.new) bits.old bits.new result }
     ensures needed { PullsFor (8 * length out.old) bits.old bits.new result }
 {
     if bits.unread() > 0 {
@@ -37,7 +36,7 @@ pub fn read_bytes<R: Source>(bits: &mut BitReader<R>, out: &mut [u8]) -> Result<
 #[inline(never)]
 #[tactic(auto, using(crate::proofs::Lists::list_more, crate::proofs::Lists::list_end, crate::proofs::Lists::list_start))]
 fn read_each<R: Source>(bits: &mut BitReader<R>, out: &mut [u8]) -> Result<(), Why>
-    ensures reading { CallInPlace (8 * length out.old) (Reads (λ _. out.new) (list_of (length out.old) (number 8))) bits.old bits.new result }
+    ensures reading { CallInPlace (8 * length out.old) (ReadsBytes (length out.old) out.new) bits.old bits.new result }
     ensures needed { PullsFor (8 * length out.old) bits.old bits.new result }
 {
     for i in 0..out.len() {
@@ -52,7 +51,7 @@ fn read_each<R: Source>(bits: &mut BitReader<R>, out: &mut [u8]) -> Result<(), W
 /// # Errors
 /// Those of [`read_bytes`].
 pub fn read_unchecked<R: Source>(bits: &mut BitReader<R>, out: &mut [u8]) -> Result<(), Why>
-    ensures reading { CallInPlace (8 * length out.old) (Gives (λ _. out.new) (begun_anew (run (list_of (length out.old) (number 8)) bits.old.cursor))) bits.old bits.new result }
+    ensures reading { CallInPlace (8 * length out.old) (ReadsAnew (length out.old) out.new) bits.old bits.new result }
     ensures needed { PullsFor (8 * length out.old) bits.old bits.new result }
 {
     if bits.unread() > 0 {
@@ -67,3 +66,8 @@ pub fn read_unchecked<R: Source>(bits: &mut BitReader<R>, out: &mut [u8]) -> Res
         Ok(())
     }
 }
+
+/// Law: each byte is below 256. It does nothing: a function calls it whose proof needs this of a slice.
+pub fn bytes_fit(bytes: &[u8])
+    ensures { AreBytes bytes.now }
+{}

@@ -1,6 +1,6 @@
 //! A source over any reader, and a target over any writer.
 
-ghost use Rattle.std.specs.Prelude.{◌≡◌, ◌<◌, ◌≤◌, ◌+◌, ◌-◌, true, [], ◌++◌, length, take, IfOk, OnOk, OnErr, MatchResult, Some, is_some, option_copied, unwrap_or, min, ◌&&◌, nat_lt, ◌^◌};
+ghost use Rattle.std.specs.Prelude.{◌≡◌, ◌<◌, ◌≤◌, ◌+◌, ◌-◌, [], length, take, IfOk, OnOk, OnErr, MatchResult, Some, is_some, option_copied, unwrap_or, min, ◌&&◌, nat_lt, ◌^◌};
 ghost use Rattle.flac_bits.specs.State.{Rises, the_end};
 ghost use Rattle.std.specs.Io.{ReadsAtMost};
 
@@ -85,6 +85,8 @@ impl<T> Counted<T> {
 }
 
 impl<T: Read> Source for Counted<T> {
+    ghost use Rattle.flac_bits.specs.Devices.{IsKnown, IsEmpty, DeviceGave};
+
     ghost known = { λ s. is_some (T.remaining s.device) && nat_lt s.errors (2 ^ 64 - 1) };
 
     ghost coming = { λ s. take s.room (unwrap_or (T.remaining s.device) []) };
@@ -102,9 +104,9 @@ impl<T: Read> Source for Counted<T> {
     /// Reads some bytes from the device. An error of the device is counted, kept and returned.
     fn pull(&mut self, buf: &mut [u8]) -> io::Result<usize>
         ensures bound { ReadsAtMost result buf.new }
-        ensures known { OnOk result (is_some (T.remaining self.old.device) ≡ true → is_some (T.remaining self.new.device) ≡ true) }
-        ensures bytes { IfOk result (λ n. is_some (T.remaining self.old.device) ≡ true → take self.old.room (unwrap_or (T.remaining self.old.device) []) ≡ take n buf.new ++ take self.new.room (unwrap_or (T.remaining self.new.device) [])) }
-        ensures end { IfOk result (λ n. n ≡ 0 → 0 < length buf.new → is_some (T.remaining self.old.device) ≡ true → take self.old.room (unwrap_or (T.remaining self.old.device) []) ≡ []) }
+        ensures known { OnOk result (IsKnown T.remaining self.old.device → IsKnown T.remaining self.new.device) }
+        ensures bytes { IfOk result (λ n. DeviceGave T.remaining (take n buf.new) self.old self.new) }
+        ensures end { IfOk result (λ n. n ≡ 0 → 0 < length buf.new → IsEmpty T.remaining self.old) }
         ensures most { IfOk result (λ n. self.new.room + n ≤ self.old.room) }
         ensures counted { OnOk result (self.new.errors ≡ self.old.errors) }
         ensures kept { self.old.errors ≤ self.new.errors }
@@ -127,6 +129,8 @@ impl<T: Read> Source for Counted<T> {
 }
 
 impl<T: Write> Target for Counted<T> {
+    ghost use Rattle.flac_bits.specs.Devices.{IsKnown, Got, GotNone};
+
     ghost known = { λ s. is_some (T.contents s.device) && nat_lt s.errors (2 ^ 64 - 1) };
 
     ghost sent = { λ s. unwrap_or (T.contents s.device) [] };
@@ -139,9 +143,9 @@ impl<T: Write> Target for Counted<T> {
     fn send(&mut self, bytes: &[u8]) -> io::Result<usize>
         ensures count { IfOk result (λ n. n ≤ length bytes.now) }
         ensures some { IfOk result (λ n. 0 < length bytes.now → 0 < n) }
-        ensures known { OnOk result (is_some (T.contents self.old.device) ≡ true → is_some (T.contents self.new.device) ≡ true) }
-        ensures bytes { IfOk result (λ n. is_some (T.contents self.old.device) ≡ true → unwrap_or (T.contents self.new.device) [] ≡ unwrap_or (T.contents self.old.device) [] ++ take n bytes.now) }
-        ensures nothing { OnErr result (is_some (T.contents self.old.device) ≡ true → unwrap_or (T.contents self.new.device) [] ≡ unwrap_or (T.contents self.old.device) []) }
+        ensures known { OnOk result (IsKnown T.contents self.old.device → IsKnown T.contents self.new.device) }
+        ensures bytes { IfOk result (λ n. Got T.contents (take n bytes.now) self.old.device self.new.device) }
+        ensures nothing { OnErr result (GotNone T.contents self.old.device self.new.device) }
         ensures counted { OnOk result (self.new.errors ≡ self.old.errors) }
         ensures kept { self.old.errors ≤ self.new.errors }
         ensures risen { OnErr result (Rises self.old.errors self.new.errors) }

@@ -1,8 +1,9 @@
 //! A source or a target that fails once, for tests.
 
-ghost use Rattle.std.specs.Prelude.{◌≡◌, ◌<◌, ◌≤◌, ◌+◌, ◌-◌, ◌^◌, true, [], ◌++◌, length, take, min, nat_lt, nat_eq, ◌&&◌, cond, IfOk, OnOk, OnErr, IsErr, is_some, None};
+ghost use Rattle.std.specs.Prelude.{◌≡◌, ◌<◌, ◌≤◌, ◌+◌, ◌-◌, ◌^◌, true, length, take, min, nat_lt, nat_eq, ◌&&◌, cond, IfOk, OnOk, OnErr};
 ghost use Rattle.flac_bits.specs.State.{Rises};
-ghost use Rattle.flac_bits.specs.Failing.{failed};
+ghost use Rattle.flac_bits.specs.Failing.{failed, with_failure, SameCount, HasRisen, FailsOnce, IsForeseenBelow, SameEndBelow};
+ghost use Rattle.flac_bits.specs.Sources.{HasGiven, Ended, Sent, SentNone};
 ghost use Rattle.std.specs.Io.{ReadsAtMost};
 
 use crate::source::Source;
@@ -91,17 +92,17 @@ impl<S: Source> Source for FailAt<S> {
         ensures names { S.names self.new.device ≡ S.names self.old.device }
         ensures bound { ReadsAtMost result buf.new }
         ensures known { OnOk result (S.known self.old.device ≡ true → S.known self.new.device ≡ true) }
-        ensures bytes { IfOk result (λ n. S.known self.old.device ≡ true → S.coming self.old.device ≡ take n buf.new ++ S.coming self.new.device) }
-        ensures end { IfOk result (λ n. n ≡ 0 → 0 < length buf.new → S.known self.old.device ≡ true → (S.coming self.old.device ≡ []) × ((S.behind self.old.device).fails ≡ None)) }
+        ensures bytes { IfOk result (λ n. HasGiven S.known S.coming (take n buf.new) self.old.device self.new.device) }
+        ensures end { IfOk result (λ n. n ≡ 0 → 0 < length buf.new → Ended S.known S.coming S.behind self.old.device) }
         ensures most { IfOk result (λ n. S.most self.new.device + n ≤ S.most self.old.device) }
-        ensures counted { OnOk result ((S.errors self.new.device + failed self.new.at self.new.calls ≡ S.errors self.old.device + failed self.old.at self.old.calls) × (S.raised self.new.device + failed self.new.at self.new.calls ≡ S.raised self.old.device + failed self.old.at self.old.calls)) }
-        ensures kept { S.errors self.old.device + failed self.old.at self.old.calls ≤ S.errors self.new.device + failed self.new.at self.new.calls }
-        ensures foreseen { OnErr result (S.known self.old.device ≡ true → S.errors self.new.device + failed self.new.at self.new.calls ≡ S.errors self.old.device + failed self.old.at self.old.calls → (S.coming self.old.device ≡ []) × (is_some ((S.behind self.old.device).fails) ≡ true)) }
-        ensures foretold { S.known self.old.device ≡ true → S.errors self.new.device + failed self.new.at self.new.calls ≡ S.errors self.old.device + failed self.old.at self.old.calls → S.behind self.new.device ≡ S.behind self.old.device }
-        ensures rises { OnErr result (S.known self.old.device ≡ true → S.raised self.old.device + failed self.old.at self.old.calls < S.raised self.new.device + failed self.new.at self.new.calls) }
-        ensures risen { OnErr result (Rises (S.raised self.old.device + failed self.old.at self.old.calls) (S.raised self.new.device + failed self.new.at self.new.calls)) }
+        ensures counted { OnOk result (SameCount S.errors self.old self.new × SameCount S.raised self.old self.new) }
+        ensures kept { with_failure S.errors self.old ≤ with_failure S.errors self.new }
+        ensures foreseen { OnErr result (IsForeseenBelow S.known S.errors S.coming S.behind self.old self.new) }
+        ensures foretold { SameEndBelow S.known S.errors S.behind self.old self.new }
+        ensures rises { OnErr result (HasRisen S.known S.raised self.old self.new) }
+        ensures risen { OnErr result (Rises (with_failure S.raised self.old) (with_failure S.raised self.new)) }
         ensures calls { (self.new.at ≡ self.old.at) × (self.new.calls ≡ min (self.old.calls + 1) (2 ^ 64 - 1)) }
-        ensures once { self.old.calls ≡ self.old.at → self.old.at < 2 ^ 64 - 1 → IsErr result × (self.new.device ≡ self.old.device) }
+        ensures once { FailsOnce self.old self.new result }
     {
         if self.fails() {
             return Err(io::Error::from(io::ErrorKind::Other));
@@ -125,14 +126,14 @@ impl<W: Target> Target for FailAt<W> {
         ensures count { IfOk result (λ n. n ≤ length bytes.now) }
         ensures some { IfOk result (λ n. 0 < length bytes.now → 0 < n) }
         ensures known { OnOk result (W.known self.old.device ≡ true → W.known self.new.device ≡ true) }
-        ensures bytes { IfOk result (λ n. W.known self.old.device ≡ true → W.sent self.new.device ≡ W.sent self.old.device ++ take n bytes.now) }
-        ensures nothing { OnErr result (W.known self.old.device ≡ true → W.sent self.new.device ≡ W.sent self.old.device) }
-        ensures counted { OnOk result (W.errors self.new.device + failed self.new.at self.new.calls ≡ W.errors self.old.device + failed self.old.at self.old.calls) }
-        ensures kept { W.errors self.old.device + failed self.old.at self.old.calls ≤ W.errors self.new.device + failed self.new.at self.new.calls }
-        ensures rises { OnErr result (W.known self.old.device ≡ true → W.errors self.old.device + failed self.old.at self.old.calls < W.errors self.new.device + failed self.new.at self.new.calls) }
-        ensures risen { OnErr result (Rises (W.errors self.old.device + failed self.old.at self.old.calls) (W.errors self.new.device + failed self.new.at self.new.calls)) }
+        ensures bytes { IfOk result (λ n. Sent W.known W.sent (take n bytes.now) self.old.device self.new.device) }
+        ensures nothing { OnErr result (SentNone W.known W.sent self.old.device self.new.device) }
+        ensures counted { OnOk result (SameCount W.errors self.old self.new) }
+        ensures kept { with_failure W.errors self.old ≤ with_failure W.errors self.new }
+        ensures rises { OnErr result (HasRisen W.known W.errors self.old self.new) }
+        ensures risen { OnErr result (Rises (with_failure W.errors self.old) (with_failure W.errors self.new)) }
         ensures calls { (self.new.at ≡ self.old.at) × (self.new.calls ≡ min (self.old.calls + 1) (2 ^ 64 - 1)) }
-        ensures once { self.old.calls ≡ self.old.at → self.old.at < 2 ^ 64 - 1 → IsErr result × (self.new.device ≡ self.old.device) }
+        ensures once { FailsOnce self.old self.new result }
     {
         if self.fails() {
             return Err(io::Error::from(io::ErrorKind::Other));

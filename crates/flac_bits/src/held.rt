@@ -1,21 +1,21 @@
 //! The bytes that were pulled from a source, and the word that holds the first bits of them.
 
-ghost use Rattle.std.specs.Prelude.{◌≡◌, ◌≢◌, ◌<◌, ◌≤◌, ◌+◌, ◌-◌, ◌*◌, ◌/◌, ◌%◌, ◌^◌, ◌++◌, [], ℕ, List, Bool, true, false, length, take, drop, min, IfSome, Some, None, Ok, IsTrue, ◌↔◌, get_or, pos};
+ghost use Rattle.std.specs.Prelude.{◌≡◌, ◌≢◌, ◌<◌, ◌≤◌, ◌+◌, ◌-◌, ◌/◌, ◌%◌, ◌^◌, ◌++◌, [], true, false, length, take, drop, min, IfSome, Some, None, Ok, IsTrue, ◌↔◌};
 ghost use Rattle.flac_bits.specs.declared.why.Why.TheVariants.{Truncated};
 ghost use Rattle.flac_bits.specs.Reasons.{of_output};
 ghost use Rattle.flac_bits.specs.Bits.{unsigned, bits_of};
 ghost use Rattle.flac_bits.specs.Meaning.{unary_bits};
 ghost use Rattle.flac_bits.specs.State.{past};
-ghost use Rattle.flac_bits.specs.Rice.{IsResidual};
-ghost use Rattle.flac_bits.specs.inner.Stretches.{IsRead};
-ghost use Rattle.flac_bits.specs.Store.{Store, passed, allowed, forbidden, hides_late};
-ghost use Rattle.flac_bits.specs.inner.Store.{Takes, Passes, HoldsSame, seen as seen_bytes, room_behind as room_behind_bytes};
+ghost use Rattle.flac_bits.specs.inner.Reading.{AreResiduals};
+ghost use Rattle.flac_bits.specs.inner.Stretches.{HasRice};
+ghost use Rattle.flac_bits.specs.Store.{Store, passed, hides_late};
+ghost use Rattle.flac_bits.specs.inner.Store.{Takes, Passes, HoldsSame, PassesValues, Lifts, ComesWhole, Fences, ClosesAt, no_fence, empty_store, seen as seen_bytes, room_behind as room_behind_bytes};
 ghost use Rattle.flac_bits.specs.inner.Pulling.{Pulls};
 
 use crate::PULL;
+use crate::crc_of_bytes::{bits_checked8, bits_checked16, both_checked, checked8, checked16};
 use crate::source::Source;
 use crate::stretch::{four_bytes, values_by};
-use crate::sums::{bits_checked8, bits_checked16, both_checked, checked8, checked16};
 use crate::why::Why;
 use crate::word::Word;
 use std::marker::Model;
@@ -80,7 +80,7 @@ fn room_behind(room: Option<u64>, n: usize) -> Option<u64>
 impl Held {
     /// Nothing is held, and there is no fence.
     pub(crate) fn new() -> Held
-        ensures { result ≡ record { word = []; bytes = []; mark = record { unread = 0; bytes = 0; check8 = 0; check16 = 0; short = Truncated }; fence = record { room = None; hidden = [] } } }
+        ensures { result ≡ empty_store }
     {
         Held {
             word: Word::empty(),
@@ -127,7 +127,7 @@ impl Held {
     pub(crate) fn rice(&mut self, k: u32, limit: u64) -> Option<u64>
         requires k { k ≤ 30 }
         requires limit { limit < 2 ^ 32 }
-        ensures some { IfSome result (λ v. (q : ℕ) × (low : ℕ) × (q ≤ limit) × (low < 2 ^ k) × (v ≡ q * 2 ^ k + low) × Takes (unary_bits q ++ unsigned k low) self.old self.new) }
+        ensures some { IfSome result (HasRice k limit (λ text. Takes text self.old self.new)) }
         ensures none { result ≡ None → self.new ≡ self.old }
     {
         self.word.rice(k, limit)
@@ -140,8 +140,9 @@ impl Held {
         requires k { k ≤ 26 }
         requires from { from ≤ length values.old }
         ensures within { (from ≤ result) × (result ≤ length values.old) }
-        ensures read { (text : List Bool) × Passes text self.old self.new × IsRead k text values.old from values.new result }
-        ensures fits { ((j : ℕ) → j < from → IsResidual (get_or values.old j (pos 0))) → (j : ℕ) → j < result → IsResidual (get_or values.new j (pos 0)) }
+        ensures read { PassesValues k self.old self.new values.old from values.new result }
+        // proof only
+        ensures fits { AreResiduals values.old from → AreResiduals values.new result }
     {
         let mut word = self.word.copied();
         let (used, next) = values_by(
@@ -281,8 +282,9 @@ impl Held {
 
     /// Removes the fence.
     pub(crate) fn lift(&mut self)
-        ensures held { (self.new.word ≡ self.old.word) × (self.new.bytes ≡ self.old.bytes ++ self.old.fence.hidden) × (self.new.mark ≡ self.old.mark) × (self.new.fence ≡ record { room = None; hidden = [] }) }
-        ensures behind { (coming : List ℕ) → allowed self.old.fence.room coming ++ (self.old.fence.hidden ++ forbidden self.old.fence.room coming) ≡ self.old.fence.hidden ++ coming }
+        ensures held { Lifts self.old self.new }
+        // proof only
+        ensures behind { ComesWhole self.old.fence }
     {
         self.end = self.filled;
         self.room = None;
@@ -291,10 +293,11 @@ impl Held {
     /// Sets a fence `bytes` bytes after the current byte, in place of any other.
     pub(crate) fn fence(&mut self, bytes: u64)
         ensures mark { self.new.mark ≡ self.old.mark }
+        // proof only
         ensures part { length self.new.word ≡ self.old.mark.unread }
-        ensures held { (held : List ℕ) × (self.new.word ++ bits_of held ≡ self.old.word ++ bits_of (self.old.bytes ++ self.old.fence.hidden))
-            × (self.new.bytes ≡ take bytes held) × (self.new.fence ≡ record { room = Some (bytes - length held); hidden = drop bytes held }) }
-        ensures behind { (coming : List ℕ) → allowed self.old.fence.room coming ++ (self.old.fence.hidden ++ forbidden self.old.fence.room coming) ≡ self.old.fence.hidden ++ coming }
+        ensures held { Fences bytes self.old self.new }
+        // proof only
+        ensures behind { ComesWhole self.old.fence }
     {
         self.lift();
         self.put_back();
@@ -303,9 +306,8 @@ impl Held {
 
     /// Sets a fence after the next `bytes` bytes, those of the array first and then those of the source.
     fn close(&mut self, bytes: u64)
-        requires { self.old.fence ≡ record { room = None; hidden = [] } }
-        ensures { (self.new.word ≡ self.old.word) × (self.new.mark ≡ self.old.mark) × (self.new.bytes ≡ take bytes self.old.bytes)
-            × (self.new.fence ≡ record { room = Some (bytes - length self.old.bytes); hidden = drop bytes self.old.bytes }) }
+        requires { self.old.fence ≡ no_fence }
+        ensures { ClosesAt bytes self.old self.new }
     {
         let held = (self.end - self.place) as u64;
         if bytes < held {

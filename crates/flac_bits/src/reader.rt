@@ -1,22 +1,20 @@
 //! Reading of bits from a source of bytes.
 
-ghost use Rattle.std.specs.Prelude.{◌≡◌, ◌≢◌, ◌<◌, ◌≤◌, ◌+◌, ◌^◌, ◌-◌, [], ℕ, true, IfOk, IfErr, OnOk, ◌*◌, length, take, IfSome, None, Some, Ok, false, get_or, pos, MatchResult};
-ghost use Rattle.flac_bits.specs.declared.why.Why.TheVariants.{Truncated};
+ghost use Rattle.std.specs.Prelude.{◌≡◌, ◌≢◌, ◌<◌, ◌≤◌, ◌+◌, ◌^◌, ◌-◌, [], true, IfOk, IfErr, OnOk, ◌*◌, length, take, IfSome, None, Some, Ok, false, MatchResult};
 ghost use Rattle.flac_bits.specs.Reasons.{of_output};
-ghost use Rattle.flac_bits.specs.Bits.{is_nil};
-ghost use Rattle.flac_bits.specs.Bits.{unsigned, bits_of};
-ghost use Rattle.flac_bits.specs.State.{State, short_of, started, Consumes, without_fence};
+ghost use Rattle.flac_bits.specs.Bits.{bits_of};
+ghost use Rattle.flac_bits.specs.State.{State, short_of, started, without_fence};
 ghost use Rattle.flac_bits.specs.Fencing.{fence_at, lifted};
 ghost use Rattle.flac_bits.specs.Store.{state_of};
 ghost use Rattle.flac_bits.specs.inner.Pulling.{Pulls};
-ghost use Rattle.flac_bits.specs.Layout.{next_bit, number_at, zeros_at, unary as zeros, align as to_byte, run, and_then};
+ghost use Rattle.flac_bits.specs.Layout.{next_bit, number_at, zeros_at, unary as zeros, align as to_byte, run};
 ghost use Rattle.std.specs.Prelude.{All};
-ghost use Rattle.flac_bits.specs.Lists.{list_of, behind};
+ghost use Rattle.flac_bits.specs.Lists.{list_of};
 ghost use Rattle.flac_bits.specs.Rice.{rice, rice_value, IsResidual};
 ghost use Rattle.flac_bits.specs.Signed.{signed_field, FitsBits};
-ghost use Rattle.flac_bits.specs.Reading.{Counts, Gives, Reads, CallInPlace, PullsFor, PullsInside, HeldEnds};
-ghost use Rattle.flac_bits.specs.inner.Reading.{Draws};
-ghost use Rattle.flac_bits.specs.inner.Unchecked.{Fills, started_unless};
+ghost use Rattle.flac_bits.specs.Reading.{Counts, Gives, Reads, CallInPlace, PullsFor, PullsInside, ReadsRice, ReadsSigned, ConsumesBytes, PullsBytes, IsAtEnd, IsForetold, SaysOver, SaysShort};
+ghost use Rattle.flac_bits.specs.inner.Reading.{SameSource, TookHeld, values_from, DrawsValues, AreResiduals};
+ghost use Rattle.flac_bits.specs.inner.Unchecked.{FillsBytes, started_unless};
 
 use crate::held::Held;
 use crate::signed::{MOST_FOLDED, to_signed, unfolded};
@@ -109,9 +107,10 @@ impl<R: Source> BitReader<R> {
     /// The next n bits, if the word has them.
     #[inline(always)]
     fn ready(&mut self, n: u32) -> Option<u64>
-        ensures some { IfSome result (λ v. (v < 2 ^ n) × (self.new.most + n ≡ self.old.most) × (self.new.known ≡ self.old.known) × (self.new.errors ≡ self.old.errors) × (self.new.raised ≡ self.old.raised) × (self.new.behind ≡ self.old.behind) × (self.new.names ≡ self.old.names)
-            × (number_at n self.old.cursor ≡ Ok (v, self.new.cursor))) }
+        ensures some { IfSome result (λ v. (v < 2 ^ n) × (self.new.most + n ≡ self.old.most)
+            × SameSource self.old self.new × (number_at n self.old.cursor ≡ Ok (v, self.new.cursor))) }
         ensures none { result ≡ None → self.new ≡ self.old }
+        // proof only
         ensures held { IfSome result (λ _. self.new.held + n ≡ self.old.held) }
     {
         if n <= self.held.ready() {
@@ -209,10 +208,11 @@ impl<R: Source> BitReader<R> {
     /// Reads zeros and a one, if the word has them.
     #[inline(always)]
     fn ready_unary(&mut self, limit: u64) -> Option<u64>
-        ensures some { IfSome result (λ q. (q ≤ limit) × (self.new.most ≤ self.old.most) × (self.new.known ≡ self.old.known) × (self.new.errors ≡ self.old.errors) × (self.new.raised ≡ self.old.raised) × (self.new.behind ≡ self.old.behind) × (self.new.names ≡ self.old.names)
+        ensures some { IfSome result (λ q. (q ≤ limit) × (self.new.most ≤ self.old.most) × SameSource self.old self.new
             × (zeros_at limit self.old.cursor ≡ Ok (Some q, self.new.cursor))) }
         ensures none { result ≡ None → self.new ≡ self.old }
-        ensures held { IfSome result (λ _. self.old.held + length self.new.cursor.left ≡ self.new.held + length self.old.cursor.left) }
+        // proof only
+        ensures held { IfSome result (λ _. TookHeld self.old self.new) }
     {
         self.held.unary(limit)
     }
@@ -259,10 +259,11 @@ impl<R: Source> BitReader<R> {
     fn ready_rice(&mut self, k: u32, limit: u64) -> Option<u64>
         requires k { k ≤ 30 }
         requires limit { limit < 2 ^ 32 }
-        ensures some { IfSome result (λ v. (self.new.most ≤ self.old.most) × (self.new.known ≡ self.old.known) × (self.new.errors ≡ self.old.errors) × (self.new.raised ≡ self.old.raised) × (self.new.behind ≡ self.old.behind) × (self.new.names ≡ self.old.names)
+        ensures some { IfSome result (λ v. (self.new.most ≤ self.old.most) × SameSource self.old self.new
             × (run (rice k limit) self.old.cursor ≡ Ok (v, self.new.cursor))) }
         ensures none { result ≡ None → self.new ≡ self.old }
-        ensures held { IfSome result (λ _. self.old.held + length self.new.cursor.left ≡ self.new.held + length self.old.cursor.left) }
+        // proof only
+        ensures held { IfSome result (λ _. TookHeld self.old self.new) }
     {
         self.held.rice(k, limit)
     }
@@ -335,11 +336,14 @@ impl<R: Source> BitReader<R> {
     fn ready_values(&mut self, k: u32, values: &mut [i64], from: usize) -> usize
         requires { from ≤ length values.old }
         ensures within { (from ≤ result) × (result ≤ length values.old) }
-        ensures went { (self.new.most ≤ self.old.most) × (self.new.known ≡ self.old.known) × (self.new.errors ≡ self.old.errors) × (self.new.raised ≡ self.old.raised) × (self.new.behind ≡ self.old.behind) × (self.new.names ≡ self.old.names) }
-        ensures reads { and_then (run (list_of (length values.old - from) (rice_value k)) self.old.cursor) (behind (take from values.old))
-            ≡ and_then (run (list_of (length values.old - result) (rice_value k)) self.new.cursor) (behind (take result values.new)) }
-        ensures fits { ((j : ℕ) → j < from → IsResidual (get_or values.old j (pos 0))) → (j : ℕ) → j < result → IsResidual (get_or values.new j (pos 0)) }
-        ensures drawn { Draws self.old self.new (HeldEnds (list_of (length values.old - result) (rice_value k)) self.new) (HeldEnds (list_of (length values.old - from) (rice_value k)) self.old) }
+        // proof only
+        ensures went { (self.new.most ≤ self.old.most) × SameSource self.old self.new }
+        ensures reads { values_from k (length values.old) values.old from self.old.cursor
+            ≡ values_from k (length values.old) values.new result self.new.cursor }
+        // proof only
+        ensures fits { AreResiduals values.old from → AreResiduals values.new result }
+        // proof only
+        ensures drawn { DrawsValues k (length values.old) from result self.old self.new }
     {
         if k > MOST_READY {
             return from;
@@ -357,7 +361,7 @@ impl<R: Source> BitReader<R> {
     pub fn rice_partition(&mut self, k: u32, values: &mut [i64]) -> Result<(), Why>
         requires { k ≤ 30 }
         ensures fits { OnOk result (All IsResidual values.new) }
-        ensures reading { CallInPlace 0 (Reads (λ _. values.new) (list_of (length values.old) (rice_value k))) self.old self.new result }
+        ensures reading { CallInPlace 0 (ReadsRice k (length values.old) values.new) self.old self.new result }
         ensures needed { PullsInside (list_of (length values.old) (rice_value k)) self.old self.new result }
     {
         let mut i = 0;
@@ -401,7 +405,7 @@ impl<R: Source> BitReader<R> {
         requires some { 1 ≤ n }
         requires few { n ≤ 64 }
         ensures fits { OnOk result (All (FitsBits n) values.new) }
-        ensures reading { CallInPlace 0 (Reads (λ _. values.new) (list_of (length values.old) (signed_field n))) self.old self.new result }
+        ensures reading { CallInPlace 0 (ReadsSigned n (length values.old) values.new) self.old self.new result }
         ensures needed { PullsFor (n * length values.old) self.old self.new result }
     {
         for i in 0..values.len() {
@@ -417,9 +421,9 @@ impl<R: Source> BitReader<R> {
         ensures spends { IfOk result (λ n. self.new.most + 8 * n ≤ self.old.most) }
         ensures whole { OnOk result (self.new.cursor.mark.unread ≡ 0) }
         ensures counts { Counts self.old self.new result }
-        ensures taken { IfOk result (λ n. self.old.known ≡ true → Consumes (bits_of (take n out.new)) self.old.cursor self.new.cursor) }
-        ensures over { result ≡ Ok 0 → 0 < length out.new → self.old.known ≡ true → (self.old.cursor.left ≡ []) × (self.old.cursor.mark.short ≡ Why.Read → ⊥) }
-        ensures cut { IfErr result (λ e. (e ≡ Why.Read) × (self.old.known ≡ true → self.new.errors ≡ self.old.errors → (self.old.cursor.left ≡ []) × (self.old.cursor.mark.short ≡ Why.Read))) }
+        ensures taken { IfOk result (λ n. ConsumesBytes (take n out.new) self.old self.new) }
+        ensures over { result ≡ Ok 0 → 0 < length out.new → self.old.known ≡ true → IsAtEnd self.old.cursor }
+        ensures cut { IfErr result (IsForetold (self.old.cursor.left ≡ []) self.old self.new) }
         ensures needed { MatchResult result (λ n. self.old.held ≤ self.new.held + 8 * n) (λ _. self.old.held ≡ 0) }
     {
         match refill(&mut self.held, &mut self.source) {
@@ -440,10 +444,10 @@ impl<R: Source> BitReader<R> {
         ensures spends { IfOk result (λ n. self.new.most + 8 * n ≤ self.old.most) }
         ensures whole { OnOk result (self.new.cursor.mark.unread ≡ 0) }
         ensures counts { Counts self.old self.new result }
-        ensures taken { IfOk result (λ n. self.old.known ≡ true → Consumes (bits_of (take n out.new)) self.old.cursor self.new.cursor) }
-        ensures over { IfOk result (λ n. n < length out.new → self.old.known ≡ true → (self.new.cursor.left ≡ []) × (self.new.cursor.mark.short ≡ Why.Read → ⊥)) }
-        ensures cut { IfErr result (λ e. (e ≡ Why.Read) × (self.old.known ≡ true → self.new.errors ≡ self.old.errors → (length self.old.cursor.left < 8 * length out.new) × (self.old.cursor.mark.short ≡ Why.Read))) }
-        ensures needed { MatchResult result (λ n. self.old.held ≤ self.new.held + 8 * n) (λ _. self.old.held < 8 * length out.new) }
+        ensures taken { IfOk result (λ n. ConsumesBytes (take n out.new) self.old self.new) }
+        ensures over { IfOk result (λ n. n < length out.new → self.old.known ≡ true → IsAtEnd self.new.cursor) }
+        ensures cut { IfErr result (IsForetold (length self.old.cursor.left < 8 * length out.new) self.old self.new) }
+        ensures needed { PullsBytes (length out.new) self.old self.new result }
     {
         self.take_pieces(out, true)
     }
@@ -456,10 +460,10 @@ impl<R: Source> BitReader<R> {
         ensures spends { IfOk result (λ n. self.new.most + 8 * n ≤ self.old.most) }
         ensures whole { OnOk result (self.new.cursor.mark.unread ≡ 0) }
         ensures counts { Counts self.old self.new result }
-        ensures taken { IfOk result (λ n. self.old.known ≡ true → Fills checked (bits_of (take n out.new)) self.old.cursor self.new.cursor) }
-        ensures over { IfOk result (λ n. n < length out.new → self.old.known ≡ true → (self.new.cursor.left ≡ []) × (self.new.cursor.mark.short ≡ Why.Read → ⊥)) }
-        ensures cut { IfErr result (λ e. (e ≡ Why.Read) × (self.old.known ≡ true → self.new.errors ≡ self.old.errors → (length self.old.cursor.left < 8 * length out.new) × (self.old.cursor.mark.short ≡ Why.Read))) }
-        ensures needed { MatchResult result (λ n. self.old.held ≤ self.new.held + 8 * n) (λ _. self.old.held < 8 * length out.new) }
+        ensures taken { IfOk result (λ n. FillsBytes checked (take n out.new) self.old self.new) }
+        ensures over { IfOk result (λ n. n < length out.new → self.old.known ≡ true → IsAtEnd self.new.cursor) }
+        ensures cut { IfErr result (IsForetold (length self.old.cursor.left < 8 * length out.new) self.old self.new) }
+        ensures needed { PullsBytes (length out.new) self.old self.new result }
     {
         self.start_unless(checked);
         let mut done = 0;
@@ -486,7 +490,7 @@ impl<R: Source> BitReader<R> {
     /// The error for a field that needs more bits than are left, if the source did not fail: [`Why::FrameTooLong`] at a
     /// fence, else [`Why::Truncated`].
     pub fn short(&self) -> Why
-        ensures short { self.now.known ≡ true → self.now.cursor.left ≡ [] → (self.now.cursor.mark.short ≡ Why.Read → ⊥) → result ≡ self.now.cursor.mark.short }
+        ensures short { SaysShort self.now result }
         ensures memory { result ≢ Why.Memory }
         ensures device { (result ≢ Why.Read) × (of_output result ≡ false) }
     {
@@ -508,9 +512,9 @@ impl<R: Source> BitReader<R> {
         ensures spends { OnOk result (self.new.most ≤ self.old.most) }
         ensures counts { Counts self.old self.new result }
         ensures memory { IfErr result (λ e. e ≢ Why.Memory) }
-        ensures over { IfOk result (λ over. self.old.known ≡ true → (self.new.cursor ≡ self.old.cursor) × (over ≡ is_nil self.old.cursor.left)) }
+        ensures over { IfOk result (SaysOver self.old self.new) }
         ensures ended { result ≡ Ok true → self.old.known ≡ true → self.old.cursor.mark.short ≡ Why.Read → ⊥ }
-        ensures read { IfErr result (λ e. (e ≡ Why.Read) × (self.old.known ≡ true → self.new.errors ≡ self.old.errors → (self.old.cursor.left ≡ []) × (self.old.cursor.mark.short ≡ Why.Read))) }
+        ensures read { IfErr result (IsForetold (self.old.cursor.left ≡ []) self.old self.new) }
         ensures needed { MatchResult result (λ _. self.old.held ≤ self.new.held) (λ _. self.old.held ≡ 0) }
     {
         match fill(&mut self.held, &mut self.source) {

@@ -4,7 +4,7 @@ ghost use Rattle.std.specs.Prelude.{◌≡◌, ◌<◌, ◌≤◌, ◌+◌, ◌-
 ghost use Rattle.flac_bits.specs.Bits.{unsigned};
 ghost use Rattle.flac_bits.specs.Check.{fed};
 
-use crate::sums::{bits_checked8, bits_checked16};
+use crate::crc_of_bytes::{bits_checked8, bits_checked16};
 use std::marker::Model;
 
 /// At most 63 bits, the last of them lowest in the word.

@@ -1,10 +1,10 @@
 //! Writing of residual values under a Rice code to a word and the bytes before it.
 
-ghost use Rattle.std.specs.Prelude.{◌≡◌, ◌<◌, ◌≤◌, ◌+◌, ◌^◌, ◌++◌, List, Bool, All, length, take, drop, flat_map, IfSome, None};
+ghost use Rattle.std.specs.Prelude.{◌≡◌, ◌<◌, ◌≤◌, ◌+◌, ◌^◌, ◌++◌, All, length, take, drop, flat_map, IfSome, None};
 ghost use Rattle.std.specs.Int.{bytes_high_first};
 ghost use Rattle.flac_bits.specs.Bits.{unsigned};
 ghost use Rattle.flac_bits.specs.Rice.{IsResidual, value_bits};
-ghost use Rattle.flac_bits.specs.inner.Runs.{Extends};
+ghost use Rattle.flac_bits.specs.inner.Runs.{ExtendsTo, Extended, IsCode, PutsValues};
 
 use crate::rest::Rest;
 use crate::signed::folded;
@@ -25,7 +25,7 @@ fn put_bits(rest: &mut Rest, bytes: &mut [u8], end: usize, n: u32, value: u64) -
     requires few { n ≤ 64 }
     requires fits { value < 2 ^ n }
     requires end { end ≤ length bytes.old }
-    ensures some { IfSome result (λ to. (end ≤ to) × (to ≤ length bytes.old) × Extends (unsigned n value) rest.old rest.new (take end bytes.old) (take to bytes.new)) }
+    ensures some { IfSome result (ExtendsTo (unsigned n value) rest.old rest.new end bytes.old bytes.new) }
     ensures none { result ≡ None → (rest.new ≡ rest.old) × (bytes.new ≡ bytes.old) }
 {
     if rest.count() + n <= 63 {
@@ -45,7 +45,7 @@ fn put_bits(rest: &mut Rest, bytes: &mut [u8], end: usize, n: u32, value: u64) -
 fn code_of(k: u32, value: i64) -> Option<(u32, u64)>
     requires k { k ≤ 32 }
     requires value { IsResidual value }
-    ensures { IfSome result (λ code. (code.0 ≤ 64) × (code.1 < 2 ^ code.0) × (unsigned code.0 code.1 ≡ value_bits k value)) }
+    ensures { IfSome result (IsCode (value_bits k value)) }
 {
     let number = folded(value);
     let zeros = number >> k;
@@ -62,7 +62,7 @@ fn pair_of(k: u32, first: i64, second: i64) -> Option<(u32, u64)>
     requires k { k ≤ 32 }
     requires first { IsResidual first }
     requires second { IsResidual second }
-    ensures { IfSome result (λ code. (code.0 ≤ 64) × (code.1 < 2 ^ code.0) × (unsigned code.0 code.1 ≡ value_bits k first ++ value_bits k second)) }
+    ensures { IfSome result (IsCode (value_bits k first ++ value_bits k second)) }
 {
     let one = folded(first);
     let two = folded(second);
@@ -113,7 +113,7 @@ pub(crate) fn put_codes(
     requires from { from ≤ length values.now }
     ensures end { (end ≤ result.0) × (result.0 ≤ length bytes.old) }
     ensures within { (from ≤ result.1) × (result.1 ≤ length values.now) }
-    ensures put { (text : List Bool) × (flat_map (value_bits k) (drop from values.now) ≡ text ++ flat_map (value_bits k) (drop result.1 values.now)) × Extends text rest.old rest.new (take end bytes.old) (take result.0 bytes.new) }
+    ensures put { PutsValues k values.now from result.1 (Extended rest.old rest.new end bytes.old result.0 bytes.new) }
 {
     let mut end = end;
     let mut i = from;

@@ -1,6 +1,7 @@
 //! Signed numbers made of unsigned ones.
 
-ghost use Rattle.std.specs.Prelude.{◌≡◌, ◌<◌, ◌≤◌, ◌^◌, ◌-◌, ◌+◌, ◌*◌, ◌/◌};
+ghost use Rattle.flac_bits.specs.inner.Stretches.{value_of};
+ghost use Rattle.std.specs.Prelude.{◌≡◌, ◌<◌, ◌≤◌, ◌^◌, ◌-◌, ◌+◌, ◌*◌};
 ghost use Rattle.flac_bits.specs.Rice.{folded as folded_value, unfolded as unfolded_value, IsResidual};
 ghost use Rattle.flac_bits.specs.Signed.{to_signed as signed_value, FitsBits};
 
@@ -47,7 +48,7 @@ fn unfolded_half(half: u64, odd: u64) -> i64
 pub(crate) fn value_of_code(zeros: u32, one_and_low: u64, k: u32) -> i64
     requires zeros { zeros ≤ 64 }
     requires k { k ≤ 26 }
-    ensures value { zeros ≤ 62 → 2 ^ k ≤ one_and_low → one_and_low < 2 * 2 ^ k → result ≡ unfolded_value (zeros * 2 ^ k + (one_and_low - 2 ^ k)) }
+    ensures value { zeros ≤ 62 → 2 ^ k ≤ one_and_low → one_and_low < 2 * 2 ^ k → result ≡ value_of k zeros one_and_low }
     ensures fits { zeros ≤ 62 → 2 ^ k ≤ one_and_low → one_and_low < 2 * 2 ^ k → IsResidual result }
 {
     if k == 0 {

@@ -1,7 +1,8 @@
 //! Sources of bytes.
 
-ghost use Rattle.std.specs.Prelude.{◌≡◌, ◌<◌, ◌≤◌, ◌+◌, ℕ, Bool, true, List, [], ◌∷◌, ◌++◌, length, take, IfOk, OnOk, OnErr, is_some, None};
+ghost use Rattle.std.specs.Prelude.{◌≡◌, ◌<◌, ◌≤◌, ◌+◌, ℕ, Bool, true, List, [], ◌∷◌, ◌++◌, length, take, IfOk, OnOk, OnErr};
 ghost use Rattle.flac_bits.specs.State.{Behind, Rises, the_end};
+ghost use Rattle.flac_bits.specs.Sources.{Ended, IsForeseen, SameEnd};
 ghost use Rattle.std.specs.Io.{ReadsAtMost};
 ghost use Rattle.std.specs.Borrow.{GName};
 
@@ -46,12 +47,12 @@ pub trait Source {
         ensures bound { ReadsAtMost result buf.new }
         ensures known { OnOk result (known self.old ≡ true → known self.new ≡ true) }
         ensures bytes { IfOk result (λ n. known self.old ≡ true → coming self.old ≡ take n buf.new ++ coming self.new) }
-        ensures end { IfOk result (λ n. n ≡ 0 → 0 < length buf.new → known self.old ≡ true → (coming self.old ≡ []) × ((behind self.old).fails ≡ None)) }
+        ensures end { IfOk result (λ n. n ≡ 0 → 0 < length buf.new → Ended known coming behind self.old) }
         ensures most { IfOk result (λ n. most self.new + n ≤ most self.old) }
         ensures counted { OnOk result ((errors self.new ≡ errors self.old) × (raised self.new ≡ raised self.old)) }
         ensures kept { errors self.old ≤ errors self.new }
-        ensures failed { OnErr result (known self.old ≡ true → errors self.new ≡ errors self.old → (coming self.old ≡ []) × (is_some ((behind self.old).fails) ≡ true)) }
-        ensures foretold { known self.old ≡ true → errors self.new ≡ errors self.old → behind self.new ≡ behind self.old }
+        ensures failed { OnErr result (IsForeseen known errors coming behind self.old self.new) }
+        ensures foretold { SameEnd known errors behind self.old self.new }
         ensures rises { OnErr result (known self.old ≡ true → raised self.old < raised self.new) }
         ensures risen { OnErr result (Rises (raised self.old) (raised self.new)) };
 }

@@ -1,10 +1,11 @@
 //! Reading of values under a Rice code from a word and the bytes after it.
 
-ghost use Rattle.std.specs.Prelude.{◌≡◌, ◌<◌, ◌≤◌, ◌+◌, ◌-◌, ◌%◌, ◌^◌, ◌++◌, ℕ, List, Bool, length, take, drop, get_or, pos};
+ghost use Rattle.flac_bits.specs.inner.Reading.{AreResiduals};
+ghost use Rattle.flac_bits.specs.inner.Ahead.{in_word};
+ghost use Rattle.std.specs.Prelude.{◌≡◌, ◌<◌, ◌≤◌, ◌+◌, ◌-◌, ◌%◌, ◌^◌, ℕ, length, take, drop};
 ghost use Rattle.flac_bits.specs.Bits.{unsigned, bits_of};
-ghost use Rattle.flac_bits.specs.Rice.{IsResidual};
 ghost use Rattle.flac_bits.specs.inner.Store.{four_at};
-ghost use Rattle.flac_bits.specs.inner.Stretches.{IsRead, top_bits, Agrees};
+ghost use Rattle.flac_bits.specs.inner.Stretches.{ReadsOff, ReadsOffBytes, Agrees};
 
 use crate::word::{Ahead, Word, code_of};
 
@@ -51,8 +52,9 @@ fn values_held(word: &mut Ahead, k: u32, values: &mut [i64], from: usize, to: us
     ensures within { (from ≤ result) × (result ≤ to) }
     ensures few { word.new.count ≤ 63 }
     ensures next { (eight : ℕ) → Agrees word.old.word word.old.count eight → Agrees word.new.word word.new.count eight }
-    ensures read { (text : List Bool) × (top_bits word.old.word word.old.count ≡ text ++ top_bits word.new.word word.new.count) × IsRead k text values.old from values.new result }
-    ensures fits { ((j : ℕ) → j < from → IsResidual (get_or values.old j (pos 0))) → (j : ℕ) → j < result → IsResidual (get_or values.new j (pos 0)) }
+    ensures read { ReadsOff k (in_word word.old) (in_word word.new) values.old from values.new result }
+    // proof only
+    ensures fits { AreResiduals values.old from → AreResiduals values.new result }
 {
     let mut i = from;
     while i < to {
@@ -79,8 +81,9 @@ fn values_at_once(word: &mut Ahead, k: u32, values: &mut [i64], from: usize, to:
     ensures within { (from ≤ result) × (result ≤ to) }
     ensures few { word.new.count ≤ 63 }
     ensures next { (eight : ℕ) → Agrees word.old.word word.old.count eight → Agrees word.new.word word.new.count eight }
-    ensures read { (text : List Bool) × (top_bits word.old.word word.old.count ≡ text ++ top_bits word.new.word word.new.count) × IsRead k text values.old from values.new result }
-    ensures fits { ((j : ℕ) → j < from → IsResidual (get_or values.old j (pos 0))) → (j : ℕ) → j < result → IsResidual (get_or values.new j (pos 0)) }
+    ensures read { ReadsOff k (in_word word.old) (in_word word.new) values.old from values.new result }
+    // proof only
+    ensures fits { AreResiduals values.old from → AreResiduals values.new result }
 {
     if k < AT_ONCE {
         return values_held(word, k, values, from, to);
@@ -113,8 +116,9 @@ fn next_values(word: &mut Ahead, k: u32, values: &mut [i64], from: usize, most: 
     ensures within { (from ≤ result) × (result ≤ length values.old) }
     ensures few { word.new.count ≤ 63 }
     ensures next { (eight : ℕ) → Agrees word.old.word word.old.count eight → Agrees word.new.word word.new.count eight }
-    ensures read { (text : List Bool) × (top_bits word.old.word word.old.count ≡ text ++ top_bits word.new.word word.new.count) × IsRead k text values.old from values.new result }
-    ensures fits { ((j : ℕ) → j < from → IsResidual (get_or values.old j (pos 0))) → (j : ℕ) → j < result → IsResidual (get_or values.new j (pos 0)) }
+    ensures read { ReadsOff k (in_word word.old) (in_word word.new) values.old from values.new result }
+    // proof only
+    ensures fits { AreResiduals values.old from → AreResiduals values.new result }
 {
     let left = values.len() - from;
     if k >= AT_ONCE && left >= most {
@@ -140,8 +144,9 @@ fn values_in(
     ensures used { result.0 ≤ length bytes.now }
     ensures within { (from ≤ result.1) × (result.1 ≤ length values.old) }
     ensures few { word.new.count ≤ 63 }
-    ensures read { (text : List Bool) × (top_bits word.old.word word.old.count ++ bits_of (take result.0 bytes.now) ≡ text ++ top_bits word.new.word word.new.count) × IsRead k text values.old from values.new result.1 }
-    ensures fits { ((j : ℕ) → j < from → IsResidual (get_or values.old j (pos 0))) → (j : ℕ) → j < result.1 → IsResidual (get_or values.new j (pos 0)) }
+    ensures read { ReadsOffBytes k (in_word word.old) bytes.now (in_word word.new) values.old from values.new result }
+    // proof only
+    ensures fits { AreResiduals values.old from → AreResiduals values.new result.1 }
 {
     // as many values as a filled word nearly always has: if it has fewer, a branch is mispredicted
     let at_once = 56 / (k as usize + 3);
@@ -171,8 +176,9 @@ fn values_of(
     requires from { from ≤ length values.old }
     ensures used { result.0 ≤ length bytes.now }
     ensures within { (from ≤ result.1) × (result.1 ≤ length values.old) }
-    ensures read { (text : List Bool) × (word.old ++ bits_of (take result.0 bytes.now) ≡ text ++ word.new) × IsRead k text values.old from values.new result.1 }
-    ensures fits { ((j : ℕ) → j < from → IsResidual (get_or values.old j (pos 0))) → (j : ℕ) → j < result.1 → IsResidual (get_or values.new j (pos 0)) }
+    ensures read { ReadsOffBytes k word.old bytes.now word.new values.old from values.new result }
+    // proof only
+    ensures fits { AreResiduals values.old from → AreResiduals values.new result.1 }
 {
     let mut ahead = word.ahead();
     let taken = values_in(&mut ahead, bytes, k, values, from);
@@ -193,8 +199,9 @@ pub(crate) fn values_by(
     requires from { from ≤ length values.old }
     ensures used { result.0 ≤ length bytes.now }
     ensures within { (from ≤ result.1) × (result.1 ≤ length values.old) }
-    ensures read { (text : List Bool) × (word.old ++ bits_of (take result.0 bytes.now) ≡ text ++ word.new) × IsRead k text values.old from values.new result.1 }
-    ensures fits { ((j : ℕ) → j < from → IsResidual (get_or values.old j (pos 0))) → (j : ℕ) → j < result.1 → IsResidual (get_or values.new j (pos 0)) }
+    ensures read { ReadsOffBytes k word.old bytes.now word.new values.old from values.new result }
+    // proof only
+    ensures fits { AreResiduals values.old from → AreResiduals values.new result.1 }
 {
     match k {
         0 => values_of(word, bytes, 0, values, from),

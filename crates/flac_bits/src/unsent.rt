@@ -1,18 +1,19 @@
 //! Bits that were written and not sent yet.
 
-ghost use Rattle.std.specs.Prelude.{◌≡◌, ◌<◌, ◌≤◌, ◌+◌, ◌-◌, ◌%◌, ◌^◌, ◌++◌, [], true, false, List, Bool, All, length, take, drop, min, flat_map, IfErr};
+ghost use Rattle.flac_bits.specs.inner.Runs.{PutsValues};
+ghost use Rattle.std.specs.Prelude.{◌≡◌, ◌<◌, ◌≤◌, ◌+◌, ◌-◌, ◌%◌, ◌^◌, ◌++◌, [], true, false, All, length, take, drop, min, IfErr};
 ghost use Rattle.flac_bits.specs.declared.why.Why.TheVariants.{Truncated};
 ghost use Rattle.flac_bits.specs.Bits.{unsigned, bits_of};
-ghost use Rattle.flac_bits.specs.Rice.{IsResidual, value_bits};
+ghost use Rattle.flac_bits.specs.Rice.{IsResidual};
 ghost use Rattle.flac_bits.specs.State.{past};
-ghost use Rattle.flac_bits.specs.Unsent.{Unsent, Puts, KeepsBits};
+ghost use Rattle.flac_bits.specs.Unsent.{Unsent, none_unsent, Puts, KeepsBits};
 ghost use Rattle.flac_bits.specs.Sending.{Sends};
 
 use crate::HOLD;
+use crate::crc_of_bytes::{both_checked, checked8, checked16};
 use crate::rest::Rest;
 use crate::run::{put_codes, put_word};
 use crate::send::send_all;
-use crate::sums::{both_checked, checked8, checked16};
 use crate::target::Target;
 use crate::why::Why;
 use std::marker::Model;
@@ -50,7 +51,7 @@ impl Model for Unsent {
 impl Unsent {
     /// Nothing is held.
     pub(crate) fn new() -> Unsent
-        ensures { result ≡ record { bytes = []; rest = []; mark = record { unread = 0; bytes = 0; check8 = 0; check16 = 0; short = Truncated } } }
+        ensures { result ≡ none_unsent }
     {
         Unsent {
             rest: Rest::empty(),
@@ -107,7 +108,7 @@ impl Unsent {
         requires range { All IsResidual values.now }
         requires from { from ≤ length values.now }
         ensures within { (from ≤ result) × (result ≤ length values.now) }
-        ensures put { (text : List Bool) × (flat_map (value_bits k) (drop from values.now) ≡ text ++ flat_map (value_bits k) (drop result values.now)) × Puts text self.old self.new }
+        ensures put { PutsValues k values.now from result (λ text. Puts text self.old self.new) }
     {
         let mut rest = self.rest.copied();
         let (end, next) = put_codes(&mut rest, &mut self.bytes, self.end, k, values, from);

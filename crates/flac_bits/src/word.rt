@@ -1,10 +1,11 @@
 //! Bits held in a word.
 
+ghost use Rattle.flac_bits.specs.inner.Ahead.{in_word};
 ghost use Rattle.std.specs.Prelude.{◌≡◌, ◌<◌, ◌≤◌, ◌+◌, ◌-◌, ◌*◌, ◌/◌, ◌%◌, ◌^◌, ◌++◌, [], ℕ, List, Bool, length, IfSome, Some, None};
 ghost use Rattle.flac_bits.specs.Bits.{unsigned};
 ghost use Rattle.flac_bits.specs.Meaning.{unary_bits};
-ghost use Rattle.flac_bits.specs.Rice.{unfolded, IsResidual};
-ghost use Rattle.flac_bits.specs.inner.Stretches.{top_bits, Agrees};
+ghost use Rattle.flac_bits.specs.Rice.{IsResidual};
+ghost use Rattle.flac_bits.specs.inner.Stretches.{top_bits, first_bytes, Agrees, ComesAfter, KeepsNext, KeepsNextAfter, HasRice, HasValue, IsValueAt};
 
 use crate::signed::value_of_code;
 use std::marker::Model;
@@ -129,7 +130,7 @@ impl Word {
     pub(crate) fn rice(&mut self, k: u32, limit: u64) -> Option<u64>
         requires k { k ≤ 30 }
         requires limit { limit < 2 ^ 32 }
-        ensures some { IfSome result (λ v. (q : ℕ) × (low : ℕ) × (q ≤ limit) × (low < 2 ^ k) × (v ≡ q * 2 ^ k + low) × (self.old ≡ (unary_bits q ++ unsigned k low) ++ self.new)) }
+        ensures some { IfSome result (HasRice k limit (λ text. self.old ≡ text ++ self.new)) }
         ensures none { result ≡ None → self.new ≡ self.old }
     {
         let zeros = (self.word | 1).leading_zeros();
@@ -148,7 +149,9 @@ impl Word {
     #[inline(always)]
     pub(crate) fn ahead(&self) -> Ahead
         ensures same { top_bits result.word result.count ≡ self.now }
+        // proof only
         ensures few { result.count ≤ 63 }
+        // proof only
         ensures clean { result.word % 2 ^ (64 - result.count) ≡ 0 }
     {
         Ahead {
@@ -164,9 +167,11 @@ impl Word {
 pub(crate) fn code_of(word: u64, k: u32) -> (u32, i64, u64)
     requires { k ≤ 26 }
     ensures bits { result.0 ≤ 91 }
-    ensures read { (count : ℕ) → count ≤ 63 → result.0 ≤ count → (q : ℕ) × (low : ℕ) × (q ≤ 62) × (low < 2 ^ k) × (result.1 ≡ unfolded (q * 2 ^ k + low)) × (top_bits word count ≡ (unary_bits q ++ unsigned k low) ++ top_bits result.2 (count - result.0)) }
+    ensures read { IsValueAt k word result.0 result.1 result.2 }
+    // proof only
     ensures fits { result.0 ≤ 63 → IsResidual result.1 }
-    ensures next { (count eight : ℕ) → count ≤ 63 → result.0 ≤ count → Agrees word count eight → Agrees result.2 (count - result.0) eight }
+    // proof only
+    ensures next { KeepsNextAfter result.0 word result.2 }
 {
     // 64 if no bit is set: too many in any case
     let zeros = word.leading_zeros();
@@ -202,8 +207,8 @@ impl Ahead {
         requires few { self.old.count ≤ 63 }
         requires next { Agrees self.old.word self.old.count eight }
         ensures few { (result ≤ 7) × (self.new.count ≤ 63) }
-        ensures put { top_bits self.new.word self.new.count ≡ top_bits self.old.word self.old.count ++ unsigned (8 * result) (eight / 2 ^ (64 - 8 * result)) }
-        ensures next { (after : ℕ) → eight % 2 ^ (64 - 8 * result) ≡ after / 2 ^ (8 * result) → Agrees self.new.word self.new.count after }
+        ensures put { in_word self.new ≡ in_word self.old ++ first_bytes result eight }
+        ensures next { (after : ℕ) → ComesAfter result eight after → Agrees self.new.word self.new.count after }
     {
         let n = 7 - self.count / 8;
         self.word |= eight >> self.count;
@@ -216,10 +221,10 @@ impl Ahead {
     pub(crate) fn value(&mut self, k: u32) -> Option<i64>
         requires few { self.old.count ≤ 63 }
         requires k { k ≤ 26 }
-        ensures some { IfSome result (λ v. (q : ℕ) × (low : ℕ) × (q ≤ 62) × (low < 2 ^ k) × (v ≡ unfolded (q * 2 ^ k + low)) × (top_bits self.old.word self.old.count ≡ (unary_bits q ++ unsigned k low) ++ top_bits self.new.word self.new.count)) }
+        ensures some { IfSome result (λ v. HasValue k v self.old.word self.old.count self.new.word self.new.count) }
         ensures fits { IfSome result IsResidual }
         ensures few { self.new.count ≤ 63 }
-        ensures next { (eight : ℕ) → Agrees self.old.word self.old.count eight → Agrees self.new.word self.new.count eight }
+        ensures next { KeepsNext self.old.word self.old.count self.new.word self.new.count }
         ensures none { result ≡ None → self.new ≡ self.old }
     {
         let (bits, value, rest) = code_of(self.word, k);

@@ -1,12 +1,13 @@
 //! Writing of bits to a target of bytes.
 
-ghost use Rattle.std.specs.Prelude.{◌≡◌, ◌<◌, ◌≤◌, ◌+◌, ◌-◌, ◌*◌, ◌/◌, ◌%◌, ◌^◌, ◌++◌, [], true, List, Bool, All, length, drop, flat_map, IfOk, OnOk, IfErr};
+ghost use Rattle.flac_bits.specs.inner.Runs.{PutsValues};
+ghost use Rattle.std.specs.Prelude.{◌≡◌, ◌<◌, ◌≤◌, ◌+◌, ◌-◌, ◌*◌, ◌/◌, ◌%◌, ◌^◌, ◌++◌, [], All, length, flat_map, IfOk, OnOk, IfErr};
 ghost use Rattle.flac_bits.specs.Bits.{unsigned, bits_of};
 ghost use Rattle.flac_bits.specs.Meaning.{unary_bits};
 ghost use Rattle.flac_bits.specs.Rice.{IsResidual, value_bits};
 ghost use Rattle.flac_bits.specs.Signed.{signed, modulo};
-ghost use Rattle.flac_bits.specs.Standing.{standing};
-ghost use Rattle.flac_bits.specs.Written.{Written, Adds, Writes, Starts};
+ghost use Rattle.flac_bits.specs.Standing.{standing, WritesTo, SendsWhole};
+ghost use Rattle.flac_bits.specs.Written.{Written, AreAll, Adds, Writes, Starts};
 ghost use Rattle.flac_bits.specs.declared.why.Why.TheVariants.{Truncated};
 
 use crate::signed::folded;
@@ -54,7 +55,7 @@ fn put_more<W: Target>(held: &mut Unsent, target: &mut W, n: u32, value: u64) ->
     requires enough { 64 ≤ length held.old.rest + n }
     requires few { n ≤ 64 }
     requires fits { value < 2 ^ n }
-    ensures { Writes (unsigned n value) (standing W.Target target.old held.old) (standing W.Target target.new held.new) result }
+    ensures { WritesTo W.Target (unsigned n value) target.old held.old target.new held.new result }
 {
     make_room(held, target)?;
     held.fill(n, value);
@@ -77,7 +78,7 @@ fn start<W: Target>(held: &mut Unsent, target: &mut W) -> Result<(), Why>
 /// Sends all whole bytes.
 fn send_rest<W: Target>(held: &mut Unsent, target: &mut W) -> Result<(), Why>
     ensures writes { Writes [] (standing W.Target target.old held.old) (standing W.Target target.new held.new) result }
-    ensures whole { OnOk result (W.known target.old ≡ true → held.old.mark.unread ≡ 0 → bits_of (W.sent target.new) ≡ bits_of (W.sent target.old) ++ (bits_of held.old.bytes ++ held.old.rest)) }
+    ensures whole { OnOk result (SendsWhole W.Target target.old held.old target.new) }
 {
     make_room(held, target)?;
     held.settle();
@@ -195,7 +196,7 @@ impl<W: Target> BitWriter<W> {
         requires range { All IsResidual values.now }
         requires from { from ≤ length values.now }
         ensures within { (from ≤ result) × (result ≤ length values.now) }
-        ensures put { (text : List Bool) × (flat_map (value_bits k) (drop from values.now) ≡ text ++ flat_map (value_bits k) (drop result values.now)) × Adds text self.old self.new }
+        ensures put { PutsValues k values.now from result (λ text. Adds text self.old self.new) }
     {
         self.held.put_codes(k, values, from)
     }
@@ -287,7 +288,7 @@ impl<W: Target> BitWriter<W> {
     /// [`Why::Write`] if the target fails.
     pub fn finish(&mut self) -> Result<(), Why>
         ensures writes { Writes [] self.old self.new result }
-        ensures whole { OnOk result (self.old.known ≡ true → self.old.mark.unread ≡ 0 → bits_of self.new.sent ≡ self.old.bits) }
+        ensures whole { OnOk result (AreAll self.old self.new.sent) }
     {
         send_rest(&mut self.held, &mut self.target)
     }
@@ -316,7 +317,7 @@ impl BitWriter<Collected> {
     /// # Errors
     /// [`Why::Memory`] if an allocation failed.
     pub fn into_bytes(self) -> Result<Vec<u8>, Why>
-        ensures bytes { IfOk result (λ bytes. self.known ≡ true → self.mark.unread ≡ 0 → bits_of bytes.items ≡ self.bits) }
+        ensures bytes { IfOk result (λ bytes. AreAll self bytes.items) }
         ensures memory { IfErr result (λ e. e ≡ Why.Memory) }
     {
         let mut writer = self;

@@ -7,7 +7,7 @@ use Rattle.flac_bits.specs.State.{Cursor}
 use Rattle.flac_bits.specs.Layout.{Reason, because, and_then, run}
 use Rattle.flac_bits.specs.declared.why.Why.TheVariants.{SampleRange}
 use Rattle.flac_header.specs.Header.{Header, channels_of}
-use Rattle.flac_subframe.specs.Numbers.{all_fit}
+use Rattle.flac_subframe.specs.format.Numbers.{all_fit}
 use Rattle.flac_frame.specs.Frame.{Frame, each_fits, in_range, some_or}
 use Rattle.flac_frame.specs.Stereo.{joined}
 use Rattle.flac_frame.specs.View.{chunks, frame_in}

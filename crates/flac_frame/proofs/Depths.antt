@@ -9,7 +9,7 @@ use Rattle.std.proofs.lemmas.Nat.{le_or_l, le_or_r, or_lt, pow_pos}
 use Rattle.std.proofs.lemmas.List.{take_all, take_more, take_more_set}
 use Rattle.std.proofs.Math.Nat.{pow-le-pow_right, div-eq_of_lt, lt-div-mul-add}
 use Rattle.flac_bits.specs.Signed.{FitsBits}
-use Rattle.flac_subframe.specs.Numbers.{fits, all_fit}
+use Rattle.flac_subframe.specs.format.Numbers.{fits, all_fit}
 
 -- the test, and what it says
 pub fits-to : (n : ℕ) (z : ℤ) → fits n z ≡ true → FitsBits n z

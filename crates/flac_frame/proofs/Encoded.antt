@@ -4,10 +4,10 @@ use Rattle.std.proofs.lemmas.List.{take_more, take_more_set, length-take-le, len
 use Rattle.std.proofs.lemmas.List.Elements.{All-take, All-head, All-tail, All-cons, All-nil}
 use Rattle.flac_bits.specs.Signed.{FitsBits}
 use Rattle.flac_bits.specs.declared.why.Why.{Why}
-use Rattle.flac_subframe.specs.declared.limits.Limits.{Limits}
-use Rattle.flac_subframe.specs.Handed.{AreWithin}
-use Rattle.flac_subframe.specs.Spelling.{IsSubframe}
-use Rattle.flac_subframe.specs.Subframe.{Form, samples_of}
+use Rattle.flac_subframe.specs.declared.format.limits.Limits.{Limits}
+use Rattle.flac_subframe.specs.format.Handed.{AreWithin}
+use Rattle.flac_subframe.specs.format.Spelling.{IsSubframe}
+use Rattle.flac_subframe.specs.format.Subframe.{Form, samples_of}
 use Rattle.flac_frame.specs.Encoding.{block_of}
 use Rattle.flac_frame.specs.PlaneLists.{Lists, later}
 use Rattle.flac_frame.specs.inner.Encoding.{AreFormsByPlane, AreLeast, IsLeastFor}

@@ -6,8 +6,8 @@ use Rattle.flac_header.specs.Header.{Header}
 use Rattle.flac_header.specs.Choice.{size_choice, rate_choice_in, depth_choice_in, stated_rate, with_codes, chosen_header}
 use Rattle.flac_header.specs.declared.subset.Profile.{Profile}
 use Rattle.flac_header.specs.Spelling.{header_spelling}
-use Rattle.flac_subframe.specs.Spelling.{subframe_spelling}
-use Rattle.flac_subframe.specs.Subframe.{Form}
+use Rattle.flac_subframe.specs.format.Spelling.{subframe_spelling}
+use Rattle.flac_subframe.specs.format.Subframe.{Form}
 use Rattle.flac_frame.specs.Audio.{Sound}
 use Rattle.flac_frame.specs.Encoding.{partition_limit, IsEncoding, EachStandsByPlane, IsOfPlanes, IsLeastByPlane, subframes_cost}
 use Rattle.flac_frame.specs.PlaneLists.{Lists, later, lists_kept, plane_of}

@@ -6,9 +6,9 @@ use Rattle.flac_bits.specs.Signed.{FitsBits}
 use Rattle.flac_header.specs.Header.{Header, IsHeader, channels_of}
 use Rattle.flac_header.specs.declared.subset.Profile.{Profile}
 use Rattle.flac_header.specs.Choice.{size_choice, rate_choice_in, depth_choice_in, chosen_header}
-use Rattle.flac_subframe.specs.declared.limits.Limits.{Limits}
-use Rattle.flac_subframe.specs.Spelling.{subframe_spelling}
-use Rattle.flac_subframe.specs.Subframe.{Form}
+use Rattle.flac_subframe.specs.declared.format.limits.Limits.{Limits}
+use Rattle.flac_subframe.specs.format.Spelling.{subframe_spelling}
+use Rattle.flac_subframe.specs.format.Subframe.{Form}
 use Rattle.flac_frame.specs.Audio.{Sound, IsSound, samples_each}
 use Rattle.flac_frame.specs.Frame.{limits_at}
 use Rattle.flac_frame.specs.Stereo.{joined, kept_as}

@@ -3,10 +3,10 @@ use Rattle.std.proofs.Common.{◌≡◌, ℕ, zero, suc, ◌+◌, ◌≤◌, ℤ
 use Rattle.std.proofs.lemmas.List.{append-nil}
 use Rattle.flac_bits.specs.State.{Mark, past}
 use Rattle.flac_bits.specs.Meaning.{Spells}
-use Rattle.flac_subframe.specs.declared.limits.Limits.{Limits}
-use Rattle.flac_subframe.specs.Subframe.{Form, samples_of, subframe_samples}
-use Rattle.flac_subframe.specs.Spelling.{subframe_spelling, IsSubframe}
-use Rattle.flac_subframe.proofs.HeaderTie.{subframe_tie}
+use Rattle.flac_subframe.specs.declared.format.limits.Limits.{Limits}
+use Rattle.flac_subframe.specs.format.Subframe.{Form, samples_of, subframe_samples}
+use Rattle.flac_subframe.specs.format.Spelling.{subframe_spelling, IsSubframe}
+use Rattle.flac_subframe.proofs.lemmas.format.HeaderTie.{subframe_tie}
 use Rattle.flac_frame.specs.Frame.{subframes, side_bit, with_channel}
 use Rattle.flac_frame.specs.Spelling.{subframes_spelling, AreSubframes, HaveSamples}
 

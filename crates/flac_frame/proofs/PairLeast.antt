@@ -7,11 +7,11 @@ use Rattle.flac_bits.specs.Signed.{FitsBits}
 use Rattle.flac_header.specs.Header.{Header, IsHeader, channels_of}
 use Rattle.flac_header.specs.Choice.{chosen_header}
 use Rattle.flac_header.specs.declared.subset.Profile.{Profile}
-use Rattle.flac_subframe.specs.declared.wide.WideChoice.{WideChoice}
-use Rattle.flac_subframe.specs.Family.{form_in}
-use Rattle.flac_subframe.specs.Spelling.{subframe_spelling, IsSubframe}
-use Rattle.flac_subframe.specs.Subframe.{Form, samples_of}
-use Rattle.flac_subframe.proofs.Samples.{all_fit_is}
+use Rattle.flac_subframe.specs.declared.search.wide.WideChoice.{WideChoice}
+use Rattle.flac_subframe.specs.search.Choices.{form_in}
+use Rattle.flac_subframe.specs.format.Spelling.{subframe_spelling, IsSubframe}
+use Rattle.flac_subframe.specs.format.Subframe.{Form, samples_of}
+use Rattle.flac_subframe.proofs.lemmas.format.Samples.{all_fit_is}
 use Rattle.flac_frame.specs.Audio.{Sound, IsSound}
 use Rattle.flac_frame.specs.Chosen.{forms_by_plane, AreMadeByPlane, IsChoiceByPlane}
 use Rattle.flac_frame.specs.declared.pair_choices.PairChoices.{PairChoices}

@@ -5,11 +5,11 @@ use Rattle.std.specs.Int.{int_shr}
 use Rattle.std.proofs.lemmas.Bool.Decides.{nat_tests}
 use Rattle.std.proofs.lemmas.List.{ext_get_or}
 use Rattle.flac_header.specs.Header.{channels_of}
-use Rattle.flac_subframe.specs.declared.limits.Limits.{Limits}
-use Rattle.flac_subframe.specs.Laws.{InFamily, InWidened}
-use Rattle.flac_subframe.specs.Subframe.{Form}
-use Rattle.flac_subframe.proofs.Complete.{widened_whole, none_linear}
-use Rattle.flac_subframe.proofs.Family.{in_widened, no_linear}
+use Rattle.flac_subframe.specs.declared.format.limits.Limits.{Limits}
+use Rattle.flac_subframe.specs.search.FamilyLaws.{InFamily, InWidened}
+use Rattle.flac_subframe.specs.format.Subframe.{Form}
+use Rattle.flac_subframe.proofs.lemmas.search.Complete.{widened_whole, none_linear}
+use Rattle.flac_subframe.proofs.lemmas.search.Family.{in_widened, no_linear}
 use Rattle.flac_frame.specs.Audio.{Sound}
 use Rattle.flac_frame.specs.Encoding.{partition_limit, IsEncoding, EachStandsByPlane, EachInFamily, EachInPlanes, EachInWidened, FrameFamilyIsPlain, FramePlanesIsPlain, FrameWidenedIsPlain}
 use Rattle.flac_frame.specs.PlaneLists.{Lists, same_list, later, lists_kept}

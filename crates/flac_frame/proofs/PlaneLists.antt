@@ -5,8 +5,8 @@ use Rattle.std.proofs.Math.Path.{fun_ext}
 use Rattle.std.proofs.lemmas.Bool.{cases_lt}
 use Rattle.std.proofs.lemmas.List.{get_or-map, length-map, take_all}
 use Rattle.std.proofs.lemmas.List.Elements.{All-map}
-use Rattle.flac_subframe.specs.declared.linear.LinearPredictor.{LinearPredictor}
-use Rattle.flac_subframe.specs.Handed.{AreWithin}
+use Rattle.flac_subframe.specs.declared.format.linear.LinearPredictor.{LinearPredictor}
+use Rattle.flac_subframe.specs.format.Handed.{AreWithin}
 use Rattle.flac_frame.specs.PlaneLists.{Lists, later}
 
 abbrev pub from_plane : ℕ → Lists → Lists

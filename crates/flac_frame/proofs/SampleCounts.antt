@@ -1,14 +1,14 @@
 -- How many samples a subframe has.
 use Rattle.std.proofs.Common.{◌≡◌, ◌∙◌, refl, sym, ap, ℕ, ◌-◌, arith, ℤ, List, ◌++◌, Bool, true, false, cond, Some, None, length, length-append, map}
 use Rattle.std.proofs.lemmas.List.{length-map, length-replicate}
-use Rattle.flac_subframe.specs.declared.limits.Limits.{Limits}
-use Rattle.flac_subframe.specs.Prediction.{fixed_coefficients, Restored}
-use Rattle.flac_subframe.specs.Residual.{residual_values}
-use Rattle.flac_subframe.specs.Spelling.{MayHold, IsSubframe}
-use Rattle.flac_subframe.specs.Subframe.{Content, Constant, Verbatim, Fixed, Linear, Form, restored_samples, samples_of, scaled, fitting}
-use Rattle.flac_subframe.specs.Wasted.{times_power}
-use Rattle.flac_subframe.proofs.Complete.{whole}
-use Rattle.flac_subframe.proofs.Whole.{samples_restored}
+use Rattle.flac_subframe.specs.declared.format.limits.Limits.{Limits}
+use Rattle.flac_subframe.specs.format.Prediction.{fixed_coefficients, Restored}
+use Rattle.flac_subframe.specs.format.Residual.{residual_values}
+use Rattle.flac_subframe.specs.format.Spelling.{MayHold, IsSubframe}
+use Rattle.flac_subframe.specs.format.Subframe.{Content, Constant, Verbatim, Fixed, Linear, Form, restored_samples, samples_of, scaled, fitting}
+use Rattle.flac_subframe.specs.format.Wasted.{times_power}
+use Rattle.flac_subframe.proofs.lemmas.search.Complete.{whole}
+use Rattle.flac_subframe.proofs.lemmas.format.Whole.{samples_restored}
 
 scaled_is : (k : ℕ) (b : Bool) (t s : List ℤ) → scaled k (cond b (Some t) None) ≡ Some s → s ≡ map (times_power k) t
 scaled_is k true t s e = sym (of_some e)

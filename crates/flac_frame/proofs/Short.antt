@@ -4,24 +4,24 @@ use Rattle.std.proofs.lemmas.List.{length-map}
 use Rattle.std.proofs.lemmas.List.Elements.{All-head, All-tail}
 use Rattle.std.proofs.lemmas.Nat.{mul-le}
 use Rattle.std.proofs.Math.Nat.{mul-le-mul_right}
-use Rattle.flac_subframe.specs.declared.linear.LinearPredictor.{LinearPredictor}
+use Rattle.flac_subframe.specs.declared.format.linear.LinearPredictor.{LinearPredictor}
 use Rattle.flac_bits.specs.Bits.{unsigned}
 use Rattle.flac_bits.specs.Check.{remainder}
 use Rattle.flac_bits.specs.Signed.{FitsBits}
 use Rattle.flac_bits.proofs.Words.{length-unsigned}
 use Rattle.flac_header.specs.Spelling.{header_spelling}
 use Rattle.flac_header.proofs.Lengths.{header_few}
-use Rattle.flac_subframe.specs.declared.limits.Limits.{Limits}
-use Rattle.flac_subframe.specs.Bodies.{verbatim}
-use Rattle.flac_subframe.specs.Chosen.{offered}
-use Rattle.flac_subframe.specs.Family.{Stands}
-use Rattle.flac_subframe.specs.Spelling.{content_spelling, subframe_spelling}
-use Rattle.flac_subframe.specs.Subframe.{Form, Verbatim}
-use Rattle.flac_subframe.specs.Wasted.{times_power}
-use Rattle.flac_subframe.proofs.Family.{widened_stand}
-use Rattle.flac_subframe.proofs.Made.{all_within}
-use Rattle.flac_subframe.proofs.Lengths.{length-samples}
-use Rattle.flac_subframe.proofs.WholeLeast.{length-subframe}
+use Rattle.flac_subframe.specs.declared.format.limits.Limits.{Limits}
+use Rattle.flac_subframe.specs.format.Bodies.{verbatim}
+use Rattle.flac_subframe.specs.format.Chosen.{offered}
+use Rattle.flac_subframe.specs.format.Family.{Stands}
+use Rattle.flac_subframe.specs.format.Spelling.{content_spelling, subframe_spelling}
+use Rattle.flac_subframe.specs.format.Subframe.{Form, Verbatim}
+use Rattle.flac_subframe.specs.format.Wasted.{times_power}
+use Rattle.flac_subframe.proofs.lemmas.search.Family.{widened_stand}
+use Rattle.flac_subframe.proofs.lemmas.format.Made.{all_within}
+use Rattle.flac_subframe.proofs.lemmas.search.Lengths.{length-samples}
+use Rattle.flac_subframe.proofs.lemmas.search.WholeLeast.{length-subframe}
 use Rattle.flac_frame.specs.Encoding.{IsShort}
 use Rattle.flac_frame.specs.inner.Encoding.{IsLeastFor, AreLeast}
 use Rattle.flac_frame.specs.PlaneLists.{Lists, later}

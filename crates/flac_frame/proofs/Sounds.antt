@@ -3,7 +3,7 @@ use Rattle.std.proofs.Common.{◌≡◌, ℕ, ◌<◌, ◌≤◌, ◌^◌, Bool,
 use Rattle.std.specs.List.{list_all}
 use Rattle.std.proofs.lemmas.List.{take_more, take_more_set, map-append}
 use Rattle.std.proofs.lemmas.List.Folds.{list_all-map}
-use Rattle.flac_subframe.specs.Numbers.{fits}
+use Rattle.flac_subframe.specs.format.Numbers.{fits}
 use Rattle.std.specs.Option.{option_or}
 use Rattle.flac_frame.specs.Setup.{format_fault}
 use Rattle.flac_frame.specs.Audio.{samples_each, as_long, each_small, samples_fault, channels_fault, audio_fault, IsSound}

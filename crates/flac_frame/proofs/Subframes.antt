@@ -9,8 +9,8 @@ use Rattle.flac_bits.specs.State.{State, Cursor}
 use Rattle.flac_bits.specs.Layout.{run, and_then, Reason}
 use Rattle.flac_bits.specs.inner.Reading.{Goes}
 use Rattle.flac_bits.proofs.Loops.{goes_on}
-use Rattle.flac_subframe.specs.declared.limits.Limits.{Limits}
-use Rattle.flac_subframe.specs.Subframe.{subframe_samples}
+use Rattle.flac_subframe.specs.declared.format.limits.Limits.{Limits}
+use Rattle.flac_subframe.specs.format.Subframe.{subframe_samples}
 use Rattle.flac_frame.specs.Frame.{subframes, side_bit, with_channel}
 use Rattle.flac_frame.specs.View.{chunks}
 

@@ -2,8 +2,8 @@
 use Rattle.std.proofs.Common.{◌≡◌, ◌∙◌, refl, sym, ap, subst, ℕ, suc, ◌+◌, ◌≤◌, ◌<◌, ◌^◌, arith, ℤ, Bool, true, false, cond, nat_eq, nat_lt, nat_le, List, [], ◌∷◌, ◌++◌, append_assoc, length, Option, Some, None, is_some, Result, All, flat_map}
 use Rattle.std.proofs.lemmas.Bool.Decides.{nat_tests}
 use Rattle.std.proofs.lemmas.List.Elements.{All-head, All-tail}
-use Rattle.flac_subframe.specs.declared.linear.LinearPredictor.{LinearPredictor}
-use Rattle.flac_subframe.specs.Handed.{AreWithin}
+use Rattle.flac_subframe.specs.declared.format.linear.LinearPredictor.{LinearPredictor}
+use Rattle.flac_subframe.specs.format.Handed.{AreWithin}
 use Rattle.flac_bits.specs.State.{Mark, past, fresh}
 use Rattle.flac_bits.specs.Signed.{FitsBits}
 use Rattle.flac_bits.specs.Written.{Written, Adds, Fails, Writes}
@@ -15,10 +15,10 @@ use Rattle.flac_header.specs.Header.{Header}
 use Rattle.flac_header.specs.Choice.{size_choice, rate_choice_in, depth_choice_in, stated_rate, with_codes, chosen_header}
 use Rattle.flac_header.specs.declared.subset.Profile.{Profile}
 use Rattle.flac_header.specs.Spelling.{header_spelling, restarted}
-use Rattle.flac_subframe.specs.declared.limits.Limits.{Limits}
-use Rattle.flac_subframe.specs.Spelling.{subframe_spelling, IsSubframe}
-use Rattle.flac_subframe.specs.Subframe.{Form, samples_of}
-use Rattle.flac_subframe.proofs.Samples.{all_fit_is}
+use Rattle.flac_subframe.specs.declared.format.limits.Limits.{Limits}
+use Rattle.flac_subframe.specs.format.Spelling.{subframe_spelling, IsSubframe}
+use Rattle.flac_subframe.specs.format.Subframe.{Form, samples_of}
+use Rattle.flac_subframe.proofs.lemmas.format.Samples.{all_fit_is}
 use Rattle.flac_frame.specs.Audio.{Sound, IsSound}
 use Rattle.flac_frame.specs.Frame.{side_bit, each_fits}
 use Rattle.flac_frame.specs.Stereo.{joined}

@@ -5,9 +5,9 @@ use Rattle.flac_bits.specs.Meaning.{Spells, AllKept}
 use Rattle.flac_info.specs.Info.{Info, KeepsRules}
 use Rattle.flac_header.specs.Header.{Header, allowed, greatest_block}
 use Rattle.flac_header.specs.declared.subset.Profile.TheVariants.{Subset, Lax}
-use Rattle.flac_subframe.specs.Residual.{Residual}
-use Rattle.flac_subframe.specs.Spelling.{MayLeave, MayHold}
-use Rattle.flac_subframe.specs.Subframe.{Form, Content, Constant, Verbatim, Fixed, Linear}
+use Rattle.flac_subframe.specs.format.Residual.{Residual}
+use Rattle.flac_subframe.specs.format.Spelling.{MayLeave, MayHold}
+use Rattle.flac_subframe.specs.format.Subframe.{Form, Content, Constant, Verbatim, Fixed, Linear}
 use Rattle.flac_frame.specs.Frame.{Frame, frame, header_rules, differs, limits_at, side_bit}
 use Rattle.flac_frame.specs.Spelling.{AreSubframes, IsSpelled}
 use Rattle.flac_frame.specs.declared.before.Before.{Before}

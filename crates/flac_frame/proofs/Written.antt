@@ -5,8 +5,8 @@ use Rattle.flac_bits.specs.declared.why.Why.{Why}
 use Rattle.flac_header.specs.Header.{Header}
 use Rattle.flac_header.specs.Choice.{chosen_header}
 use Rattle.flac_header.specs.Spelling.{restarted}
-use Rattle.flac_subframe.specs.Spelling.{subframe_spelling}
-use Rattle.flac_subframe.specs.Subframe.{Form}
+use Rattle.flac_subframe.specs.format.Spelling.{subframe_spelling}
+use Rattle.flac_subframe.specs.format.Subframe.{Form}
 use Rattle.flac_frame.specs.Audio.{Sound}
 use Rattle.flac_frame.specs.Chosen.{forms_by_plane, AreMadeByPlane, IsChoiceByPlane}
 use Rattle.flac_frame.specs.PlaneLists.{Lists, lists_kept}

@@ -1,11 +1,11 @@
 -- Samples that can be encoded.
-use Rattle.std.specs.Prelude.{◌≡◌, ◌≤◌, ◌<◌, All, true, is_some, ℕ, ◌^◌, Bool, not, cond, ◌||◌, nat_eq, nat_lt, nat_le, ℤ, List, [], length, slice_index_or, Option, Some, None, is_none}
+use Rattle.std.specs.Prelude.{◌≡◌, ◌≤◌, ◌<◌, All, true, is_some, ℕ, ◌^◌, Bool, not, cond, ◌||◌, nat_eq, nat_lt, nat_le, ℤ, List, [], length, slice_index_or, Option, Some, None, is_none, Result, MatchResult}
 use Rattle.std.specs.List.{list_all}
 use Rattle.std.specs.Option.{option_or}
 use Rattle.flac_header.specs.Choice.{rate_choice_in, depth_choice_in}
 use Rattle.flac_header.specs.declared.subset.Profile.{Profile}
 use Rattle.flac_bits.specs.Signed.{FitsBits}
-use Rattle.flac_subframe.specs.Numbers.{fits}
+use Rattle.flac_subframe.specs.format.Numbers.{fits}
 use Rattle.flac_frame.specs.declared.setup.SetupFault.{SetupFault}
 use Rattle.flac_frame.specs.declared.setup.SetupFault.TheVariants.{BadRate, BadDepth, BadChannels, LengthsDiffer, SampleTooLarge, TooLong}
 
@@ -55,3 +55,8 @@ pub record IsSound (a : Sound) : Type 0 where
   pub long : All (λ c. length c ≡ samples_each a.channels) a.channels
   pub small : All (λ c. All (FitsBits a.bits) c) a.channels
   pub short : samples_each a.channels < 2 ^ 36
+
+-- these samples can be encoded, or the reason is returned why they cannot
+abbrev pub MakesAudio : Profile → (rate bits : ℕ) → List (List ℤ) → Result Sound SetupFault → Type 0
+MakesAudio profile rate bits channels result =
+    MatchResult result (λ a. a ≡ record { profile = profile; rate = rate; bits = bits; channels = channels }) (λ e. audio_fault profile rate bits channels ≡ Some e)

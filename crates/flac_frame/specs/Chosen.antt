@@ -1,14 +1,14 @@
 -- How a block is written as a frame, chosen before anything of it is written.
-use Rattle.std.specs.Prelude.{◌≡◌, ◌≤◌, ◌^◌, ℕ, ℤ, List, [], ◌∷◌, length, Some, All, vec_len, ⊤}
+use Rattle.std.specs.Prelude.{◌≡◌, ◌≤◌, ◌-◌, ◌*◌, ◌^◌, ℕ, ℤ, List, [], ◌∷◌, length, Some, All, vec_len, ⊤}
 use Rattle.flac_header.specs.Choice.{chosen_header}
-use Rattle.flac_subframe.specs.declared.wide.WideChoice.{WideChoice}
-use Rattle.flac_subframe.specs.declared.linear.LinearPredictor.{LinearPredictor}
-use Rattle.flac_subframe.specs.Family.{IsMadeIn, form_in}
-use Rattle.flac_subframe.specs.Subframe.{Form}
+use Rattle.flac_subframe.specs.declared.search.wide.WideChoice.{WideChoice}
+use Rattle.flac_subframe.specs.declared.format.linear.LinearPredictor.{LinearPredictor}
+use Rattle.flac_subframe.specs.search.Choices.{IsMadeIn, form_in}
+use Rattle.flac_subframe.specs.format.Subframe.{Form}
 use Rattle.flac_frame.specs.Audio.{Sound}
-use Rattle.flac_frame.specs.Encoding.{IsEncoding, IsLeastByPlane, IsShort, subframes_cost}
+use Rattle.flac_frame.specs.Encoding.{block_of, IsEncoding, IsLeastByPlane, IsShort, subframes_cost}
 use Rattle.flac_frame.specs.PlaneLists.{Lists, same_list, later, lists_kept}
-use Rattle.flac_frame.specs.Spelling.{FrameForm}
+use Rattle.flac_frame.specs.Spelling.{FrameForm, frame_spelling}
 use Rattle.flac_frame.specs.Stereo.{kept_as}
 use Rattle.flac_frame.specs.declared.frame_choice.FrameChoice.{FrameChoice}
 
@@ -50,3 +50,30 @@ AllWide most choices = All (λ c. 2 ^ most ≤ vec_len c.codings) choices
 pub record HasPlaces (channels most : ℕ) (c : FrameChoice) : Type 0 where
   pub many : channels ≤ length c.subframes.items
   pub wide : AllWide most c.subframes.items
+
+-- what was chosen for the samples from an index on up to another
+abbrev pub IsRangeByPlane : Lists → Sound → (start end number : ℕ) → FrameChoice → Type 0
+IsRangeByPlane lists sound start end number c = IsChoiceByPlane lists sound (end - start) number (block_of start (end - start) sound.channels) c
+
+abbrev pub IsRangeWith : List LinearPredictor → Sound → (start end number : ℕ) → FrameChoice → Type 0
+IsRangeWith ps sound start end number c = IsChoiceWith ps sound (end - start) number (block_of start (end - start) sound.channels) c
+
+-- a choice is one for each block for which another is
+abbrev pub SameByPlane : FrameChoice → FrameChoice → Type 0
+SameByPlane c d = (lists : Lists) (sound : Sound) (size number : ℕ) (block : List (List ℤ)) → IsChoiceByPlane lists sound size number block c → IsChoiceByPlane lists sound size number block d
+
+abbrev pub SameWith : FrameChoice → FrameChoice → Type 0
+SameWith c d = (ps : List LinearPredictor) (sound : Sound) (size number : ℕ) (block : List (List ℤ)) → IsChoiceWith ps sound size number block c → IsChoiceWith ps sound size number block d
+
+-- it was made for some block, and the frame of each such block has this number of bytes
+abbrev pub IsMadeByPlane : Sound → (size number : ℕ) → FrameChoice → Type 0
+IsMadeByPlane sound size number c = (lists : Lists) × (block : List (List ℤ)) × IsChoiceByPlane lists sound size number block c
+
+abbrev pub HasBytesByPlane : Sound → (size number : ℕ) → FrameChoice → ℕ → Type 0
+HasBytesByPlane sound size number c bytes = (lists : Lists) (block : List (List ℤ)) (is : IsChoiceByPlane lists sound size number block c) → length (frame_spelling sound.bits is.form) ≡ 8 * bytes
+
+abbrev pub IsMadeWith : Sound → (size number : ℕ) → FrameChoice → Type 0
+IsMadeWith sound size number c = (ps : List LinearPredictor) × (block : List (List ℤ)) × IsChoiceWith ps sound size number block c
+
+abbrev pub HasBytesWith : Sound → (size number : ℕ) → FrameChoice → ℕ → Type 0
+HasBytesWith sound size number c bytes = (ps : List LinearPredictor) (block : List (List ℤ)) (is : IsChoiceWith ps sound size number block c) → length (frame_spelling sound.bits is.form) ≡ 8 * bytes

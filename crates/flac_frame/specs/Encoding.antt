@@ -1,26 +1,27 @@
 -- What encoding a frame writes.
-use Rattle.std.specs.Prelude.{◌≡◌, ℕ, ◌≤◌, ◌<◌, ◌↔◌, ℤ, List, [], ◌∷◌, ◌*◌, length, map, take, drop, Some, Option, All, Result, true, false, ⊤}
+use Rattle.std.specs.Prelude.{◌≡◌, ℕ, ◌≤◌, ◌<◌, ◌↔◌, ℤ, List, [], ◌∷◌, ◌+◌, ◌-◌, ◌*◌, ◌^◌, length, map, take, drop, Some, Option, All, Result, true, false, ⊤}
 use Rattle.flac_bits.specs.Signed.{FitsBits}
 use Rattle.flac_bits.specs.Written.{Written, Writes}
 use Rattle.flac_bits.specs.declared.why.Why.{Why}
 use Rattle.flac_bits.specs.Meaning.{AllKept}
 use Rattle.flac_info.specs.Info.{Info}
-use Rattle.flac_header.specs.Header.{IsHeader, channels_of, greatest_in, allowed}
+use Rattle.flac_header.specs.Header.{Header, IsHeader, channels_of, greatest_in, allowed}
 use Rattle.flac_header.specs.Choice.{chosen_header}
 use Rattle.flac_header.specs.Spelling.{restarted}
 use Rattle.flac_header.specs.declared.subset.Profile.{Profile}
-use Rattle.flac_subframe.specs.declared.limits.Limits.{Limits}
-use Rattle.flac_subframe.specs.declared.linear.LinearPredictor.{LinearPredictor}
-use Rattle.flac_subframe.specs.Chosen.{fixed_below, offered}
-use Rattle.flac_subframe.specs.Family.{Stands}
-use Rattle.flac_subframe.specs.Laws.{InFamily, InWidened}
-use Rattle.flac_subframe.specs.Least.{IsLeast}
-use Rattle.flac_subframe.specs.Spelling.{IsSubframe}
-use Rattle.flac_subframe.specs.Subframe.{Form, samples_of}
+use Rattle.flac_subframe.specs.declared.format.limits.Limits.{Limits}
+use Rattle.flac_subframe.specs.declared.format.linear.LinearPredictor.{LinearPredictor}
+use Rattle.flac_subframe.specs.format.Chosen.{fixed_below, offered}
+use Rattle.flac_subframe.specs.format.Family.{Stands}
+use Rattle.flac_subframe.specs.search.FamilyLaws.{InFamily, InWidened}
+use Rattle.flac_subframe.specs.format.Least.{IsLeast}
+use Rattle.flac_subframe.specs.format.Spelling.{IsSubframe}
+use Rattle.flac_subframe.specs.format.Subframe.{Form, samples_of}
 use Rattle.flac_frame.specs.Audio.{Sound}
 use Rattle.flac_frame.specs.Follows.{HasFormat}
 use Rattle.flac_frame.specs.Frame.{limits_at, header_rules}
-use Rattle.flac_frame.specs.PlaneLists.{Lists, same_list, later, lists_kept}
+use Rattle.flac_frame.specs.PlaneLists.{Lists, lists_of, same_list, later, lists_kept}
+use Rattle.flac_frame.specs.declared.plane_predictors.PlanePredictors.{PlanePredictors}
 use Rattle.flac_frame.specs.Stereo.{kept_as}
 use Rattle.flac_frame.specs.Spelling.{FrameForm, frame_spelling, subframes_spelling, AreSubframes, IsFrame, FrameSamples}
 use Rattle.flac_frame.specs.declared.before.Before.{Before}
@@ -55,6 +56,14 @@ most_in profile = (limits_at profile 0).partition
 -- the largest partition order of the samples' subframes
 abbrev pub partition_limit : Sound → ℕ
 partition_limit sound = (limits_at sound.profile sound.rate).partition
+
+-- the largest order of a linear predictor that their subframes may have (sections 7 and 9.2.6)
+abbrev pub order_limit : Sound → ℕ
+order_limit sound = (limits_at sound.profile sound.rate).linear
+
+-- the header of a block of samples under a channel code, if there is one
+abbrev pub header_choice : Sound → (size code number : ℕ) → Option Header
+header_choice sound size code number = chosen_header sound.profile size sound.rate code sound.bits number
 
 -- a frame of at most 16777215 bytes
 abbrev pub IsShort : ℕ → FrameForm → Type 0
@@ -140,6 +149,20 @@ WritesFrameWith ps sound size number block old new result = WritesFrameByPlane (
 
 abbrev pub WritesFrame : {X : Type 0} → Sound → (size number : ℕ) → List (List ℤ) → Written → Written → Result X Why → Type 0
 WritesFrame sound size number block old new result = WritesFrameWith [] sound size number block old new result
+
+-- the same of the samples from an index on up to another
+abbrev pub EncodesByPlane : {X : Type 0} → PlanePredictors → Sound → (start end number : ℕ) → Written → Written → Result X Why → Type 0
+EncodesByPlane predictors sound start end number old new result = WritesFrameByPlane (lists_of predictors) sound (end - start) number (block_of start (end - start) sound.channels) old new result
+
+abbrev pub EncodesWith : {X : Type 0} → List LinearPredictor → Sound → (start end number : ℕ) → Written → Written → Result X Why → Type 0
+EncodesWith ps sound start end number old new result = WritesFrameWith ps sound (end - start) number (block_of start (end - start) sound.channels) old new result
+
+abbrev pub EncodesRange : {X : Type 0} → Sound → (start end number : ℕ) → Written → Written → Result X Why → Type 0
+EncodesRange sound start end number old new result = WritesFrame sound (end - start) number (block_of start (end - start) sound.channels) old new result
+
+-- how many bytes were written, unless the count of all bytes reached its largest value
+abbrev pub CountsBytes : Written → Written → ℕ → Type 0
+CountsBytes old new bytes = old.known ≡ true → new.mark.bytes < 2 ^ 64 - 1 → length new.bits ≡ length old.bits + 8 * bytes
 
 -- A frame of samples in the format of STREAMINFO has a header of that format, which the profile allows if the block is
 -- not too long for the rate; and if the header keeps the rules after the frames before, it is a frame of the block.

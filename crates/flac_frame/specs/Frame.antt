@@ -1,15 +1,15 @@
 -- A frame: its header, a subframe for each channel, and its check (RFC 9639, section 9).
-use Rattle.std.specs.Prelude.{ℕ, zero, suc, ◌+◌, ◌*◌, Bool, true, false, not, cond, ◌&&◌, ◌||◌, nat_eq, nat_lt, nat_le, ℤ, List, [], ◌∷◌, ◌++◌, Option, Some, None, ⊤}
+use Rattle.std.specs.Prelude.{ℕ, zero, suc, ◌+◌, ◌*◌, Bool, true, false, not, cond, ◌&&◌, ◌||◌, nat_eq, nat_lt, nat_le, min, ℤ, List, [], ◌∷◌, ◌++◌, Option, Some, None, ⊤}
 use Rattle.flac_bits.specs.Layout.{Layout, Rule, done, bits, judge, refuse, mark, align, ◌>>=◌}
 use Rattle.flac_bits.specs.declared.why.Why.{Why}
 use Rattle.flac_bits.specs.declared.why.Why.TheVariants.{NotSubset, HeaderMismatch, Sequence, BlockSize, NonzeroPadding, FrameCheck, SampleRange}
-use Rattle.flac_header.specs.Header.{Header, header, allowed, channels_of, depth_of}
+use Rattle.flac_header.specs.Header.{Header, header, allowed, channels_of, depth_of, greatest_in}
 use Rattle.flac_header.specs.declared.subset.Profile.{Profile}
 use Rattle.flac_header.specs.declared.subset.Profile.TheVariants.{Subset, Lax}
 use Rattle.flac_info.specs.Info.{Info}
-use Rattle.flac_subframe.specs.declared.limits.Limits.{Limits}
-use Rattle.flac_subframe.specs.Numbers.{all_fit}
-use Rattle.flac_subframe.specs.Subframe.{subframe_samples}
+use Rattle.flac_subframe.specs.declared.format.limits.Limits.{Limits}
+use Rattle.flac_subframe.specs.format.Numbers.{all_fit}
+use Rattle.flac_subframe.specs.format.Subframe.{subframe_samples}
 use Rattle.flac_frame.specs.Stereo.{joined}
 use Rattle.flac_frame.specs.declared.before.Before.{Before}
 
@@ -32,6 +32,10 @@ left_by (Some b) variable number size = record { first_size = b.first_size; vari
 
 abbrev pub after : Option Before → Frame → Before
 after before f = left_by before f.variable f.number f.size
+
+-- the longest block of a stream, by STREAMINFO and by its profile (sections 7 and 8.2)
+abbrev pub longest_block : Profile → Info → ℕ
+longest_block profile info = min info.greatest_block (greatest_in profile info.rate)
 
 -- ---- the rules at the end of a frame's header
 

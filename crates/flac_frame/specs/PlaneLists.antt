@@ -1,7 +1,7 @@
 -- The planes of a block, of which its subframes are made, and a list of linear predictors for each of them.
 use Rattle.std.specs.Prelude.{ℕ, suc, cond, nat_eq, nat_lt, List, map, slice_index_or}
-use Rattle.flac_subframe.specs.declared.linear.LinearPredictor.{LinearPredictor}
-use Rattle.flac_subframe.specs.Handed.{AreWithin}
+use Rattle.flac_subframe.specs.declared.format.linear.LinearPredictor.{LinearPredictor}
+use Rattle.flac_subframe.specs.format.Handed.{AreWithin}
 use Rattle.flac_frame.specs.declared.plane_predictors.PlanePredictors.{PlanePredictors}
 
 -- Two channels have four planes: 0 is left, 1 right, 2 their side, 3 their middle (RFC 9639, section 4.2). Otherwise each

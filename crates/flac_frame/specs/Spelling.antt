@@ -9,9 +9,9 @@ use Rattle.flac_info.specs.Info.{Info, KeepsRules}
 use Rattle.flac_header.specs.Header.{Header, IsHeader}
 use Rattle.flac_header.specs.Spelling.{header_spelling}
 use Rattle.flac_header.specs.declared.subset.Profile.{Profile}
-use Rattle.flac_subframe.specs.declared.limits.Limits.{Limits}
-use Rattle.flac_subframe.specs.Subframe.{Form, samples_of}
-use Rattle.flac_subframe.specs.Spelling.{subframe_spelling, IsSubframe}
+use Rattle.flac_subframe.specs.declared.format.limits.Limits.{Limits}
+use Rattle.flac_subframe.specs.format.Subframe.{Form, samples_of}
+use Rattle.flac_subframe.specs.format.Spelling.{subframe_spelling, IsSubframe}
 use Rattle.flac_frame.specs.Frame.{Frame, frame, header_rules, side_bit, limits_of, each_fits}
 use Rattle.flac_frame.specs.Stereo.{joined}
 use Rattle.flac_frame.specs.declared.before.Before.{Before}

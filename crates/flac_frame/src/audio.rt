@@ -1,7 +1,7 @@
 //! Samples to be encoded.
 
-ghost use Rattle.std.specs.Prelude.{◌≡◌, ◌≤◌, ◌<◌, ◌+◌, ◌^◌, [], map, length, take, drop, slice_index_or, nat_eq, MatchResult, Some, None};
-ghost use Rattle.flac_frame.specs.Audio.{samples_each, channels_fault, audio_fault, IsSound};
+ghost use Rattle.std.specs.Prelude.{◌≡◌, ◌≤◌, ◌<◌, ◌+◌, [], map, length, take, drop, slice_index_or, nat_eq, Some, None};
+ghost use Rattle.flac_frame.specs.Audio.{samples_each, channels_fault, audio_fault, MakesAudio, IsSound};
 
 use crate::samples::samples_fault;
 use crate::setup::{SetupFault, format_fault};
@@ -101,7 +101,7 @@ impl Audio {
     /// # Errors
     /// Those of [`Audio::new_in`].
     pub fn new(rate: u32, bits: u32, channels: Vec<Vec<i32>>) -> Result<Audio, SetupFault>
-        ensures { MatchResult result (λ a. a ≡ record { profile = Profile.Subset; rate = rate; bits = bits; channels = map (λ c. c.items) channels.items }) (λ e. audio_fault Profile.Subset rate bits (map (λ c. c.items) channels.items) ≡ Some e) }
+        ensures { MakesAudio Profile.Subset rate bits (map (λ c. c.items) channels.items) result }
     {
         Audio::new_in(Profile::Subset, rate, bits, channels)
     }
@@ -129,7 +129,7 @@ impl Audio {
         bits: u32,
         channels: Vec<Vec<i32>>,
     ) -> Result<Audio, SetupFault>
-        ensures { MatchResult result (λ a. a ≡ record { profile = profile; rate = rate; bits = bits; channels = map (λ c. c.items) channels.items }) (λ e. audio_fault profile rate bits (map (λ c. c.items) channels.items) ≡ Some e) }
+        ensures { MakesAudio profile rate bits (map (λ c. c.items) channels.items) result }
     {
         if let Some(fault) = fault_of(profile, rate, bits, &channels) {
             return Err(fault);

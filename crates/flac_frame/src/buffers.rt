@@ -1,20 +1,16 @@
 //! Buffers for the samples of a frame.
 
-ghost use Rattle.std.specs.Prelude.{◌≡◌, ◌≤◌, ◌<◌, ◌*◌, length, min, Some, None, Err, OnOk, OnErr, IfOk, IfErr, ⊤, []};
-ghost use Rattle.flac_bits.specs.Reading.{Reads, CallInPlace};
-ghost use Rattle.flac_bits.specs.State.{started};
-ghost use Rattle.flac_bits.specs.Fencing.{lifted};
-ghost use Rattle.flac_bits.specs.Within.{MeansWithin};
-ghost use Rattle.flac_header.specs.Header.{greatest_in};
-ghost use Rattle.flac_frame.specs.Frame.{frame, after};
-ghost use Rattle.flac_frame.specs.Kept.{nothing, Leaves};
+ghost use Rattle.std.specs.Prelude.{◌≡◌, ◌≤◌, ◌<◌, ◌*◌, Some, OnOk, OnErr, IfOk, IfErr, ⊤};
+ghost use Rattle.flac_frame.specs.Frame.{longest_block, after};
+ghost use Rattle.flac_frame.specs.Kept.{nothing, empty, ReadsFrame, Leaves};
+ghost use Rattle.flac_frame.specs.inner.Reading.{ReadsAnyFrame};
 ghost use Rattle.flac_frame.specs.Lent.{frame_of};
 ghost use Rattle.std.specs.Borrow.{sem, follows_so};
 ghost use mathlib.Core.Option.{none};
 ghost use Rattle.flac_frame.specs.contracts.buffers.FrameBuffers.{the_row};
 
 use crate::before::Before;
-use crate::fill::read_into;
+use crate::frame_reading::read_into;
 use crate::view::FrameView;
 use flac_bits::{BitReader, Source, Why};
 use flac_header::{BlockingStrategy, Profile};
@@ -95,7 +91,7 @@ impl FrameBuffers {
     pub fn new(alloc: Global, channels: u32, max_block: u32) -> Result<FrameBuffers, Why>
         requires channels { channels ≤ 8 }
         requires max_block { max_block ≤ 65535 }
-        ensures ok { IfOk result (λ b. b ≡ record { channels = channels; max_block = max_block; before = None; held = nothing }) }
+        ensures ok { IfOk result (λ b. b ≡ empty channels max_block) }
         ensures err { IfErr result (λ e. e ≡ Why.Memory) }
     {
         let channels = channels as usize;
@@ -114,6 +110,24 @@ impl FrameBuffers {
             block: 0,
             used: 0,
         })
+    }
+
+    /// Empties the buffers, which then are as [`FrameBuffers::new`] returns them, and keeps their room: the next frame may
+    /// have any number, and either blocking strategy. A reader calls it before a frame that need not follow the one that
+    /// was read last, as after a damaged part of a stream. It allocates nothing.
+    ///
+    /// ```
+    /// buffers.anew();
+    /// let frame = buffers.read_frame(&mut bits, &info, Profile::Subset)?;
+    /// ```
+    pub fn anew(&mut self)
+        ensures { self.new ≡ empty self.old.channels self.old.max_block }
+    {
+        self.before = None;
+        self.strategy = BlockingStrategy::Fixed;
+        self.number = 0;
+        self.block = 0;
+        self.used = 0;
     }
 
     /// Reads the next frame into the buffers, where [`FrameBuffers::view`] lends it (RFC 9639, section 9). The reader
@@ -146,11 +160,11 @@ impl FrameBuffers {
         profile: Profile,
     ) -> Result<(), Why>
         requires channels { info.now.channels ≤ self.old.channels }
-        requires block { min info.now.greatest_block (greatest_in profile info.now.rate) ≤ self.old.max_block }
+        requires block { longest_block profile info.now ≤ self.old.max_block }
         ensures room { (self.new.channels ≡ self.old.channels) × (self.new.max_block ≡ self.old.max_block) }
         ensures before { OnOk result (self.new.before ≡ Some (after self.old.before self.new.held)) }
         ensures refused { OnErr result ((self.new.before ≡ self.old.before) × (self.new.held ≡ nothing)) }
-        ensures reading { CallInPlace 40 (λ _. MeansWithin (Some 16777215) (λ _. self.new.held) (frame profile info.now self.old.before) bits.old) (lifted bits.old) bits.new result }
+        ensures reading { ReadsFrame (λ _. self.new.held) profile info.now self.old.before bits.old bits.new result }
     {
         bits.fence(LONGEST_FRAME);
         let outcome = self.read_in(bits, info, profile);
@@ -166,11 +180,11 @@ impl FrameBuffers {
         profile: Profile,
     ) -> Result<(), Why>
         requires channels { info.now.channels ≤ self.old.channels }
-        requires block { min info.now.greatest_block (greatest_in profile info.now.rate) ≤ self.old.max_block }
+        requires block { longest_block profile info.now ≤ self.old.max_block }
         ensures room { (self.new.channels ≡ self.old.channels) × (self.new.max_block ≡ self.old.max_block) }
         ensures before { OnOk result (self.new.before ≡ Some (after self.old.before self.new.held)) }
         ensures refused { OnErr result ((self.new.before ≡ self.old.before) × (self.new.held ≡ nothing)) }
-        ensures reading { CallInPlace 40 (λ old. Reads (λ _. self.new.held) (frame profile info.now self.old.before) (started old)) bits.old bits.new result }
+        ensures reading { ReadsAnyFrame (λ _. self.new.held) profile info.now self.old.before bits.old bits.new result }
     {
         self.strategy = BlockingStrategy::Fixed;
         self.number = 0;
@@ -217,8 +231,8 @@ impl FrameBuffers {
         profile: Profile,
     ) -> Result<FrameView<'_>, Why>
         requires channels { info.now.channels ≤ self.old.channels }
-        requires block { min info.now.greatest_block (greatest_in profile info.now.rate) ≤ self.old.max_block }
-        ensures reading { CallInPlace 40 (λ _. MeansWithin (Some 16777215) frame_of (frame profile info.now self.old.before) bits.old) (lifted bits.old) bits.new result }
+        requires block { longest_block profile info.now ≤ self.old.max_block }
+        ensures reading { ReadsFrame frame_of profile info.now self.old.before bits.old bits.new result }
         ensures* after { sem 𝓛 (follows_so the_row the_row self.entry.ghost_name none (λ _ _. ⊤) (λ last. Leaves self.old last frame_of result)) }
     {
         self.fill(bits, info, profile)?;

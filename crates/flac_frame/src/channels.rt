@@ -1,13 +1,12 @@
 //! Reads the subframes of a frame.
 
-ghost use Rattle.std.specs.Prelude.{◌≡◌, ◌≤◌, ◌<◌, ◌+◌, ◌*◌, IfOk, length, cond, Some, None, [], nat_le, All, IsTrue};
+ghost use Rattle.std.specs.Prelude.{◌≡◌, ◌≤◌, ◌<◌, ◌+◌, ◌*◌, IfOk, length, All, IsTrue};
 ghost use Rattle.flac_bits.specs.Signed.{FitsBits};
-ghost use Rattle.flac_bits.specs.Reading.{Reads, CallInPlace};
+ghost use Rattle.flac_bits.specs.Reading.{CallInPlace};
 ghost use Rattle.flac_header.specs.Assignment.{code_of, IsAssignment};
-ghost use Rattle.flac_frame.specs.Frame.{side_bit, subframes};
+ghost use Rattle.flac_frame.specs.Frame.{side_bit};
 ghost use Rattle.flac_frame.specs.PlaneLists.{plane_of};
-ghost use Rattle.flac_frame.specs.View.{chunks};
-ghost use Rattle.flac_subframe.specs.Subframe.{subframe_samples};
+ghost use Rattle.flac_frame.specs.inner.Reading.{ReadsSubframe, ReadsEach};
 
 use crate::planes::{LEFT, MIDDLE, RIGHT, SIDE};
 use crate::shape::Shape;
@@ -57,8 +56,9 @@ fn subframe_here<R: Source>(
     requires block { (1 ≤ block) × (block ≤ 65535) }
     requires places { length samples.old ≡ block }
     requires limits { (limits.now.partition ≤ 15) × (limits.now.linear ≤ 32) }
+    // proof only
     ensures small { IfOk result (λ fits. IsTrue fits → All (FitsBits 34) samples.new) }
-    ensures reading { CallInPlace 8 (Reads (λ fits. cond fits (Some samples.new) None) (subframe_samples depth block limits.now)) bits.old bits.new result }
+    ensures reading { CallInPlace 8 (ReadsSubframe depth block limits.now samples.new) bits.old bits.new result }
 {
     read_subframe(bits, depth, block, limits, samples)
 }
@@ -74,8 +74,9 @@ pub(crate) fn read_subframes<R: Source>(
 ) -> Result<bool, Why>
     requires assignment { IsAssignment assignment }
     requires places { length samples.old ≡ shape.now.channels * shape.now.block }
+    // proof only
     ensures small { IfOk result (λ fits. IsTrue fits → All (FitsBits 34) samples.new) }
-    ensures reading { CallInPlace 0 (Reads (λ fits. cond fits (Some (chunks shape.now.channels shape.now.block samples.new)) None) (subframes shape.now.depth (code_of assignment) shape.now.block shape.now.limits (Some []) 0 shape.now.channels)) bits.old bits.new result }
+    ensures reading { CallInPlace 0 (ReadsEach shape.now (code_of assignment) samples.new) bits.old bits.new result }
 {
     let size = shape.block as usize;
     let mut fits = true;

@@ -1,19 +1,16 @@
-//! Encodes blocks of samples as frames.
+//! EncodesRange blocks of samples as frames.
 
-ghost use Rattle.std.specs.Prelude.{◌≡◌, ◌≤◌, ◌<◌, ◌+◌, ◌-◌, ◌*◌, ◌^◌, true, length, take, drop, flat_map, IfOk};
+ghost use Rattle.std.specs.Prelude.{◌≡◌, ◌≤◌, ◌<◌, ◌+◌, ◌-◌, ◌*◌, ◌^◌, length, IfOk};
 ghost use Rattle.flac_bits.specs.Written.{Writes};
-ghost use Rattle.flac_subframe.specs.Handed.{AreWithin};
-ghost use Rattle.flac_subframe.specs.Spelling.{subframe_spelling};
+ghost use Rattle.flac_subframe.specs.format.Handed.{AreWithin};
 ghost use Rattle.flac_frame.specs.Audio.{samples_each};
-ghost use Rattle.flac_frame.specs.Chosen.{forms_by_plane, AreMadeByPlane, IsChoiceByPlane, IsChoiceWith, AllWide, HasPlaces};
-ghost use Rattle.flac_frame.specs.inner.Chosen.{AreChosen};
-ghost use Rattle.flac_frame.specs.Encoding.{block_of, partition_limit, WritesFrame, WritesFrameByPlane, WritesFrameWith};
+ghost use Rattle.flac_frame.specs.Chosen.{AreMadeByPlane, IsRangeByPlane, IsRangeWith, AllWide, HasPlaces};
+ghost use Rattle.flac_frame.specs.inner.Subject.{HasOrders, HasChosen, apart_spelling, block_samples, lists_in, IsChoiceFor, choice_spelling, WritesFrameOf};
+ghost use Rattle.flac_frame.specs.Encoding.{partition_limit, EncodesRange, EncodesByPlane, EncodesWith, CountsBytes};
 ghost use Rattle.flac_frame.specs.inner.Encoding.{end_spelling};
 ghost use Rattle.flac_frame.specs.Frame.{limits_at};
 ghost use Rattle.flac_frame.specs.Pair.{AreWide};
-ghost use Rattle.flac_frame.specs.PlaneLists.{lists_of, lists_kept, AreAllWithin};
-ghost use Rattle.flac_frame.specs.Spelling.{subframes_spelling};
-ghost use Rattle.flac_frame.specs.Stereo.{kept_as};
+ghost use Rattle.flac_frame.specs.PlaneLists.{lists_of, AreAllWithin};
 
 use crate::audio::Audio;
 use crate::encode_buffers::EncodeBuffers;
@@ -48,11 +45,11 @@ fn choose_channels(
     requires size { length samples.old ≡ subject.now.size }
     requires block { subject.now.size ≤ workspace.old.block }
     requires partition { partition_limit subject.now.audio.now ≤ workspace.old.most }
-    requires orders { AreAllWithin (limits_at subject.now.audio.now.profile subject.now.audio.now.rate).linear (lists_of subject.now.predictors.now) }
+    requires orders { HasOrders subject.now }
     requires choices { length subject.now.audio.now.channels ≤ length subframes.old }
     requires wide { AllWide workspace.old.most subframes.old }
-    ensures chosen { AreChosen (partition_limit subject.now.audio.now) (lists_of subject.now.predictors.now) subject.now.audio.now.bits subject.now.size subframes.new (block_of subject.now.start subject.now.size subject.now.audio.now.channels) }
-    ensures bits { result ≡ length (flat_map (subframe_spelling subject.now.audio.now.bits) (forms_by_plane (lists_of subject.now.predictors.now) subframes.new (block_of subject.now.start subject.now.size subject.now.audio.now.channels))) }
+    ensures chosen { HasChosen subject.now subframes.new }
+    ensures bits { result ≡ length (apart_spelling subject.now subframes.new) }
     ensures wide { AllWide workspace.old.most subframes.new }
     ensures room { workspace.new ≡ workspace.old }
 {
@@ -84,8 +81,8 @@ fn choose_apart(
     requires partition { partition_limit subject.now.audio.now ≤ workspace.old.most }
     requires choices { HasPlaces (length subject.now.audio.now.channels) workspace.old.most choice.old }
     requires number { subject.now.number < 2 ^ 31 }
-    requires orders { AreAllWithin (limits_at subject.now.audio.now.profile subject.now.audio.now.rate).linear (lists_of subject.now.predictors.now) }
-    ensures chosen { IsChoiceByPlane (lists_of subject.now.predictors.now) subject.now.audio.now subject.now.size subject.now.number (block_of subject.now.start subject.now.size subject.now.audio.now.channels) choice.new }
+    requires orders { HasOrders subject.now }
+    ensures chosen { IsChoiceFor subject.now choice.new }
     ensures choices { HasPlaces (length subject.now.audio.now.channels) workspace.old.most choice.new }
     ensures many { length choice.new.subframes.items ≡ length choice.old.subframes.items }
     ensures room { workspace.new ≡ workspace.old }
@@ -121,8 +118,8 @@ fn choose_first(
     requires wide { AreWide workspace.old.most choices.old }
     requires choices { HasPlaces (length subject.now.audio.now.channels) workspace.old.most choice.old }
     requires number { subject.now.number < 2 ^ 31 }
-    requires orders { AreAllWithin (limits_at subject.now.audio.now.profile subject.now.audio.now.rate).linear (lists_of subject.now.predictors.now) }
-    ensures chosen { IsChoiceByPlane (lists_of subject.now.predictors.now) subject.now.audio.now subject.now.size subject.now.number (block_of subject.now.start subject.now.size subject.now.audio.now.channels) choice.new }
+    requires orders { HasOrders subject.now }
+    ensures chosen { IsChoiceFor subject.now choice.new }
     ensures wide { AreWide workspace.old.most choices.new }
     ensures choices { HasPlaces (length subject.now.audio.now.channels) workspace.old.most choice.new }
     ensures many { length choice.new.subframes.items ≡ length choice.old.subframes.items }
@@ -147,8 +144,8 @@ fn write_channels<W: Target>(
     requires size { length samples.old ≡ subject.now.size }
     requires block { subject.now.size ≤ workspace.old.block }
     requires choices { length subject.now.audio.now.channels ≤ length choice.now.subframes.items }
-    requires made { AreMadeByPlane (lists_of subject.now.predictors.now) choice.now.subframes.items (block_of subject.now.start subject.now.size subject.now.audio.now.channels) }
-    ensures text { Writes (flat_map (subframe_spelling subject.now.audio.now.bits) (forms_by_plane (lists_of subject.now.predictors.now) choice.now.subframes.items (block_of subject.now.start subject.now.size subject.now.audio.now.channels))) writer.old writer.new result }
+    requires made { AreMadeByPlane (lists_in subject.now) choice.now.subframes.items (block_samples subject.now) }
+    ensures text { Writes (apart_spelling subject.now choice.now.subframes.items) writer.old writer.new result }
     ensures room { workspace.new ≡ workspace.old }
 {
     let audio = subject.audio;
@@ -185,8 +182,8 @@ fn write_subframes<W: Target>(
     requires places { 2 * subject.now.size ≤ length places.old }
     requires block { subject.now.size ≤ workspace.old.block }
     requires choices { length subject.now.audio.now.channels ≤ length choice.now.subframes.items }
-    requires chosen { IsChoiceByPlane (lists_of subject.now.predictors.now) subject.now.audio.now subject.now.size subject.now.number (block_of subject.now.start subject.now.size subject.now.audio.now.channels) choice.now }
-    ensures text { Writes (subframes_spelling subject.now.audio.now.bits choice.now.code 0 (forms_by_plane (lists_kept choice.now.code (lists_of subject.now.predictors.now)) choice.now.subframes.items (kept_as choice.now.code (block_of subject.now.start subject.now.size subject.now.audio.now.channels)))) writer.old writer.new result }
+    requires chosen { IsChoiceFor subject.now choice.now }
+    ensures text { Writes (choice_spelling subject.now choice.now) writer.old writer.new result }
     ensures room { workspace.new ≡ workspace.old }
 {
     let channels = subject.audio.channels();
@@ -208,9 +205,9 @@ fn write_first<W: Target>(
     requires places { 2 * subject.now.size ≤ length places.old }
     requires block { subject.now.size ≤ workspace.old.block }
     requires choices { length subject.now.audio.now.channels ≤ length choice.now.subframes.items }
-    requires chosen { IsChoiceByPlane (lists_of subject.now.predictors.now) subject.now.audio.now subject.now.size subject.now.number (block_of subject.now.start subject.now.size subject.now.audio.now.channels) choice.now }
+    requires chosen { IsChoiceFor subject.now choice.now }
     requires whole { writer.old.mark.unread ≡ 0 }
-    ensures wrote { WritesFrameByPlane (lists_of subject.now.predictors.now) subject.now.audio.now subject.now.size subject.now.number (block_of subject.now.start subject.now.size subject.now.audio.now.channels) writer.old writer.new result }
+    ensures wrote { WritesFrameOf subject.now writer.old writer.new result }
     ensures room { workspace.new ≡ workspace.old }
 {
     let header = choice.header(subject.audio, subject.size, subject.number);
@@ -249,7 +246,7 @@ pub fn choose_frame(
     requires orders { AreWithin (limits_at audio.now.profile audio.now.rate).linear predictors.now }
     requires places { HasPlaces (length audio.now.channels) buffers.old.most choice.old }
     ensures kept { buffers.new ≡ buffers.old }
-    ensures chosen { IsChoiceWith predictors.now audio.now (range.end - range.start) number (block_of range.start (range.end - range.start) audio.now.channels) choice.new }
+    ensures chosen { IsRangeWith predictors.now audio.now range.start range.end number choice.new }
     ensures places { HasPlaces (length audio.now.channels) buffers.old.most choice.new }
     ensures many { length choice.new.subframes.items ≡ length choice.old.subframes.items }
 {
@@ -258,7 +255,7 @@ pub fn choose_frame(
 }
 
 /// Chooses how samples `range` of each channel are written as frame `number`, as [`choose_frame`] does, with a list of
-/// linear predictors for each plane: the subframes of a plane are by one of its own list, and by no other.
+/// linear predictors for each plane: a subframe of a plane may be by one of the plane's own list, and by none of another.
 ///
 /// The arguments are as for [`choose_frame`]; [`PlanePredictors::are_within`] tests the orders.
 pub fn choose_frame_by_plane(
@@ -277,7 +274,7 @@ pub fn choose_frame_by_plane(
     requires orders { AreAllWithin (limits_at audio.now.profile audio.now.rate).linear (lists_of predictors.now) }
     requires places { HasPlaces (length audio.now.channels) buffers.old.most choice.old }
     ensures kept { buffers.new ≡ buffers.old }
-    ensures chosen { IsChoiceByPlane (lists_of predictors.now) audio.now (range.end - range.start) number (block_of range.start (range.end - range.start) audio.now.channels) choice.new }
+    ensures chosen { IsRangeByPlane (lists_of predictors.now) audio.now range.start range.end number choice.new }
     ensures places { HasPlaces (length audio.now.channels) buffers.old.most choice.new }
     ensures many { length choice.new.subframes.items ≡ length choice.old.subframes.items }
 {
@@ -318,10 +315,10 @@ pub fn write_frame<W: Target>(
     requires within { range.end ≤ samples_each audio.now.channels }
     requires room { range.end - range.start ≤ buffers.old.block }
     requires places { length audio.now.channels ≤ length choice.now.subframes.items }
-    requires chosen { IsChoiceWith predictors.now audio.now (range.end - range.start) number (block_of range.start (range.end - range.start) audio.now.channels) choice.now }
+    requires chosen { IsRangeWith predictors.now audio.now range.start range.end number choice.now }
     requires whole { writer.old.mark.unread ≡ 0 }
     ensures kept { buffers.new ≡ buffers.old }
-    ensures wrote { WritesFrameWith predictors.now audio.now (range.end - range.start) number (block_of range.start (range.end - range.start) audio.now.channels) writer.old writer.new result }
+    ensures wrote { EncodesWith predictors.now audio.now range.start range.end number writer.old writer.new result }
 {
     let planes = PlanePredictors::same(predictors);
     write_frame_by_plane(audio, range, number, choice, &planes, buffers, writer)
@@ -345,10 +342,10 @@ pub fn write_frame_by_plane<W: Target>(
     requires within { range.end ≤ samples_each audio.now.channels }
     requires room { range.end - range.start ≤ buffers.old.block }
     requires places { length audio.now.channels ≤ length choice.now.subframes.items }
-    requires chosen { IsChoiceByPlane (lists_of predictors.now) audio.now (range.end - range.start) number (block_of range.start (range.end - range.start) audio.now.channels) choice.now }
+    requires chosen { IsRangeByPlane (lists_of predictors.now) audio.now range.start range.end number choice.now }
     requires whole { writer.old.mark.unread ≡ 0 }
     ensures kept { buffers.new ≡ buffers.old }
-    ensures wrote { WritesFrameByPlane (lists_of predictors.now) audio.now (range.end - range.start) number (block_of range.start (range.end - range.start) audio.now.channels) writer.old writer.new result }
+    ensures wrote { EncodesByPlane predictors.now audio.now range.start range.end number writer.old writer.new result }
 {
     // read for the invariant of the buffers
     let _places = buffers.places.len();
@@ -392,10 +389,10 @@ pub fn encode_frame<W: Target>(
     requires number { number < 2 ^ 31 }
     requires whole { writer.old.mark.unread ≡ 0 }
     ensures kept { buffers.new ≡ buffers.old }
-    ensures wrote { WritesFrame audio.now (range.end - range.start) number (block_of range.start (range.end - range.start) audio.now.channels) writer.old writer.new result }
+    ensures wrote { EncodesRange audio.now range.start range.end number writer.old writer.new result }
     ensures counted { IfOk result (λ bytes. writer.new.mark.bytes ≡ writer.old.mark.bytes + bytes) }
     // The count of the writer stops at 2^64 - 1.
-    ensures bytes { IfOk result (λ bytes. writer.old.known ≡ true → writer.new.mark.bytes < 2 ^ 64 - 1 → length writer.new.bits ≡ length writer.old.bits + 8 * bytes) }
+    ensures bytes { IfOk result (CountsBytes writer.old writer.new) }
 {
     encode_frame_with(audio, range, number, &[], buffers, writer)
 }
@@ -422,10 +419,10 @@ pub fn encode_frame_with<W: Target>(
     requires orders { AreWithin (limits_at audio.now.profile audio.now.rate).linear predictors.now }
     requires whole { writer.old.mark.unread ≡ 0 }
     ensures kept { buffers.new ≡ buffers.old }
-    ensures wrote { WritesFrameWith predictors.now audio.now (range.end - range.start) number (block_of range.start (range.end - range.start) audio.now.channels) writer.old writer.new result }
+    ensures wrote { EncodesWith predictors.now audio.now range.start range.end number writer.old writer.new result }
     ensures counted { IfOk result (λ bytes. writer.new.mark.bytes ≡ writer.old.mark.bytes + bytes) }
     // The count of the writer stops at 2^64 - 1.
-    ensures bytes { IfOk result (λ bytes. writer.old.known ≡ true → writer.new.mark.bytes < 2 ^ 64 - 1 → length writer.new.bits ≡ length writer.old.bits + 8 * bytes) }
+    ensures bytes { IfOk result (CountsBytes writer.old writer.new) }
 {
     let planes = PlanePredictors::same(predictors);
     encode_frame_by_plane(audio, range, number, &planes, buffers, writer)
@@ -453,10 +450,10 @@ pub fn encode_frame_by_plane<W: Target>(
     requires orders { AreAllWithin (limits_at audio.now.profile audio.now.rate).linear (lists_of predictors.now) }
     requires whole { writer.old.mark.unread ≡ 0 }
     ensures kept { buffers.new ≡ buffers.old }
-    ensures wrote { WritesFrameByPlane (lists_of predictors.now) audio.now (range.end - range.start) number (block_of range.start (range.end - range.start) audio.now.channels) writer.old writer.new result }
+    ensures wrote { EncodesByPlane predictors.now audio.now range.start range.end number writer.old writer.new result }
     ensures counted { IfOk result (λ bytes. writer.new.mark.bytes ≡ writer.old.mark.bytes + bytes) }
     // The count of the writer stops at 2^64 - 1.
-    ensures bytes { IfOk result (λ bytes. writer.old.known ≡ true → writer.new.mark.bytes < 2 ^ 64 - 1 → length writer.new.bits ≡ length writer.old.bits + 8 * bytes) }
+    ensures bytes { IfOk result (CountsBytes writer.old writer.new) }
 {
     // called for its clauses, that the samples can be encoded
     let _channels = audio.channels();

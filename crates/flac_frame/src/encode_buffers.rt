@@ -37,7 +37,7 @@ impl Drop for EncodeBuffers {
 
 impl Model for EncodeBuffers {
     ghost use Rattle.std.specs.Prelude.{◌≡◌, ◌≤◌, ◌*◌, vec_len};
-    ghost use Rattle.flac_subframe.specs.Room.{Room};
+    ghost use Rattle.flac_subframe.specs.search.Room.{Room};
     ghost use Rattle.flac_frame.specs.Chosen.{HasPlaces};
     ghost use Rattle.flac_frame.specs.Pair.{AreWide};
 

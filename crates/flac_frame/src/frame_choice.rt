@@ -1,15 +1,10 @@
 //! How a block of samples is written as a frame.
 
-ghost use Rattle.std.specs.Prelude.{◌≡◌, ◌≤◌, ◌*◌, ℕ, List, ℤ, length, IfOk, IfErr, Some};
+ghost use Rattle.std.specs.Prelude.{◌≡◌, ◌≤◌, length, IfOk, IfErr, Some};
 ghost use Rattle.flac_header.specs.Assignment.{code_of, IsAssignment};
-ghost use Rattle.flac_header.specs.Choice.{chosen_header};
 ghost use Rattle.flac_header.specs.Header.{Header};
-ghost use Rattle.flac_subframe.specs.declared.linear.LinearPredictor.{LinearPredictor};
-ghost use Rattle.flac_frame.specs.Audio.{Sound};
-ghost use Rattle.flac_frame.specs.Chosen.{IsChoiceByPlane, IsChoiceWith, HasPlaces};
-ghost use Rattle.flac_frame.specs.Encoding.{most_in};
-ghost use Rattle.flac_frame.specs.PlaneLists.{Lists};
-ghost use Rattle.flac_frame.specs.Spelling.{frame_spelling};
+ghost use Rattle.flac_frame.specs.Chosen.{HasPlaces, SameWith, SameByPlane, IsMadeWith, IsMadeByPlane, HasBytesWith, HasBytesByPlane};
+ghost use Rattle.flac_frame.specs.Encoding.{most_in, header_choice};
 ghost use Rattle.flac_frame.specs.inner.Pair.{IsPairCode};
 
 use crate::audio::Audio;
@@ -68,8 +63,8 @@ impl FrameChoice {
     /// # Errors
     /// [`Why::Memory`] if an allocation fails.
     pub fn kept(&self, alloc: Global) -> Result<FrameChoice, Why>
-        ensures same { IfOk result (λ c. (ps : List LinearPredictor) (sound : Sound) (size number : ℕ) (block : List (List ℤ)) → IsChoiceWith ps sound size number block self.now → IsChoiceWith ps sound size number block c) }
-        ensures same_by_plane { IfOk result (λ c. (lists : Lists) (sound : Sound) (size number : ℕ) (block : List (List ℤ)) → IsChoiceByPlane lists sound size number block self.now → IsChoiceByPlane lists sound size number block c) }
+        ensures same { IfOk result (SameWith self.now) }
+        ensures same_by_plane { IfOk result (SameByPlane self.now) }
         ensures many { IfOk result (λ c. length c.subframes.items ≡ length self.now.subframes.items) }
         ensures memory { IfErr result (λ e. e ≡ Why.Memory) }
     {
@@ -100,8 +95,8 @@ impl FrameChoice {
     /// The header of the frame that was chosen for a block of `size` samples of each channel and this number.
     pub(crate) fn header(&self, audio: &Audio, size: usize, number: u64) -> FrameHeader
         requires few { size ≤ 65535 }
-        requires chosen { (header : Header) × chosen_header audio.now.profile size audio.now.rate self.now.code audio.now.bits number ≡ Some header }
-        ensures { chosen_header audio.now.profile size audio.now.rate self.now.code audio.now.bits number ≡ Some result }
+        requires chosen { (header : Header) × header_choice audio.now size self.now.code number ≡ Some header }
+        ensures { header_choice audio.now size self.now.code number ≡ Some result }
     {
         let header = FrameHeader::chosen_in(
             audio.profile(),
@@ -121,8 +116,8 @@ impl FrameChoice {
     /// 16777215. Nothing is written.
     pub fn frame_bytes(&self, audio: &Audio, size: usize, number: u64) -> u64
         requires few { size ≤ 65535 }
-        requires chosen { (ps : List LinearPredictor) × (block : List (List ℤ)) × IsChoiceWith ps audio.now size number block self.now }
-        ensures bytes { (ps : List LinearPredictor) (block : List (List ℤ)) (is : IsChoiceWith ps audio.now size number block self.now) → length (frame_spelling audio.now.bits is.form) ≡ 8 * result }
+        requires chosen { IsMadeWith audio.now size number self.now }
+        ensures bytes { HasBytesWith audio.now size number self.now result }
         ensures few { (1 ≤ result) × (result ≤ 16777215) }
     {
         self.frame_bytes_by_plane(audio, size, number)
@@ -131,8 +126,8 @@ impl FrameChoice {
     /// What [`FrameChoice::frame_bytes`] returns, for a choice with a list of linear predictors for each plane.
     pub fn frame_bytes_by_plane(&self, audio: &Audio, size: usize, number: u64) -> u64
         requires few { size ≤ 65535 }
-        requires chosen { (lists : Lists) × (block : List (List ℤ)) × IsChoiceByPlane lists audio.now size number block self.now }
-        ensures bytes { (lists : Lists) (block : List (List ℤ)) (is : IsChoiceByPlane lists audio.now size number block self.now) → length (frame_spelling audio.now.bits is.form) ≡ 8 * result }
+        requires chosen { IsMadeByPlane audio.now size number self.now }
+        ensures bytes { HasBytesByPlane audio.now size number self.now result }
         ensures few { (1 ≤ result) × (result ≤ 16777215) }
     {
         let header = self.header(audio, size, number);

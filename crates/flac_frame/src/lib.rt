@@ -19,15 +19,15 @@ mod channels;
 mod encode;
 mod encode_buffers;
 mod end;
-mod fill;
 mod frame_choice;
+mod frame_reading;
+mod laws;
 mod limits;
 mod pair;
 mod pair_choices;
 mod plane;
 mod plane_predictors;
 mod planes;
-mod promises;
 mod samples;
 mod setup;
 mod shape;
@@ -44,12 +44,12 @@ pub use encode::{
 };
 pub use encode_buffers::EncodeBuffers;
 pub use frame_choice::FrameChoice;
-pub use limits::greatest_order;
-pub use plane_predictors::PlanePredictors;
-pub use promises::{
+pub use laws::{
     channels_are_joined, encodings_are_frames, forms_stand_for_samples, frame_family_is_plain,
     frame_planes_is_plain, frame_widened_is_plain, frames_are_spelled, frames_follow,
 };
+pub use limits::greatest_order;
+pub use plane_predictors::PlanePredictors;
 pub use samples::{samples_fault, samples_fit};
 pub use setup::{SetupFault, format_fault};
 pub use view::FrameView;

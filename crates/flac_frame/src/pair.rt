@@ -1,18 +1,17 @@
 //! Two channels in the decorrelation that takes the fewest bits (RFC 9639, section 4.2).
 
-ghost use Rattle.std.specs.Prelude.{◌≡◌, ◌<◌, ◌≤◌, ◌+◌, ◌*◌, ◌^◌, ◌-ℤ◌, ◌+ℤ◌, ◌∷◌, [], ℕ, length, take, drop, All};
+ghost use Rattle.std.specs.Prelude.{◌≡◌, ◌<◌, ◌≤◌, ◌+◌, ◌*◌, ◌^◌, ◌-ℤ◌, ◌+ℤ◌, ◌∷◌, [], length, All};
 ghost use Rattle.std.specs.Int.{int_shr};
 ghost use Rattle.flac_bits.specs.Signed.{FitsBits};
 ghost use Rattle.flac_bits.specs.Written.{Writes};
 ghost use Rattle.flac_header.specs.Assignment.{code_of, IsAssignment};
 ghost use Rattle.flac_frame.specs.Audio.{samples_each};
-ghost use Rattle.flac_frame.specs.Chosen.{forms_by_plane, AreMadeByPlane, IsChoiceByPlane, HasPlaces};
+ghost use Rattle.flac_frame.specs.Chosen.{HasPlaces};
 ghost use Rattle.flac_frame.specs.Encoding.{block_of, partition_limit};
-ghost use Rattle.flac_frame.specs.Frame.{side_bit, limits_at};
+ghost use Rattle.flac_frame.specs.Frame.{side_bit};
 ghost use Rattle.flac_frame.specs.Pair.{AreWide};
-ghost use Rattle.flac_frame.specs.PlaneLists.{lists_of, lists_kept, AreAllWithin};
-ghost use Rattle.flac_frame.specs.inner.Pair.{IsPairCode, IsFirstLeast, ArePlanes, pair_cost, choices_cost};
-ghost use Rattle.flac_frame.specs.Spelling.{subframes_spelling};
+ghost use Rattle.flac_frame.specs.inner.Pair.{IsPairCode, IsFirstLeast, FitAsKept, kept_block, pair_cost, choices_cost};
+ghost use Rattle.flac_frame.specs.inner.Subject.{HasOrders, HasPlanes, IsChoiceFor, AreMadeFor, kept_in, pair_spelling, choice_spelling};
 ghost use Rattle.flac_frame.specs.Stereo.{side_of, middle_of, kept_as};
 
 use crate::audio::Audio;
@@ -106,8 +105,8 @@ fn choose_planes(
     requires block { length planes.now.left.now ≤ workspace.old.block }
     requires partition { partition_limit subject.now.audio.now ≤ workspace.old.most }
     requires wide { AreWide workspace.old.most choices.old }
-    requires orders { AreAllWithin (limits_at subject.now.audio.now.profile subject.now.audio.now.rate).linear (lists_of subject.now.predictors.now) }
-    ensures planes { ArePlanes (partition_limit subject.now.audio.now) (lists_of subject.now.predictors.now) planes.now.depth planes.now.left.now planes.now.right.now choices.new }
+    requires orders { HasOrders subject.now }
+    ensures planes { HasPlanes subject.now planes.now choices.new }
     ensures valid { IsAssignment result.0 }
     ensures best { IsFirstLeast (choices_cost choices.new) (code_of result.0) }
     ensures bits { result.1 ≡ choices_cost choices.new (code_of result.0) }
@@ -200,8 +199,8 @@ pub(crate) fn choose_pair(
     requires wide { AreWide workspace.old.most choices.old }
     requires choices { HasPlaces 2 workspace.old.most choice.old }
     requires number { subject.now.number < 2 ^ 31 }
-    requires orders { AreAllWithin (limits_at subject.now.audio.now.profile subject.now.audio.now.rate).linear (lists_of subject.now.predictors.now) }
-    ensures chosen { IsChoiceByPlane (lists_of subject.now.predictors.now) subject.now.audio.now subject.now.size subject.now.number (block_of subject.now.start subject.now.size subject.now.audio.now.channels) choice.new }
+    requires orders { HasOrders subject.now }
+    ensures chosen { IsChoiceFor subject.now choice.new }
     ensures wide { AreWide workspace.old.most choices.new }
     ensures choices { HasPlaces 2 workspace.old.most choice.new }
     ensures many { length choice.new.subframes.items ≡ length choice.old.subframes.items }
@@ -253,7 +252,8 @@ fn put_kept(
     requires first { length first.old ≡ length left.now }
     requires second { length second.old ≡ length left.now }
     ensures kept { kept_as (code_of assignment) (left.now ∷ right.now ∷ []) ≡ first.new ∷ second.new ∷ [] }
-    ensures fits { (depth : ℕ) → 1 ≤ depth → All (FitsBits depth) left.now → All (FitsBits depth) right.now → All (FitsBits (depth + side_bit (code_of assignment) 0)) first.new × All (FitsBits (depth + side_bit (code_of assignment) 1)) second.new }
+    // proof only
+    ensures fits { FitAsKept (code_of assignment) left.now right.now first.new second.new }
 {
     match assignment {
         ChannelAssignment::Independent(_) => {
@@ -284,7 +284,7 @@ fn keep_pair(
     requires two { length audio.now.channels ≡ 2 }
     requires within { start + length first.old ≤ samples_each audio.now.channels }
     requires second { length second.old ≡ length first.old }
-    ensures kept { kept_as (code_of assignment) (block_of start (length first.old) audio.now.channels) ≡ first.new ∷ second.new ∷ [] }
+    ensures kept { kept_block (code_of assignment) audio.now start (length first.old) ≡ first.new ∷ second.new ∷ [] }
     ensures first_fits { All (FitsBits (audio.now.bits + side_bit (code_of assignment) 0)) first.new }
     ensures second_fits { All (FitsBits (audio.now.bits + side_bit (code_of assignment) 1)) second.new }
 {
@@ -311,9 +311,9 @@ fn write_two<W: Target>(
     requires second { length second.now ≡ length first.now }
     requires first_fits { All (FitsBits (subject.now.audio.now.bits + side_bit choice.now.code 0)) first.now }
     requires second_fits { All (FitsBits (subject.now.audio.now.bits + side_bit choice.now.code 1)) second.now }
-    requires made { AreMadeByPlane (lists_kept choice.now.code (lists_of subject.now.predictors.now)) choice.now.subframes.items (first.now ∷ second.now ∷ []) }
+    requires made { AreMadeFor subject.now choice.now (first.now ∷ second.now ∷ []) }
     requires choices { 2 ≤ length choice.now.subframes.items }
-    ensures text { Writes (subframes_spelling subject.now.audio.now.bits choice.now.code 0 (forms_by_plane (lists_kept choice.now.code (lists_of subject.now.predictors.now)) choice.now.subframes.items (first.now ∷ second.now ∷ []))) writer.old writer.new result }
+    ensures text { Writes (pair_spelling subject.now choice.now first.now second.now) writer.old writer.new result }
     ensures room { workspace.new ≡ workspace.old }
 {
     let assignment = choice.assignment();
@@ -343,9 +343,9 @@ pub(crate) fn write_pair<W: Target>(
     requires places { 2 * subject.now.size ≤ length places.old }
     requires block { subject.now.size ≤ workspace.old.block }
     requires code { IsPairCode choice.now.code }
-    requires made { AreMadeByPlane (lists_kept choice.now.code (lists_of subject.now.predictors.now)) choice.now.subframes.items (kept_as choice.now.code (block_of subject.now.start subject.now.size subject.now.audio.now.channels)) }
+    requires made { AreMadeFor subject.now choice.now (kept_in subject.now choice.now) }
     requires choices { 2 ≤ length choice.now.subframes.items }
-    ensures text { Writes (subframes_spelling subject.now.audio.now.bits choice.now.code 0 (forms_by_plane (lists_kept choice.now.code (lists_of subject.now.predictors.now)) choice.now.subframes.items (kept_as choice.now.code (block_of subject.now.start subject.now.size subject.now.audio.now.channels)))) writer.old writer.new result }
+    ensures text { Writes (choice_spelling subject.now choice.now) writer.old writer.new result }
     ensures room { workspace.new ≡ workspace.old }
 {
     let size = subject.size;

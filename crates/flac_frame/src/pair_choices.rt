@@ -1,10 +1,9 @@
 //! Places for the subframes that are chosen of two channels.
 
-ghost use Rattle.std.specs.Prelude.{◌≡◌, ◌≤◌, ℕ, slice_set, length, IfOk, IfErr};
+ghost use Rattle.std.specs.Prelude.{◌≡◌, ◌≤◌, length, IfOk, IfErr};
 ghost use Rattle.flac_header.specs.Assignment.{code_of, IsAssignment};
-ghost use Rattle.flac_frame.specs.Chosen.{AllWide};
 ghost use Rattle.flac_frame.specs.Pair.{AreWide};
-ghost use Rattle.flac_frame.specs.inner.Pair.{first_kept, second_kept};
+ghost use Rattle.flac_frame.specs.inner.Pair.{with_kept, KeepsWide};
 
 use flac_bits::Why;
 use flac_header::ChannelAssignment;
@@ -57,8 +56,8 @@ impl PairChoices {
     pub(crate) fn keep(&mut self, assignment: ChannelAssignment, places: &mut [WideChoice])
         requires valid { IsAssignment assignment }
         requires two { 2 ≤ length places.old }
-        ensures kept { places.new ≡ slice_set (slice_set places.old 0 (first_kept (code_of assignment) self.old)) 1 (second_kept (code_of assignment) self.old) }
-        ensures wide { (most : ℕ) → AreWide most self.old → AllWide most places.old → AreWide most self.new × AllWide most places.new }
+        ensures kept { places.new ≡ with_kept (code_of assignment) self.old places.old }
+        ensures wide { KeepsWide self.old places.old self.new places.new }
     {
         match assignment {
             ChannelAssignment::Independent(_) => {

@@ -2,11 +2,10 @@
 
 ghost use Rattle.std.specs.Prelude.{◌≡◌, ◌<◌, ◌≤◌, ◌^◌, length, vec_len, All};
 ghost use Rattle.flac_bits.specs.Signed.{FitsBits};
-ghost use Rattle.flac_subframe.specs.Family.{IsMadeIn, form_in};
+ghost use Rattle.flac_subframe.specs.search.Choices.{IsMadeIn};
 ghost use Rattle.flac_frame.specs.Encoding.{partition_limit};
-ghost use Rattle.flac_frame.specs.Frame.{limits_at};
-ghost use Rattle.flac_frame.specs.PlaneLists.{lists_of, AreAllWithin};
-ghost use Rattle.flac_frame.specs.inner.Pair.{IsChosen};
+ghost use Rattle.flac_frame.specs.PlaneLists.{lists_of};
+ghost use Rattle.flac_frame.specs.inner.Subject.{HasOrders, IsPlaneChoice};
 
 use crate::limits::limits_at;
 use crate::subject::Subject;
@@ -28,9 +27,10 @@ pub(crate) fn choose_plane(
     requires fits { All (FitsBits depth) samples.now }
     requires partition { partition_limit subject.now.audio.now ≤ workspace.old.most }
     requires places { 2 ^ partition_limit subject.now.audio.now ≤ vec_len choice.old.codings }
-    requires orders { AreAllWithin (limits_at subject.now.audio.now.profile subject.now.audio.now.rate).linear (lists_of subject.now.predictors.now) }
-    ensures chosen { IsChosen (partition_limit subject.now.audio.now) (lists_of subject.now.predictors.now plane) depth samples.now (form_in (lists_of subject.now.predictors.now plane) choice.new samples.now) choice.new.bits }
+    requires orders { HasOrders subject.now }
+    ensures chosen { IsPlaneChoice subject.now plane depth samples.now choice.new }
     ensures made { IsMadeIn (lists_of subject.now.predictors.now plane) choice.new samples.now }
+    // proof only
     ensures small { choice.new.bits ≤ 2 ^ 61 }
     ensures places { vec_len choice.new.codings ≡ vec_len choice.old.codings }
     ensures room { workspace.new ≡ workspace.old }

@@ -1,24 +1,13 @@
 //! Samples of the stream's depth.
 
-ghost use Rattle.std.specs.Prelude.{◌≡◌, ◌≤◌, ◌/◌, ◌^◌, map, length, true, nat_eq, FitsSigned};
+ghost use Rattle.std.specs.Prelude.{◌≡◌, ◌≤◌, map, length, true, nat_eq, FitsSigned};
 ghost use Rattle.std.specs.Int.{w32};
 ghost use Rattle.std.specs.List.{list_all};
-ghost use Rattle.flac_subframe.specs.Numbers.{fits, all_fit};
+ghost use Rattle.flac_subframe.specs.format.Numbers.{fits, all_fit};
 ghost use Rattle.flac_frame.specs.Audio.{samples_each, samples_fault};
 
 use crate::setup::SetupFault;
 use flac_subframe::offset_binary;
-
-/// A number whose bits from place `depth` on are 0 exactly if a sample fits the depth. In the bitwise or of the numbers
-/// of several samples they are 0 exactly if all of these fit it.
-#[inline(always)]
-pub(crate) fn excess(sample: i64, depth: u32) -> u64
-    requires depth { (1 ≤ depth) × (depth ≤ 32) }
-    ensures none { result / 2 ^ depth ≡ 0 → fits depth sample ≡ true }
-    ensures some { fits depth sample ≡ true → result / 2 ^ depth ≡ 0 }
-{
-    offset_binary(sample, depth)
-}
 
 /// The lowest 32 bits of a sample, which are the sample if it fits them.
 #[inline(always)]
@@ -37,10 +26,10 @@ pub fn samples_fit(samples: &[i32], bits: u32) -> bool
     requires { (1 ≤ bits) × (bits ≤ 32) }
     ensures { result ≡ list_all (fits bits) samples.now }
 {
-    // no exit inside, so that the compiler takes several samples at once
+    // no exit inside, so that the compiler takes several samples at once; a bit from `bits` on is set if one does not fit
     let mut wrong = 0;
     for i in 0..samples.len() {
-        wrong |= excess(samples[i] as i64, bits);
+        wrong |= offset_binary(samples[i] as i64, bits);
     }
     wrong >> bits == 0
 }
@@ -100,7 +89,7 @@ pub(crate) fn narrow(samples: &[i64], depth: u32, out: &mut [i32]) -> bool
     let mut wrong = 0;
     for i in 0..samples.len() {
         let sample = samples[i];
-        wrong |= excess(sample, depth);
+        wrong |= offset_binary(sample, depth);
         out[i] = lowest(sample);
     }
     wrong >> depth == 0

@@ -3,24 +3,15 @@
 ghost use Rattle.std.specs.Prelude.{◌≡◌, ◌≤◌, ◌<◌, ◌^◌, nat_eq, IfOk};
 ghost use Rattle.flac_bits.specs.Reading.{Reads, CallInPlace};
 ghost use Rattle.flac_bits.specs.State.{started};
-ghost use Rattle.flac_header.specs.Header.{allowed, channels_of, greatest_in, IsHeader, header as header_layout};
+ghost use Rattle.flac_header.specs.Header.{channels_of, header as header_layout};
 ghost use Rattle.flac_frame.specs.Frame.{differs, rate_in, depth_in, breaks_sequence, breaks_size, stream_header};
+ghost use Rattle.flac_frame.specs.inner.Reading.{ReadsFromHeader, FitsStream};
 
 use crate::before::Before;
+use crate::limits::allows;
 use flac_bits::{BitReader, Source, Why};
-use flac_header::{FrameHeader, Profile, read_header, subset_allows};
+use flac_header::{FrameHeader, Profile, read_header};
 use flac_info::StreamInfo;
-
-/// Whether the profile allows the header.
-#[tactic(auto, unfolding(flac_header::specs::Header::allowed))]
-fn allows(profile: Profile, header: &FrameHeader) -> bool
-    ensures { result ≡ allowed profile header.now }
-{
-    match profile {
-        Profile::Subset => subset_allows(header),
-        Profile::Lax => true,
-    }
-}
 
 /// Whether the rate is that of STREAMINFO; a code of 0 leaves it to STREAMINFO (RFC 9639, section 9.1.2).
 fn has_rate(info: &StreamInfo, profile: Profile, header: &FrameHeader) -> bool
@@ -68,6 +59,7 @@ fn breaks_sequence(before: &Option<Before>, header: &FrameHeader) -> bool
 /// Whether the block is too long, or the one before was too short.
 fn breaks_size(info: &StreamInfo, before: &Option<Before>, header: &FrameHeader) -> bool
     ensures breaks { result ≡ breaks_size info.now before.now header.now }
+    // proof only
     ensures small { header.now.size ≤ 65535 }
 {
     let size = header.size();
@@ -98,11 +90,15 @@ pub(crate) fn read_start<R: Source>(
     profile: Profile,
     before: &Option<Before>,
 ) -> Result<FrameHeader, Why>
+    // proof only
     ensures number { IfOk result (λ h. h.number < 2 ^ 36) }
+    // proof only
     ensures code { IfOk result (λ h. h.channel_code < 11) }
+    // proof only
     ensures channels { IfOk result (λ h. channels_of h.channel_code ≡ info.now.channels) }
-    ensures size { IfOk result (λ h. (h.size ≤ info.now.greatest_block) × (h.size ≤ greatest_in profile info.now.rate)) }
-    ensures reading { CallInPlace 40 (λ old. Reads (λ h. h) (stream_header profile info.now before.now) (started old)) bits.old bits.new result }
+    // proof only
+    ensures size { IfOk result (FitsStream profile info.now) }
+    ensures reading { ReadsFromHeader (λ h. h) (stream_header profile info.now before.now) bits.old bits.new result }
 {
     let header = header_here(bits)?;
     if !allows(profile, &header) {

@@ -4,13 +4,14 @@ ghost use Rattle.std.specs.Prelude.{◌≡◌, ◌<◌, ◌≤◌, ◌*◌, ◌�
 ghost use Rattle.std.specs.Simd.Lanes.{zip2};
 ghost use Rattle.flac_bits.specs.Signed.{FitsBits};
 ghost use Rattle.flac_header.specs.Assignment.{code_of, IsAssignment};
-ghost use Rattle.flac_frame.specs.Stereo.{left_of, right_of, joined};
-ghost use Rattle.flac_frame.specs.View.{chunks};
+ghost use Rattle.flac_frame.specs.Stereo.{left_of, right_of, joined_pair};
 ghost use Rattle.flac_frame.specs.Frame.{each_fits};
+ghost use Rattle.flac_frame.specs.inner.Reading.{chunks_in, joined_in};
 
-use crate::samples::{excess, lowest, narrow};
+use crate::samples::{lowest, narrow};
 use crate::shape::Shape;
 use flac_header::ChannelAssignment;
+use flac_subframe::offset_binary;
 
 /// The left and the right sample of two samples that were decorrelated (RFC 9639, section 4.2).
 #[inline(always)]
@@ -52,15 +53,15 @@ fn join_two(
     requires rights { length right.old ≡ length first.now }
     requires first { All (FitsBits 34) first.now }
     requires second { All (FitsBits 34) second.now }
-    ensures fits { result ≡ each_fits depth (zip2 (left_of (code_of assignment)) first.now second.now ∷ zip2 (right_of (code_of assignment)) first.now second.now ∷ []) }
+    ensures fits { result ≡ each_fits depth (joined_pair (code_of assignment) (first.now ∷ second.now ∷ [])) }
     ensures left { result ≡ true → left.new ≡ zip2 (left_of (code_of assignment)) first.now second.now }
     ensures right { result ≡ true → right.new ≡ zip2 (right_of (code_of assignment)) first.now second.now }
 {
     let mut wrong = 0;
     for i in 0..first.len() {
         let (joined_left, joined_right) = join_samples(assignment, first[i], second[i]);
-        let over = excess(joined_left, depth);
-        let above = excess(joined_right, depth);
+        let over = offset_binary(joined_left, depth);
+        let above = offset_binary(joined_right, depth);
         wrong |= over | above;
         let short_left = lowest(joined_left);
         let short_right = lowest(joined_right);
@@ -84,8 +85,8 @@ pub(crate) fn join_channels(
     requires long { length samples.now ≡ shape.now.channels * shape.now.block }
     requires places { length out.old ≡ length samples.now }
     requires small { All (FitsBits 34) samples.now }
-    ensures fits { result ≡ each_fits shape.now.depth (joined (code_of assignment) (chunks shape.now.channels shape.now.block samples.now)) }
-    ensures same { result ≡ true → chunks shape.now.channels shape.now.block out.new ≡ joined (code_of assignment) (chunks shape.now.channels shape.now.block samples.now) }
+    ensures fits { result ≡ each_fits shape.now.depth (joined_in shape.now (code_of assignment) samples.now) }
+    ensures same { result ≡ true → chunks_in shape.now out.new ≡ joined_in shape.now (code_of assignment) samples.now }
 {
     let block = shape.block as usize;
     let depth = shape.depth;

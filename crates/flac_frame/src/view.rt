@@ -1,6 +1,6 @@
 //! A frame that its buffers lend.
 
-ghost use Rattle.std.specs.Prelude.{◌≡◌, ◌<◌, ◌≤◌, ◌+◌, ◌*◌, ◌/◌, ◌^◌, ◌++◌, min, length, take, drop, slice_index_or, [], nat_eq, pos};
+ghost use Rattle.std.specs.Prelude.{◌≡◌, ◌<◌, ◌≤◌, ◌+◌, ◌*◌, ◌/◌, ◌^◌, min, length, take, drop, slice_index_or, [], nat_eq, pos};
 
 use flac_header::BlockingStrategy;
 
@@ -30,7 +30,7 @@ impl<'a> FrameView<'a> {
     ghost use Rattle.flac_header.specs.Strategy.{is_variable, strategy_of};
     ghost use Rattle.flac_frame.specs.Frame.{first_sample};
     ghost use Rattle.flac_frame.specs.Lent.{frame_of};
-    ghost use Rattle.flac_frame.specs.Interleaved.{row, rows};
+    ghost use Rattle.flac_frame.specs.Interleaved.{whole_rows, first_rows, PutsRow, KeepsRest};
 
     /// How many samples each channel has: the block size, at most 65535.
     pub fn len(&self) -> usize
@@ -115,8 +115,8 @@ impl<'a> FrameView<'a> {
     fn put_row(&self, i: usize, out: &mut [i32], at: usize)
         requires index { i < (frame_of self.now).size }
         requires room { at + length (frame_of self.now).channels ≤ length out.old }
-        ensures row { take (at + length (frame_of self.now).channels) out.new ≡ take at out.old ++ row (frame_of self.now).channels i }
-        ensures rest { drop (at + length (frame_of self.now).channels) out.new ≡ drop (at + length (frame_of self.now).channels) out.old }
+        ensures row { PutsRow (frame_of self.now) i at out.old out.new }
+        ensures rest { KeepsRest (frame_of self.now) at out.old out.new }
     {
         for c in 0..self.channels() {
             out[at + c] = self.sample(c, i);
@@ -133,8 +133,8 @@ impl<'a> FrameView<'a> {
     /// ```
     #[tactic(auto, unfolding(crate::specs::Interleaved::rows), using(crate::proofs::Interleaved::rows_more))]
     pub fn interleave(&self, out: &mut [i32]) -> usize
-        ensures count { result ≡ length (frame_of self.now).channels * min (frame_of self.now).size (length out.old / length (frame_of self.now).channels) }
-        ensures samples { take result out.new ≡ rows (frame_of self.now).channels (min (frame_of self.now).size (length out.old / length (frame_of self.now).channels)) 0 }
+        ensures count { result ≡ length (frame_of self.now).channels * whole_rows (frame_of self.now) (length out.old) }
+        ensures samples { take result out.new ≡ first_rows (frame_of self.now) (length out.old) }
         ensures rest { drop result out.new ≡ drop result out.old }
     {
         let channels = self.channels();

@@ -1,7 +1,7 @@
 -- The codes that a writer chooses for a block size, a rate and a depth.
-use Rattle.std.specs.Prelude.{ℕ, ◌%◌, ◌^◌, ◌&&◌, ◌||◌, false, cond, nat_eq, nat_lt, nat_le, Option, Some, None}
+use Rattle.std.specs.Prelude.{◌≡◌, ◌≤◌, ◌<◌, ℕ, ◌%◌, ◌^◌, ◌&&◌, ◌||◌, false, cond, nat_eq, nat_lt, nat_le, Option, Some, None}
 use Rattle.std.specs.Option.{option_or}
-use Rattle.flac_header.specs.Header.{Header}
+use Rattle.flac_header.specs.Header.{Header, rate_of_code, depth_of}
 use Rattle.flac_header.specs.declared.subset.Profile.{Profile}
 use Rattle.flac_header.specs.declared.subset.Profile.TheVariants.{Subset, Lax}
 
@@ -54,3 +54,9 @@ with_codes None r d size rate channel_code number = None
 unfoldable pub chosen_header : Profile → (size rate channel_code depth number : ℕ) → Option Header
 chosen_header profile size rate channel_code depth number =
     cond (nat_lt 10 channel_code || nat_le (2 ^ 31) number) None (with_codes (size_choice size) (rate_choice_in profile rate) (depth_choice_in profile depth) size rate channel_code number)
+
+-- A rate or a depth that a code names is written with that code: the tables above are the inverse of those of a reader
+-- (sections 9.1.2 and 9.1.4).
+pub record CodesAreInverse : Type 0 where
+  pub rates : (code : ℕ) → 1 ≤ code → code < 12 → rate_choice (rate_of_code code) ≡ Some code
+  pub depths : (code : ℕ) → code < 8 → 0 < depth_of code → depth_choice (depth_of code) ≡ Some code

@@ -14,7 +14,9 @@ use crate::subset::Profile;
 #[tactic(auto, unfolding(crate::specs::Choice::size_choice))]
 fn size_code(size: u32) -> Option<u8>
     ensures code { result ≡ size_choice size }
+    // proof only
     ensures range { IfSome result (λ c. (1 ≤ c) × (c < 16)) }
+    // proof only
     ensures fits { IfSome result (λ c. IsSize c size) }
 {
     match size {
@@ -43,7 +45,9 @@ fn size_code(size: u32) -> Option<u8>
 #[tactic(auto, unfolding(crate::specs::Choice::rate_choice))]
 fn rate_code(rate: u32) -> Option<u8>
     ensures code { result ≡ rate_choice rate }
+    // proof only
     ensures range { IfSome result (λ c. c < 15) }
+    // proof only
     ensures fits { IfSome result (λ c. IsRate c rate) }
 {
     match rate {
@@ -70,6 +74,7 @@ fn rate_code(rate: u32) -> Option<u8>
 #[tactic(auto, unfolding(crate::specs::Choice::depth_choice))]
 fn depth_code(depth: u32) -> Option<u8>
     ensures code { result ≡ depth_choice depth }
+    // proof only
     ensures range { IfSome result (λ c. (c < 8) × (nat_eq c 3 ≡ false)) }
 {
     match depth {

@@ -1,13 +1,12 @@
 //! Reading of frame headers.
 
-ghost use Rattle.std.specs.Prelude.{◌≡◌, ◌<◌, ◌+◌, ◌^◌, IfOk, false, nat_eq};
+ghost use Rattle.std.specs.Prelude.{◌≡◌, ◌<◌, ◌+◌, ◌^◌, IfOk};
 ghost use Rattle.flac_bits.specs.Reading.{Reads, Means, CallInPlace};
 ghost use Rattle.flac_bits.specs.State.{started};
 ghost use Rattle.flac_bits.specs.Number.{number};
 ghost use Rattle.flac_bits.specs.Coded.{IsNumber};
 ghost use Rattle.flac_header.specs.Header.{size_field, rate_field, rate_of_code, header, IsSize, IsRate};
-ghost use Rattle.flac_header.specs.Strategy.{is_variable};
-ghost use Rattle.flac_header.specs.inner.Codes.{codes};
+ghost use Rattle.flac_header.specs.inner.Codes.{codes, codes_of, AreValid};
 
 use crate::blocking_strategy::BlockingStrategy;
 use crate::frame_header::FrameHeader;
@@ -18,6 +17,7 @@ use flac_bits::{BitReader, Source, Why, read_number};
 fn read_size<R: Source>(bits: &mut BitReader<R>, code: u8) -> Result<u32, Why>
     requires chosen { 0 < code }
     requires small { code < 16 }
+    // proof only
     ensures fits { IfOk result (λ v. IsSize code v) }
     ensures reading { CallInPlace 0 (Reads (λ v. v) (size_field code)) bits.old bits.new result }
 {
@@ -40,6 +40,7 @@ fn read_size<R: Source>(bits: &mut BitReader<R>, code: u8) -> Result<u32, Why>
 /// The rate in Hz that a code names by itself, and 0 for every other code (RFC 9639, section 9.1.2).
 fn named_rate(code: u8) -> u32
     ensures is { result ≡ rate_of_code code }
+    // proof only
     ensures fits { code < 12 → IsRate code result }
 {
     match code {
@@ -63,6 +64,7 @@ fn named_rate(code: u8) -> u32
 #[tactic(auto, unfolding(crate::specs::Header::rate_field))]
 fn read_rate<R: Source>(bits: &mut BitReader<R>, code: u8) -> Result<u32, Why>
     requires { code < 15 }
+    // proof only
     ensures fits { IfOk result (λ v. IsRate code v) }
     ensures reading { CallInPlace 0 (Reads (λ v. v) (rate_field code)) bits.old bits.new result }
 {
@@ -77,6 +79,7 @@ fn read_rate<R: Source>(bits: &mut BitReader<R>, code: u8) -> Result<u32, Why>
 
 /// What [`read_number`] does, proved by the reading of the layout.
 fn number_here<R: Source>(bits: &mut BitReader<R>, max_bits: u32) -> Result<u64, Why>
+    // proof only
     ensures fits { IfOk result (λ v. IsNumber max_bits v) }
     ensures reading { CallInPlace 8 (Reads (λ v. v) (number max_bits)) bits.old bits.new result }
 {
@@ -95,8 +98,9 @@ struct Codes {
 /// Reads the sync code of a header, its blocking strategy and its codes.
 #[tactic(auto, unfolding(crate::specs::inner::Codes::codes))]
 fn read_codes<R: Source>(bits: &mut BitReader<R>) -> Result<Codes, Why>
-    ensures fits { IfOk result (λ k. (0 < k.size_code) × (k.size_code < 16) × (k.rate_code < 15) × (k.channel_code < 11) × (k.depth_code < 8) × (nat_eq k.depth_code 3 ≡ false)) }
-    ensures reading { CallInPlace 32 (Reads (λ k. record { variable = is_variable k.strategy; size_code = k.size_code; rate_code = k.rate_code; channel_code = k.channel_code; depth_code = k.depth_code }) codes) bits.old bits.new result }
+    // proof only
+    ensures fits { IfOk result AreValid }
+    ensures reading { CallInPlace 32 (Reads codes_of codes) bits.old bits.new result }
 {
     if bits.take(15)? != 0x7FFC {
         return Err(Why::BadSync);

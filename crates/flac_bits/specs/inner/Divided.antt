@@ -31,3 +31,11 @@ pub record Divided (d : ℕ) (es : List ℕ) (x : ℕ → ℕ) (q : List ℕ) (i
   pub before : (k : ℕ) → k < d → value_at q k ≡ 0
   pub behind : (k : ℕ) → d + i ≤ k → value_at q k ≡ 0
   pub each : (p : ℕ) → p < i → bit_xor (value_at q (p + d)) (mixed_at es (value_at q) p) ≡ x p
+
+-- the bytes of a quotient from one index up to another follow from those before them
+abbrev pub DividesOn : ℕ → List ℕ → List ℕ → (from to : ℕ) → List ℕ → List ℕ → Type 0
+DividesOn d es bytes from to old new = (x : ℕ → ℕ) → ((p : ℕ) → from ≤ p → p < to → x p ≡ value_at bytes p) → Divided d es x old from → Divided d es x new to
+
+-- the last d of the bytes, which begin at `from`, and what the quotient adds to them
+abbrev pub IsRest : ℕ → List ℕ → List ℕ → ℕ → List ℕ → List ℕ → Type 0
+IsRest d es bytes from q rest = (j : ℕ) → j < d → value_at rest j ≡ bit_xor (value_at bytes (j + from)) (mixed_at es (value_at q) (j + from))

@@ -1,7 +1,10 @@
 -- For proofs of loops that read: what is still to be read.
-use Rattle.std.specs.Prelude.{◌≡◌, ◌≤◌, ◌+◌, true, length, Result}
-use Rattle.flac_bits.specs.State.{State}
-use Rattle.flac_bits.specs.Layout.{Reason}
+use Rattle.std.specs.Prelude.{◌≡◌, ◌≤◌, ◌<◌, ◌+◌, ◌-◌, ℕ, ℤ, pos, true, List, length, take, get_or, Result}
+use Rattle.flac_bits.specs.State.{State, Cursor}
+use Rattle.flac_bits.specs.Layout.{Layout, Reason, run, and_then}
+use Rattle.flac_bits.specs.Lists.{list_of, behind}
+use Rattle.flac_bits.specs.Reading.{HeldEnds}
+use Rattle.flac_bits.specs.Rice.{rice_value, IsResidual}
 
 -- a loop has read without a refusal so far, and what it has still to read gives what the whole gives
 pub record Goes {Y : Type 0} (old now : State) (rest whole : Result Y Reason) : Type 0 where
@@ -17,3 +20,27 @@ pub record Goes {Y : Type 0} (old now : State) (rest whole : Result Y Reason) : 
 pub record Draws (old now : State) (rest whole : Type 0) : Type 0 where
   pub held : old.known ≡ true → old.held + length now.cursor.left ≤ now.held + length old.cursor.left
   pub ends : old.known ≡ true → rest → whole
+
+-- The source was not asked: what is known of it stays.
+abbrev pub SameSource : State → State → Type 0
+SameSource old new = (new.known ≡ old.known) × (new.errors ≡ old.errors) × (new.raised ≡ old.raised) × (new.behind ≡ old.behind) × (new.names ≡ old.names)
+
+-- what was read was held
+abbrev pub TookHeld : State → State → Type 0
+TookHeld old new = old.held + length new.cursor.left ≡ new.held + length old.cursor.left
+
+-- n values under one Rice parameter, one after another
+abbrev pub rice_values : (k n : ℕ) → Layout (List ℤ)
+rice_values k n = list_of n (rice_value k)
+
+-- the values from an index on are read from a position, after those before it
+abbrev pub values_from : (k n : ℕ) → List ℤ → ℕ → Cursor → Result (List ℤ × Cursor) Reason
+values_from k n values i at = and_then (run (rice_values k (n - i)) at) (behind (take i values))
+
+-- a loop that reads n values pulled only for those from one index up to another
+abbrev pub DrawsValues : (k n from to : ℕ) → State → State → Type 0
+DrawsValues k n from to old new = Draws old new (HeldEnds (rice_values k (n - to)) new) (HeldEnds (rice_values k (n - from)) old)
+
+-- the values before an index are residual values
+abbrev pub AreResiduals : List ℤ → ℕ → Type 0
+AreResiduals values n = (j : ℕ) → j < n → IsResidual (get_or values j (pos 0))

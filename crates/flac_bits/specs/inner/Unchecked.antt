@@ -1,5 +1,6 @@
 -- For proofs of reading bytes: whether the checks go on over them, or begin anew.
-use Rattle.std.specs.Prelude.{◌≡◌, Bool, true, false, List, ◌++◌}
+use Rattle.std.specs.Prelude.{◌≡◌, ℕ, Bool, true, false, List, ◌++◌}
+use Rattle.flac_bits.specs.Bits.{bits_of}
 use Rattle.flac_bits.specs.State.{Mark, Cursor, State, past, fresh}
 
 -- the checks go on, or begin anew
@@ -14,3 +15,7 @@ Fills checked text old new = (old.left ≡ text ++ new.left) × (new.mark ≡ ma
 -- the same state, its checks begun anew unless they go on
 abbrev pub started_unless : Bool → State → State
 started_unless checked s = record s { cursor = record s.cursor { mark = marked checked s.cursor.mark } }
+
+-- the same of bytes, if the bytes of the source are known
+abbrev pub FillsBytes : Bool → List ℕ → State → State → Type 0
+FillsBytes checked bytes old new = old.known ≡ true → Fills checked (bits_of bytes) old.cursor new.cursor

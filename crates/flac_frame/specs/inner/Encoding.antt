@@ -2,14 +2,14 @@
 use Rattle.std.specs.Prelude.{◌≡◌, ℕ, ◌≤◌, Bool, ℤ, List, [], ◌∷◌, ◌++◌, length, Some, ⊤}
 use Rattle.flac_bits.specs.Bits.{unsigned}
 use Rattle.flac_bits.specs.State.{Mark, past}
-use Rattle.flac_subframe.specs.declared.limits.Limits.{Limits}
-use Rattle.flac_subframe.specs.declared.linear.LinearPredictor.{LinearPredictor}
-use Rattle.flac_subframe.specs.Chosen.{offered}
-use Rattle.flac_subframe.specs.Family.{Stands}
-use Rattle.flac_subframe.specs.Handed.{AreWithin}
-use Rattle.flac_subframe.specs.Least.{IsLeast}
-use Rattle.flac_subframe.specs.Spelling.{subframe_spelling, IsSubframe}
-use Rattle.flac_subframe.specs.Subframe.{Form, samples_of}
+use Rattle.flac_subframe.specs.declared.format.limits.Limits.{Limits}
+use Rattle.flac_subframe.specs.declared.format.linear.LinearPredictor.{LinearPredictor}
+use Rattle.flac_subframe.specs.format.Chosen.{offered}
+use Rattle.flac_subframe.specs.format.Family.{Stands}
+use Rattle.flac_subframe.specs.format.Handed.{AreWithin}
+use Rattle.flac_subframe.specs.format.Least.{IsLeast}
+use Rattle.flac_subframe.specs.format.Spelling.{subframe_spelling, IsSubframe}
+use Rattle.flac_subframe.specs.format.Subframe.{Form, samples_of}
 use Rattle.flac_frame.specs.PlaneLists.{Lists, same_list, later}
 
 -- ---- a frame

@@ -1,15 +1,21 @@
 -- For proofs of the search: the shortest of the ways to store two channels.
-use Rattle.std.specs.Prelude.{◌≡◌, ℕ, ◌+◌, ◌≤◌, ◌<◌, ◌⊎◌, cond, nat_eq, ℤ, List, length, Some}
-use Rattle.flac_subframe.specs.declared.limits.Limits.{Limits}
-use Rattle.flac_subframe.specs.declared.linear.LinearPredictor.{LinearPredictor}
-use Rattle.flac_subframe.specs.declared.wide.WideChoice.{WideChoice}
-use Rattle.flac_subframe.specs.Family.{IsMadeIn, form_in}
-use Rattle.flac_subframe.specs.Handed.{AreWithin}
-use Rattle.flac_subframe.specs.Spelling.{subframe_spelling, IsSubframe}
-use Rattle.flac_subframe.specs.Subframe.{Form, samples_of}
+use Rattle.std.specs.Prelude.{◌≡◌, ℕ, ◌+◌, ◌≤◌, ◌<◌, ◌⊎◌, cond, nat_eq, ℤ, List, length, slice_set, All, Some}
+use Rattle.flac_bits.specs.Signed.{FitsBits}
+use Rattle.flac_subframe.specs.declared.format.limits.Limits.{Limits}
+use Rattle.flac_subframe.specs.declared.format.linear.LinearPredictor.{LinearPredictor}
+use Rattle.flac_subframe.specs.declared.search.wide.WideChoice.{WideChoice}
+use Rattle.flac_subframe.specs.search.Choices.{IsMadeIn, form_in}
+use Rattle.flac_subframe.specs.format.Handed.{AreWithin}
+use Rattle.flac_subframe.specs.format.Spelling.{subframe_spelling, IsSubframe}
+use Rattle.flac_subframe.specs.format.Subframe.{Form, samples_of}
 use Rattle.flac_frame.specs.inner.Encoding.{IsLeastFor}
 use Rattle.flac_frame.specs.PlaneLists.{Lists}
-use Rattle.flac_frame.specs.Stereo.{side_of, middle_of}
+use Rattle.flac_frame.specs.Stereo.{side_of, middle_of, kept_as}
+use Rattle.flac_frame.specs.Audio.{Sound}
+use Rattle.flac_frame.specs.Chosen.{AllWide}
+use Rattle.flac_frame.specs.Encoding.{block_of}
+use Rattle.flac_frame.specs.Frame.{side_bit}
+use Rattle.flac_frame.specs.Pair.{AreWide}
 use Rattle.flac_frame.specs.declared.pair_choices.PairChoices.{PairChoices}
 
 -- the codes of two channels (RFC 9639, section 9.1.3)
@@ -55,3 +61,20 @@ first_kept code c = cond (nat_eq code 9) c.side (cond (nat_eq code 10) c.middle 
 
 abbrev pub second_kept : ℕ → PairChoices → WideChoice
 second_kept code c = cond (nat_eq code 8) c.side (cond (nat_eq code 9) c.right (cond (nat_eq code 10) c.side c.right))
+
+-- places with these two in front
+abbrev pub with_kept : ℕ → PairChoices → List WideChoice → List WideChoice
+with_kept code c places = slice_set (slice_set places 0 (first_kept code c)) 1 (second_kept code c)
+
+-- arrays that are long enough stay so
+abbrev pub KeepsWide : PairChoices → List WideChoice → PairChoices → List WideChoice → Type 0
+KeepsWide c places c' places' = (most : ℕ) → AreWide most c → AllWide most places → AreWide most c' × AllWide most places'
+
+-- if two channels fit a depth, what a code stores of them fits it too, the side with one bit more (section 9.2.3)
+abbrev pub FitAsKept : ℕ → (left right first second : List ℤ) → Type 0
+FitAsKept code left right first second =
+    (depth : ℕ) → 1 ≤ depth → All (FitsBits depth) left → All (FitsBits depth) right → All (FitsBits (depth + side_bit code 0)) first × All (FitsBits (depth + side_bit code 1)) second
+
+-- what a code stores of a block of samples
+abbrev pub kept_block : ℕ → Sound → (start size : ℕ) → List (List ℤ)
+kept_block code sound start size = kept_as code (block_of start size sound.channels)

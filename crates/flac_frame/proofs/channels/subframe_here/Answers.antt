@@ -1,6 +1,6 @@
 use Rattle.std.proofs.Common.{rules, Some, None, cond}
 use Rattle.flac_bits.proofs.Meaning.{reads}
-use Rattle.flac_subframe.specs.Subframe.{subframe_samples}
+use Rattle.flac_subframe.specs.format.Subframe.{subframe_samples}
 use Rattle.flac_frame.proofs.channels.subframe_here.Goals as goal
 
 pub returns-clause-reading : goal.returns-clause-reading

@@ -1,8 +1,8 @@
 use Rattle.std.proofs.Common.{List, ◌≡◌, ◌∙◌, ◌≤◌, ◌-◌, refl, sym, ap, subst, length, flat_map, ℕ, arith}
 use Rattle.std.proofs.lemmas.List.{with_items_is}
 use Rattle.std.specs.Vec.{with_items}
-use Rattle.flac_subframe.specs.Spelling.{subframe_spelling}
-use Rattle.flac_subframe.specs.declared.wide.WideChoice.{WideChoice}
+use Rattle.flac_subframe.specs.format.Spelling.{subframe_spelling}
+use Rattle.flac_subframe.specs.declared.search.wide.WideChoice.{WideChoice}
 use Rattle.flac_frame.specs.Chosen.{forms_by_plane, AllWide}
 use Rattle.flac_frame.specs.PlaneLists.{lists_of}
 use Rattle.flac_frame.specs.inner.Chosen.{AreChosen}

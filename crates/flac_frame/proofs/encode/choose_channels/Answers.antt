@@ -4,9 +4,9 @@ use Rattle.std.proofs.lemmas.List.Elements.{All-set}
 use Rattle.std.proofs.lemmas.Nat.{mul-le}
 use borrow.Author.Count.{falls}
 use Rattle.flac_bits.specs.Signed.{FitsBits}
-use Rattle.flac_subframe.specs.Room.{Room}
-use Rattle.flac_subframe.specs.Spelling.{subframe_spelling}
-use Rattle.flac_subframe.specs.declared.wide.WideChoice.{WideChoice}
+use Rattle.flac_subframe.specs.search.Room.{Room}
+use Rattle.flac_subframe.specs.format.Spelling.{subframe_spelling}
+use Rattle.flac_subframe.specs.declared.search.wide.WideChoice.{WideChoice}
 use Rattle.flac_frame.specs.Audio.{Sound, IsSound}
 use Rattle.flac_frame.specs.Chosen.{forms_by_plane}
 use Rattle.flac_frame.specs.inner.Chosen.{AreChosen}

@@ -1,5 +1,5 @@
 use Rattle.std.proofs.Common.{◌≡◌, ◌∙◌, ◌*◌, ◌<◌, ◌^◌, ap, sym, subst, length}
-use Rattle.flac_subframe.specs.Room.{Room}
+use Rattle.flac_subframe.specs.search.Room.{Room}
 use Rattle.flac_frame.specs.Audio.{Sound}
 use Rattle.flac_frame.specs.Chosen.{AllWide, HasPlaces}
 use Rattle.flac_frame.specs.Pair.{AreWide}

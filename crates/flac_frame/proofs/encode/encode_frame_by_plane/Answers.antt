@@ -1,7 +1,7 @@
 use Rattle.std.proofs.Common.{◌≡◌, ◌<◌, ◌≤◌, ◌-◌, ◌+◌, ◌*◌, ◌^◌, ◌∙◌, ℕ, length, Result, Ok, ap, subst, sym, arith}
 use Rattle.std.proofs.lemmas.Result.{err_from_is_err_and}
 use Rattle.flac_bits.specs.declared.why.Why.{Why}
-use Rattle.flac_subframe.specs.Room.{Room}
+use Rattle.flac_subframe.specs.search.Room.{Room}
 use Rattle.flac_frame.specs.Audio.{Sound}
 use Rattle.flac_frame.specs.Chosen.{AllWide}
 use Rattle.flac_frame.specs.Pair.{AreWide}

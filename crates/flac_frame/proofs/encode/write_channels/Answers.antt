@@ -4,9 +4,9 @@ use borrow.Author.Count.{falls}
 use Rattle.flac_bits.specs.Signed.{FitsBits}
 use Rattle.flac_bits.specs.Written.{Adds, Fails, Writes}
 use Rattle.flac_bits.proofs.Writing.{Towards, towards_start, towards_more, towards_fail, towards_end}
-use Rattle.flac_subframe.specs.Family.{IsMadeIn, form_in}
-use Rattle.flac_subframe.specs.Room.{Room}
-use Rattle.flac_subframe.specs.Spelling.{subframe_spelling}
+use Rattle.flac_subframe.specs.search.Choices.{IsMadeIn, form_in}
+use Rattle.flac_subframe.specs.search.Room.{Room}
+use Rattle.flac_subframe.specs.format.Spelling.{subframe_spelling}
 use Rattle.flac_frame.specs.Chosen.{AreMadeByPlane, forms_by_plane}
 use Rattle.flac_frame.specs.PlaneLists.{Lists, lists_of}
 use Rattle.flac_frame.specs.Encoding.{block_of}

@@ -1,6 +1,6 @@
 use Rattle.std.proofs.Common.{◌≡◌, flat_map}
 use Rattle.flac_bits.proofs.Writing.{Towards}
-use Rattle.flac_subframe.specs.Spelling.{subframe_spelling}
+use Rattle.flac_subframe.specs.format.Spelling.{subframe_spelling}
 use Rattle.flac_frame.specs.Chosen.{forms_by_plane}
 use Rattle.flac_frame.specs.Encoding.{block_of}
 use Rattle.flac_frame.specs.PlaneLists.{lists_of}

@@ -2,7 +2,7 @@ use Rattle.std.proofs.Common.{List, [], ◌∷◌, ◌≡◌, ◌∙◌, ◌+◌
 use Rattle.std.proofs.lemmas.List.{with_items_is, length-take-le}
 use Rattle.std.specs.Vec.{with_items}
 use Rattle.flac_bits.specs.Signed.{FitsBits}
-use Rattle.flac_subframe.specs.declared.wide.WideChoice.{WideChoice}
+use Rattle.flac_subframe.specs.declared.search.wide.WideChoice.{WideChoice}
 use Rattle.flac_frame.specs.declared.frame_choice.FrameChoice.{FrameChoice}
 use Rattle.flac_header.specs.Assignment.{code_of}
 use Rattle.flac_frame.specs.Audio.{samples_each}

@@ -1,7 +1,7 @@
 use Rattle.std.proofs.Common.{◌≡◌, ◌∙◌, ◌+◌, ◌≤◌, ℕ, Fits, w32, ap, subst, sym, length, All, arith}
 use Rattle.flac_bits.specs.Signed.{FitsBits}
 use Rattle.flac_header.specs.Assignment.{code_of}
-use Rattle.flac_subframe.specs.Room.{Room}
+use Rattle.flac_subframe.specs.search.Room.{Room}
 use Rattle.flac_frame.specs.Encoding.{partition_limit}
 use Rattle.flac_frame.specs.PlaneLists.{lists_of}
 use Rattle.flac_frame.specs.inner.Pair.{IsFirstLeast, IsPlane, pair_cost}

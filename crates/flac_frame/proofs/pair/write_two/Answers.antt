@@ -2,12 +2,12 @@ use Rattle.std.proofs.Common.{◌≡◌, ℕ, ◌+◌, ◌≤◌, ◌++◌, All,
 use Rattle.std.proofs.lemmas.Result.{err_from_is_err_and}
 use Rattle.flac_bits.specs.Signed.{FitsBits}
 use Rattle.flac_bits.specs.Written.{Adds, Fails, Writes}
-use Rattle.flac_subframe.specs.Room.{Room}
+use Rattle.flac_subframe.specs.search.Room.{Room}
 use Rattle.flac_bits.proofs.Writing.{fails_first, writes_then}
 use Rattle.flac_frame.specs.Chosen.{AreMadeByPlane}
 use Rattle.flac_frame.specs.PlaneLists.{plane_of, lists_of, lists_kept}
-use Rattle.flac_subframe.specs.Family.{IsMadeIn, form_in}
-use Rattle.flac_subframe.specs.Spelling.{subframe_spelling}
+use Rattle.flac_subframe.specs.search.Choices.{IsMadeIn, form_in}
+use Rattle.flac_subframe.specs.format.Spelling.{subframe_spelling}
 use Rattle.flac_frame.specs.Frame.{side_bit}
 use Rattle.flac_frame.proofs.Chosen.{first_made, second_made, pair_texts}
 use Rattle.flac_frame.proofs.Encoded.{failed}

@@ -1,7 +1,7 @@
 use Rattle.std.proofs.Common.{sym, subst}
-use Rattle.flac_subframe.specs.Family.{IsMadeIn, form_in}
-use Rattle.flac_subframe.specs.Handed.{AreWithin}
-use Rattle.flac_subframe.specs.declared.limits.Limits.{Limits}
+use Rattle.flac_subframe.specs.search.Choices.{IsMadeIn, form_in}
+use Rattle.flac_subframe.specs.format.Handed.{AreWithin}
+use Rattle.flac_subframe.specs.declared.format.limits.Limits.{Limits}
 use Rattle.flac_frame.specs.Encoding.{partition_limit}
 use Rattle.flac_frame.specs.PlaneLists.{lists_of}
 use Rattle.flac_frame.specs.inner.Pair.{IsChosen}

@@ -1,7 +1,7 @@
 use Rattle.std.proofs.Common.{◌/◌, ◌^◌, rules, ◌≡◌, ℤ, pos, get_or, to_z, of_z, w32, w64, SFits, sym, ap, ◌∙◌}
 use Rattle.std.proofs.lemmas.Int.{to_z-of_z}
-use Rattle.flac_subframe.specs.Numbers.{fits}
-use Rattle.flac_frame.proofs.Depths.{fit_more, fit_less, none_left, none_both, none_wrong}
+use Rattle.flac_subframe.specs.format.Numbers.{fits}
+use Rattle.flac_frame.proofs.Depths.{none_over, over_none, fit_more, fit_less, none_left, none_both, none_wrong}
 use Rattle.flac_frame.proofs.samples.samples_fit.Goals as goal
 
 pub loop-i-preserved : goal.loop-i-preserved
@@ -17,10 +17,10 @@ loop-i-preserved c =
     let wide : SFits w64 y = search rules in
     let same : to_z w64 (of_z w64 y) ≡ x = to_z-of_z w64 y wide ∙ near in
     record {
-      none = λ e. let z = none_left bits l.wrong c.excess-wrong.result e in
-          fit_more bits xs l.i lt (l.invariant.none z.0) (ap (fits bits) (sym same) ∙ c.excess-wrong.ensures.none z.1);
+      none = λ e. let z = none_left bits l.wrong c.offset_binary-wrong.result e in
+          fit_more bits xs l.i lt (l.invariant.none z.0) (ap (fits bits) (sym same) ∙ none_over bits c.offset_binary-wrong.result _ c.offset_binary-wrong.ensures z.1);
       some = λ h. let both = fit_less bits xs l.i lt h in
-          none_both bits l.wrong c.excess-wrong.result (l.invariant.some both.0) (c.excess-wrong.ensures.some (ap (fits bits) same ∙ both.1));
+          none_both bits l.wrong c.offset_binary-wrong.result (l.invariant.some both.0) (over_none bits c.offset_binary-wrong.result _ c.offset_binary-wrong.ensures (ap (fits bits) same ∙ both.1));
     }
 
 pub returns : goal.returns

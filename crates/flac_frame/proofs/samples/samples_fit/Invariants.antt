@@ -1,5 +1,5 @@
 use Rattle.std.proofs.Common.{◌≡◌, ◌/◌, ◌^◌, take, true}
-use Rattle.flac_subframe.specs.Numbers.{all_fit}
+use Rattle.flac_subframe.specs.format.Numbers.{all_fit}
 use Rattle.flac_frame.proofs.samples.samples_fit.Given as goal
 
 abbrev pub invariant-loop-i : goal.invariant-loop-i

@@ -8,9 +8,9 @@ use Rattle.std.proofs.lemmas.Simd.{length-zip2}
 use Rattle.std.proofs.Math.Nat.{div-eq_of_lt}
 use Rattle.flac_bits.specs.Signed.{FitsBits}
 use Rattle.flac_header.specs.Assignment.{code_of}
-use Rattle.flac_subframe.specs.Numbers.{fits}
+use Rattle.flac_subframe.specs.format.Numbers.{fits}
 use Rattle.flac_frame.specs.Stereo.{left_of, right_of}
-use Rattle.flac_frame.proofs.Depths.{fit_less, side_more, none_left, none_both, judged}
+use Rattle.flac_frame.proofs.Depths.{none_over, over_none, fit_less, side_more, none_left, none_both, judged}
 use Rattle.flac_frame.proofs.Joins.{zip_at}
 use Rattle.flac_frame.proofs.stereo.join_two.Goals as goal
 
@@ -85,10 +85,10 @@ loop-i-preserved c =
     let vs : to_z w64 (of_z w64 v) ≡ v = to_z-of_z w64 v vf in
     let u_is : u ≡ get_or lefts i (pos 0) = (rw (ps, qs) at c.join_samples-joined_left.ensures.left) ∙ sym (zip_at (left_of (code_of c.args.assignment)) a b i long lt) in
     let v_is : v ≡ get_or rights i (pos 0) = (rw (ps, qs) at c.join_samples-joined_left.ensures.right) ∙ sym (zip_at (right_of (code_of c.args.assignment)) a b i long lt) in
-    let e = c.excess-over.result in
-    let f = c.excess-above.result in
-    let good_left : e / 2 ^ depth ≡ 0 → fits depth u ≡ true = λ h. ap (fits depth) (sym us) ∙ c.excess-over.ensures.none h in
-    let good_right : f / 2 ^ depth ≡ 0 → fits depth v ≡ true = λ h. ap (fits depth) (sym vs) ∙ c.excess-above.ensures.none h in
+    let e = c.offset_binary-over.result in
+    let f = c.offset_binary-above.result in
+    let good_left : e / 2 ^ depth ≡ 0 → fits depth u ≡ true = λ h. ap (fits depth) (sym us) ∙ none_over depth e _ c.offset_binary-over.ensures h in
+    let good_right : f / 2 ^ depth ≡ 0 → fits depth v ≡ true = λ h. ap (fits depth) (sym vs) ∙ none_over depth f _ c.offset_binary-above.ensures h in
     let x : ℤ = c.lowest-short_left.result in
     let y : ℤ = c.lowest-short_right.result in
     let xf : SFits w32 x = search rules in
@@ -103,7 +103,7 @@ loop-i-preserved c =
       some = λ g h.
           let m = fit_less depth lefts i (subst (λ n. i < n) (sym left_long) lt) g in
           let n = fit_less depth rights i (subst (λ n. i < n) (sym right_long) lt) h in
-          none_both depth l.wrong (bit_or e f) (inv.some m.0 n.0) (none_both depth e f (c.excess-over.ensures.some (ap (fits depth) (us ∙ u_is) ∙ m.1)) (c.excess-above.ensures.some (ap (fits depth) (vs ∙ v_is) ∙ n.1)));
+          none_both depth l.wrong (bit_or e f) (inv.some m.0 n.0) (none_both depth e f (over_none depth e _ c.offset_binary-over.ensures (ap (fits depth) (us ∙ u_is) ∙ m.1)) (over_none depth f _ c.offset_binary-above.ensures (ap (fits depth) (vs ∙ v_is) ∙ n.1)));
       left = λ z. (on_left z).1;
       right = λ z. (on_right z).1;
     }

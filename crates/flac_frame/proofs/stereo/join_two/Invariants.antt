@@ -1,7 +1,7 @@
 use Rattle.std.proofs.Common.{◌≡◌, ◌/◌, ◌^◌, take, true}
 use Rattle.std.specs.Simd.Lanes.{zip2}
 use Rattle.flac_header.specs.Assignment.{code_of}
-use Rattle.flac_subframe.specs.Numbers.{all_fit}
+use Rattle.flac_subframe.specs.format.Numbers.{all_fit}
 use Rattle.flac_frame.specs.Stereo.{left_of, right_of}
 use Rattle.flac_frame.proofs.stereo.join_two.Given as goal
 

@@ -7,9 +7,8 @@ use Rattle.flac_bits.specs.Layout.{Reason, unless_broken}
 use Rattle.flac_bits.specs.declared.why.Why.{Why}
 use Rattle.flac_bits.specs.declared.why.Why.TheVariants.{HeaderCheck, Memory}
 use Rattle.flac_bits.proofs.Counting.{answered_then, failed_then, refused_then}
-use Rattle.flac_bits.proofs.Telling.{told_then, told_fault}
+use Rattle.flac_bits.proofs.Telling.{told_then, told_fault, told_past, told_broken}
 use Rattle.flac_header.specs.inner.Codes.{behind_codes}
-use Rattle.flac_header.proofs.Judged.{told_past, told_broken}
 use Rattle.flac_header.proofs.Parted.{behind, told_header}
 use Rattle.flac_header.proofs.read.read_fields.Goals as goal
 

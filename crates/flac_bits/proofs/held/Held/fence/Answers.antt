@@ -10,5 +10,4 @@ returns-clause-held c =
       c.put_back.new.self.bytes,
       ap (λ w. w ++ bits_of c.put_back.new.self.bytes) (shut.0) ∙ back.0 ∙ ap (λ w. w ++ bits_of c.lift.new.self.bytes) (up.0) ∙ ap (λ bs. c.args.self.now.word ++ bits_of bs) (up.1),
       shut.2,
-      shut.3,
     )

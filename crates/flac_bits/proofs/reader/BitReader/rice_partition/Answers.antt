@@ -34,11 +34,11 @@ loop-i-preserved g c =
     let last = get_or-set_same values i v (pos 0) short in
     rw same (record {
       goes = goes_on c.args.self.now mid c.rice_value.new.self (run field mid.cursor) v more _ _ _
-          (goes_same c.args.self.now c.loop-i.self mid _ _ _ c.loop-i.invariant.goes got.went.1 got.went.2 got.went.3 got.went.4 got.went.5 got.reads)
+          (goes_same c.args.self.now c.loop-i.self mid _ _ _ c.loop-i.invariant.goes got.went.1.0 got.went.1.1 got.went.1.2 got.went.1.3 got.went.1.4 got.reads)
           (list_more n i field mid.cursor (take i values) within)
           (ap (λ front. and_then (run (list_of (n - (i + 1)) field) c.rice_value.new.self.cursor) (behind front)) (sym (take-set_at values i (i + 1) v refl short)))
           c.in_ok-values.ensures.reading.counts c.in_ok-values.ensures.reading.reads;
-      drawn = list_drawn n i field v c.args.self.now mid c.rice_value.new.self within (λ known. rw got.went.1 (c.loop-i.invariant.goes.known known))
+      drawn = list_drawn n i field v c.args.self.now mid c.rice_value.new.self within (λ known. rw got.went.1.0 (c.loop-i.invariant.goes.known known))
           (draws_then c.args.self.now c.loop-i.self mid c.loop-i.invariant.goes.known c.loop-i.invariant.drawn got.drawn)
           (λ known. c.in_ok-values.ensures.reading.reads known c.in_ok-values.ensures.reading.counts.1) c.in_ok-values.ensures.needed;
       fits = below_more _ i (λ j h. rw (get_or-set_other values i j v (pos 0) (λ e. omega arith)) (got.fits c.loop-i.invariant.fits j h)) (rw last c.in_ok-values.ensures.fits);
@@ -76,7 +76,7 @@ loop-i-preserved-then-next-i g c =
     let ready = c.ready_values-next in
     let got = rw (c.loop-i.auto.values, c.top_up.ensures) at ready.ensures in
     record {
-      goes = goes_same c.args.self.now c.loop-i.self ready.new.self _ _ _ inv.goes got.went.1 got.went.2 got.went.3 got.went.4 got.went.5 got.reads;
+      goes = goes_same c.args.self.now c.loop-i.self ready.new.self _ _ _ inv.goes got.went.1.0 got.went.1.1 got.went.1.2 got.went.1.3 got.went.1.4 got.reads;
       drawn = draws_then c.args.self.now c.loop-i.self ready.new.self inv.goes.known inv.drawn got.drawn;
       fits = got.fits inv.fits;
       spent = omega (arith, got.went.0, inv.spent);
@@ -91,7 +91,7 @@ returns-in_err-values g c =
     let got = rw (stop, c.loop-i.auto.values, c.top_up.ensures) at ready.ensures in
     let mid = ready.new.self in
     let within : i < length c.args.values.now = omega (arith, c.loop-i-test.true, c.loop-i.auto.values) in
-    let goes = goes_same c.args.self.now c.loop-i.self mid _ _ _ c.loop-i.invariant.goes got.went.1 got.went.2 got.went.3 got.went.4 got.went.5 got.reads in
+    let goes = goes_same c.args.self.now c.loop-i.self mid _ _ _ c.loop-i.invariant.goes got.went.1.0 got.went.1.1 got.went.1.2 got.went.1.3 got.went.1.4 got.reads in
     let failed = c.in_err-values.ensures.reading in
     rw (p.1, p.2) (record {
       fits = tt;

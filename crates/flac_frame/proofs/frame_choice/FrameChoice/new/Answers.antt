@@ -1,7 +1,7 @@
 use Rattle.std.proofs.Common.{◌≡◌, ◌∙◌, ℕ, ◌+◌, ◌≤◌, ◌^◌, length, [], ◌∷◌, vec_len, ap, sym, subst, arith}
 use Rattle.std.proofs.lemmas.List.{length_push}
 use Rattle.std.proofs.lemmas.List.Elements.{All-append, All-cons, All-nil}
-use Rattle.flac_subframe.specs.declared.wide.WideChoice.{WideChoice}
+use Rattle.flac_subframe.specs.declared.search.wide.WideChoice.{WideChoice}
 use Rattle.flac_frame.specs.Chosen.{AllWide}
 use Rattle.flac_frame.proofs.frame_choice.FrameChoice.new.Goals as goal
 

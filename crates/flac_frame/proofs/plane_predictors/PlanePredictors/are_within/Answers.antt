@@ -1,7 +1,7 @@
 use Rattle.std.proofs.Common.{◌≡◌, Vec, Global, subst, sym, arith, true, false}
 use Rattle.std.proofs.lemmas.List.Elements.{All-more}
-use Rattle.flac_subframe.specs.declared.linear.LinearPredictor.{LinearPredictor}
-use Rattle.flac_subframe.specs.Handed.{AreWithin}
+use Rattle.flac_subframe.specs.declared.format.linear.LinearPredictor.{LinearPredictor}
+use Rattle.flac_subframe.specs.format.Handed.{AreWithin}
 use Rattle.flac_frame.proofs.PlaneLists.{all_lists, rest_within, one_within}
 use Rattle.flac_frame.proofs.plane_predictors.PlanePredictors.are_within.Goals as goal
 

@@ -1,5 +1,5 @@
 use Rattle.std.proofs.Common.{All, take}
-use Rattle.flac_subframe.specs.Handed.{AreWithin}
+use Rattle.flac_subframe.specs.format.Handed.{AreWithin}
 use Rattle.flac_frame.proofs.plane_predictors.PlanePredictors.are_within.Given as goal
 
 abbrev pub invariant-loop-list : goal.invariant-loop-list

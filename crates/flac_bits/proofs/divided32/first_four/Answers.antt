@@ -1,5 +1,0 @@
-use Rattle.flac_bits.proofs.Dividing.{first_of_four}
-use Rattle.flac_bits.proofs.divided32.first_four.Goals as goal
-
-pub returns : goal.returns
-returns c = λ p lt. first_of_four c.args.check c.args.bytes.now p lt

@@ -1,7 +1,0 @@
-use Rattle.std.proofs.Common.{◌≡◌, ◌-◌}
-use Rattle.flac_bits.specs.Bits.{unsigned}
-use Rattle.flac_bits.specs.Check.{fed}
-use Rattle.flac_bits.proofs.sums.bits_checked8.Given as goal
-
-abbrev pub invariant-loop-i : goal.invariant-loop-i
-invariant-loop-i l = fed 8 7 l.check (unsigned (l.n - l.i) l.value) ≡ fed 8 7 l.initial.check (unsigned l.n l.value)

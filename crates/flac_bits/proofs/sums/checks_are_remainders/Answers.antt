@@ -1,5 +1,0 @@
-use Rattle.flac_bits.proofs.Check.{check8_is, check16_is}
-use Rattle.flac_bits.proofs.sums.checks_are_remainders.Goals as goal
-
-pub returns : goal.returns
-returns c = λ bits m none none16. (check8_is bits m none, check16_is bits m none16)

@@ -1,7 +1,0 @@
-use Rattle.std.proofs.Common.{◌≡◌, ◌*◌, take}
-use Rattle.flac_bits.specs.Bits.{bits_of}
-use Rattle.flac_bits.specs.Check.{fed}
-use Rattle.flac_bits.proofs.sums.crc32_by_eights.Given as goal
-
-abbrev pub invariant-loop-i : goal.invariant-loop-i
-invariant-loop-i l = l.check ≡ fed 32 79764919 l.initial.check (bits_of (take (8 * l.i) l.bytes))
