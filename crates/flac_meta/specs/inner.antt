@@ -1,3 +1,4 @@
 -- What private contracts and proofs need, and no contract of an exported function.
 pub mod Fielded
 pub mod Counted
+pub mod Cues

@@ -1,13 +1,11 @@
 //! Metadata blocks: what they are, which can be written, and how they are read and written (RFC 9639, section 8).
 
-ghost use Rattle.std.specs.Prelude.{◌≡◌, None, false, min, length, OnOk, IfOk, ◌+◌, ◌<◌, ◌≤◌, ◌^◌, OnErr, true, Ok, Err, Some, IfSome, ◌∷◌, []};
+ghost use Rattle.std.specs.Prelude.{◌≡◌, None, false, min, length, IfOk, ◌<◌, ◌≤◌, ◌^◌, OnErr, true, Ok, Err, Some, IfSome, ◌∷◌, []};
 ghost use Rattle.flac_meta.specs.Spelling.{kind_of, length_of, header_spelling, content_spelling, block_spelling, comments_length};
 ghost use Rattle.flac_meta.specs.Listed.{is_forbidden, block_fault, has_bad_sheet};
 ghost use Rattle.flac_meta.specs.Header.{nothing_seen, is_repeated, block_header};
 ghost use Rattle.flac_meta.specs.Block.{seen_after, application, content, block, MemoryAsked};
 ghost use Rattle.flac_bits.specs.Reading.{Reads, ReadsInRoom, Call, MeansInRoom};
-ghost use Rattle.flac_bits.specs.State.{Cursor};
-ghost use Rattle.flac_bits.specs.Layout.{run};
 ghost use Rattle.flac_meta.specs.declared.block.BlockHeader.{BlockHeader};
 ghost use Rattle.flac_bits.specs.Written.{Writes};
 ghost use Rattle.flac_bits.specs.Bits.{bits_of};
@@ -235,7 +233,8 @@ fn read_content<R: Source>(
     requires small { length < 2 ^ 24 }
     requires id { kind ≡ 2 → 4 ≤ length }
     ensures reading { Call 0 (ReadsInRoom (λ b. b) (content kind length)) bits.old bits.new result }
-    ensures spare { result ≡ Err Why.Memory → bits.old.known ≡ true → bits.new.errors ≡ bits.old.errors → (bits.old.cursor.mark.short ≡ Why.Memory → ⊥) → 1 < kind }
+    ensures spare { result ≡ Err Why.Memory → bits.old.known ≡ true → bits.new.errors ≡ bits.old.errors
+        → (bits.old.cursor.mark.short ≡ Why.Memory → ⊥) → 1 < kind }
 {
     match kind {
         0 => read_stream_info(bits).map(Block::StreamInfo),
@@ -415,7 +414,8 @@ pub fn write_block<W: Target>(
     writer: &mut BitWriter<W>,
 ) -> Result<(), Why>
     ensures refused { IfSome (block_fault block.now) (λ why. (result ≡ Err why) × (writer.new ≡ writer.old)) }
-    ensures writes { block_fault block.now ≡ None → Writes (block_spelling last block.now) writer.old writer.new result }
+    ensures writes { block_fault block.now ≡ None
+        → Writes (block_spelling last block.now) writer.old writer.new result }
 {
     if let Some(why) = fault_of(block) {
         return Err(why);
@@ -433,8 +433,10 @@ pub fn write_comments<W: Target>(
     last: bool,
     writer: &mut BitWriter<W>,
 ) -> Result<(), Why>
-    ensures refused { IfSome (block_fault (block_of.VorbisComment comments.now)) (λ why. (result ≡ Err why) × (writer.new ≡ writer.old)) }
-    ensures writes { block_fault (block_of.VorbisComment comments.now) ≡ None → Writes (block_spelling last (block_of.VorbisComment comments.now)) writer.old writer.new result }
+    ensures refused { IfSome (block_fault (block_of.VorbisComment comments.now))
+        (λ why. (result ≡ Err why) × (writer.new ≡ writer.old)) }
+    ensures writes { block_fault (block_of.VorbisComment comments.now) ≡ None
+        → Writes (block_spelling last (block_of.VorbisComment comments.now)) writer.old writer.new result }
 {
     if comments.length() > MOST_BYTES {
         return Err(Why::BlockLength);

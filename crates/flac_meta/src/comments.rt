@@ -1,6 +1,6 @@
 //! Vorbis comments (RFC 9639, section 8.6).
 
-ghost use Rattle.std.specs.Prelude.{◌≡◌, ◌≢◌, ℕ, ◌<◌, ◌≤◌, ◌+◌, ◌++◌, [], ◌∷◌, length, take, drop, nat_eq, EachIndex, MatchOption, OnOk, OnErr, IfOk, slice_index, slice_index_or, min, ◌^◌};
+ghost use Rattle.std.specs.Prelude.{◌≡◌, ◌<◌, ◌≤◌, ◌+◌, ◌++◌, [], ◌∷◌, length, take, drop, nat_eq, MatchOption, OnOk, OnErr, IfOk, slice_index, slice_index_or, min, ◌^◌};
 ghost use Rattle.std.specs.Iterator.{YieldsFirstRef, item_count};
 ghost use Rattle.flac_meta.specs.Parts.{HasNoEquals, LacksParts, AreParts};
 ghost use Rattle.flac_meta.specs.Named.{value_under, values_of, IsFirstOf};
@@ -26,7 +26,8 @@ pub struct Comments {
 
 /// The index of the first `=`.
 fn place_of_equals(text: &[u8]) -> Option<usize>
-    ensures { MatchOption result (HasNoEquals text.now) (λ k. (k < length text.now) × (slice_index text.now k ≡ 61) × HasNoEquals (take k text.now)) }
+    ensures { MatchOption result (HasNoEquals text.now)
+        (λ k. (k < length text.now) × (slice_index text.now k ≡ 61) × HasNoEquals (take k text.now)) }
 {
     for (k, byte) in text.iter().enumerate() {
         if *byte == b'=' {
@@ -38,7 +39,8 @@ fn place_of_equals(text: &[u8]) -> Option<usize>
 
 /// The name and the value of a text, before and after its first `=`.
 fn parts_of(text: &[u8]) -> Option<(&[u8], &[u8])>
-    ensures { MatchOption result (HasNoEquals text.now) (λ p. (text.now ≡ p.0.now ++ 61 ∷ p.1.now) × HasNoEquals p.0.now) }
+    ensures { MatchOption result (HasNoEquals text.now)
+        (λ p. (text.now ≡ p.0.now ++ 61 ∷ p.1.now) × HasNoEquals p.0.now) }
 {
     let k = place_of_equals(text)?;
     let behind = k + 1;
@@ -48,7 +50,8 @@ fn parts_of(text: &[u8]) -> Option<(&[u8], &[u8])>
 /// The value of a text, if it has this name.
 #[tactic(auto, using(crate::proofs::Named::under_none, crate::proofs::Named::under_same, crate::proofs::Named::under_other))]
 fn value_under<'a>(name: &[u8], text: &'a [u8]) -> Option<&'a [u8]>
-    ensures { MatchOption result (value_under name.now text.now ≡ []) (λ v. value_under name.now text.now ≡ v.now ∷ []) }
+    ensures { MatchOption result (value_under name.now text.now ≡ [])
+        (λ v. value_under name.now text.now ≡ v.now ∷ []) }
 {
     match parts_of(text) {
         Some((own, value)) if own.eq_ignore_ascii_case(name) => Some(value),
@@ -59,7 +62,8 @@ fn value_under<'a>(name: &[u8], text: &'a [u8]) -> Option<&'a [u8]>
 /// The first value of this name among some texts, and the index of its text.
 #[tactic(auto, unfolding(crate::specs::Named::values_of), using(crate::proofs::Named::values_more))]
 fn first_named<'a>(name: &[u8], texts: &'a [Bytes]) -> Option<(usize, &'a [u8])>
-    ensures { MatchOption result (values_of name.now texts.now ≡ []) (λ p. (p.0 < length texts.now) × (values_of name.now texts.now ≡ p.1.now ∷ values_of name.now (drop (p.0 + 1) texts.now))) }
+    ensures { MatchOption result (values_of name.now texts.now ≡ []) (λ p. (p.0 < length texts.now)
+        × (values_of name.now texts.now ≡ p.1.now ∷ values_of name.now (drop (p.0 + 1) texts.now))) }
 {
     for (i, text) in texts.iter().enumerate() {
         match value_under(name, text.as_slice()) {
@@ -151,7 +155,8 @@ impl Comments {
 
     /// Comment `i`, counted from 0, as it is in the block: `NAME=VALUE`. `None` if there is no such comment.
     pub fn get(&self, i: usize) -> Option<&[u8]>
-        ensures { MatchOption result (length self.now.list ≤ i) (λ t. (i < length self.now.list) × (t.now ≡ slice_index_or self.now.list i [])) }
+        ensures { MatchOption result (length self.now.list ≤ i)
+            (λ t. (i < length self.now.list) × (t.now ≡ slice_index_or self.now.list i [])) }
     {
         let list = self.list.as_slice();
         if i < list.len() {
@@ -185,7 +190,8 @@ impl Comments {
     /// let title = comments.find(b"TITLE").unwrap_or(b"unknown");
     /// ```
     pub fn find(&self, name: &[u8]) -> Option<&[u8]>
-        ensures { MatchOption result (values_of name.now self.now.list ≡ []) (λ v. IsFirstOf v.now (values_of name.now self.now.list)) }
+        ensures { MatchOption result (values_of name.now self.now.list ≡ [])
+            (λ v. IsFirstOf v.now (values_of name.now self.now.list)) }
     {
         let (_, value) = first_named(name, self.list.as_slice())?;
         Some(value)

@@ -1,13 +1,12 @@
 //! Cue sheets (RFC 9639, section 8.7).
 
-ghost use Rattle.std.specs.Prelude.{◌≡◌, ◌+◌, ◌≤◌, min, false, OnOk, IfOk, ◌*◌, ◌<◌, ◌^◌, length, ◌∷◌, [], not};
-ghost use Rattle.flac_meta.specs.Spelling.{tracks_length, zero_bits, each_spelled, index_spelling, track_spelling, sheet_spelling};
+ghost use Rattle.std.specs.Prelude.{◌≡◌, ◌+◌, ◌≤◌, min, false, OnOk, IfOk, ◌*◌, ◌<◌, ◌^◌, length};
+ghost use Rattle.flac_meta.specs.inner.Cues.{track_front_spelling, track_flags_spelling, sheet_front_spelling};
+ghost use Rattle.flac_meta.specs.Spelling.{tracks_length, each_spelled, index_spelling, track_spelling, sheet_spelling};
 ghost use Rattle.flac_meta.specs.Listed.{overflows, is_bad_sheet};
 ghost use Rattle.flac_bits.specs.Lists.{list_of};
 ghost use Rattle.flac_bits.specs.Reading.{Reads, ReadsInRoom, Call};
 ghost use Rattle.flac_meta.specs.CueSheet.{cue_count, cue_index, track_front, cue_track, cue_tracks, sheet_front, cue_sheet};
-ghost use Rattle.flac_bits.specs.Bits.{unsigned, bits_of, bit_value};
-ghost use Rattle.flac_bits.specs.Forms.{joined};
 ghost use Rattle.flac_bits.specs.Written.{Writes};
 
 use crate::fields::{Field, capped, flag, read_zeros, too_short};
@@ -159,7 +158,8 @@ struct TrackFront {
 /// Reads the fields of a track before its index points.
 #[tactic(auto, unfolding(crate::specs::CueSheet::track_front, crate::specs::Fields::reserved))]
 fn read_track_front<R: Source>(bits: &mut BitReader<R>) -> Result<TrackFront, Why>
-    ensures reading { Call 0 (Reads (λ f. (f.offset, f.number, f.isrc, f.audio, f.pre_emphasis)) track_front) bits.old bits.new result }
+    ensures reading { Call 0 (Reads (λ f. (f.offset, f.number, f.isrc, f.audio, f.pre_emphasis)) track_front)
+        bits.old bits.new result }
 {
     let offset = bits.take(64)?;
     let number = bits.take(8)? as u8;
@@ -324,7 +324,7 @@ fn put_indices<W: Target>(writer: &mut BitWriter<W>, indices: &[CueIndex]) -> Re
 
 /// Writes the offset, the number and the recording code of a track.
 fn put_track_front<W: Target>(writer: &mut BitWriter<W>, track: &CueTrack) -> Result<(), Why>
-    ensures { Writes (joined (unsigned 64 track.now.offset ∷ unsigned 8 track.now.number ∷ bits_of track.now.isrc ∷ [])) writer.old writer.new result }
+    ensures { Writes (track_front_spelling track.now) writer.old writer.new result }
 {
     writer.put(64, track.offset)?;
     writer.put(8, track.number as u64)?;
@@ -334,7 +334,7 @@ fn put_track_front<W: Target>(writer: &mut BitWriter<W>, track: &CueTrack) -> Re
 /// Writes the flags of a track, the reserved bits after them, and how many index points it has.
 fn put_track_flags<W: Target>(writer: &mut BitWriter<W>, track: &CueTrack) -> Result<(), Why>
     requires { length track.now.indices ≤ 255 }
-    ensures { Writes (joined (unsigned 1 (bit_value (not track.now.audio)) ∷ unsigned 1 (bit_value track.now.pre_emphasis) ∷ zero_bits (6 + 8 * 13) ∷ unsigned 8 (length track.now.indices) ∷ [])) writer.old writer.new result }
+    ensures { Writes (track_flags_spelling track.now) writer.old writer.new result }
 {
     let data = flag(!track.audio);
     let emphasis = flag(track.pre_emphasis);
@@ -390,7 +390,7 @@ fn put_tracks<W: Target>(writer: &mut BitWriter<W>, tracks: &[CueTrack]) -> Resu
 
 /// Writes the fields of a cue sheet before its tracks.
 fn put_sheet_front<W: Target>(writer: &mut BitWriter<W>, sheet: &CueSheet) -> Result<(), Why>
-    ensures { Writes (joined (bits_of sheet.now.catalogue ∷ unsigned 64 sheet.now.lead_in ∷ unsigned 1 (bit_value sheet.now.cd) ∷ zero_bits (7 + 8 * 258) ∷ [])) writer.old writer.new result }
+    ensures { Writes (sheet_front_spelling sheet.now) writer.old writer.new result }
 {
     writer.put_bytes(&sheet.catalogue)?;
     writer.put(64, sheet.lead_in)?;

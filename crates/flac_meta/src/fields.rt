@@ -1,6 +1,6 @@
 //! Fields inside the content of a block: how they are read, and what is to be written.
 
-ghost use Rattle.std.specs.Prelude.{◌≡◌, ◌<◌, ◌≤◌, ◌^◌, OnOk, ◌*◌, length, ⊤, Err, IfOk, ◌+◌, ◌-◌, true, min};
+ghost use Rattle.std.specs.Prelude.{◌≡◌, ◌<◌, ◌≤◌, ◌^◌, OnOk, ◌*◌, length, ⊤, Err, IfOk, ◌+◌, ◌-◌, min};
 ghost use Rattle.flac_bits.specs.Bits.{bit_value};
 ghost use Rattle.flac_bits.specs.Layout.{bits as number};
 ghost use Rattle.flac_bits.specs.Lists.{list_of};

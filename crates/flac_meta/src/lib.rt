@@ -20,6 +20,7 @@ mod block_list;
 mod comments;
 mod cue_sheet;
 mod fields;
+mod fits;
 mod laws;
 mod lists;
 mod picture;

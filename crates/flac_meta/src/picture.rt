@@ -47,7 +47,8 @@ struct Sizes {
 fn read_sizes<R: Source>(bits: &mut BitReader<R>, left: u32) -> Result<Sizes, Why>
     requires { left < 2 ^ 24 }
     ensures fits { OnOk result (16 ≤ left) }
-    ensures reading { Call 0 (Reads (λ s. (s.width, s.height, s.depth, s.colours)) (sizes left)) bits.old bits.new result }
+    ensures reading { Call 0 (Reads (λ s. (s.width, s.height, s.depth, s.colours)) (sizes left))
+        bits.old bits.new result }
 {
     let width = read_number_32(bits, left)?;
     let height = read_number_32(bits, left - 4)?;

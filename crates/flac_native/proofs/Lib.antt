@@ -1,50 +1,61 @@
+-- What each file is about stands in its first line.
+
+-- ---- reading: what a decoder returns, and what a sink takes
 pub mod Giving
 pub mod Passing
 pub mod Arriving
+pub mod Advancing
 pub mod Handed
 pub mod Received
+pub mod SameStart
+-- ---- the grammar: one reading, and what streams are
+pub mod Deciding
+pub mod AnyMark
+pub mod Onwards
+pub mod Whole
+pub mod BlockOrder
+pub mod Ordered
+pub mod Wider
+pub mod Outside
+-- ---- samples as bytes, and their digest
 pub mod Messages
 pub mod Threes
 pub mod SampleRows
 pub mod Sampled
-pub mod Advancing
-pub mod Deciding
-pub mod WholeBytes
+pub mod Digests
+-- ---- a plan
 pub mod Predictors
 pub mod Planned
-pub mod Digests
+-- ---- encoding: what is written and sent
+pub mod BlocksWritten
+pub mod Heads
+pub mod WholeBytes
 pub mod EachFrame
+pub mod Gathered
+pub mod WrittenFrames
+pub mod Spelled
+pub mod Sendings
+pub mod Rooms
+pub mod Lending
+-- ---- encoding: that it is a stream, and is read back
 pub mod Encoded
 pub mod Streams
+pub mod ReadBack
+-- ---- seek tables, and reading from a frame on
 pub mod Tables
-pub mod BlocksWritten
-pub mod Gathered
 pub mod Sought
-pub mod Resumed
 pub mod FrameCuts
-pub mod Sendings
+pub mod Resumed
+-- ---- retagging: the input
 pub mod Metadata
-pub mod Renewing
 pub mod Blocks
+pub mod OneHead
+pub mod Broken
+pub mod Decided
+-- ---- retagging: the output
+pub mod NewHead
+pub mod Renewing
+pub mod Unread
 pub mod Copies
 pub mod Retagged
 pub mod RetagFaults
-pub mod Broken
-pub mod SameStart
-pub mod OneHead
-pub mod Decided
-pub mod NewHead
-pub mod Onwards
-pub mod Heads
-pub mod AnyMark
-pub mod ReadBack
-pub mod Whole
-pub mod Unread
-pub mod BlockOrder
-pub mod Ordered
-pub mod Spelled
-pub mod Rooms
-pub mod WrittenFrames
-pub mod Lending
-pub mod Wider
-pub mod Outside

@@ -13,6 +13,7 @@ use Rattle.flac_native.specs.Retag.{is_before_frames}
 use Rattle.flac_native.specs.inner.Retag.{stand_at, piece_in}
 use Rattle.flac_native.specs.declared.position.Position.{Position}
 use Rattle.flac_native.specs.declared.fault.Place.{Place}
+use Rattle.flac_native.specs.declared.fault.Place.TheVariants as place
 use Rattle.flac_native.specs.declared.track.Phase.{Phase}
 use Rattle.flac_native.specs.declared.track.Phase.TheVariants.{Opening, Blocks, Frames}
 
@@ -25,6 +26,12 @@ pub before_frames : (phase : Phase) (index : ℕ) → is_behind_blocks phase ≡
 before_frames Opening index e = refl
 before_frames Blocks index e = refl
 before_frames Frames index e = absurd cc
+
+-- only the marker is at the place of the marker
+pub at_the_marker : (phase : Phase) (index : ℕ) → place_in phase index ≡ place.Marker → phase ≡ Opening
+at_the_marker Opening index e = refl
+at_the_marker Blocks index e = absurd cc
+at_the_marker Frames index e = absurd cc
 
 -- ---- and how they are read
 

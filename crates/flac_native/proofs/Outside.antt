@@ -27,8 +27,8 @@ use Rattle.flac_meta.specs.CueSheet.{cue_index, cue_count, track_front, cue_trac
 use Rattle.flac_meta.specs.Picture.{sizes, picture_front, picture}
 use Rattle.flac_meta.specs.Block.{block as block_layout, content as block_content, padding, application, other as other_kind}
 use Rattle.flac_meta.specs.declared.block.Seen.{Seen}
-use Rattle.flac_subframe.specs.Residual.{residual, residual_header, partitions, partition, coded, escaped}
-use Rattle.flac_subframe.specs.Subframe.{Constant, Verbatim, Fixed, Linear, subframe_samples, subframe, header as subframe_header, content, constant, verbatim, fixed, linear, predictor, predictor_order, wasted_bits, one_more, linear_order}
+use Rattle.flac_subframe.specs.format.Residual.{residual, residual_header, partitions, partition, coded, escaped}
+use Rattle.flac_subframe.specs.format.Subframe.{Constant, Verbatim, Fixed, Linear, subframe_samples, subframe, header as subframe_header, content, constant, verbatim, fixed, linear, predictor, predictor_order, wasted_bits, one_more, linear_order}
 use Rattle.flac_frame.specs.Frame.{frame, stream_header, header_rules, frame_body, subframes, frame_end, limits_of, some_or, in_range}
 use Rattle.flac_frame.specs.declared.before.Before.{Before}
 use Rattle.flac_native.specs.Stream.{Piece, Stand, Progress, grammar, layout, layout_in, marker, frame_behind, end_rules}

@@ -11,7 +11,7 @@ use Rattle.flac_native.specs.Track.{IsAt, piece_of}
 use Rattle.flac_native.specs.Item.{Item, metadata, frame}
 use Rattle.flac_native.specs.Coming.{IsNext}
 use Rattle.flac_native.specs.Giving.{handed, before, items_of, PassesParts, IsBeforeItem, PassesItem, BreaksOff, found, seen_by, Stage, Goes, MovesFrom, Moves}
-use Rattle.flac_native.specs.Calls.{Answers, GivesAll, CallsBreakBehind}
+use Rattle.flac_native.specs.Calls.{Answers, GivesAll, FailuresArePlaced}
 use Rattle.flac_native.proofs.Giving.{moves_refused}
 use Rattle.flac_native.proofs.Handed.{no_fault}
 use Rattle.flac_native.specs.declared.track.Track.{Track}
@@ -211,7 +211,7 @@ so_far {C} g p first now (x ∷ xs) at (mid, one, more) =
       at = subst (λ (q : Progress). IsAt now.track q) (sym (after_both grammar p parts rest.parts)) rest.at;
     }
 
-pub calls_break_behind : {C : Type 0} (g : container.Ghosts C) → CallsBreakBehind g
+pub calls_break_behind : {C : Type 0} (g : container.Ghosts C) → FailuresArePlaced g
 calls_break_behind {C} g = λ p first now last items f at gives breaks out.
     let far = so_far g p first now items at gives in
     let off = broke_off g now last f breaks out (after grammar p far.parts) far.at in (

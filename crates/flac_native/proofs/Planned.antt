@@ -9,9 +9,9 @@ use Rattle.flac_header.specs.Header.{allows_block, greatest_in}
 use Rattle.flac_header.specs.Choice.{rate_choice, depth_choice, rate_choice_in, depth_choice_in}
 use Rattle.flac_header.specs.declared.subset.Profile.{Profile}
 use Rattle.flac_header.specs.declared.subset.Profile.TheVariants.{Subset, Lax}
-use Rattle.flac_subframe.specs.Handed.{AreWithin}
-use Rattle.flac_subframe.specs.Room.{Room}
-use Rattle.flac_subframe.specs.declared.linear.LinearPredictor.{LinearPredictor}
+use Rattle.flac_subframe.specs.format.Handed.{AreWithin}
+use Rattle.flac_subframe.specs.search.Room.{Room}
+use Rattle.flac_subframe.specs.declared.format.linear.LinearPredictor.{LinearPredictor}
 use Rattle.flac_frame.specs.Encoding.{partition_limit, most_in}
 use Rattle.flac_frame.specs.Frame.{limits_at}
 use Rattle.flac_frame.specs.Setup.{format_fault}

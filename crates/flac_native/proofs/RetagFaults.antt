@@ -22,6 +22,12 @@ placed at w e = let p = ap (λ (f : RetagFault). f.at) e in absurd cc
 pub placed_some : (at : Place) → Some at ≡ None → ⊥
 placed_some at e = absurd cc
 
+pub same_place : (at to : Place) → Some at ≡ Some to → at ≡ to
+same_place at to e = cc
+
+pub frame_marker : place.Frame 0 ≡ place.Marker → ⊥
+frame_marker e = absurd cc
+
 -- a fault before the frames is none of a device behind them
 pub before_device : (at : Place) (w : Why) → is_before_frames at ≡ true
     → (fault_at (Some at) w ≡ not_read) ⊎ (fault_at (Some at) w ≡ not_written) → ⊥
@@ -40,6 +46,15 @@ unread_device at w unread (inr e) = absurd (placed at w e)
 
 pub write_no_read : why.Write ≡ why.Read → ⊥
 write_no_read e = absurd cc
+
+pub write_memory : why.Write ≡ why.Memory → ⊥
+write_memory e = absurd cc
+
+pub read_memory : why.Read ≡ why.Memory → ⊥
+read_memory e = absurd cc
+
+pub length_memory : why.BlockLength ≡ why.Memory → ⊥
+length_memory e = absurd cc
 
 pub read_no_write : why.Read ≡ why.Write → ⊥
 read_no_write e = absurd cc
@@ -97,3 +112,8 @@ copy_placeless f (inr e) none = e
 pub copy_output : (f : RetagFault) → (f ≡ not_read) ⊎ (f ≡ not_written) → IfSome f.at (λ _. of_output f.why ≡ false)
 copy_output f (inl e) = rw e refl
 copy_output f (inr e) = rw e tt
+
+-- nor of an allocation
+pub copy_memory : (f : RetagFault) → (f ≡ not_read) ⊎ (f ≡ not_written) → f.why ≡ why.Memory → f.at ≢ Some place.Marker
+copy_memory f (inl e) is = absurd (read_memory (sym (ap (λ (x : RetagFault). x.why) e) ∙ is))
+copy_memory f (inr e) is = absurd (write_memory (sym (ap (λ (x : RetagFault). x.why) e) ∙ is))

@@ -11,7 +11,7 @@ use Rattle.flac_bits.proofs.Holding.{bits_of-append}
 use Rattle.flac_frame.specs.Audio.{Sound, samples_each}
 use Rattle.flac_frame.specs.Encoding.{block_of, IsEncoding, IsLeastWith, IsShort, WritesFrameWith}
 use Rattle.flac_frame.specs.Frame.{Frame}
-use Rattle.flac_subframe.specs.declared.linear.LinearPredictor.{LinearPredictor}
+use Rattle.flac_subframe.specs.declared.format.linear.LinearPredictor.{LinearPredictor}
 use Rattle.flac_frame.specs.Spelling.{FrameForm, frame_spelling}
 use Rattle.flac_native.specs.Given.{Cut, tried, IsRange, size_of, frame_of}
 use Rattle.flac_native.specs.Seeking.{points_from, points_of, point_at}

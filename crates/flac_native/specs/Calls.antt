@@ -19,6 +19,6 @@ GivesAll {C} g old items new = TakesAll (λ (a : Stage C) (x : Item) (b : Stage 
 -- Calls of a decoder from this progress on gave these items, and then one ended early, by an error of the device or
 -- because memory ran out. They read parts one after another, the first of those to come, whose items are exactly these;
 -- and the place is that of the container that gave these parts.
-abbrev pub CallsBreakBehind : {C : Type 0} → container.Ghosts C → Type 0
-CallsBreakBehind {C} g = (p : Progress) (first now last : Stage C) (items : List Item) (f : Fault) → IsAt first.track p → GivesAll g first items now → Answers g now (Err f) last → IsOutside f.why
+abbrev pub FailuresArePlaced : {C : Type 0} → container.Ghosts C → Type 0
+FailuresArePlaced {C} g = (p : Progress) (first now last : Stage C) (items : List Item) (f : Fault) → IsAt first.track p → GivesAll g first items now → Answers g now (Err f) last → IsOutside f.why
     → (parts : List Piece) × (items ≡ items_of parts) × HasFirst g p first.container parts × BreaksBehind g p first.container last.container parts f.at f.why

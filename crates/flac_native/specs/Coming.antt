@@ -7,6 +7,7 @@ use Rattle.flac_bits.specs.declared.why.Why.{Why}
 use Rattle.flac_bits.specs.declared.why.Why.TheVariants.{Memory, Sink}
 use Rattle.flac_native.specs.Stream.{Piece, Progress, grammar, next}
 use Rattle.flac_native.specs.declared.fault.Place.{Place}
+use Rattle.flac_native.specs.declared.fault.Place.TheVariants as place
 use Rattle.flac_native.specs.declared.fault.Fault.{Fault}
 
 -- after this progress these parts are still to come, and then the end of the stream, or its refusal
@@ -21,6 +22,11 @@ ReadAs r parts (Some f) = r.refused parts f.0 f.1
 -- of a native stream, at this cursor
 abbrev pub PartsCome : Progress → Cursor → List Piece → Option (Place × Why) → Type 0
 PartsCome p c parts end = ReadAs (by_grammar grammar p c.mark c.left) parts end
+
+-- A call that ended early, by an error of the source or because memory ran out, reports the place of the next part; and
+-- reading the marker needs no memory.
+abbrev pub EndsEarly : Progress → Place → Why → Type 0
+EndsEarly p at why = (at ≡ grammar.place p) × (why ≡ Memory → at ≢ place.Marker)
 
 -- the result, seen by view, is the first of these parts, or else the end; the others are still to come after it
 abbrev pub IsNext : {X : Type 0} → Coming → Progress → (X → Piece) → Result (Option X) Fault → List Piece → Option (Place × Why) → Type 0

@@ -1,5 +1,5 @@
 -- What is encoded: STREAMINFO, blocks, and samples that are cut into frames.
-use Rattle.flac_subframe.specs.Handed.{coefficients_in}
+use Rattle.flac_subframe.specs.format.Handed.{coefficients_in}
 use Rattle.std.specs.Prelude.{◌≡◌, ◌<◌, ◌≤◌, ℕ, zero, suc, ◌+◌, ◌-◌, ◌*◌, ◌/◌, ◌^◌, min, Bool, true, false, not, cond, ◌&&◌, ◌||◌, nat_eq, nat_lt, nat_le, List, [], ◌∷◌, ◌++◌, length, map, slice_index_or, Option, Some, None, Vec}
 use Rattle.std.specs.Global.{Global}
 use Rattle.std.specs.List.{list_all}
@@ -11,8 +11,8 @@ use Rattle.flac_meta.specs.declared.block.Block.TheVariants as blocks
 use Rattle.flac_header.specs.Header.{allows_block}
 use Rattle.flac_header.specs.declared.subset.Profile.{Profile}
 use Rattle.flac_header.specs.declared.subset.Profile.TheVariants.{Subset, Lax}
-use Rattle.flac_subframe.specs.Room.{Room}
-use Rattle.flac_subframe.specs.declared.linear.LinearPredictor.{LinearPredictor}
+use Rattle.flac_subframe.specs.search.Room.{Room}
+use Rattle.flac_subframe.specs.declared.format.linear.LinearPredictor.{LinearPredictor}
 use Rattle.flac_frame.specs.Frame.{Frame, limits_at}
 use Rattle.flac_frame.specs.Audio.{Sound, samples_each}
 use Rattle.flac_frame.specs.Encoding.{block_of, most_in}
@@ -20,6 +20,7 @@ use Rattle.flac_frame.specs.Setup.{format_fault}
 use Rattle.flac_frame.specs.declared.setup.SetupFault.{SetupFault}
 use Rattle.flac_frame.specs.declared.setup.SetupFault.TheVariants.{TooLong, BadBlockSize, TooManyPoints, PredictorOrder, TooManyPredictors}
 use Rattle.flac_native.specs.Message.{sample_width, rows_bytes}
+use Rattle.flac_native.specs.declared.plan.Asked.{Asked}
 use Rattle.flac_native.specs.Stream.{Piece, marked, block, framed}
 use Rattle.md5.specs.Md5.{md5}
 
@@ -39,6 +40,7 @@ pub record Cut : Type 0 where
   pub predictors : List LinearPredictor
   pub found : List (List LinearPredictor)
 
+-- a plan for these samples, without predictors
 abbrev pub cut_in : Profile → (block_size : ℕ) → Sound → (seek_every : ℕ) → Cut
 cut_in profile block_size a seek_every = record {
   profile = profile;
@@ -52,25 +54,39 @@ cut_in profile block_size a seek_every = record {
   found = [];
 }
 
--- the same in the profile of the samples
+-- what is asked of a plan, before it has predictors
+abbrev pub cut_asked : Asked → Cut
+cut_asked a = record {
+  profile = a.profile;
+  block_size = a.block_size;
+  rate = a.rate;
+  bits = a.bits;
+  channels = a.channels;
+  total = a.total;
+  seek_every = a.seek_every;
+  predictors = [];
+  found = [];
+}
+
+-- a plan in the profile of the samples
 abbrev pub cut_of : (block_size : ℕ) → Sound → (seek_every : ℕ) → Cut
 cut_of block_size a seek_every = cut_in a.profile block_size a seek_every
 
--- the predictors of an optional list
+-- the predictors in an optional vector
 abbrev pub listed : Option (Vec LinearPredictor Global) → List LinearPredictor
 listed None = []
 listed (Some v) = v.items
 
--- the same with these predictors
+-- the same plan with these predictors for all frames, and no list for a frame of its own
 abbrev pub with_predictors : Cut → List LinearPredictor → Cut
 with_predictors p ps = record p { predictors = ps; found = [] }
 
--- the predictors of optional lists
+-- the lists in an optional vector of vectors
 abbrev pub listed_each : Option (Vec (Vec LinearPredictor Global) Global) → List (List LinearPredictor)
 listed_each None = []
 listed_each (Some v) = map (λ (l : Vec LinearPredictor Global). l.items) v.items
 
--- the same with a list of predictors for each of the first frames
+-- the same plan with a list of predictors for each of the first frames
 abbrev pub with_found : Cut → List (List LinearPredictor) → Cut
 with_found p found = record p { found = found }
 

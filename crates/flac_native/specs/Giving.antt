@@ -1,5 +1,5 @@
 -- What a decoder still has to return, and that each call returns the first of it.
-use Rattle.std.specs.Prelude.{◌≡◌, ◌≢◌, ◌≤◌, ◌<◌, ◌⊎◌, true, false, List, [], ◌∷◌, ◌++◌, Option, Some, None, Result, Ok, Err, IfOk, IfErr, IfSome}
+use Rattle.std.specs.Prelude.{◌≡◌, ◌≢◌, ◌≤◌, ◌<◌, ◌⊎◌, Bool, true, false, List, [], ◌∷◌, ◌++◌, Option, Some, None, Result, Ok, Err, IfOk, IfErr, IfSome}
 use Rattle.flac_bits.specs.State.{Rises, without_fence}
 use Rattle.flac_bits.specs.Items.{after}
 use Rattle.flac_bits.specs.Handing.{TakesAll, reason_of, IsOutside}
@@ -53,12 +53,27 @@ Gave g old parts new = TakesAll (λ c _ d. g.gave c d) old parts new
 abbrev pub BreaksBehind : {C : Type 0} → container.Ghosts C → Progress → C → C → List Piece → Place → Why → Type 0
 BreaksBehind {C} g p old new parts at why = g.breaks new (after grammar p parts) at why × ((there : C) × Gave g old parts there × g.broke there new why)
 
+-- A call that passes parts to a receiver ended early, by an error of the device or because memory ran out: the place is
+-- the one that the container reports after the parts that the receiver took, whatever is known of its bytes. `counts`:
+-- whether the errors of the receiver are counted.
+abbrev pub EndsEarlyAfter : {C K : Type 0} → container.Ghosts C → (K → Piece → K → Type 0) → Progress → C → (counts : Bool) → K → K → Fault → Type 0
+EndsEarlyAfter g takes p end counts old new f = IsOutside f.why
+    → (q : Progress) × g.breaks end q f.at f.why × (counts ≡ true → (parts : List Piece) × TakesAll takes old parts new × (q ≡ after grammar p parts))
+
 -- From this progress on a container gave these parts. If its bytes are known, they are the first of what was still to
 -- come, and the others still are.
 pub record PassesParts {C : Type 0} (g : container.Ghosts C) (p : Progress) (old : C) (parts : List Piece) (new : C) : Type 0 where
   pub gave : Gave g old parts new
   pub known : g.known old ≡ true → g.known new ≡ true
   pub first : g.known old ≡ true → (all : List Piece) (end : Option (Place × Why)) → g.gives old p all end → (left : List Piece) × (all ≡ parts ++ left) × g.gives new (after grammar p parts) left end
+
+-- the device returned no error in a call, foretold or not
+abbrev pub NoErrorIn : {C : Type 0} → container.Ghosts C → C → C → Type 0
+NoErrorIn g old new = (g.errors new ≡ g.errors old) × (g.raised new ≡ g.raised old)
+
+-- none was met at all, and what is still to come stays known
+abbrev pub MetNone : {C : Type 0} → container.Ghosts C → C → C → Type 0
+MetNone g old new = (g.known old ≡ true → g.known new ≡ true) × (g.errors new ≡ g.errors old) × (g.raised new ≡ g.raised old) × (g.met new ≡ g.met old)
 
 -- a container whose bytes are known has these parts first
 abbrev pub HasFirst : {C : Type 0} → container.Ghosts C → Progress → C → List Piece → Type 0
@@ -91,7 +106,7 @@ GivesFirst g p old new track view result =
 -- was foretold, which is not counted. Each that is returned raises the count, if it can rise, and none is of the
 -- output. What comes after the bytes to come stays, and so do the references that the container goes through.
 pub record CountsIn {C X : Type 0} (g : container.Ghosts C) (track : Track) (old new : C) (result : Result X Fault) : Type 0 where
-  pub met : IfOk result (λ _. (g.known old ≡ true → g.known new ≡ true) × (g.errors new ≡ g.errors old) × (g.raised new ≡ g.raised old) × (g.met new ≡ g.met old))
+  pub met : IfOk result (λ _. MetNone g old new)
   pub kept : g.errors old ≤ g.errors new
   pub read : IfErr result (λ f. g.known old ≡ true → f.why ≡ Read → g.clear old track → g.raised old < g.raised new)
   pub risen : IfErr result (λ f. f.why ≡ Read → Rises (g.met old) (g.met new))
@@ -152,6 +167,10 @@ held (course.Read p) t = handed (piece_of t p)
 held course.Begun t = None
 held course.Over t = None
 held (course.Spent at) t = None
+
+-- what a decoder holds: the item that was read last
+abbrev pub held_in : {C : Type 0} {g : container.Ghosts C} → Decoder C g → Option Item
+held_in d = held d.course d.track
 
 -- A call returned the first of what was still to come, and left the rest. After the end the stream is over, and after a
 -- refusal it is spent at that place.

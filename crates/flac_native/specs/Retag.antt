@@ -1,8 +1,10 @@
 -- What retagging makes of a stream: the same STREAMINFO, the given comments, the other blocks in their order, and the
 -- rest of the input.
-use Rattle.std.specs.Prelude.{◌≡◌, Bool, true, false, cond, List, [], ◌∷◌, ◌++◌, Some, None, ◌≤◌}
-use Rattle.flac_bits.specs.State.{Mark}
+use Rattle.std.specs.Prelude.{◌≡◌, Bool, true, false, cond, List, [], ◌∷◌, ◌++◌, Some, None, ◌≤◌, ◌⊎◌}
+use Rattle.flac_bits.specs.Bits.{bits_of}
+use Rattle.flac_bits.specs.State.{Mark, Cursor}
 use Rattle.flac_bits.specs.Items.{after, Joined, Refused}
+use Rattle.flac_bits.specs.declared.target.Target as target
 use Rattle.flac_bits.specs.declared.why.Why.{Why}
 use Rattle.flac_bits.specs.declared.why.Why.TheVariants as why
 use Rattle.flac_header.specs.declared.subset.Profile.{Profile}
@@ -124,6 +126,29 @@ pub record CopiesPart (m : Mark) (text : List Bool) (comments : Comments) (befor
   pub input : BeginsWith m text info list (front ++ left)
   pub output : after ≡ before ++ retagged comments info list front
 
+-- ---- at a cursor
+
+abbrev pub IsRefusedAt : Cursor → Place → Why → Type 0
+IsRefusedAt c at why = IsRefused c.mark c.left at why
+
+abbrev pub IsPlaceAt : Cursor → Place → Type 0
+IsPlaceAt c at = BreaksAt c.mark c.left at
+
+abbrev pub HasHeadAt : Cursor → Type 0
+HasHeadAt c = HasHead c.mark c.left
+
+-- the bits of a cursor, with these comments, were sent to a target: all of it
+abbrev pub SendsRetagged : {S : Type 0} → target.Ghosts S → Cursor → Comments → S → S → Type 0
+SendsRetagged g c comments old new = Retags c.mark c.left comments (bits_of (g.sent old)) (bits_of (g.sent new))
+
+-- a prefix
+abbrev pub SendsPrefix : {S : Type 0} → target.Ghosts S → Cursor → Comments → S → S → Type 0
+SendsPrefix g c comments old new = BeginsRetagging c.mark c.left comments (bits_of (g.sent old)) (bits_of (g.sent new))
+
+-- the new blocks, and a prefix of the rest
+abbrev pub SendsHeadAndPart : {S : Type 0} → target.Ghosts S → Cursor → Comments → S → S → Type 0
+SendsHeadAndPart g c comments old new = CopiesPart c.mark c.left comments (bits_of (g.sent old)) (bits_of (g.sent new))
+
 -- ---- what is returned
 
 -- comments whose block would be longer than its header can have; this is checked before anything is read
@@ -141,3 +166,11 @@ not_read = record { at = Some (place.Frame 0); why = why.Read }
 -- memory ran out after the blocks
 abbrev pub no_memory : RetagFault
 no_memory = record { at = Some (place.Frame 0); why = why.Memory }
+
+-- a device failed after the blocks
+abbrev pub IsOfDevice : RetagFault → Type 0
+IsOfDevice f = (f ≡ not_read) ⊎ (f ≡ not_written)
+
+-- after the blocks only the source or an allocation fails
+abbrev pub IsBeforeOrOutside : RetagFault → Place → Type 0
+IsBeforeOrOutside f at = (is_before_frames at ≡ true) ⊎ ((f ≡ not_read) ⊎ (f ≡ no_memory))

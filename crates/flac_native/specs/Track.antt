@@ -1,11 +1,16 @@
 -- What a track keeps of the parts so far.
-use Rattle.std.specs.Prelude.{◌≡◌, min, Bool, true, false, [], Option, Some, None, is_some}
+use Rattle.std.specs.Prelude.{◌≡◌, min, Bool, true, false, [], Option, Some, None, is_some, Result}
+use Rattle.flac_bits.specs.State.{State}
+use Rattle.flac_bits.specs.Reading.{CallInPlace}
+use Rattle.flac_bits.specs.Fencing.{lifted}
+use Rattle.flac_bits.specs.Within.{MeansWithin, ReadsWithin}
+use Rattle.flac_bits.specs.declared.why.Why.{Why}
 use Rattle.flac_header.specs.declared.subset.Profile.{Profile}
 use Rattle.flac_info.specs.Info.{Info}
 use Rattle.flac_meta.specs.declared.block.Block.{Block}
 use Rattle.flac_frame.specs.Frame.{Frame}
 use Rattle.flac_frame.specs.declared.before.Before.{Before}
-use Rattle.flac_native.specs.Stream.{Piece, marked, block, framed, Stand, Progress}
+use Rattle.flac_native.specs.Stream.{Piece, marked, block, framed, frame_behind, next, Stand, Progress}
 use Rattle.flac_native.specs.declared.format.Format.{Format}
 use Rattle.flac_native.specs.declared.position.Position.{Position}
 use Rattle.flac_native.specs.declared.track.Track.{Track}
@@ -74,6 +79,19 @@ pub record IsAt (t : Track) (p : Progress) : Type 0 where
   pub stand : stand_of t ≡ p.stand
   pub samples : t.samples ≡ min p.samples 18446744073709551615
   pub digest : Holds t.hasher p.message
+
+-- this part was read into a track, wherever it was
+abbrev pub ReadsPart : Track → Piece → Track → Type 0
+ReadsPart old x new = (p : Progress) → IsAt old p → IsAt new (next p x)
+
+-- A frame that follows this state was read, of at most 16777215 bytes (RFC 9639, section 8.2): what was returned is
+-- what the bits mean, and nothing was allocated.
+abbrev pub MeansFrame : {X : Type 0} → (X → Frame) → Stand → State → State → Result X Why → Type 0
+MeansFrame view s old new result = CallInPlace 40 (λ _. MeansWithin (Some 16777215) view (frame_behind s.profile s.info s.before) old) (lifted old) new result
+
+-- the same by the reading of the layout
+abbrev pub ReadsFrame : {X : Type 0} → (X → Frame) → Stand → State → State → Result X Why → Type 0
+ReadsFrame view s old new result = CallInPlace 40 (λ _. ReadsWithin (Some 16777215) view (frame_behind s.profile s.info s.before) old) (lifted old) new result
 
 -- the part that was read is there; the marker comes only once
 abbrev pub IsMadeAs : Part → Track → Track → Type 0

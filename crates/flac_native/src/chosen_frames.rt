@@ -1,6 +1,6 @@
 //! The frames of a stream: chosen before any of them is written, and then written one after another.
 
-ghost use Rattle.std.specs.Prelude.{◌≡◌, [], ◌∷◌, ◌++◌, ◌≤◌, ◌<◌, ◌^◌, length, min, max, cond, nat_eq, nat_lt, true, IfOk, IfErr, OnOk, None, ◌+◌, ◌-◌, ◌*◌};
+ghost use Rattle.std.specs.Prelude.{◌≡◌, ◌≤◌, ◌<◌, ◌^◌, min, max, cond, nat_eq, true, IfOk, IfErr, OnOk, None, ◌+◌, ◌-◌};
 ghost use Rattle.flac_meta.specs.Listed.{block_fault};
 ghost use Rattle.flac_meta.specs.declared.block.Block.TheVariants as blocks;
 ghost use Rattle.flac_bits.specs.Bits.{bits_of};
@@ -8,7 +8,7 @@ ghost use Rattle.flac_frame.specs.Audio.{samples_each};
 ghost use Rattle.flac_frame.specs.declared.frame_choice.FrameChoice.{FrameChoice};
 ghost use Rattle.flac_native.specs.Given.{fits_plan, blocks_in, info_of, room_of};
 ghost use Rattle.flac_native.specs.Writing.{AreCounted, AreChoices, HasRoom, IsDigest, IsSpelled};
-ghost use Rattle.flac_native.specs.inner.Writing.{IsKept, IsReady, HaveFrames, WritesChosen, WritesNext, WritesFrames};
+ghost use Rattle.flac_native.specs.inner.Writing.{KeepsUpTo, IsReady, HaveFrames, WritesChosen, WritesNext, WritesFrames};
 
 use crate::digest::{digest_of, feed_block};
 use crate::plan::Plan;
@@ -69,7 +69,8 @@ fn keep(
     choice: &FrameChoice,
     most: usize,
 ) -> Result<(), Why>
-    ensures kept { OnOk result ((kept : FrameChoice) × IsKept choice.now kept × (choices.new.items ≡ cond (nat_lt (length choices.old.items) most) (choices.old.items ++ kept ∷ []) choices.old.items)) }
+    // proof only
+    ensures kept { OnOk result (KeepsUpTo most choice.now choices.old.items choices.new.items) }
     ensures memory { IfErr result (λ e. e ≡ Why.Memory) }
 {
     if choices.len() >= most {

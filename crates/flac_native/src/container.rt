@@ -6,8 +6,8 @@ ghost use Rattle.flac_bits.specs.State.{Behind, Rises, without_fence};
 ghost use Rattle.flac_bits.specs.Handing.{reason_of, IsOutside};
 ghost use Rattle.flac_bits.specs.Reasons.{of_output};
 ghost use Rattle.flac_bits.specs.declared.why.Why.TheVariants.{Memory};
-ghost use Rattle.flac_native.specs.Stream.{Piece, Progress, Stand, next};
-ghost use Rattle.flac_native.specs.Track.{IsAt, IsMadeAs, IsInOrder, piece_of, stand_of};
+ghost use Rattle.flac_native.specs.Stream.{Piece, Progress, Stand};
+ghost use Rattle.flac_native.specs.Track.{IsAt, IsMadeAs, IsInOrder, ReadsPart, piece_of, stand_of};
 ghost use Rattle.flac_native.specs.Item.{told};
 ghost use Rattle.flac_native.specs.Coming.{Coming, IsNext};
 ghost use Rattle.flac_native.specs.declared.track.Phase.TheVariants.{Frames};
@@ -88,24 +88,33 @@ pub trait Container {
         requires { stands self.old (stand_of track.old) ≡ true }
         ensures stands { IfOk result (λ o. IfSome o (λ _. stands self.new (stand_of track.new) ≡ true)) }
         ensures spends { IfOk result (λ o. IfSome o (λ _. most self.new < most self.old)) }
-        ensures counts { IfOk result (λ _. (known self.old ≡ true → known self.new ≡ true) × (errors self.new ≡ errors self.old) × (raised self.new ≡ raised self.old) × (met self.new ≡ met self.old)) }
-        ensures clear { IfOk result (λ o. IfSome o (λ _. known self.old ≡ true → clear self.old track.old → clear self.new track.new)) }
+        ensures counts { IfOk result (λ _. (known self.old ≡ true → known self.new ≡ true)
+            × (errors self.new ≡ errors self.old) × (raised self.new ≡ raised self.old)
+            × (met self.new ≡ met self.old)) }
+        ensures clear { IfOk result (λ o. IfSome o (λ _. known self.old ≡ true
+            → clear self.old track.old → clear self.new track.new)) }
         ensures kept { errors self.old ≤ errors self.new }
-        ensures read { IfErr result (λ f. known self.old ≡ true → f.why ≡ Why.Read → clear self.old track.old → raised self.old < raised self.new) }
+        ensures read { IfErr result (λ f. known self.old ≡ true → f.why ≡ Why.Read
+            → clear self.old track.old → raised self.old < raised self.new) }
         ensures risen { IfErr result (λ f. f.why ≡ Why.Read → Rises (met self.old) (met self.new)) }
         // No error of a sink or a target is met.
         ensures output { IfErr result (λ f. of_output f.why ≡ false) }
-        ensures behind { known self.old ≡ true → errors self.new ≡ errors self.old → behind self.new ≡ without_fence (behind self.old) }
+        ensures behind { known self.old ≡ true → errors self.new ≡ errors self.old
+            → behind self.new ≡ without_fence (behind self.old) }
         ensures names { names self.new ≡ names self.old }
         // After the last metadata block no memory is allocated.
         ensures memory { (stand_of track.old).phase ≡ Frames → IfErr result (λ f. f.why ≢ Why.Memory) }
-        ensures gives { (p : Progress) → IsAt track.old p → known self.old ≡ true → errors self.new ≡ errors self.old → raised self.new ≡ raised self.old → (reason_of told result ≡ Err Memory → ⊥) →
-            (parts : List Piece) (end : Option (Place × Why)) → gives self.old p parts end → IsNext (gives self.new) p (piece_of track.new) result parts end }
-        ensures broken { (p : Progress) → IsAt track.old p → IfErr result (λ f. IsOutside f.why → breaks self.new p f.at f.why) }
+        ensures gives { (p : Progress) → IsAt track.old p
+            → known self.old ≡ true → errors self.new ≡ errors self.old → raised self.new ≡ raised self.old
+            → (reason_of told result ≡ Err Memory → ⊥)
+            → (parts : List Piece) (end : Option (Place × Why)) → gives self.old p parts end
+            → IsNext (gives self.new) p (piece_of track.new) result parts end }
+        ensures broken { (p : Progress) → IsAt track.old p
+            → IfErr result (λ f. IsOutside f.why → breaks self.new p f.at f.why) }
         ensures gave { IfOk result (λ o. IfSome o (λ _. gave self.old self.new)) }
         ensures broke { IfErr result (λ f. IsOutside f.why → broke self.old self.new f.why) }
         ensures made { IfOk result (λ o. IfSome o (λ part. IsMadeAs part track.old track.new)) }
         // A frame, and the end, come only after the last metadata block, and no block comes after it.
         ensures ordered { IfOk result (λ o. IsInOrder o track.old track.new) }
-        ensures next { IfOk result (λ o. IfSome o (λ part. (p : Progress) → IsAt track.old p → IsAt track.new (next p (piece_of track.new part)))) };
+        ensures next { IfOk result (λ o. IfSome o (λ part. ReadsPart track.old (piece_of track.new part) track.new)) };
 }

@@ -1,14 +1,13 @@
 //! A decoder that lends one item of a stream after another, from the start or from a frame on.
 
 ghost use Rattle.flac_native.specs.Track.{is_made, is_going, stand_of, IsAt, is_behind_blocks};
-ghost use Rattle.std.specs.Prelude.{◌≡◌, ◌*◌, true, ⊤, Some, Ok, option_copied, IfOk, IfErr};
+ghost use Rattle.std.specs.Prelude.{◌≡◌, ◌*◌, true, ⊤, Some, Ok, option_copied, IfOk, IfErr, drop};
 ghost use Rattle.std.specs.Borrow.{sem, follows_so};
 ghost use mathlib.Core.Option.{none};
-ghost use Rattle.flac_bits.specs.Bits.{bits_of};
-ghost use Rattle.flac_bits.specs.State.{short_of, without_fence};
+ghost use Rattle.flac_bits.specs.State.{without_fence};
 ghost use Rattle.flac_bits.specs.Fencing.{lifted};
 ghost use Rattle.flac_native.specs.Stream.{opening};
-ghost use Rattle.flac_native.specs.Decoding.{beginning};
+ghost use Rattle.flac_native.specs.Decoding.{source_start};
 ghost use Rattle.flac_native.specs.Resuming.{resumed};
 
 use crate::container::{Container, Part};
@@ -64,7 +63,7 @@ pub struct Decoder<C: Container> {
 
 impl<C: Container> Decoder<C> {
     ghost use Rattle.flac_native.specs.contracts.decoder.Decoder.{the_row};
-    ghost use Rattle.flac_native.specs.Giving.{held, shown_of, Goes, Moves, stage_of};
+    ghost use Rattle.flac_native.specs.Giving.{held, held_in, shown_of, Goes, Moves, stage_of};
 
     /// Makes a decoder of a container and the state of a track, such as that of [`Track::new`] if the first metadata
     /// block comes next. Nothing is read yet.
@@ -87,7 +86,7 @@ impl<C: Container> Decoder<C> {
     /// # Errors
     /// Those of [`Decoder::next`].
     pub fn step(&mut self) -> Result<(), Fault>
-        ensures { Moves C.Container (stage_of self.old) (stage_of self.new) (λ _. held self.new.course self.new.track) result }
+        ensures { Moves C.Container (stage_of self.old) (stage_of self.new) (λ _. held_in self.new) result }
     {
         match self.course {
             Course::Begun => self.advance(),
@@ -103,7 +102,7 @@ impl<C: Container> Decoder<C> {
     /// Reads the next item of a stream that is neither over nor refused.
     fn advance(&mut self) -> Result<(), Fault>
         requires { is_going self.old.course ≡ true }
-        ensures { Goes C.Container (stage_of self.old) (stage_of self.new) (λ _. held self.new.course self.new.track) result }
+        ensures { Goes C.Container (stage_of self.old) (stage_of self.new) (λ _. held_in self.new) result }
     {
         match next_item(&mut self.container, &mut self.track) {
             Ok(Some(part)) => {
@@ -153,7 +152,8 @@ impl<C: Container> Decoder<C> {
     /// - [`Why::Memory`]: an allocation failed; never once the last metadata block was read.
     /// - Any other reason: the stream is refused there.
     pub fn next(&mut self) -> Result<Item<'_>, Fault>
-        ensures* after { sem 𝓛 (follows_so (the_row C.row C.Container) (the_row C.row C.Container) self.entry.ghost_name none (λ _ _. ⊤)
+        ensures* after { sem 𝓛 (follows_so (the_row C.row C.Container) (the_row C.row C.Container)
+            self.entry.ghost_name none (λ _ _. ⊤)
             (λ last. Moves C.Container (stage_of self.old) (stage_of last) shown_of result)) }
     {
         self.step()?;
@@ -225,7 +225,7 @@ impl<R: Source> Decoder<BitReader<R>> {
         ensures course { result.course ≡ Course.Begun }
         ensures known { result.container.known ≡ R.known source }
         ensures errors { (result.container.errors ≡ R.errors source) × (result.container.raised ≡ R.raised source) }
-        ensures cursor { (lifted result.container).cursor ≡ record { left = bits_of (R.coming source); mark = beginning (short_of ((R.behind source).fails)) } }
+        ensures cursor { (lifted result.container).cursor ≡ source_start R.Source source }
         ensures behind { result.container.behind ≡ without_fence (R.behind source) }
         ensures most { result.container.most ≡ 8 * R.most source }
         ensures names { result.container.names ≡ R.names source }
@@ -242,9 +242,7 @@ impl<R: Source> Decoder<BitReader<R>> {
     {
         self.into_container().into_source()
     }
-}
 
-impl<R: Source> Decoder<BitReader<R>> {
     /// Does what [`Decoder::resume`] does, and returns the source with an error.
     ///
     /// # Errors
@@ -258,8 +256,9 @@ impl<R: Source> Decoder<BitReader<R>> {
         ensures track { IfOk result (λ d. IsAt d.track (resumed profile info.now)) }
         ensures course { IfOk result (λ d. d.course ≡ Course.Begun) }
         ensures known { IfOk result (λ d. d.container.known ≡ R.known source) }
-        ensures errors { IfOk result (λ d. (d.container.errors ≡ R.errors source) × (d.container.raised ≡ R.raised source)) }
-        ensures cursor { IfOk result (λ d. (lifted d.container).cursor ≡ record { left = bits_of (R.coming source); mark = beginning (short_of ((R.behind source).fails)) }) }
+        ensures errors { IfOk result (λ d. (d.container.errors ≡ R.errors source)
+            × (d.container.raised ≡ R.raised source)) }
+        ensures cursor { IfOk result (λ d. (lifted d.container).cursor ≡ source_start R.Source source) }
         ensures behind { IfOk result (λ d. d.container.behind ≡ without_fence (R.behind source)) }
         ensures most { IfOk result (λ d. d.container.most ≡ 8 * R.most source) }
         ensures names { IfOk result (λ d. d.container.names ≡ R.names source) }
@@ -301,8 +300,9 @@ impl<R: Source + Drop> Decoder<BitReader<R>> {
         ensures track { IfOk result (λ d. IsAt d.track (resumed profile info.now)) }
         ensures course { IfOk result (λ d. d.course ≡ Course.Begun) }
         ensures known { IfOk result (λ d. d.container.known ≡ R.known source) }
-        ensures errors { IfOk result (λ d. (d.container.errors ≡ R.errors source) × (d.container.raised ≡ R.raised source)) }
-        ensures cursor { IfOk result (λ d. (lifted d.container).cursor ≡ record { left = bits_of (R.coming source); mark = beginning (short_of ((R.behind source).fails)) }) }
+        ensures errors { IfOk result (λ d. (d.container.errors ≡ R.errors source)
+            × (d.container.raised ≡ R.raised source)) }
+        ensures cursor { IfOk result (λ d. (lifted d.container).cursor ≡ source_start R.Source source) }
         ensures behind { IfOk result (λ d. d.container.behind ≡ without_fence (R.behind source)) }
         ensures most { IfOk result (λ d. d.container.most ≡ 8 * R.most source) }
         ensures names { IfOk result (λ d. d.container.names ≡ R.names source) }
@@ -312,5 +312,22 @@ impl<R: Source + Drop> Decoder<BitReader<R>> {
             Ok(decoder) => Ok(decoder),
             Err(refused) => Err(refused.fault),
         }
+    }
+}
+
+/// The bytes from an offset on; none if there are not as many. It is for streams that are all in memory, and are read
+/// from a frame on, as by [`Decoder::resume`](crate::Decoder::resume).
+///
+/// ```
+/// let source = Memory::new(bytes_from(&stream, offset));
+/// let mut decoder = Decoder::resume(rt.alloc(), source, &info, Profile::Subset)?;
+/// ```
+pub fn bytes_from(bytes: &[u8], offset: u64) -> &[u8]
+    ensures { result.now ≡ drop offset bytes.now }
+{
+    if offset < bytes.len() as u64 {
+        &bytes[offset as usize..]
+    } else {
+        &bytes[bytes.len()..]
     }
 }

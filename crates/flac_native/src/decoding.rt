@@ -2,16 +2,16 @@
 
 ghost use Rattle.std.specs.Prelude.{◌≡◌, ◌≢◌, ◌<◌, ℕ, Bool, true, List, OnOk, OnErr, ◌≤◌, Option, Some, IfOk, IfErr, is_some, codes};
 ghost use Rattle.std.specs.Borrow.{GName};
-ghost use Rattle.flac_bits.specs.State.{Rises, without_fence, short_of};
+ghost use Rattle.flac_bits.specs.State.{Rises, without_fence};
 ghost use Rattle.flac_frame.specs.Lent.{frame_of};
 ghost use Rattle.flac_native.specs.Item.{Item, metadata, frame as frame_item, told};
-ghost use Rattle.flac_bits.specs.Handing.{outcome_of, Hands, Decides, by_grammar};
+ghost use Rattle.flac_bits.specs.Handing.{outcome_of, Hands, Decides, IsOutside, TakesAll};
+ghost use Rattle.flac_bits.specs.Items.{after};
 ghost use Rattle.flac_native.specs.Stream.{Piece, Progress, grammar, opening};
 ghost use Rattle.flac_native.specs.Track.{IsAt, piece_of, stand_of};
-ghost use Rattle.flac_native.specs.Decoding.{taken, beginning};
-ghost use Rattle.flac_native.specs.Coming.{HandsFirst};
-ghost use Rattle.flac_native.specs.Giving.{BreaksBehind};
-ghost use Rattle.flac_bits.specs.Bits.{bits_of};
+ghost use Rattle.flac_native.specs.Decoding.{taken, source_start, NoError, stream_at};
+ghost use Rattle.flac_native.specs.Coming.{HandsFirst, EndsEarly};
+ghost use Rattle.flac_native.specs.Giving.{BreaksBehind, EndsEarlyAfter, NoErrorIn, MetNone};
 
 use crate::container::{Container, Part};
 use crate::fault::{Fault, Place};
@@ -86,7 +86,8 @@ pub trait Sink {
     /// [`SinkFault`] ends decoding. The frame counts as not taken then.
     fn frame(&mut self, frame: &FrameView<'_>) -> Result<(), SinkFault>
         ensures known { OnOk result (known self.old ≡ true → known self.new ≡ true) }
-        ensures takes { OnOk result (known self.old ≡ true → takes self.old (frame_item (frame_of frame.now)) self.new) }
+        ensures takes { OnOk result (known self.old ≡ true
+            → takes self.old (frame_item (frame_of frame.now)) self.new) }
         ensures counted { OnOk result (errors self.new ≡ errors self.old) }
         ensures failed { OnErr result (known self.old ≡ true → errors self.old < errors self.new) }
         ensures risen { OnErr result (Rises (errors self.old) (errors self.new)) }
@@ -97,6 +98,7 @@ pub trait Sink {
 fn hand<S: Sink>(part: Part, track: &Track, sink: &mut S) -> Result<(), SinkFault>
     requires block { part ≡ Part.Block → is_some track.now.block ≡ true }
     requires frame { part ≡ Part.Frame → is_some track.now.format ≡ true }
+    // proof only
     ensures known { OnOk result (S.known sink.old ≡ true → S.known sink.new ≡ true) }
     ensures takes { OnOk result (S.known sink.old ≡ true → taken S.takes sink.old (piece_of track.now part) sink.new) }
     ensures counted { OnOk result (S.errors sink.new ≡ S.errors sink.old) }
@@ -121,10 +123,12 @@ fn hand<S: Sink>(part: Part, track: &Track, sink: &mut S) -> Result<(), SinkFaul
 fn hand_at<S: Sink>(at: Place, part: Part, track: &Track, sink: &mut S) -> Result<(), Fault>
     requires block { part ≡ Part.Block → is_some track.now.block ≡ true }
     requires frame { part ≡ Part.Frame → is_some track.now.format ≡ true }
+    // proof only
     ensures known { OnOk result (S.known sink.old ≡ true → S.known sink.new ≡ true) }
     ensures takes { OnOk result (S.known sink.old ≡ true → taken S.takes sink.old (piece_of track.now part) sink.new) }
     ensures counted { OnOk result (S.errors sink.new ≡ S.errors sink.old) }
-    ensures failed { IfErr result (λ f. (S.known sink.old ≡ true → S.errors sink.old < S.errors sink.new) × (f.why ≡ Why.Sink) × (f.at ≡ at)) }
+    ensures failed { IfErr result (λ f. (S.known sink.old ≡ true → S.errors sink.old < S.errors sink.new)
+        × (f.why ≡ Why.Sink) × (f.at ≡ at)) }
     ensures risen { OnErr result (Rises (S.errors sink.old) (S.errors sink.new)) }
     ensures names { S.names sink.new ≡ S.names sink.old }
 {
@@ -152,17 +156,25 @@ pub fn hand_out<C: Container, S: Sink>(
     sink: &mut S,
 ) -> Result<(), Fault>
     requires { C.stands container.old (stand_of track.old) ≡ true }
-    ensures hands { (p : Progress) → IsAt track.old p → C.known container.old ≡ true → S.known sink.old ≡ true → (parts : List Piece) (end : Option (Place × Why)) → C.gives container.old p parts end →
-        HandsFirst (taken S.takes) S.errors p parts end ((C.errors container.new ≡ C.errors container.old) × (C.raised container.new ≡ C.raised container.old)) (BreaksBehind C.Container p container.old container.new) sink.old sink.new (outcome_of told result) }
-    ensures met { IfOk result (λ _. (C.known container.old ≡ true → C.known container.new ≡ true) × (C.errors container.new ≡ C.errors container.old) × (C.raised container.new ≡ C.raised container.old) × (C.met container.new ≡ C.met container.old)) }
+    ensures hands { (p : Progress) → IsAt track.old p → C.known container.old ≡ true → S.known sink.old ≡ true
+        → (parts : List Piece) (end : Option (Place × Why)) → C.gives container.old p parts end
+        → HandsFirst (taken S.takes) S.errors p parts end (NoErrorIn C.Container container.old container.new)
+        (BreaksBehind C.Container p container.old container.new) sink.old sink.new (outcome_of told result) }
+    ensures met { IfOk result (λ _. MetNone C.Container container.old container.new) }
     ensures kept { C.errors container.old ≤ C.errors container.new }
-    ensures read { IfErr result (λ f. C.known container.old ≡ true → f.why ≡ Why.Read → C.clear container.old track.old → C.raised container.old < C.raised container.new) }
+    ensures read { IfErr result (λ f. C.known container.old ≡ true → f.why ≡ Why.Read
+        → C.clear container.old track.old → C.raised container.old < C.raised container.new) }
     // An error of the device and of the sink is counted, if the count can rise, whatever is known of them: no other
     // call returns it.
     ensures risen { IfErr result (λ f. f.why ≡ Why.Read → Rises (C.met container.old) (C.met container.new)) }
     ensures sink { IfErr result (λ f. f.why ≡ Why.Sink → Rises (S.errors sink.old) (S.errors sink.new)) }
     ensures write { IfErr result (λ f. f.why ≢ Why.Write) }
-    ensures behind { C.known container.old ≡ true → C.errors container.new ≡ C.errors container.old → C.behind container.new ≡ without_fence (C.behind container.old) }
+    // An error of the device or of an allocation is reported where the container reports it after the parts that the
+    // sink took, whatever is known of its bytes.
+    ensures broken { (p : Progress) → IsAt track.old p → IfErr result
+        (EndsEarlyAfter C.Container (taken S.takes) p container.new (S.known sink.old) sink.old sink.new) }
+    ensures behind { C.known container.old ≡ true → C.errors container.new ≡ C.errors container.old
+        → C.behind container.new ≡ without_fence (C.behind container.old) }
     ensures names { S.names sink.new ≡ S.names sink.old }
     ensures container_names { C.names container.new ≡ C.names container.old }
 {
@@ -191,7 +203,7 @@ pub fn hand_out<C: Container, S: Sink>(
 /// others.
 ///
 /// - [`Why::Read`]: the source returned an error.
-/// - [`Why::Memory`]: an allocation failed.
+/// - [`Why::Memory`]: an allocation failed; never at the marker.
 /// - [`Why::Sink`]: the sink did not take the item at this place.
 /// - Any other reason: the stream is refused there.
 pub fn decode<R: Source, S: Sink>(
@@ -203,20 +215,30 @@ pub fn decode<R: Source, S: Sink>(
     // Ok only if the bytes are a stream, and the sink took exactly its items; refused only as the bytes are, after
     // exactly the items before; and in each case the sink took items that are spelled whole, from the start.
     ensures hands { R.known source.old ≡ true → S.known sink.old ≡ true →
-        Hands (by_grammar grammar (opening profile) (beginning (short_of ((R.behind source.old).fails))) (bits_of (R.coming source.old))) (taken S.takes) S.errors
-        ((R.errors source.new ≡ R.errors source.old) × (R.raised source.new ≡ R.raised source.old)) sink.old sink.new (outcome_of told result) }
+        Hands (stream_at profile (source_start R.Source source.old)) (taken S.takes) S.errors
+        (NoError R.Source source.old source.new) sink.old sink.new (outcome_of told result) }
     // Ok only if no error of the source was met, whatever is known of its bytes.
-    ensures counted { OnOk result ((R.errors source.new ≡ R.errors source.old) × (R.raised source.new ≡ R.raised source.old)) }
+    ensures counted { OnOk result (NoError R.Source source.old source.new) }
     // A stream is not refused, unless memory runs out, and the place and the reason are those that the bytes show.
-    ensures decides { R.known source.old ≡ true → S.known sink.old ≡ true → R.errors source.new ≡ R.errors source.old → R.raised source.new ≡ R.raised source.old → S.errors sink.new ≡ S.errors sink.old →
-        Decides (by_grammar grammar (opening profile) (beginning (short_of ((R.behind source.old).fails))) (bits_of (R.coming source.old))) (outcome_of told result) }
+    ensures decides { R.known source.old ≡ true → S.known sink.old ≡ true
+        → R.errors source.new ≡ R.errors source.old → R.raised source.new ≡ R.raised source.old
+        → S.errors sink.new ≡ S.errors sink.old
+        → Decides (stream_at profile (source_start R.Source source.old)) (outcome_of told result) }
     ensures kept { R.errors source.old ≤ R.errors source.new }
-    ensures read { IfErr result (λ f. R.known source.old ≡ true → f.why ≡ Why.Read → R.raised source.old < R.raised source.new) }
+    ensures read { IfErr result (λ f. R.known source.old ≡ true → f.why ≡ Why.Read
+        → R.raised source.old < R.raised source.new) }
     // An error of the source and of the sink is counted, if the count can rise, whatever is known of them: no other
     // call returns it.
     ensures risen { IfErr result (λ f. f.why ≡ Why.Read → Rises (R.raised source.old) (R.raised source.new)) }
     ensures sink { IfErr result (λ f. f.why ≡ Why.Sink → Rises (S.errors sink.old) (S.errors sink.new)) }
     ensures write { IfErr result (λ f. f.why ≢ Why.Write) }
+    // Whatever is known of the source: its error, or that of an allocation, is reported at the place of the item after
+    // exactly those that the sink took.
+    ensures placed { S.known sink.old ≡ true → IfErr result (λ f. IsOutside f.why → (items : List Piece)
+        × TakesAll (taken S.takes) sink.old items sink.new
+        × EndsEarly (after grammar (opening profile) items) f.at f.why) }
+    // No allocation fails at the marker: none is needed there.
+    ensures memory { IfErr result (λ f. f.why ≡ Why.Memory → f.at ≢ Place.Marker) }
     ensures names { S.names sink.new ≡ S.names sink.old }
     ensures source_names { R.names source.new ≡ R.names source.old }
 {

@@ -1,16 +1,15 @@
 //! Encodes samples as a native stream.
 
-ghost use Rattle.std.specs.Prelude.{◌≡◌, ◌≢◌, ◌++◌, length, List, OnOk, IfErr, ◌∷◌, ◌≤◌, ◌<◌, ◌^◌, ◌↔◌, true, None, Err};
-ghost use Rattle.flac_bits.specs.Written.{Fails, Writes};
-ghost use Rattle.flac_meta.specs.declared.block.Block.{Block};
-ghost use Rattle.flac_native.specs.inner.InOrder.{MayBeWritten, Advances};
+ghost use Rattle.std.specs.Prelude.{◌≡◌, ◌≢◌, ◌++◌, length, OnOk, IfErr, ◌∷◌, ◌≤◌, ◌<◌, ◌^◌, ◌↔◌, true, None, Err};
+ghost use Rattle.flac_bits.specs.Written.{Writes};
+ghost use Rattle.flac_native.specs.inner.InOrder.{WritesSome, FailsInSome};
 ghost use Rattle.flac_native.specs.Writing.{blocks_spelling, head_spelling, AreChoices, AreCounted, IsDigest, Encodes, BeginsEncoding};
-ghost use Rattle.flac_native.specs.inner.Writing.{WritesAll, WritesStream, SendsStream};
+ghost use Rattle.flac_native.specs.inner.Writing.{WritesAll, WritesStream, SendsStream, chosen_head};
 ghost use Rattle.flac_bits.specs.Bits.{bits_of};
 ghost use Rattle.flac_bits.specs.State.{Rises};
 ghost use Rattle.flac_meta.specs.Listed.{block_fault};
 ghost use Rattle.flac_meta.specs.declared.block.Block.TheVariants as block_of;
-ghost use Rattle.flac_native.specs.Given.{fits_plan, info_of, room_of};
+ghost use Rattle.flac_native.specs.Given.{fits_plan, room_of};
 ghost use Rattle.flac_native.specs.Numbers.{is_of_whole};
 ghost use Rattle.flac_native.specs.Seeking.{table_of, is_table, has_table, repeats_table};
 ghost use Rattle.flac_native.specs.Sent.{SendsBits};
@@ -32,10 +31,11 @@ pub(crate) fn write_each<W: Target>(
     count: usize,
     writer: &mut BitWriter<W>,
 ) -> Result<(), Why>
-    ensures written { OnOk result ((more : List Block) → count ≡ length (blocks.now ++ more) → Advances (blocks_spelling more) (blocks_spelling (blocks.now ++ more)) writer.old writer.new) }
+    // proof only
+    ensures written { OnOk result (WritesSome count blocks.now writer.old writer.new) }
     ensures unread { IfErr result (λ e. e ≢ Why.Read) }
     ensures sink { IfErr result (λ e. e ≢ Why.Sink) }
-    ensures failed { IfErr result (λ e. (more : List Block) → count ≡ length (blocks.now ++ more) → MayBeWritten blocks.now → Fails (writer.old.bits ++ blocks_spelling (blocks.now ++ more)) writer.old writer.new e) }
+    ensures failed { IfErr result (λ e. FailsInSome count blocks.now writer.old writer.new e) }
 {
     for i in 0..blocks.len() {
         write_block(&blocks[i], i + 1 == count, writer)?;
@@ -76,7 +76,8 @@ pub(crate) fn write_blocks<W: Target>(
     writer: &mut BitWriter<W>,
 ) -> Result<(), Why>
     requires { block_fault (block_of.SeekTable points.items) ≡ None }
-    ensures { Writes (blocks_spelling (block_of.StreamInfo info ∷ list.now ++ table_of points.items)) writer.old writer.new result }
+    ensures { Writes (blocks_spelling (block_of.StreamInfo info ∷ list.now ++ table_of points.items))
+        writer.old writer.new result }
 {
     let blocks = list.blocks();
     let count = count_with_table(blocks, points.as_slice());
@@ -182,7 +183,8 @@ fn write_stream<W: Target>(
     requires sizes { (frames.least ≤ frames.greatest) × (frames.greatest < 2 ^ 24) }
     requires digest { IsDigest audio.now frames.digest }
     requires whole { writer.old.mark.unread ≡ 0 }
-    ensures { WritesStream (head_spelling (info_of plan.now audio.now frames.least frames.greatest) (list.now ++ table_of frames.points.items)) plan.now audio.now writer.old writer.new result }
+    ensures { WritesStream (chosen_head plan.now list.now audio.now frames) plan.now audio.now
+        writer.old writer.new result }
 {
     let info = frames.info(plan, audio);
     write_head(info, list, frames.points, writer)?;
@@ -206,7 +208,8 @@ fn send_stream<W: Target>(
     requires table { block_fault (block_of.SeekTable frames.points.items) ≡ None }
     requires sizes { (frames.least ≤ frames.greatest) × (frames.greatest < 2 ^ 24) }
     requires digest { IsDigest audio.now frames.digest }
-    ensures { SendsStream W.Target (head_spelling (info_of plan.now audio.now frames.least frames.greatest) (list.now ++ table_of frames.points.items)) plan.now audio.now target.old target.new result }
+    ensures { SendsStream W.Target (chosen_head plan.now list.now audio.now frames) plan.now audio.now
+        target.old target.new result }
 {
     let mut writer = BitWriter::new(Lent::over(target));
     let outcome = write_stream(plan, list, audio, frames, buffers, &mut writer);
@@ -248,12 +251,15 @@ pub fn encode<W: Target>(
     target: &mut W,
 ) -> Result<(), EncodeFault>
     requires { fits_plan plan.now audio.now ≡ true }
-    ensures written { OnOk result (W.known target.old ≡ true → Encodes plan.now list.now audio.now (bits_of (W.sent target.old)) (bits_of (W.sent target.new))) }
+    ensures written { OnOk result (W.known target.old ≡ true
+        → Encodes plan.now list.now audio.now (bits_of (W.sent target.old)) (bits_of (W.sent target.new))) }
     // Ok only if no error of the target was met, whatever is known of it.
     ensures known { OnOk result (W.known target.old ≡ true → W.known target.new ≡ true) }
     ensures counted { OnOk result (W.errors target.new ≡ W.errors target.old) }
-    ensures begun { IfErr result (λ e. e ≡ EncodeFault.Write → W.known target.old ≡ true → BeginsEncoding plan.now list.now audio.now (bits_of (W.sent target.old)) (bits_of (W.sent target.new))) }
-    ensures failed { IfErr result (λ e. e ≡ EncodeFault.Write → W.known target.old ≡ true → W.errors target.old < W.errors target.new) }
+    ensures begun { IfErr result (λ e. e ≡ EncodeFault.Write → W.known target.old ≡ true
+        → BeginsEncoding plan.now list.now audio.now (bits_of (W.sent target.old)) (bits_of (W.sent target.new))) }
+    ensures failed { IfErr result (λ e. e ≡ EncodeFault.Write
+        → W.known target.old ≡ true → W.errors target.old < W.errors target.new) }
     // An error of the target is counted, if the count can rise, whatever is known of it.
     ensures risen { IfErr result (λ e. e ≡ EncodeFault.Write → Rises (W.errors target.old) (W.errors target.new)) }
     ensures repeated { (result ≡ Err EncodeFault.RepeatedBlock) ↔ (repeats_table plan.now list.now ≡ true) }

@@ -79,8 +79,8 @@ impl fmt::Display for Fault {
 
 impl std::error::Error for Fault {}
 
-/// Why a call did not read what it was given, and what it leaves of that: the source or the decoder, from which it may
-/// have read. `?` turns it into the [`Fault`] in a function that returns one. It prints as the fault.
+/// Why a call did not read what it was given, which it gives back: a source or a decoder, from which it may have read.
+/// `?` turns it into the [`Fault`] in a function that returns one, and drops what was given. It prints as the fault.
 ///
 /// ```
 /// match open_native(rt.alloc(), Counted::new(file), Profile::Subset, Keep::Tags) {
@@ -92,7 +92,8 @@ impl std::error::Error for Fault {}
 pub struct Refused<T> {
     /// Where and why.
     pub fault: Fault,
-    /// What the call was given. Bytes that were pulled from it are lost.
+    /// What the call was given. Bytes that were pulled from a source are lost; a decoder still has those that it
+    /// pulled.
     pub left: T,
 }
 

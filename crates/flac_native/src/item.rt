@@ -39,14 +39,18 @@ pub(crate) fn next_item<C: Container>(
     track: &mut Track,
 ) -> Result<Option<Part>, Fault>
     requires { C.stands container.old (stand_of track.old) ≡ true }
+    // proof only
     ensures stands { IfOk result (λ o. IfSome o (λ _. C.stands container.new (stand_of track.new) ≡ true)) }
     ensures counts { CountsIn C.Container track.old container.old container.new result }
     ensures memory { (stand_of track.old).phase ≡ Phase.Frames → IfErr result (λ f. f.why ≢ Why.Memory) }
     ensures made { IfOk result (λ o. IfSome o (λ part. is_made (Course.Read part) track.new ≡ true)) }
     ensures ordered { IfOk result (λ o. ComesInOrder track.old track.new (found track.new o)) }
-    ensures gives { (p : Progress) → IsAt track.old p → GivesFirst C.Container p container.old container.new track.new (λ o. found track.new o) result }
-    ensures passes { (p : Progress) → IsAt track.old p → IfOk result (λ o. IfSome (found track.new o) (λ item. PassesItem C.Container p container.old container.new track.new item)) }
-    ensures broken { (p : Progress) → IsAt track.old p → IfErr result (λ f. IsOutside f.why → BreaksOff C.Container p container.old container.new f) }
+    ensures gives { (p : Progress) → IsAt track.old p
+        → GivesFirst C.Container p container.old container.new track.new (λ o. found track.new o) result }
+    ensures passes { (p : Progress) → IsAt track.old p → IfOk result (λ o. IfSome (found track.new o)
+        (λ item. PassesItem C.Container p container.old container.new track.new item)) }
+    ensures broken { (p : Progress) → IsAt track.old p
+        → IfErr result (λ f. IsOutside f.why → BreaksOff C.Container p container.old container.new f) }
 {
     let outcome = container.next(track);
     if is_marker(&outcome) {

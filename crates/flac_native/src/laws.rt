@@ -11,7 +11,7 @@ ghost use Rattle.flac_native.specs.Points.{PointsNameFrames};
 ghost use Rattle.flac_native.specs.ReadBack.{EncodedAreReadBack};
 ghost use Rattle.flac_native.specs.Resuming.{FramesAreResumed, EncodedAreResumed};
 ghost use Rattle.flac_native.specs.Writing.{EncodedAreStreams};
-ghost use Rattle.flac_native.specs.Calls.{CallsBreakBehind};
+ghost use Rattle.flac_native.specs.Calls.{FailuresArePlaced};
 
 use crate::container::Container;
 
@@ -104,7 +104,8 @@ pub fn frames_are_resumed()
 
 /// Calls of [`crate::Decoder::next`], one after another, read parts of the stream one after another: those of the items
 /// that they give, and the marker. If one then returns [`flac_bits::Why::Read`] or [`flac_bits::Why::Memory`], its
-/// place is what the container tells of these parts: in a native stream the place of the part after them.
-pub fn calls_break_behind<C: Container>()
-    ensures { CallsBreakBehind C.Container }
+/// place is what the container reports after these parts: in a native stream the place of the part after them, which
+/// for [`flac_bits::Why::Memory`] is never the marker.
+pub fn failures_are_placed<C: Container>()
+    ensures { FailuresArePlaced C.Container }
 {}

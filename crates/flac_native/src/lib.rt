@@ -25,25 +25,24 @@ mod format;
 mod item;
 mod laws;
 mod native;
-mod offsets;
 mod plan;
 mod position;
 mod retagging;
+mod sample_bytes;
 mod sinks;
 mod targets;
 mod track;
 
 pub use chosen_frames::{ChosenFrames, info_of};
 pub use container::{Container, Part};
-pub use decoder::Decoder;
+pub use decoder::{Decoder, bytes_from};
 pub use decoding::{Sink, SinkFault, decode, hand_out};
-pub use digest::{put_rows, sample_width};
 pub use encoding::{encode, send_head};
 pub use fault::{EncodeFault, Fault, Place, Refused};
 pub use flac_bits::{
     BitReader, BitWriter, Collected, Counted, Memory, Pieces, Source, Target, Why,
 };
-pub use flac_frame::{Audio, EncodeBuffers, FrameView, LONGEST_FRAME, SetupFault, greatest_order};
+pub use flac_frame::{Audio, EncodeBuffers, FrameView, SetupFault, greatest_order};
 pub use flac_header::Profile;
 pub use flac_meta::{
     Block, BlockList, Bytes, Comments, CueIndex, CueIndices, CueSheet, CueTrack, CueTracks,
@@ -52,15 +51,15 @@ pub use flac_meta::{
 pub use flac_subframe::LinearPredictor;
 pub use item::Item;
 pub use laws::{
-    blocks_are_in_order, calls_break_behind, encoded_are_read_back, encoded_are_resumed,
-    encoded_are_streams, frames_are_resumed, nothing_is_outside_lax, only_one_head, only_one_way,
+    blocks_are_in_order, encoded_are_read_back, encoded_are_resumed, encoded_are_streams,
+    failures_are_placed, frames_are_resumed, nothing_is_outside_lax, only_one_head, only_one_way,
     points_name_frames, retagged_are_read, some_way, streams_are_ordered, streams_are_whole,
     subset_is_lax,
 };
 pub use native::{MARKER, read_marker};
-pub use offsets::bytes_from;
 pub use plan::{Plan, predictors_fault};
 pub use retagging::{RetagFault, retag};
+pub use sample_bytes::{put_rows, sample_width};
 pub use sinks::{Failures, SampleWriter};
 pub use targets::Room;
 pub use track::Track;

@@ -1,12 +1,12 @@
 //! How samples are divided into frames.
 
 ghost use Rattle.std.specs.Prelude.{◌≡◌, ◌<◌, ◌≤◌, ◌*◌, ◌^◌, ◌++◌, [], map, slice_index_or, All, MatchResult, IfOk, OnOk, IfErr, true, Some, None};
-ghost use Rattle.flac_native.specs.Given.{IsRange, blocks_in, has_point, points_before, cut_in, with_predictors, with_found, tried, fits_plan, predictors_fault, cutting_fault, plan_fault};
+ghost use Rattle.flac_native.specs.Given.{IsRange, blocks_in, has_point, points_before, cut_in, cut_asked, with_predictors, with_found, tried, fits_plan, predictors_fault, cutting_fault, plan_fault};
 ghost use Rattle.flac_native.specs.Seeking.{point_at};
 ghost use Rattle.flac_frame.specs.Audio.{samples_each};
 ghost use Rattle.flac_frame.specs.Frame.{limits_at};
-ghost use Rattle.flac_subframe.specs.Handed.{AreWithin};
-ghost use Rattle.flac_subframe.specs.declared.linear.LinearPredictor.{LinearPredictor};
+ghost use Rattle.flac_subframe.specs.format.Handed.{AreWithin};
+ghost use Rattle.flac_subframe.specs.declared.format.linear.LinearPredictor.{LinearPredictor};
 
 use flac_bits::Why;
 use flac_frame::{Audio, SetupFault, format_fault, greatest_order};
@@ -60,15 +60,35 @@ struct Asked {
 impl Model for Plan {
     ghost use Rattle.std.specs.Prelude.{◌≡◌, None, All};
     ghost use Rattle.flac_frame.specs.Frame.{limits_at};
-    ghost use Rattle.flac_subframe.specs.Handed.{AreWithin};
+    ghost use Rattle.flac_subframe.specs.format.Handed.{AreWithin};
     ghost use Rattle.flac_native.specs.Given.{Cut, listed, listed_each, plan_fault};
 
     ghost Value = { Cut };
 
-    ghost view = { λ p. record { profile = p.asked.profile; block_size = p.asked.block_size; rate = p.asked.rate; bits = p.asked.bits; channels = p.asked.channels; total = p.asked.total; seek_every = p.asked.seek_every; predictors = listed p.predictors; found = listed_each p.found } };
+    ghost view = { λ p. record {
+      profile = p.asked.profile;
+      block_size = p.asked.block_size;
+      rate = p.asked.rate;
+      bits = p.asked.bits;
+      channels = p.asked.channels;
+      total = p.asked.total;
+      seek_every = p.asked.seek_every;
+      predictors = listed p.predictors;
+      found = listed_each p.found;
+    } };
 
     ghost invariant = { λ p. record {
-      good : plan_fault (record { profile = p.asked.profile; block_size = p.asked.block_size; rate = p.asked.rate; bits = p.asked.bits; channels = p.asked.channels; total = p.asked.total; seek_every = p.asked.seek_every; predictors = listed p.predictors; found = listed_each p.found }) ≡ None;
+      good : plan_fault (record {
+        profile = p.asked.profile;
+        block_size = p.asked.block_size;
+        rate = p.asked.rate;
+        bits = p.asked.bits;
+        channels = p.asked.channels;
+        total = p.asked.total;
+        seek_every = p.asked.seek_every;
+        predictors = listed p.predictors;
+        found = listed_each p.found;
+      }) ≡ None;
       orders : All (AreWithin (limits_at p.asked.profile p.asked.rate).linear) (listed_each p.found);
     } };
 }
@@ -144,7 +164,7 @@ fn count_points(size: u64, total: u64, every: u64) -> u64
 /// Why samples whose format can be encoded cannot be divided into blocks, or `None` if they can.
 #[tactic(auto, unfolding(crate::specs::Given::cutting_fault, crate::specs::Given::predictors_fault))]
 fn cutting_fault(asked: &Asked) -> Option<SetupFault>
-    ensures { result ≡ cutting_fault (record { profile = asked.now.profile; block_size = asked.now.block_size; rate = asked.now.rate; bits = asked.now.bits; channels = asked.now.channels; total = asked.now.total; seek_every = asked.now.seek_every; predictors = []; found = [] }) }
+    ensures { result ≡ cutting_fault (cut_asked asked.now) }
 {
     if !asked.profile.allows_block(asked.block_size, asked.rate) {
         return Some(SetupFault::BadBlockSize);
@@ -163,7 +183,7 @@ fn cutting_fault(asked: &Asked) -> Option<SetupFault>
 /// Why samples of this format and length cannot be divided into blocks, or `None` if they can.
 #[tactic(auto, unfolding(crate::specs::Given::plan_fault))]
 fn fault_of(asked: &Asked) -> Option<SetupFault>
-    ensures { result ≡ plan_fault (record { profile = asked.now.profile; block_size = asked.now.block_size; rate = asked.now.rate; bits = asked.now.bits; channels = asked.now.channels; total = asked.now.total; seek_every = asked.now.seek_every; predictors = []; found = [] }) }
+    ensures { result ≡ plan_fault (cut_asked asked.now) }
 {
     let channels = asked.channels as usize;
     if let Some(fault) = format_fault(asked.profile, asked.rate, asked.bits, channels) {
@@ -187,7 +207,8 @@ impl Plan {
     /// # Errors
     /// Those of [`Plan::new_in`] in [`Profile::Subset`].
     pub fn new(block_size: u32, audio: &Audio, seek_every: u32) -> Result<Plan, SetupFault>
-        ensures made { MatchResult result (λ p. p ≡ cut_in Profile.Subset block_size audio.now seek_every) (λ e. plan_fault (cut_in Profile.Subset block_size audio.now seek_every) ≡ Some e) }
+        ensures made { MatchResult result (λ p. p ≡ cut_in Profile.Subset block_size audio.now seek_every)
+            (λ e. plan_fault (cut_in Profile.Subset block_size audio.now seek_every) ≡ Some e) }
         ensures fits { IfOk result (λ p. audio.now.profile ≡ Profile.Subset → fits_plan p audio.now ≡ true) }
     {
         Plan::new_in(Profile::Subset, block_size, audio, seek_every)
@@ -214,7 +235,8 @@ impl Plan {
         audio: &Audio,
         seek_every: u32,
     ) -> Result<Plan, SetupFault>
-        ensures made { MatchResult result (λ p. p ≡ cut_in profile block_size audio.now seek_every) (λ e. plan_fault (cut_in profile block_size audio.now seek_every) ≡ Some e) }
+        ensures made { MatchResult result (λ p. p ≡ cut_in profile block_size audio.now seek_every)
+            (λ e. plan_fault (cut_in profile block_size audio.now seek_every) ≡ Some e) }
         ensures fits { IfOk result (λ p. audio.now.profile ≡ profile → fits_plan p audio.now ≡ true) }
     {
         let asked = Asked {
@@ -239,7 +261,7 @@ impl Plan {
     /// The same plan, with linear predictors that are tried for each subframe beside the constant, verbatim and fixed
     /// ones: at most 64, of orders that the profile allows at the rate, 32 in [`Profile::Lax`] and above 48000 Hz, else
     /// 12 (RFC 9639, sections 7 and 9.2.6). Each frame is then a shortest one over these too. They take the place of
-    /// those that the plan had; an empty list is as none.
+    /// those that the plan had, and the lists of [`Plan::with_found`] are dropped; an empty list is as none.
     ///
     /// ```
     /// let mut predictors = Vec::new(rt.alloc());
@@ -253,7 +275,8 @@ impl Plan {
     /// [`SetupFault::TooManyPredictors`] if there are more than 64, else [`SetupFault::PredictorOrder`] if an order is
     /// too large. The plan is not returned then.
     pub fn with_predictors(self, predictors: Vec<LinearPredictor>) -> Result<Plan, SetupFault>
-        ensures { MatchResult result (λ p. p ≡ with_predictors self predictors.items) (λ e. predictors_fault self.profile self.rate predictors.items ≡ Some e) }
+        ensures { MatchResult result (λ p. p ≡ with_predictors self predictors.items)
+            (λ e. predictors_fault self.profile self.rate predictors.items ≡ Some e) }
     {
         let asked = self.asked;
         if let Some(fault) = predictors_fault(asked.profile, asked.rate, predictors.as_slice()) {
@@ -266,9 +289,10 @@ impl Plan {
         })
     }
 
-    /// The same plan, with lists of linear predictors, one for each frame from the first one on. The frame of a number is
-    /// then a shortest one over constant, verbatim and fixed predictors and those of the list of this number; a frame
-    /// after the last list is as without. The lists take the place of those that the plan had. Each order must be at
+    /// The same plan, with lists of linear predictors, one for each frame from the first one on. The frame of a number
+    /// is then a shortest one over constant, verbatim and fixed predictors and those of the list of this number; a frame
+    /// after the last list is as without: those of [`Plan::with_predictors`] are tried for it. The lists take the place
+    /// of those that an earlier call of this function gave. Each order must be at
     /// most 32 in [`Profile::Lax`] and above 48000 Hz, else at most 12 (RFC 9639, sections 7 and 9.2.6).
     ///
     /// ```

@@ -19,6 +19,7 @@ fn read_here<R: Source>(
     bits: &mut BitReader<R>,
     seen: &mut Seen,
 ) -> Result<(bool, Block), Why>
+    // proof only
     ensures reading { Call 32 (ReadsInRoom (λ x. x) (block_layout seen.old)) bits.old bits.new result }
     ensures seen { IfOk result (λ x. seen.new ≡ seen_after seen.old x.1) }
     ensures unseen { OnErr result (seen.new ≡ seen.old) }

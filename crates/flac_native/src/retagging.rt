@@ -1,6 +1,6 @@
 //! Replaces the comments of a stream.
 
-ghost use Rattle.std.specs.Prelude.{◌≡◌, ◌≢◌, ◌≤◌, ◌+◌, ◌++◌, [], true, false, OnOk, IfOk, IfErr, Some, None, ◌<◌, ◌⊎◌, Bool, List, OnErr, IfSome, IsErrAnd, Err};
+ghost use Rattle.std.specs.Prelude.{◌≡◌, ◌≢◌, ◌≤◌, ◌+◌, ◌++◌, [], true, false, OnOk, IfOk, IfErr, Some, None, ◌<◌, Bool, List, OnErr, IfSome, IsErrAnd, Err, is_some, ◌⊎◌};
 ghost use Rattle.flac_bits.specs.Fencing.{lifted};
 ghost use Rattle.flac_bits.specs.Reading.{Counts, ReadsInRoom};
 ghost use Rattle.flac_bits.specs.Reasons.{of_output};
@@ -12,17 +12,17 @@ ghost use Rattle.flac_native.specs.Stream.{Piece, Progress, Stand, grammar, layo
 ghost use Rattle.flac_native.specs.Track.{is_behind_blocks, position_of};
 ghost use Rattle.flac_native.specs.Item.{told};
 ghost use Rattle.flac_native.specs.Places.{retag_text};
-ghost use Rattle.flac_native.specs.Retag.{is_before_frames, BreaksAt, IsRefused, not_read, not_written, BeginsWith, HasHead, Retags, BeginsRetagging, CopiesPart, retagged, too_long, no_memory};
+ghost use Rattle.flac_native.specs.Retag.{is_before_frames, IsRefusedAt, IsPlaceAt, HasHeadAt, SendsRetagged, SendsPrefix, SendsHeadAndPart, IsOfDevice, IsBeforeOrOutside, not_read, not_written, BeginsWith, retagged, too_long};
 ghost use Rattle.flac_native.specs.inner.Retag.{stand_at, piece_in, keeps, AreKept, MayBeHead, new_head};
 ghost use Rattle.flac_bits.specs.Bits.{bits_of};
 ghost use Rattle.flac_bits.specs.Written.{Adds, Fails};
-ghost use Rattle.flac_bits.specs.State.{Rises, short_of, started};
+ghost use Rattle.flac_bits.specs.State.{Rises, started};
 ghost use Rattle.flac_meta.specs.Spelling.{comments_length};
 ghost use Rattle.flac_info.specs.Info.{Info};
 ghost use Rattle.flac_meta.specs.declared.block.Block.{Block};
 ghost use Rattle.flac_bits.specs.declared.why.Why.{Why};
 ghost use Rattle.flac_native.specs.declared.fault.Place.{Place};
-ghost use Rattle.flac_native.specs.Decoding.{beginning};
+ghost use Rattle.flac_native.specs.Decoding.{start_mark, source_start, IfCalm};
 
 use crate::encoding::write_each;
 use crate::fault::{Fault, Place};
@@ -64,6 +64,7 @@ impl std::error::Error for RetagFault {}
 fn keep(kept: &mut Vec<Block>, part: Option<(bool, Block)>) -> Result<(), Why>
     ensures keeps { OnOk result (keeps kept.old.items (piece_in part) kept.new.items) }
     ensures memory { IfErr result (λ e. e ≡ Why.Memory) }
+    ensures none { IfErr result (λ _. is_some part ≡ true) }
 {
     match part {
         None => Ok(()),
@@ -86,10 +87,15 @@ fn read_next<R: Source>(
     position: &mut Position,
 ) -> Result<Option<(bool, Block)>, Why>
     requires { is_behind_blocks position.old.phase ≡ false }
+    // proof only
     ensures spends { OnOk result (reader.new.most + 32 ≤ reader.old.most) }
     ensures counts { Counts (lifted reader.old) reader.new result }
-    ensures reads { (s : Stand) → ReadsInRoom piece_in (layout (stand_at position.old s)) (started (lifted reader.old)) reader.new result }
-    ensures next { IfOk result (λ part. (s : Stand) → position_of (stand_after (stand_at position.old s) (piece_in part)) ≡ position.new) }
+    ensures reads { (s : Stand)
+        → ReadsInRoom piece_in (layout (stand_at position.old s)) (started (lifted reader.old)) reader.new result }
+    ensures next { IfOk result (λ part. (s : Stand)
+        → position_of (stand_after (stand_at position.old s) (piece_in part)) ≡ position.new) }
+    ensures first { position.old.phase ≡ Phase.Opening → IfOk result (λ part. is_some part ≡ false) }
+    ensures memory { position.old.phase ≡ Phase.Opening → IfErr result (λ e. e ≢ Why.Memory) }
 {
     reader.lift();
     reader.start_checks();
@@ -115,14 +121,18 @@ fn keep_next<R: Source>(
     kept: &mut Vec<Block>,
 ) -> Result<(), Fault>
     requires { is_behind_blocks position.old.phase ≡ false }
+    // proof only
     ensures spends { OnOk result (reader.new.most + 32 ≤ reader.old.most) }
     ensures counts { Counts (lifted reader.old) reader.new (reason_of told result) }
-    ensures keeps { OnOk result ((p : Progress) → position_of p.stand ≡ position.old → (x : Piece) × (position_of (next p x).stand ≡ position.new) × keeps kept.old.items x kept.new.items
+    ensures keeps { OnOk result ((p : Progress) → position_of p.stand ≡ position.old
+        → (x : Piece) × (position_of (next p x).stand ≡ position.new) × keeps kept.old.items x kept.new.items
         × (reader.old.known ≡ true → step_at grammar p (lifted reader.old).cursor ≡ item x reader.new.cursor)) }
-    ensures refused { IfErr result (λ f. (p : Progress) → position_of p.stand ≡ position.old → reader.old.known ≡ true → reader.new.errors ≡ reader.old.errors → f.why ≢ Why.Memory
+    ensures refused { IfErr result (λ f. (p : Progress) → position_of p.stand ≡ position.old
+        → reader.old.known ≡ true → reader.new.errors ≡ reader.old.errors → f.why ≢ Why.Memory
         → step_at grammar p (lifted reader.old).cursor ≡ refused f.at f.why) }
     ensures place { IfErr result (λ f. f.at ≡ place_in position.old.phase position.old.index) }
     ensures at { IfErr result (λ f. is_before_frames f.at ≡ true) }
+    ensures memory { IfErr result (λ f. f.why ≡ Why.Memory → f.at ≢ Place.Marker) }
 {
     let at = position.place();
     match read_next(alloc, reader, position) {
@@ -142,13 +152,16 @@ fn keep_all<R: Source>(
 ) -> Result<(), Fault>
     requires whole { reader.old.cursor.mark.unread ≡ 0 }
     requires none { kept.old.items ≡ [] }
+    // proof only
     ensures counts { Counts (lifted reader.old) reader.new (reason_of told result) }
     ensures whole { OnOk result (reader.new.cursor.mark.unread ≡ 0) }
-    ensures kept { OnOk result (reader.old.known ≡ true → AreKept (lifted reader.old).cursor kept.new.items reader.new.cursor.left) }
-    ensures refused { IfErr result (λ f. reader.old.known ≡ true → reader.new.errors ≡ reader.old.errors → f.why ≢ Why.Memory
-        → IsRefused (lifted reader.old).cursor.mark (lifted reader.old).cursor.left f.at f.why) }
-    ensures placed { IfErr result (λ f. reader.old.known ≡ true → BreaksAt (lifted reader.old).cursor.mark (lifted reader.old).cursor.left f.at) }
+    ensures kept { OnOk result (reader.old.known ≡ true
+        → AreKept (lifted reader.old).cursor kept.new.items reader.new.cursor.left) }
+    ensures refused { IfErr result (λ f. reader.old.known ≡ true → reader.new.errors ≡ reader.old.errors
+        → f.why ≢ Why.Memory → IsRefusedAt (lifted reader.old).cursor f.at f.why) }
+    ensures placed { IfErr result (λ f. reader.old.known ≡ true → IsPlaceAt (lifted reader.old).cursor f.at) }
     ensures at { IfErr result (λ f. reader.old.known ≡ true → is_before_frames f.at ≡ true) }
+    ensures memory { IfErr result (λ f. f.why ≡ Why.Memory → f.at ≢ Place.Marker) }
 {
     let mut position = Position::start();
     while !position.is_past_metadata() {
@@ -171,13 +184,16 @@ pub(crate) fn read_kept<R: Source>(
     reader: &mut BitReader<R>,
 ) -> Result<Vec<Block>, Fault>
     requires { reader.old.cursor.mark.unread ≡ 0 }
+    // proof only
     ensures counts { Counts (lifted reader.old) reader.new (reason_of told result) }
     ensures whole { OnOk result (reader.new.cursor.mark.unread ≡ 0) }
-    ensures kept { IfOk result (λ kept. reader.old.known ≡ true → AreKept (lifted reader.old).cursor kept.items reader.new.cursor.left) }
-    ensures refused { IfErr result (λ f. reader.old.known ≡ true → reader.new.errors ≡ reader.old.errors → f.why ≢ Why.Memory
-        → IsRefused (lifted reader.old).cursor.mark (lifted reader.old).cursor.left f.at f.why) }
-    ensures placed { IfErr result (λ f. reader.old.known ≡ true → BreaksAt (lifted reader.old).cursor.mark (lifted reader.old).cursor.left f.at) }
+    ensures kept { IfOk result (λ kept. reader.old.known ≡ true
+        → AreKept (lifted reader.old).cursor kept.items reader.new.cursor.left) }
+    ensures refused { IfErr result (λ f. reader.old.known ≡ true → reader.new.errors ≡ reader.old.errors
+        → f.why ≢ Why.Memory → IsRefusedAt (lifted reader.old).cursor f.at f.why) }
+    ensures placed { IfErr result (λ f. reader.old.known ≡ true → IsPlaceAt (lifted reader.old).cursor f.at) }
     ensures at { IfErr result (λ f. reader.old.known ≡ true → is_before_frames f.at ≡ true) }
+    ensures memory { IfErr result (λ f. f.why ≡ Why.Memory → f.at ≢ Place.Marker) }
 {
     let mut kept = Vec::new(alloc);
     match keep_all(alloc, reader, &mut kept) {
@@ -193,10 +209,12 @@ fn write_renewed<W: Target>(
     comments: &Comments,
     writer: &mut BitWriter<W>,
 ) -> Result<(), Why>
+    // proof only
     ensures added { OnOk result (Adds (new_head comments.now kept.now) writer.old writer.new) }
     ensures unread { IfErr result (λ e. e ≢ Why.Read) }
     ensures sink { IfErr result (λ e. e ≢ Why.Sink) }
-    ensures failed { IfErr result (λ e. MayBeHead comments.now kept.now → Fails (writer.old.bits ++ new_head comments.now kept.now) writer.old writer.new e) }
+    ensures failed { IfErr result (λ e. MayBeHead comments.now kept.now
+        → Fails (writer.old.bits ++ new_head comments.now kept.now) writer.old writer.new e) }
 {
     let Some((info, others)) = kept.split_first() else {
         return Err(Why::NotStreamInfoFirst);
@@ -230,12 +248,18 @@ pub(crate) fn copy_rest<R: Source, W: Target>(
     target: &mut W,
 ) -> Result<(), RetagFault>
     requires { reader.old.cursor.mark.unread ≡ 0 }
-    ensures copied { OnOk result (reader.old.known ≡ true → W.known target.old ≡ true → bits_of (W.sent target.new) ≡ bits_of (W.sent target.old) ++ reader.old.cursor.left) }
+    // proof only
+    ensures copied { OnOk result (reader.old.known ≡ true → W.known target.old ≡ true
+        → bits_of (W.sent target.new) ≡ bits_of (W.sent target.old) ++ reader.old.cursor.left) }
     ensures begun { OnErr result (reader.old.known ≡ true → W.known target.old ≡ true
-        → (front : List Bool) × (left : List Bool) × (bits_of (W.sent target.new) ≡ bits_of (W.sent target.old) ++ front) × (front ++ left ≡ reader.old.cursor.left)) }
-    ensures fault { IfErr result (λ f. (f ≡ not_read) ⊎ (f ≡ not_written)) }
-    ensures read { IfErr result (λ f. f.why ≡ Why.Read → reader.old.known ≡ true → reader.old.raised < reader.new.raised) }
-    ensures write { IfErr result (λ f. f.why ≡ Why.Write → W.known target.old ≡ true → W.errors target.old < W.errors target.new) }
+        → (front : List Bool) × (left : List Bool)
+        × (bits_of (W.sent target.new) ≡ bits_of (W.sent target.old) ++ front)
+        × (front ++ left ≡ reader.old.cursor.left)) }
+    ensures fault { IfErr result IsOfDevice }
+    ensures read { IfErr result (λ f. f.why ≡ Why.Read
+        → reader.old.known ≡ true → reader.old.raised < reader.new.raised) }
+    ensures write { IfErr result (λ f. f.why ≡ Why.Write
+        → W.known target.old ≡ true → W.errors target.old < W.errors target.new) }
     ensures read_risen { IfErr result (λ f. f.why ≡ Why.Read → Rises reader.old.raised reader.new.raised) }
     ensures write_risen { IfErr result (λ f. f.why ≡ Why.Write → Rises (W.errors target.old) (W.errors target.new)) }
     ensures errors { (reader.old.errors ≤ reader.new.errors) × (W.errors target.old ≤ W.errors target.new) }
@@ -276,25 +300,31 @@ fn retag_from<R: Source, W: Target>(
 ) -> Result<(), RetagFault>
     requires whole { reader.old.cursor.mark.unread ≡ 0 }
     requires short { comments_length comments.now ≤ 16777215 }
+    // proof only
     ensures written { OnOk result (reader.old.known ≡ true → W.known target.old ≡ true
-        → Retags (lifted reader.old).cursor.mark (lifted reader.old).cursor.left comments.now (bits_of (W.sent target.old)) (bits_of (W.sent target.new))) }
-    ensures refused { IfErr result (λ f. IfSome f.at (λ at. reader.old.known ≡ true → IsCalm reader.old reader.new → f.why ≢ Why.Memory
-        → IsRefused (lifted reader.old).cursor.mark (lifted reader.old).cursor.left at f.why)) }
-    ensures foretold { IfErr result (λ f. IfSome f.at (λ at. is_before_frames at ≡ true → reader.old.known ≡ true → reader.new.errors ≡ reader.old.errors → f.why ≢ Why.Memory
-        → IsRefused (lifted reader.old).cursor.mark (lifted reader.old).cursor.left at f.why)) }
-    ensures placed { IfErr result (λ f. IfSome f.at (λ at. reader.old.known ≡ true → BreaksAt (lifted reader.old).cursor.mark (lifted reader.old).cursor.left at)) }
-    ensures behind { IfErr result (λ f. IfSome f.at (λ at. reader.old.known ≡ true → (is_before_frames at ≡ true) ⊎ ((f ≡ not_read) ⊎ (f ≡ no_memory)))) }
-    ensures head { OnOk result (reader.old.known ≡ true → HasHead (lifted reader.old).cursor.mark (lifted reader.old).cursor.left) }
-    ensures found { IfErr result (λ f. (f ≡ not_read) ⊎ (f ≡ not_written) → reader.old.known ≡ true → HasHead (lifted reader.old).cursor.mark (lifted reader.old).cursor.left) }
+        → SendsRetagged W.Target (lifted reader.old).cursor comments.now target.old target.new) }
+    ensures refused { IfErr result (λ f. IfSome f.at (λ at. reader.old.known ≡ true → IsCalm reader.old reader.new
+        → f.why ≢ Why.Memory → IsRefusedAt (lifted reader.old).cursor at f.why)) }
+    ensures foretold { IfErr result (λ f. IfSome f.at (λ at. is_before_frames at ≡ true
+        → reader.old.known ≡ true → reader.new.errors ≡ reader.old.errors
+        → f.why ≢ Why.Memory → IsRefusedAt (lifted reader.old).cursor at f.why)) }
+    ensures placed { IfErr result (λ f. IfSome f.at (λ at. reader.old.known ≡ true
+        → IsPlaceAt (lifted reader.old).cursor at)) }
+    ensures memory { IfErr result (λ f. f.why ≡ Why.Memory → f.at ≢ Some Place.Marker) }
+    ensures behind { IfErr result (λ f. IfSome f.at (λ at. reader.old.known ≡ true → IsBeforeOrOutside f at)) }
+    ensures head { OnOk result (reader.old.known ≡ true → HasHeadAt (lifted reader.old).cursor) }
+    ensures found { IfErr result (λ f. IsOfDevice f → reader.old.known ≡ true → HasHeadAt (lifted reader.old).cursor) }
     ensures nothing { IfErr result (λ f. f ≢ not_read → f ≢ not_written → target.new ≡ target.old) }
-    ensures begun { IfErr result (λ f. (f ≡ not_read) ⊎ (f ≡ not_written) → reader.old.known ≡ true → W.known target.old ≡ true
-        → BeginsRetagging (lifted reader.old).cursor.mark (lifted reader.old).cursor.left comments.now (bits_of (W.sent target.old)) (bits_of (W.sent target.new))) }
+    ensures begun { IfErr result (λ f. IsOfDevice f → reader.old.known ≡ true → W.known target.old ≡ true
+        → SendsPrefix W.Target (lifted reader.old).cursor comments.now target.old target.new) }
     ensures copied { IfErr result (λ f. f ≡ not_read → reader.old.known ≡ true → W.known target.old ≡ true
-        → CopiesPart (lifted reader.old).cursor.mark (lifted reader.old).cursor.left comments.now (bits_of (W.sent target.old)) (bits_of (W.sent target.new))) }
+        → SendsHeadAndPart W.Target (lifted reader.old).cursor comments.now target.old target.new) }
     ensures output { IfErr result (λ f. IfSome f.at (λ _. of_output f.why ≡ false)) }
     ensures placeless { IfErr result (λ f. f.at ≡ None → f ≡ not_written) }
-    ensures read { IfErr result (λ f. f.why ≡ Why.Read → reader.old.known ≡ true → reader.old.raised < reader.new.raised) }
-    ensures write { IfErr result (λ f. f ≡ not_written → W.known target.old ≡ true → W.errors target.old < W.errors target.new) }
+    ensures read { IfErr result (λ f. f.why ≡ Why.Read
+        → reader.old.known ≡ true → reader.old.raised < reader.new.raised) }
+    ensures write { IfErr result (λ f. f ≡ not_written
+        → W.known target.old ≡ true → W.errors target.old < W.errors target.new) }
     ensures read_risen { IfErr result (λ f. f.why ≡ Why.Read → Rises reader.old.raised reader.new.raised) }
     ensures write_risen { IfErr result (λ f. f ≡ not_written → Rises (W.errors target.old) (W.errors target.new)) }
     ensures errors { reader.old.errors ≤ reader.new.errors }
@@ -347,7 +377,7 @@ fn retag_from<R: Source, W: Target>(
 ///   ([`Comments::length`]). Nothing was read and nothing written.
 /// - A reason of the marker or of a metadata block, at its place, as [`crate::decode`] refuses it. Nothing was written.
 /// - [`Why::Read`] at the marker or at a block: the source returned an error there. Nothing was written.
-/// - [`Why::Memory`] at the marker, at a block, or at frame 0: an allocation failed there. Nothing was written.
+/// - [`Why::Memory`] at a block or at frame 0: an allocation failed there. Nothing was written.
 /// - [`Why::Read`] at frame 0: the source returned an error after the metadata. The new metadata and a prefix of the
 ///   rest were written.
 /// - [`Why::Write`] without a place: the target returned an error. A prefix of the output was written.
@@ -358,50 +388,59 @@ pub fn retag<R: Source, W: Target>(
     target: &mut W,
 ) -> Result<(), RetagFault>
     // Comments that are too long are refused before anything is read, and nothing else is refused so.
-    ensures long { 16777215 < comments_length comments.now → (result ≡ Err too_long) × (source.new ≡ source.old) × (target.new ≡ target.old) }
+    ensures long { 16777215 < comments_length comments.now
+        → (result ≡ Err too_long) × (source.new ≡ source.old) × (target.new ≡ target.old) }
     ensures short { result ≡ Err too_long → 16777215 < comments_length comments.now }
     // Ok only if the input begins with a marker and blocks; what was written is exactly these with the comments, and
     // the rest.
     ensures written { OnOk result (R.known source.old ≡ true → W.known target.old ≡ true
-        → Retags (beginning (short_of ((R.behind source.old).fails))) (bits_of (R.coming source.old)) comments.now (bits_of (W.sent target.old)) (bits_of (W.sent target.new))) }
+        → SendsRetagged W.Target (source_start R.Source source.old) comments.now target.old target.new) }
     // That is so for each way in which the input begins.
     ensures exact { OnOk result (R.known source.old ≡ true → W.known target.old ≡ true
-        → (info : Info) (list : List Block) (rest : List Bool) → BeginsWith (beginning (short_of ((R.behind source.old).fails))) (bits_of (R.coming source.old)) info list rest
+        → (info : Info) (list : List Block) (rest : List Bool)
+        → BeginsWith (start_mark (R.behind source.old)) (bits_of (R.coming source.old)) info list rest
         → bits_of (W.sent target.new) ≡ bits_of (W.sent target.old) ++ retagged comments.now info list rest) }
     // Refused only as the marker and the blocks are, at that place and for that reason.
-    ensures refused { IfErr result (λ f. IfSome f.at (λ at. R.known source.old ≡ true → R.errors source.new ≡ R.errors source.old → R.raised source.new ≡ R.raised source.old → f.why ≢ Why.Memory
-        → IsRefused (beginning (short_of ((R.behind source.old).fails))) (bits_of (R.coming source.old)) at f.why)) }
+    ensures refused { IfErr result (λ f. IfSome f.at (λ at. IfCalm R.Source source.old source.new
+        (f.why ≢ Why.Memory → IsRefusedAt (source_start R.Source source.old) at f.why))) }
     // So is an error of the source that is foretold: before the frames it is at the item in which the bytes end.
-    ensures foretold { IfErr result (λ f. IfSome f.at (λ at. is_before_frames at ≡ true → R.known source.old ≡ true → R.errors source.new ≡ R.errors source.old → f.why ≢ Why.Memory
-        → IsRefused (beginning (short_of ((R.behind source.old).fails))) (bits_of (R.coming source.old)) at f.why)) }
+    ensures foretold { IfErr result (λ f. IfSome f.at (λ at. is_before_frames at ≡ true
+        → R.known source.old ≡ true → R.errors source.new ≡ R.errors source.old
+        → f.why ≢ Why.Memory → IsRefusedAt (source_start R.Source source.old) at f.why)) }
     // Each place, also that of an error of the source or of an allocation, is that of the item after some with which
     // the input begins.
-    ensures placed { IfErr result (λ f. IfSome f.at (λ at. R.known source.old ≡ true → BreaksAt (beginning (short_of ((R.behind source.old).fails))) (bits_of (R.coming source.old)) at)) }
+    ensures placed { IfErr result (λ f. IfSome f.at (λ at. R.known source.old ≡ true
+        → IsPlaceAt (source_start R.Source source.old) at)) }
+    // No allocation fails at the marker, whatever is known of the source: none is needed there.
+    ensures memory { IfErr result (λ f. f.why ≡ Why.Memory → f.at ≢ Some Place.Marker) }
     // After the blocks only an error of the source or of an allocation is returned: no block that was read is refused
     // in writing.
-    ensures behind { IfErr result (λ f. IfSome f.at (λ at. R.known source.old ≡ true → (is_before_frames at ≡ true) ⊎ ((f ≡ not_read) ⊎ (f ≡ no_memory)))) }
+    ensures behind { IfErr result (λ f. IfSome f.at (λ at. R.known source.old ≡ true → IsBeforeOrOutside f at)) }
     // An input that begins with a marker and blocks is refused only for the comments, the target and memory.
-    ensures accepted { IfErr result (λ f. f ≢ too_long → R.known source.old ≡ true → R.errors source.new ≡ R.errors source.old → R.raised source.new ≡ R.raised source.old → f.why ≢ Why.Memory
-        → HasHead (beginning (short_of ((R.behind source.old).fails))) (bits_of (R.coming source.old)) → f ≡ not_written) }
+    ensures accepted { IfErr result (λ f. f ≢ too_long → IfCalm R.Source source.old source.new
+        (f.why ≢ Why.Memory → HasHeadAt (source_start R.Source source.old) → f ≡ not_written)) }
     // An input of which the marker or a block is to be refused is refused exactly so.
-    ensures shown { comments_length comments.now ≤ 16777215 → (at : Place) (why : Why) → IsRefused (beginning (short_of ((R.behind source.old).fails))) (bits_of (R.coming source.old)) at why
-        → R.known source.old ≡ true → R.errors source.new ≡ R.errors source.old → R.raised source.new ≡ R.raised source.old
-        → IsErrAnd result (λ f. f.why ≢ Why.Memory → f ≡ record { at = Some at; why = why }) }
+    ensures shown { comments_length comments.now ≤ 16777215
+        → (at : Place) (why : Why) → IsRefusedAt (source_start R.Source source.old) at why
+        → IfCalm R.Source source.old source.new
+        (IsErrAnd result (λ f. f.why ≢ Why.Memory → f ≡ record { at = Some at; why = why })) }
     // At any error but that of a device after the blocks, nothing was written.
     ensures nothing { IfErr result (λ f. f ≢ not_read → f ≢ not_written → target.new ≡ target.old) }
     // If a device failed after the blocks, a prefix of the output was written.
-    ensures begun { IfErr result (λ f. (f ≡ not_read) ⊎ (f ≡ not_written) → R.known source.old ≡ true → W.known target.old ≡ true
-        → BeginsRetagging (beginning (short_of ((R.behind source.old).fails))) (bits_of (R.coming source.old)) comments.now (bits_of (W.sent target.old)) (bits_of (W.sent target.new))) }
+    ensures begun { IfErr result (λ f. IsOfDevice f → R.known source.old ≡ true → W.known target.old ≡ true
+        → SendsPrefix W.Target (source_start R.Source source.old) comments.now target.old target.new) }
     // An error of the source is reported after the blocks only when the new blocks were written whole: the target's
     // bytes say so, and which prefix of the rest was copied.
     ensures copied { IfErr result (λ f. f ≡ not_read → R.known source.old ≡ true → W.known target.old ≡ true
-        → CopiesPart (beginning (short_of ((R.behind source.old).fails))) (bits_of (R.coming source.old)) comments.now (bits_of (W.sent target.old)) (bits_of (W.sent target.new))) }
+        → SendsHeadAndPart W.Target (source_start R.Source source.old) comments.now target.old target.new) }
     // Only faults of the comments and of the target have no place. A device's error that is returned is counted.
     ensures placeless { IfErr result (λ f. f.at ≡ None → (f ≡ too_long) ⊎ (f ≡ not_written)) }
     // So an error of a target is never at a place, and none is of a sink.
     ensures output { IfErr result (λ f. IfSome f.at (λ _. of_output f.why ≡ false)) }
-    ensures read { IfErr result (λ f. f.why ≡ Why.Read → R.known source.old ≡ true → R.raised source.old < R.raised source.new) }
-    ensures write { IfErr result (λ f. f ≡ not_written → W.known target.old ≡ true → W.errors target.old < W.errors target.new) }
+    ensures read { IfErr result (λ f. f.why ≡ Why.Read
+        → R.known source.old ≡ true → R.raised source.old < R.raised source.new) }
+    ensures write { IfErr result (λ f. f ≡ not_written
+        → W.known target.old ≡ true → W.errors target.old < W.errors target.new) }
     // An error of a device is counted, if the count can rise, whatever is known of it.
     ensures read_risen { IfErr result (λ f. f.why ≡ Why.Read → Rises (R.raised source.old) (R.raised source.new)) }
     ensures write_risen { IfErr result (λ f. f ≡ not_written → Rises (W.errors target.old) (W.errors target.new)) }

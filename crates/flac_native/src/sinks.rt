@@ -3,11 +3,11 @@
 ghost use Rattle.std.specs.Prelude.{◌≡◌, ◌≤◌, ◌<◌, ◌+◌, ◌++◌, ◌∷◌, min, nat_lt, true, OnOk, OnErr};
 ghost use Rattle.flac_bits.specs.Bits.{bit_value};
 ghost use Rattle.flac_frame.specs.Lent.{frame_of};
-ghost use Rattle.flac_native.specs.Message.{rows_bytes};
+ghost use Rattle.flac_native.specs.Message.{frame_rows};
 ghost use Rattle.flac_native.specs.Samples.{width_of, depth_behind, samples_in};
 
 use crate::decoding::{Sink, SinkFault};
-use crate::digest::{put_rows, sample_width};
+use crate::sample_bytes::{put_rows, sample_width};
 use flac_bits::{Target, Why, send_all};
 use flac_frame::FrameView;
 use flac_meta::Block;
@@ -65,7 +65,8 @@ impl Failures {
 fn send_frame<W: Target>(frame: &FrameView<'_>, width: usize, target: &mut W) -> Result<(), Why>
     requires { width ≤ 4 }
     ensures known { OnOk result (W.known target.old ≡ true → W.known target.new ≡ true) }
-    ensures sent { OnOk result (W.known target.old ≡ true → W.sent target.new ≡ W.sent target.old ++ rows_bytes width (frame_of frame.now).channels (frame_of frame.now).size 0) }
+    ensures sent { OnOk result (W.known target.old ≡ true
+        → W.sent target.new ≡ W.sent target.old ++ frame_rows width (frame_of frame.now)) }
     ensures names { W.names target.new ≡ W.names target.old }
     ensures counted { OnOk result (W.errors target.new ≡ W.errors target.old) }
     ensures kept { W.errors target.old ≤ W.errors target.new }
@@ -134,8 +135,10 @@ impl<W: Target> SampleWriter<W> {
         ensures count { result ≡ self.now.failures.count }
         // Each time is an error of the target, which has returned none if there were none.
         ensures kept { W.errors self.now.began.value ≤ W.errors self.now.target }
-        ensures known { W.known self.now.began.value ≡ true → self.now.failures.count ≡ 0 → W.known self.now.target ≡ true }
-        ensures failed { W.known self.now.began.value ≡ true → 0 < self.now.failures.count → W.errors self.now.began.value < W.errors self.now.target }
+        ensures known { W.known self.now.began.value ≡ true → self.now.failures.count ≡ 0
+            → W.known self.now.target ≡ true }
+        ensures failed { W.known self.now.began.value ≡ true → 0 < self.now.failures.count
+            → W.errors self.now.began.value < W.errors self.now.target }
     {
         self.failures.count()
     }

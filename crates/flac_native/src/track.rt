@@ -1,27 +1,26 @@
 //! The state of a stream between its parts, and what is compared at its end.
 
-ghost use Rattle.std.specs.Prelude.{◌≡◌, ◌≢◌, ◌≤◌, ◌+◌, cond, OnOk, OnErr, IfOk, IfErr, Err, Some, is_some, true, ⊤, ℕ, List, [], min, false};
+ghost use Rattle.std.specs.Prelude.{◌≡◌, ◌≢◌, OnOk, IfOk, IfErr, Err, Some, is_some, true, ⊤, ℕ, List, [], min, false};
 ghost use Rattle.std.specs.Borrow.{sem, follows_so};
 ghost use mathlib.Core.Option.{none};
-ghost use Rattle.flac_bits.specs.Reading.{ReadsInRoom, Call, CallInPlace, MeansInRoom};
+ghost use Rattle.flac_bits.specs.Reading.{ReadsInRoom, Call, MeansInRoom};
 ghost use Rattle.flac_bits.specs.Reasons.{of_output};
-ghost use Rattle.flac_bits.specs.Fencing.{lifted};
-ghost use Rattle.flac_bits.specs.Within.{ReadsWithin, MeansWithin};
-ghost use Rattle.flac_meta.specs.Block.{block as block_layout, seen_after};
+ghost use Rattle.flac_meta.specs.Block.{block as block_layout};
 ghost use Rattle.flac_native.specs.Resuming.{at_frames};
 ghost use Rattle.flac_frame.specs.Lent.{frame_of};
-ghost use Rattle.flac_native.specs.Stream.{Progress, marked, block as block_piece, framed, phase_behind, raised, info_after, before_behind, frame_behind, place_in, next, opening, layout_in, is_unknown, end_rules};
-ghost use Rattle.flac_native.specs.Track.{IsAt, stand_of, is_behind_blocks, profile_in, info_in, before_in, shown, kept};
+ghost use Rattle.flac_native.specs.Stream.{Progress, marked, block as block_piece, framed, info_after, before_behind, frame_behind, place_in, next, opening, layout_in, is_unknown, end_rules};
+ghost use Rattle.flac_native.specs.Track.{IsAt, ReadsPart, MeansFrame, ReadsFrame, stand_of, is_behind_blocks, profile_in, info_in, before_in, shown, kept};
 ghost use Rattle.flac_native.specs.declared.track.Phase.TheVariants.{Blocks};
 ghost use Rattle.flac_native.specs.contracts.track.Track.{the_row};
 ghost use Rattle.std.specs.Str.{bytes_eq};
 ghost use Rattle.flac_native.specs.Ends.{EndsBy};
 ghost use Rattle.md5.specs.Md5.{Holds};
 
-use crate::digest::{feed, sample_width};
+use crate::digest::feed;
 use crate::fault::Place;
 use crate::format::Format;
 use crate::position::Position;
+use crate::sample_bytes::sample_width;
 use flac_bits::{BitReader, Source, Why};
 use flac_frame::FrameView;
 use flac_header::Profile;
@@ -130,7 +129,8 @@ impl Track {
     /// Makes the buffers for frames if a block is STREAMINFO. Its only error is `Memory`: an allocation failed.
     fn prepare(&mut self, block: &Block) -> Result<(), Why>
         ensures position { self.new.position ≡ self.old.position }
-        ensures profile { OnOk result (profile_in self.new.profile self.new.format ≡ profile_in self.old.profile self.old.format) }
+        ensures profile { OnOk result (profile_in self.new.profile self.new.format
+            ≡ profile_in self.old.profile self.old.format) }
         ensures info { OnOk result (info_in self.new.format ≡ info_after (info_in self.old.format) block.now) }
         ensures before { OnOk result (before_in self.new.format ≡ before_behind (before_in self.old.format) block.now) }
         ensures samples { self.new.samples ≡ self.old.samples }
@@ -152,8 +152,9 @@ impl Track {
     /// Those of [`flac_meta::read_block`], which depend on the blocks that this track read before; [`Why::Memory`] also
     /// if the allocation for a frame fails. The track must not be used to read on then.
     pub fn block<R: Source>(&mut self, bits: &mut BitReader<R>) -> Result<(bool, Block), Why>
-        ensures reading { Call 32 (MeansInRoom (λ x. x) (block_layout (stand_of self.old).seen)) bits.old bits.new result }
-        ensures next { IfOk result (λ x. (p : Progress) → IsAt self.old p → IsAt self.new (next p (block_piece x.0 x.1))) }
+        ensures reading { Call 32 (MeansInRoom (λ x. x) (block_layout (stand_of self.old).seen))
+            bits.old bits.new result }
+        ensures next { IfOk result (λ x. ReadsPart self.old (block_piece x.0 x.1) self.new) }
         // The block that Track::next_block keeps does not change.
         ensures last { self.new.last ≡ self.old.last }
         ensures kept { self.new.block ≡ self.old.block }
@@ -163,8 +164,9 @@ impl Track {
 
     /// What [`Track::block`] does, proved by the reading of the layout.
     fn block_here<R: Source>(&mut self, bits: &mut BitReader<R>) -> Result<(bool, Block), Why>
-        ensures reading { Call 32 (ReadsInRoom (λ x. x) (block_layout (stand_of self.old).seen)) bits.old bits.new result }
-        ensures next { IfOk result (λ x. (p : Progress) → IsAt self.old p → IsAt self.new (next p (block_piece x.0 x.1))) }
+        ensures reading { Call 32 (ReadsInRoom (λ x. x) (block_layout (stand_of self.old).seen))
+            bits.old bits.new result }
+        ensures next { IfOk result (λ x. ReadsPart self.old (block_piece x.0 x.1) self.new) }
         ensures last { self.new.last ≡ self.old.last }
         ensures kept { self.new.block ≡ self.old.block }
     {
@@ -184,8 +186,9 @@ impl Track {
     /// # Errors
     /// Those of [`Track::block`].
     pub fn next_block<R: Source>(&mut self, bits: &mut BitReader<R>) -> Result<(), Why>
-        ensures reading { Call 32 (MeansInRoom (λ _. kept self.new) (layout_in Blocks (stand_of self.old))) bits.old bits.new result }
-        ensures next { OnOk result ((p : Progress) → IsAt self.old p → IsAt self.new (next p (kept self.new))) }
+        ensures reading { Call 32 (MeansInRoom (λ _. kept self.new) (layout_in Blocks (stand_of self.old)))
+            bits.old bits.new result }
+        ensures next { OnOk result (ReadsPart self.old (kept self.new) self.new) }
         ensures made { OnOk result (is_some self.new.block ≡ true) }
     {
         self.next_block_here(bits)
@@ -193,8 +196,9 @@ impl Track {
 
     /// What [`Track::next_block`] does, proved by the reading of the layout.
     pub(crate) fn next_block_here<R: Source>(&mut self, bits: &mut BitReader<R>) -> Result<(), Why>
-        ensures reading { Call 32 (ReadsInRoom (λ _. kept self.new) (layout_in Blocks (stand_of self.old))) bits.old bits.new result }
-        ensures next { OnOk result ((p : Progress) → IsAt self.old p → IsAt self.new (next p (kept self.new))) }
+        ensures reading { Call 32 (ReadsInRoom (λ _. kept self.new) (layout_in Blocks (stand_of self.old)))
+            bits.old bits.new result }
+        ensures next { OnOk result (ReadsPart self.old (kept self.new) self.new) }
         ensures made { OnOk result (is_some self.new.block ≡ true) }
     {
         self.block = None; // so that only one block is held
@@ -213,8 +217,8 @@ impl Track {
     /// [`Why::NotStreamInfoFirst`] if no STREAMINFO was read. Never [`Why::Memory`]. The track must not be used to read
     /// on then.
     pub fn next_frame<R: Source>(&mut self, bits: &mut BitReader<R>) -> Result<(), Why>
-        ensures reading { CallInPlace 40 (λ _. MeansWithin (Some 16777215) (λ _. shown self.new) (frame_behind (stand_of self.old).profile (stand_of self.old).info (stand_of self.old).before) bits.old) (lifted bits.old) bits.new result }
-        ensures next { OnOk result ((p : Progress) → IsAt self.old p → IsAt self.new (next p (framed (shown self.new)))) }
+        ensures reading { MeansFrame (λ _. shown self.new) (stand_of self.old) bits.old bits.new result }
+        ensures next { OnOk result (ReadsPart self.old (framed (shown self.new)) self.new) }
         ensures phase { OnOk result ((stand_of self.new).phase ≡ (stand_of self.old).phase) }
         ensures made { OnOk result (is_some (stand_of self.new).info ≡ true) }
         // The block that Track::next_block keeps does not change.
@@ -227,8 +231,8 @@ impl Track {
     /// What [`Track::next_frame`] does, proved by the reading of the layout.
     #[tactic(auto, unfolding(crate::specs::Stream::frame_behind))]
     pub(crate) fn next_frame_here<R: Source>(&mut self, bits: &mut BitReader<R>) -> Result<(), Why>
-        ensures reading { CallInPlace 40 (λ _. ReadsWithin (Some 16777215) (λ _. shown self.new) (frame_behind (stand_of self.old).profile (stand_of self.old).info (stand_of self.old).before) bits.old) (lifted bits.old) bits.new result }
-        ensures next { OnOk result ((p : Progress) → IsAt self.old p → IsAt self.new (next p (framed (shown self.new)))) }
+        ensures reading { ReadsFrame (λ _. shown self.new) (stand_of self.old) bits.old bits.new result }
+        ensures next { OnOk result (ReadsPart self.old (framed (shown self.new)) self.new) }
         ensures phase { OnOk result ((stand_of self.new).phase ≡ (stand_of self.old).phase) }
         ensures made { OnOk result (is_some (stand_of self.new).info ≡ true) }
         ensures last { self.new.last ≡ self.old.last }
@@ -263,9 +267,9 @@ impl Track {
     /// # Errors
     /// Those of [`Track::next_frame`].
     pub fn frame<R: Source>(&mut self, bits: &mut BitReader<R>) -> Result<FrameView<'_>, Why>
-        ensures reading { CallInPlace 40 (λ _. MeansWithin (Some 16777215) frame_of (frame_behind (stand_of self.old).profile (stand_of self.old).info (stand_of self.old).before) bits.old) (lifted bits.old) bits.new result }
+        ensures reading { MeansFrame frame_of (stand_of self.old) bits.old bits.new result }
         ensures* after { sem 𝓛 (follows_so the_row the_row self.entry.ghost_name none (λ _ _. ⊤)
-            (λ last. IfOk result (λ v. (p : Progress) → IsAt self.old p → IsAt last (next p (framed (frame_of v)))))) }
+            (λ last. IfOk result (λ v. ReadsPart self.old (framed (frame_of v)) last))) }
     {
         self.next_frame(bits)?;
         Ok(self.view())
@@ -328,7 +332,8 @@ fn same_bytes(one: &[u8], other: &[u8]) -> bool
 /// Compares the number of samples and the digest with what STREAMINFO states.
 #[tactic(auto, unfolding(crate::specs::Stream::end_rules))]
 fn judge(info: &StreamInfo, samples: u64, hasher: Md5) -> Result<(), Why>
-    ensures judged { (count : ℕ) (message : List ℕ) → samples ≡ min count 18446744073709551615 → Holds hasher message → EndsBy (end_rules (Some info.now) count message) result }
+    ensures judged { (count : ℕ) (message : List ℕ) → samples ≡ min count 18446744073709551615 → Holds hasher message
+        → EndsBy (end_rules (Some info.now) count message) result }
     ensures quiet { IfErr result (λ e. e ≢ Why.Read) }
     ensures memory { IfErr result (λ e. e ≢ Why.Memory) }
     ensures output { IfErr result (λ e. of_output e ≡ false) }

@@ -5,9 +5,9 @@ use Rattle.std.proofs.lemmas.List.{append_assoc, append-nil, map-append}
 use Rattle.std.proofs.lemmas.List.Elements.{All-nil, All-cons, All-head, All-tail, All-append, All-map}
 use Rattle.flac_header.specs.declared.subset.Profile.{Profile}
 use Rattle.flac_header.specs.declared.subset.Profile.TheVariants.{Subset, Lax}
-use Rattle.flac_subframe.specs.declared.linear.LinearPredictor.{LinearPredictor}
-use Rattle.flac_subframe.specs.Bodies.{Chooses, order_of}
-use Rattle.flac_subframe.specs.Handed.{coefficients_in, predictor_of, AreWithin}
+use Rattle.flac_subframe.specs.declared.format.linear.LinearPredictor.{LinearPredictor}
+use Rattle.flac_subframe.specs.format.Bodies.{Chooses, order_of}
+use Rattle.flac_subframe.specs.format.Handed.{coefficients_in, predictor_of, AreWithin}
 use Rattle.flac_frame.specs.Frame.{limits_at}
 use Rattle.flac_predict.specs.Found.{IsPrefixOf, Extends, blocks_of}
 

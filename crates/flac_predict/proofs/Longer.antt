@@ -1,10 +1,10 @@
 -- More predictors make no shortest frame longer.
 use Rattle.std.proofs.Common.{◌≡◌, inl, inr, sym, subst, ℕ, ℤ, List, [], ◌∷◌, ◌++◌}
-use Rattle.flac_subframe.specs.declared.linear.LinearPredictor.{LinearPredictor}
-use Rattle.flac_subframe.specs.Bodies.{Chooses, Among, Body, constant, verbatim, predicted, StandsFor}
-use Rattle.flac_subframe.specs.Chosen.{fixed_below, offered}
-use Rattle.flac_subframe.specs.Family.{Stands}
-use Rattle.flac_subframe.specs.Subframe.{Form}
+use Rattle.flac_subframe.specs.declared.format.linear.LinearPredictor.{LinearPredictor}
+use Rattle.flac_subframe.specs.format.Bodies.{Chooses, Among, Body, constant, verbatim, predicted, StandsFor}
+use Rattle.flac_subframe.specs.format.Chosen.{fixed_below, offered}
+use Rattle.flac_subframe.specs.format.Family.{Stands}
+use Rattle.flac_subframe.specs.format.Subframe.{Form}
 use Rattle.flac_frame.specs.Audio.{Sound}
 use Rattle.flac_frame.specs.Encoding.{partition_limit, EachStands, IsOfWidened}
 use Rattle.flac_frame.specs.Spelling.{FrameForm}

@@ -1,8 +1,8 @@
 -- What is found for the blocks of some samples.
 use Rattle.std.specs.Prelude.{ℕ, ℤ, ◌≡◌, ◌≤◌, ◌+◌, ◌-◌, ◌/◌, List, ◌++◌, length, map}
-use Rattle.flac_subframe.specs.declared.linear.LinearPredictor.{LinearPredictor}
-use Rattle.flac_subframe.specs.Bodies.{Chooses}
-use Rattle.flac_subframe.specs.Handed.{predictor_of, AreWithin}
+use Rattle.flac_subframe.specs.declared.format.linear.LinearPredictor.{LinearPredictor}
+use Rattle.flac_subframe.specs.format.Bodies.{Chooses}
+use Rattle.flac_subframe.specs.format.Handed.{predictor_of, AreWithin}
 use Rattle.flac_frame.specs.Audio.{Sound}
 use Rattle.flac_frame.specs.Encoding.{IsLeastWith}
 use Rattle.flac_frame.specs.Spelling.{FrameForm, frame_spelling}

@@ -1,7 +1,7 @@
 -- What predictors that are found for each block do to the length of a stream.
 use Rattle.std.specs.Prelude.{◌≤◌, Bool, List, [], length, All}
 use Rattle.flac_meta.specs.declared.block.Block.{Block}
-use Rattle.flac_subframe.specs.declared.linear.LinearPredictor.{LinearPredictor}
+use Rattle.flac_subframe.specs.declared.format.linear.LinearPredictor.{LinearPredictor}
 use Rattle.flac_frame.specs.Audio.{Sound}
 use Rattle.flac_native.specs.Given.{Cut, with_found}
 use Rattle.flac_native.specs.Writing.{Encodes}

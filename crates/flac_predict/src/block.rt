@@ -2,7 +2,7 @@
 
 ghost use Rattle.std.specs.Prelude.{◌≡◌, ◌≤◌, ◌<◌, ◌+◌, length, IfSome, IfErr};
 ghost use Rattle.flac_predict.specs.Found.{Extends};
-ghost use Rattle.flac_subframe.specs.Handed.{coefficients_in};
+ghost use Rattle.flac_subframe.specs.format.Handed.{coefficients_in};
 
 use crate::correlate::autocorrelation;
 use crate::levinson::{Solutions, levinson_durbin};

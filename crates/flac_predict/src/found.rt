@@ -4,7 +4,7 @@ ghost use Rattle.std.specs.Prelude.{◌≡◌, ◌≤◌, ◌<◌, ◌+◌, leng
 ghost use Rattle.flac_frame.specs.Audio.{samples_each};
 ghost use Rattle.flac_frame.specs.Frame.{limits_at};
 ghost use Rattle.flac_predict.specs.Found.{IsPrefixOf, blocks_of};
-ghost use Rattle.flac_subframe.specs.Handed.{AreWithin, predictor_of};
+ghost use Rattle.flac_subframe.specs.format.Handed.{AreWithin, predictor_of};
 
 use crate::finder::Finder;
 use crate::search::Search;

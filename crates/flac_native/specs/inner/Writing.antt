@@ -1,7 +1,6 @@
 -- For proofs of encoding: what was written or sent so far.
-use Rattle.std.specs.Prelude.{ℤ, ◌≡◌, ℕ, ◌<◌, ◌≤◌, Bool, true, List, ◌++◌, length, Result, OnOk, OnErr, IfErr}
+use Rattle.std.specs.Prelude.{ℤ, ◌≡◌, ℕ, ◌<◌, Bool, true, cond, nat_lt, List, [], ◌∷◌, ◌++◌, length, Result, OnOk, IfErr}
 use Rattle.flac_bits.specs.Bits.{bits_of}
-use Rattle.flac_bits.specs.State.{Rises}
 use Rattle.flac_bits.specs.Written.{Written, Fails, Writes}
 use Rattle.flac_bits.specs.declared.why.Why.{Why}
 use Rattle.flac_bits.specs.declared.target.Target as target
@@ -9,12 +8,15 @@ use Rattle.flac_bits.specs.Forms.{joined}
 use Rattle.flac_header.specs.Spelling.{restarted}
 use Rattle.flac_frame.specs.Audio.{Sound, samples_each}
 use Rattle.flac_frame.specs.Spelling.{FrameForm, frame_spelling}
-use Rattle.flac_subframe.specs.Room.{Room}
-use Rattle.flac_subframe.specs.declared.linear.LinearPredictor.{LinearPredictor}
+use Rattle.flac_subframe.specs.search.Room.{Room}
+use Rattle.flac_subframe.specs.declared.format.linear.LinearPredictor.{LinearPredictor}
 use Rattle.flac_frame.specs.Chosen.{IsChoiceWith}
 use Rattle.flac_frame.specs.declared.frame_choice.FrameChoice.{FrameChoice}
-use Rattle.flac_native.specs.Given.{Cut, fits_plan, blocks_in, room_of}
-use Rattle.flac_native.specs.Writing.{AreFrames, AreLeastFrames, AreChoices, IsSpelled}
+use Rattle.flac_meta.specs.declared.block.Block.{Block}
+use Rattle.flac_native.specs.Given.{Cut, fits_plan, blocks_in, room_of, info_of}
+use Rattle.flac_native.specs.Seeking.{table_of}
+use Rattle.flac_native.specs.Writing.{AreFrames, AreLeastFrames, AreChoices, IsSpelled, head_spelling}
+use Rattle.flac_native.specs.declared.chosen_frames.ChosenFrames.{ChosenFrames}
 use Rattle.flac_native.specs.Sent.{SendsBits}
 
 -- These bits were written and sent, at a whole byte, or else the target failed.
@@ -56,11 +58,19 @@ pub record IsKept (c kept : FrameChoice) : Type 0 where
   pub same : (ps : List LinearPredictor) (a : Sound) (size number : ℕ) (block : List (List ℤ)) → IsChoiceWith ps a size number block c → IsChoiceWith ps a size number block kept
   pub many : length kept.subframes.items ≡ length c.subframes.items
 
+-- a choice was kept after these, if they were fewer than `most`
+abbrev pub KeepsUpTo : (most : ℕ) → FrameChoice → (old new : List FrameChoice) → Type 0
+KeepsUpTo most c old new = (kept : FrameChoice) × IsKept c kept × (new ≡ cond (nat_lt (length old) most) (old ++ kept ∷ []) old)
+
 -- each block of the samples has a shortest frame
 pub record HaveFrames (p : Cut) (a : Sound) : Type 0 where
   pub frames : List (List Bool)
   pub are : AreFrames p a frames
   pub are_least : AreLeastFrames p a frames
+
+-- what comes before the frames that were chosen: STREAMINFO with their sizes, the blocks, and the seek table
+abbrev pub chosen_head : Cut → List Block → Sound → ChosenFrames → List Bool
+chosen_head p list a frames = head_spelling (info_of p a frames.least frames.greatest) (list ++ table_of frames.points.items)
 
 -- all frames of the samples were written, each the shortest of its block
 abbrev pub WritesFrames : {X : Type 0} → Cut → Sound → Written → Written → Result X Why → Type 0

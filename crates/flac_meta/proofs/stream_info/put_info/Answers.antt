@@ -1,4 +1,4 @@
-use Rattle.std.proofs.Common.{◌++◌, [], refl}
+use Rattle.std.proofs.Common.{◌++◌, []}
 use Rattle.std.proofs.lemmas.Result.{err_from_is_err_and}
 use Rattle.flac_bits.specs.Bits.{bits_of}
 use Rattle.flac_bits.proofs.Writing.{towards_start, towards_more, towards_fail}

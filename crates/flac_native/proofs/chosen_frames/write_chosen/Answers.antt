@@ -1,9 +1,7 @@
 use Rattle.std.proofs.Common.{◌-◌, subst, sym, ap, arith, Err}
 use Rattle.flac_frame.specs.Chosen.{IsChoiceWith}
 use Rattle.flac_frame.specs.Encoding.{block_of}
-use Rattle.flac_frame.specs.Frame.{limits_at}
-use Rattle.flac_subframe.specs.Handed.{AreWithin}
-use Rattle.flac_subframe.specs.Room.{Room}
+use Rattle.flac_subframe.specs.search.Room.{Room}
 use Rattle.flac_native.proofs.Planned.{fit, orders_at, partition_of}
 use Rattle.flac_native.proofs.Gathered.{choice_back}
 use Rattle.flac_native.proofs.Spelled.{chosen_of, came_out}

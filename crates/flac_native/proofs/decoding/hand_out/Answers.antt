@@ -1,10 +1,10 @@
-use Rattle.std.proofs.Common.{◌≡◌, ◌∙◌, refl, sym, ap, subst, Some, None}
+use Rattle.std.proofs.Common.{◌≡◌, ◌∙◌, refl, sym, ap, subst, inl, inr, Some, None, [], ◌∷◌, ◌++◌}
 use Rattle.std.proofs.lemmas.Result.{err_from_is_err_and}
-use Rattle.flac_bits.proofs.Handing.{TakesAll-append}
+use Rattle.flac_bits.proofs.Handing.{TakesAll-append, after-append}
 use Rattle.flac_bits.proofs.Counting.{none_of_output}
 use Rattle.flac_bits.specs.State.{without_fence}
 use Rattle.flac_native.specs.Track.{piece_of}
-use Rattle.flac_native.specs.Stream.{Progress, Stand, place_in}
+use Rattle.flac_native.specs.Stream.{Progress, Stand, grammar, next, place_in}
 use Rattle.flac_native.specs.Giving.{BreaksBehind}
 use Rattle.flac_native.specs.Decoding.{taken}
 use Rattle.flac_bits.specs.declared.why.Why.{Why}
@@ -19,6 +19,9 @@ sink_no_read w e f = absurd cc
 
 sink_no_write : (w : Why) → w ≡ why.Sink → w ≡ why.Write → ⊥
 sink_no_write w e f = absurd cc
+
+sink_no_memory : (w : Why) → w ≡ why.Sink → w ≡ why.Memory → ⊥
+sink_no_memory w e f = absurd cc
 
 pub returns-in-Ok-None : goal.returns-in-Ok-None
 returns-in-Ok-None g c =
@@ -37,6 +40,7 @@ returns-in-Ok-None g c =
       risen = tt;
       sink = tt;
       write = tt;
+      broken = λ p at. tt;
       behind = λ known same. step.behind (inv.knows known) step.counts.1 ∙ inv.behind known;
       names = inv.names;
       container_names = step.names ∙ inv.container_names;
@@ -59,6 +63,7 @@ returns-in-Err g c =
       risen = λ is. rises_at _ _ _ inv.met (e.risen is);
       sink = λ is. absurd (none_of_output e.output refl is);
       write = λ is. none_of_output e.output refl is;
+      broken = λ p at out. let there = inv.reached p at in (there.0, e.broken there.0 there.1 out, there.2);
       behind = λ known same. e.behind (inv.knows known) (same ∙ sym inv.errors) ∙ inv.behind known;
       names = inv.names;
       container_names = e.names ∙ inv.container_names;
@@ -82,6 +87,7 @@ returns-in_err-hand_at g c =
       risen = λ is. absurd (sink_no_read _ e.failed.1 is);
       sink = λ is. rises_at _ _ _ inv.received e.risen;
       write = λ is. absurd (sink_no_write _ e.failed.1 is);
+      broken = λ p at out. absurd (elim out [ inl is ↦ sink_no_read _ e.failed.1 is | inr is ↦ sink_no_memory _ e.failed.1 is ]);
       behind = λ known same. step.behind (inv.knows known) step.counts.1 ∙ inv.behind known;
       names = c.hand_at.ensures.names ∙ inv.names;
       container_names = step.names ∙ inv.container_names;
@@ -95,6 +101,18 @@ loop-part-preserved g c =
     let inv = c.loop-part.invariant in
     record {
       stands = step.stands;
+      reached = λ p at.
+          let there = inv.reached p at in
+          let x = piece_of c.next.new.track c.in-Ok-Some.part in (
+            next there.0 x,
+            step.next there.0 there.1,
+            λ receives.
+                let parts = there.2 receives in (
+                  parts.0 ++ x ∷ [],
+                  TakesAll-append (taken g.S.Sink.takes) c.args.sink.now parts.0 c.loop-part.sink x c.hand_at.new.sink parts.1 (took.takes (inv.known receives)),
+                  ap (λ (s : Progress). next s x) parts.2 ∙ sym (after-append grammar p parts.0 x),
+                ),
+          );
       knows = λ known. step.counts.0 (inv.knows known);
       errors = step.counts.1 ∙ inv.errors;
       raised = step.counts.2 ∙ inv.raised;

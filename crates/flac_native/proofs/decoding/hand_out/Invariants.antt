@@ -1,7 +1,9 @@
 use Rattle.std.proofs.Common.{◌≡◌, true, List, Option}
+use Rattle.flac_bits.specs.Handing.{TakesAll}
+use Rattle.flac_bits.specs.Items.{after}
 use Rattle.flac_bits.specs.State.{without_fence}
 use Rattle.flac_bits.specs.declared.why.Why.{Why}
-use Rattle.flac_native.specs.Stream.{Piece, Progress}
+use Rattle.flac_native.specs.Stream.{Piece, Progress, grammar}
 use Rattle.flac_native.specs.Track.{IsAt, stand_of}
 use Rattle.flac_native.specs.Giving.{Gave}
 use Rattle.flac_native.specs.Decoding.{taken}
@@ -12,6 +14,8 @@ use Rattle.flac_native.proofs.decoding.hand_out.Given as goal
 abbrev pub invariant-loop-part : goal.invariant-loop-part
 invariant-loop-part g l = record {
   stands : g.C.Container.stands l.container (stand_of l.track) ≡ true;
+  reached : (p : Progress) → IsAt l.initial.track p → (q : Progress) × IsAt l.track q
+      × (g.S.Sink.known l.initial.sink ≡ true → (parts : List Piece) × TakesAll (taken g.S.Sink.takes) l.initial.sink parts l.sink × (q ≡ after grammar p parts));
   knows : g.C.Container.known l.initial.container ≡ true → g.C.Container.known l.container ≡ true;
   errors : g.C.Container.errors l.container ≡ g.C.Container.errors l.initial.container;
   raised : g.C.Container.raised l.container ≡ g.C.Container.raised l.initial.container;

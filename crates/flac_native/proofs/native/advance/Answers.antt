@@ -9,7 +9,8 @@ use Rattle.flac_native.specs.declared.track.Phase.{Phase}
 use Rattle.flac_native.specs.declared.track.Phase.TheVariants.{Frames}
 use Rattle.flac_native.specs.declared.track.Track.{Track}
 use Rattle.flac_native.proofs.Advancing.{over_here, refused_here, part_here, part_refused_here}
-use Rattle.flac_native.proofs.RetagFaults.{no_fewer}
+use Rattle.flac_native.proofs.Metadata.{at_the_marker}
+use Rattle.flac_native.proofs.RetagFaults.{no_fewer, read_memory}
 use Rattle.flac_native.proofs.SameStart.{less_at, most_at, rises_at}
 use Rattle.flac_native.proofs.native.advance.Goals as goal
 
@@ -94,7 +95,7 @@ returns-in-Err-read_part g c =
       spends = tt;
       counts = (most_at _ _ _ went.1 read.0, λ known same. read.1 (went.0 known) (same ∙ sym went.1) ∙ ap without_fence (went.3 known), λ known is. less_at _ _ _ went.2 (read.2 (went.0 known) is), read.3 ∙ went.4, λ is. rises_at _ _ _ went.2 (read.4 is), read.5);
       memory = part.memory;
-      broken = λ p at out. c.place-at.ensures ∙ ap (λ (s : Stand). place_in s.phase s.index) at.stand;
+      broken = λ p at out. (c.place-at.ensures ∙ ap (λ (s : Stand). place_in s.phase s.index) at.stand, λ is there. part.marker (at_the_marker _ _ (sym c.place-at.ensures ∙ there)) is);
       steps = λ p at known same quiet room.
           let over = ends.over known in
           part_refused_here c.args.track.now p (lifted c.args.reader.now).cursor (lifted c.ends_here.new.reader).cursor c.in-Ok-false.field-0 _ _ at c.in-Ok-false.field-0-test over.1 (lifted_same c.args.reader.now c.ends_here.new.reader over.0 (went.3 known))
@@ -105,4 +106,4 @@ returns-in-Err-read_part g c =
     }
 
 pub returns-in-Err-clause-broken : goal.returns-in-Err-clause-broken
-returns-in-Err-clause-broken g c = λ p at out. c.place-at.ensures ∙ ap (λ (s : Stand). place_in s.phase s.index) at.stand
+returns-in-Err-clause-broken g c = λ p at out. (c.place-at.ensures ∙ ap (λ (s : Stand). place_in s.phase s.index) at.stand, λ is. absurd (read_memory (sym c.in-Err.ensures.failed ∙ is)))

@@ -21,6 +21,9 @@ opening_frames e = absurd cc
 blocks_frames : phase.Blocks ≡ phase.Frames → ⊥
 blocks_frames e = absurd cc
 
+blocks_opening : phase.Blocks ≡ phase.Opening → ⊥
+blocks_opening e = absurd cc
+
 abbrev answer : {X : Type 0} → X → Result X Why
 answer x = Ok x
 
@@ -66,6 +69,7 @@ returns-in_err-read_marker-in-Opening g c =
       spends = tt;
       counts = e.counts;
       memory = λ is. absurd (opening_frames (sym c.in-Opening.is ∙ is));
+      marker = λ is. e.memory;
       reads = rw c.in-Opening.is (λ room known same. rw (e.reads known same) refl);
       made = tt;
       ordered = tt;
@@ -81,6 +85,7 @@ returns-in_ok-read_marker-in-Opening g c =
       spends = e.spends;
       counts = e.counts;
       memory = λ is. tt;
+      marker = λ is. tt;
       reads = rw c.in-Opening.is (λ room known same. rw (e.reads known same) refl);
       made = (c.in-Opening.is, refl);
       ordered = rw c.in-Opening.is refl;
@@ -97,6 +102,7 @@ returns-in_err-next_block_here-in-Blocks g c =
       spends = tt;
       counts = e.counts;
       memory = λ is. absurd (blocks_frames (sym c.in-Blocks.is ∙ is));
+      marker = λ is. absurd (blocks_opening (sym c.in-Blocks.is ∙ is));
       reads = rw c.in-Blocks.is (λ room. e.reads (λ is. room (same_why _ _ is)));
       made = tt;
       ordered = tt;
@@ -113,6 +119,7 @@ returns-in_ok-next_block_here-in-Blocks g c =
       spends = e.spends;
       counts = e.counts;
       memory = λ is. tt;
+      marker = λ is. tt;
       reads = rw c.in-Blocks.is (λ room. e.reads (λ is. absurd (answers _ _ is)));
       made = ok.made;
       ordered = rw c.in-Blocks.is refl;
@@ -129,6 +136,7 @@ returns-in_err-next_frame_here-in-Frames g c =
       spends = tt;
       counts = e.counts;
       memory = λ is. e.memory;
+      marker = λ is. e.memory;
       reads = rw c.in-Frames.is (λ room known same.
           refused_within 16777215 (frame_behind (profile_in t.profile t.format) (info_in t.format) (before_in t.format)) framed
           (started (lifted c.args.reader.now)).cursor _ (e.reads known same));
@@ -147,6 +155,7 @@ returns-in_ok-next_frame_here-in-Frames g c =
       spends = frame_spends _ _ e.spends;
       counts = e.counts;
       memory = λ is. tt;
+      marker = λ is. tt;
       reads = rw c.in-Frames.is (λ room known same.
           given_within 16777215 (frame_behind (profile_in t.profile t.format) (info_in t.format) (before_in t.format)) framed
           (started (lifted c.args.reader.now)).cursor _ _ (e.reads known same));

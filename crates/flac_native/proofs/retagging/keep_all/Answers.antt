@@ -50,6 +50,9 @@ over q p at e = ap (λ (k : Position). is_behind_blocks k.phase) at ∙ e
 truncated_read : why.Truncated ≡ why.Read → ⊥
 truncated_read e = absurd cc
 
+truncated_memory : why.Truncated ≡ why.Memory → ⊥
+truncated_memory e = absurd cc
+
 pub returns : goal.returns
 returns g c =
     let inv = c.loop-alloc.invariant in
@@ -63,6 +66,7 @@ returns g c =
       refused = tt;
       placed = tt;
       at = tt;
+      memory = tt;
     }
 
 pub returns-then-unread-ne0 : goal.returns-then-unread-ne0
@@ -88,6 +92,7 @@ returns-then-unread-ne0 g c =
       refused = λ known same room. absurd (none known);
       placed = λ known. absurd (none known);
       at = λ known. absurd (none known);
+      memory = λ is. absurd (truncated_memory is);
     }
 
 pub returns-in_err-keep_next : goal.returns-in_err-keep_next
@@ -117,4 +122,5 @@ returns-in_err-keep_next g c =
           let far = c.loop-alloc.invariant.far in
           breaks_at (lifted c.args.reader.now).cursor (lifted c.loop-alloc.reader).cursor far.0 c.args.kept.now.items c.loop-alloc.kept.items _ (far.2.far known) (e.place ∙ ap (λ (k : Position). place_in k.phase k.index) (sym far.1));
       at = λ known. e.at;
+      memory = e.memory;
     })

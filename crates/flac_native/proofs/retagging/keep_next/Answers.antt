@@ -1,11 +1,11 @@
-use Rattle.std.proofs.Common.{sym, ap, subst, ◌∙◌, ◌≡◌, true, Result, Ok, Err}
+use Rattle.std.proofs.Common.{sym, ap, subst, ◌∙◌, ◌≡◌, true, false, Result, Ok, Err}
 use Rattle.flac_bits.specs.Fencing.{lifted}
 use Rattle.flac_bits.specs.declared.why.Why.{Why}
 use Rattle.flac_native.specs.Stream.{Stand, stand_after}
 use Rattle.flac_native.specs.Track.{position_of}
 use Rattle.flac_native.specs.Retag.{is_before_frames}
 use Rattle.flac_native.specs.inner.Retag.{piece_in}
-use Rattle.flac_native.proofs.Metadata.{own_stand, part_read, part_refused, before_frames}
+use Rattle.flac_native.proofs.Metadata.{own_stand, part_read, part_refused, before_frames, at_the_marker}
 use Rattle.flac_native.proofs.retagging.keep_next.Goals as goal
 
 abbrev answer : {X : Type 0} → X → Result X Why
@@ -19,6 +19,9 @@ answers x e is = absurd cc
 
 same_reason : {X : Type 0} (v w : Why) → wrong {X = X} v ≡ wrong w → v ≡ w
 same_reason v w e = cc
+
+some_none : true ≡ false → ⊥
+some_none e = absurd cc
 
 pub returns-in-Err-clause-refused : goal.returns-in-Err-clause-refused
 returns-in-Err-clause-refused g c = λ p at known same room.
@@ -39,3 +42,12 @@ returns-in-Ok-keep-clause-keeps g c = λ p at.
       c.in-Ok-keep.ensures.keeps,
       λ known. part_read p q (lifted c.args.reader.now) c.read_next.new.reader c.in-Ok.part at c.requires (c.in-Ok.ensures.reads p.stand (λ e. absurd (answers _ _ e)) known c.in-Ok.ensures.counts.1),
     )
+
+pub returns-in-Err-clause-memory : goal.returns-in-Err-clause-memory
+returns-in-Err-clause-memory g c = λ is there.
+    c.in-Err.ensures.memory (at_the_marker c.args.position.now.phase c.args.position.now.index (sym c.place-at.ensures ∙ there)) is
+
+pub returns-in-Err-keep-clause-memory : goal.returns-in-Err-keep-clause-memory
+returns-in-Err-keep-clause-memory g c = λ is there.
+    let first = c.in-Ok.ensures.first (at_the_marker c.args.position.now.phase c.args.position.now.index (sym c.place-at.ensures ∙ there)) in
+    some_none (sym c.in-Err-keep.ensures.none ∙ first)

@@ -1,6 +1,7 @@
-use Rattle.std.proofs.Common.{◌≡◌, Result, Ok, Err, refl, rules}
+use Rattle.std.proofs.Common.{◌≡◌, Result, Ok, Err, refl, sym, ◌∙◌, rules}
 use Rattle.std.proofs.lemmas.Result.{err_from_is_err_and}
 use Rattle.flac_native.specs.Stream.{layout}
+use Rattle.flac_native.specs.declared.track.Phase.TheVariants as phase
 use Rattle.flac_bits.specs.declared.why.Why.{Why}
 use Rattle.flac_native.proofs.Giving.{same_why}
 use Rattle.flac_native.proofs.retagging.read_next.Goals as goal
@@ -14,6 +15,9 @@ wrong e = Err e
 answers : {X : Type 0} (x : X) (e : Why) → answer x ≡ wrong e → ⊥
 answers x e is = absurd cc
 
+blocks_opening : phase.Blocks ≡ phase.Opening → ⊥
+blocks_opening e = absurd cc
+
 pub returns-in_err-read_marker-in-Opening : goal.returns-in_err-read_marker-in-Opening
 unfolding layout
 returns-in_err-read_marker-in-Opening g c =
@@ -25,6 +29,8 @@ returns-in_err-read_marker-in-Opening g c =
       counts = e.counts;
       reads = rw c.in-Opening.is (λ s room known same. rw (e.reads known same) refl);
       next = tt;
+      first = λ is. tt;
+      memory = λ is. e.memory;
     })
 
 pub returns-in_ok-read_marker-in-Opening : goal.returns-in_ok-read_marker-in-Opening
@@ -37,6 +43,8 @@ returns-in_ok-read_marker-in-Opening g c =
       counts = e.counts;
       reads = rw c.in-Opening.is (λ s room known same. rw (e.reads known same) refl);
       next = λ s. refl;
+      first = λ is. refl;
+      memory = λ is. tt;
     }
 
 pub returns-in_err-part-in-Blocks : goal.returns-in_err-part-in-Blocks
@@ -50,6 +58,8 @@ returns-in_err-part-in-Blocks g c =
       counts = e.counts;
       reads = rw c.in-Blocks.is (λ s room known same. rw (e.reads (λ is. room (same_why _ _ is)) known same) refl);
       next = tt;
+      first = λ is. tt;
+      memory = λ is. absurd (blocks_opening (sym c.in-Blocks.is ∙ is));
     })
 
 pub returns-in_ok-part-in-Blocks : goal.returns-in_ok-part-in-Blocks
@@ -63,4 +73,6 @@ returns-in_ok-part-in-Blocks g c =
       counts = e.counts;
       reads = rw c.in-Blocks.is (λ s room known same. rw (e.reads (λ is. absurd (answers _ _ is)) known same) refl);
       next = search rules;
+      first = λ is. absurd (blocks_opening (sym c.in-Blocks.is ∙ is));
+      memory = λ is. tt;
     }

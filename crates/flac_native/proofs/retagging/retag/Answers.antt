@@ -5,7 +5,7 @@ use Rattle.flac_bits.specs.Bits.{bits_of}
 use Rattle.flac_bits.specs.State.{short_of}
 use Rattle.flac_native.specs.Decoding.{beginning}
 use Rattle.flac_native.specs.Retag.{IsRefused}
-use Rattle.flac_native.proofs.RetagFaults.{no_fewer, length_no_read, long_written, long_device, never_long}
+use Rattle.flac_native.proofs.RetagFaults.{no_fewer, length_no_read, length_memory, long_written, long_device, never_long}
 use Rattle.flac_native.proofs.Broken.{foretold_calmer}
 use Rattle.flac_native.proofs.Retagged.{calmer}
 use Rattle.flac_native.proofs.Decided.{exact_ok, accepted, shown}
@@ -70,6 +70,9 @@ returns-clause-placed g c =
     let placed = rw c.new-reader.ensures at c.retag_from-outcome.ensures.placed in
     rw (append-nil (bits_of (g.R.Source.coming c.args.source.now))) at placed
 
+pub returns-clause-memory : goal.returns-clause-memory
+returns-clause-memory g c = c.retag_from-outcome.ensures.memory
+
 pub returns-clause-begun : goal.returns-clause-begun
 returns-clause-begun g c =
     let begun = rw c.new-reader.ensures at c.retag_from-outcome.ensures.begun in
@@ -116,6 +119,7 @@ returns-then-length-gt-MOST_BYTES g c = record {
   refused = tt;
   foretold = tt;
   placed = tt;
+  memory = λ is. absurd (length_memory is);
   behind = tt;
   accepted = λ other. absurd (other refl);
   shown = λ few. absurd (none_within _ _ c.length.ensures c.if-length-gt-MOST_BYTES.true few);

@@ -1,5 +1,5 @@
 use Rattle.std.proofs.Common.{◌≡◌, take, map}
-use Rattle.flac_subframe.specs.Handed.{predictor_of}
+use Rattle.flac_subframe.specs.format.Handed.{predictor_of}
 use Rattle.flac_predict.proofs.found.copied.Given as goal
 
 abbrev pub invariant-loop-predictor : goal.invariant-loop-predictor

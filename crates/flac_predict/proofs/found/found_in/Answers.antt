@@ -1,7 +1,7 @@
 use Rattle.std.proofs.Common.{◌≡◌, ◌∙◌, sym, ap, subst, ◌+◌, [], ◌∷◌, ◌++◌, length, length-append, All, Vec, Global}
 use Rattle.std.proofs.lemmas.List.Elements.{All-push}
-use Rattle.flac_subframe.specs.declared.linear.LinearPredictor.{LinearPredictor}
-use Rattle.flac_subframe.specs.Handed.{AreWithin}
+use Rattle.flac_subframe.specs.declared.format.linear.LinearPredictor.{LinearPredictor}
+use Rattle.flac_subframe.specs.format.Handed.{AreWithin}
 use Rattle.flac_frame.specs.Frame.{limits_at}
 use Rattle.flac_predict.specs.Found.{IsPrefixOf}
 use Rattle.flac_predict.proofs.Lists.{begins, within}

@@ -1,5 +1,5 @@
 use Rattle.std.proofs.Common.{◌≡◌, length, All}
-use Rattle.flac_subframe.specs.Handed.{AreWithin}
+use Rattle.flac_subframe.specs.format.Handed.{AreWithin}
 use Rattle.flac_frame.specs.Frame.{limits_at}
 use Rattle.flac_predict.specs.Found.{IsPrefixOf}
 use Rattle.flac_predict.proofs.found.found_in.Given as goal

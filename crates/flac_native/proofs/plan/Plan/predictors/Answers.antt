@@ -1,5 +1,5 @@
-use Rattle.std.proofs.Common.{subst, sym, ap, ◌∙◌}
-use Rattle.flac_subframe.specs.Handed.{AreWithin}
+use Rattle.std.proofs.Common.{subst}
+use Rattle.flac_subframe.specs.format.Handed.{AreWithin}
 use Rattle.flac_frame.specs.Frame.{limits_at}
 use Rattle.flac_native.specs.Given.{Cut}
 use Rattle.flac_native.proofs.Planned.{planned, own_orders}

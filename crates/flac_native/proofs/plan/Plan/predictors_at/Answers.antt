@@ -1,5 +1,5 @@
 use Rattle.std.proofs.Common.{sym, subst, ap, ◌∙◌, get_or}
-use Rattle.flac_subframe.specs.Handed.{AreWithin}
+use Rattle.flac_subframe.specs.format.Handed.{AreWithin}
 use Rattle.flac_frame.specs.Frame.{limits_at}
 use Rattle.flac_native.proofs.Planned.{orders_in}
 use Rattle.flac_native.proofs.plan.Plan.predictors_at.Goals as goal

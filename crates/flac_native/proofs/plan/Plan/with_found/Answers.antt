@@ -2,8 +2,8 @@ use Rattle.std.proofs.Common.{Vec, All, map, subst, ap, sym}
 use Rattle.std.specs.Global.{Global}
 use Rattle.std.proofs.lemmas.List.Elements.{All-map}
 use Rattle.flac_frame.specs.Frame.{limits_at}
-use Rattle.flac_subframe.specs.Handed.{AreWithin}
-use Rattle.flac_subframe.specs.declared.linear.LinearPredictor.{LinearPredictor}
+use Rattle.flac_subframe.specs.format.Handed.{AreWithin}
+use Rattle.flac_subframe.specs.declared.format.linear.LinearPredictor.{LinearPredictor}
 use Rattle.flac_native.specs.Given.{Cut, with_found}
 use Rattle.flac_native.proofs.Planned.{still_found}
 use Rattle.flac_native.proofs.plan.Plan.with_found.Goals as goal

@@ -1,7 +1,7 @@
 use Rattle.std.proofs.Common.{◌≡◌, subst, sym, ◌∙◌, None}
 use Rattle.std.proofs.lemmas.List.Elements.{All-nil}
 use Rattle.flac_frame.specs.Frame.{limits_at}
-use Rattle.flac_subframe.specs.Handed.{AreWithin}
+use Rattle.flac_subframe.specs.format.Handed.{AreWithin}
 use Rattle.flac_native.specs.Given.{predictors_fault}
 use Rattle.flac_native.proofs.Planned.{still_planned}
 use Rattle.flac_native.proofs.plan.Plan.with_predictors.Goals as goal

@@ -1,6 +1,0 @@
-use Rattle.std.proofs.Common.{drop}
-use Rattle.flac_meta.specs.Valid.{AllAre, IsTrack}
-use Rattle.flac_meta.proofs.block_list.tracks_fit.Given as goal
-
-abbrev pub invariant-loop-track : goal.invariant-loop-track
-invariant-loop-track l = AllAre IsTrack (drop l.track-index l.tracks) → AllAre IsTrack l.tracks

@@ -1,5 +1,0 @@
-use Rattle.flac_native.proofs.Passing.{calls_break_behind}
-use Rattle.flac_native.proofs.laws.calls_break_behind.Goals as goal
-
-pub returns : goal.returns
-returns g c = calls_break_behind g.C.Container
