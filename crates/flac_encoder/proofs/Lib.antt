@@ -1,2 +1,4 @@
+-- ---- a native stream
 pub mod Pushing
+-- ---- an Ogg stream
 pub mod PushedOgg

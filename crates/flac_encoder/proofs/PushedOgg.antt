@@ -19,7 +19,7 @@ use Rattle.flac_meta.specs.Valid.{AllAre, FitsFields, IsInfo}
 use Rattle.flac_meta.specs.declared.block.Block.{Block}
 use Rattle.flac_meta.specs.declared.block.Block.TheVariants as block_of
 use Rattle.flac_header.specs.Header.{channels_of, greatest_in}
-use Rattle.flac_subframe.specs.declared.linear.LinearPredictor.{LinearPredictor}
+use Rattle.flac_subframe.specs.declared.format.linear.LinearPredictor.{LinearPredictor}
 use Rattle.flac_frame.specs.Audio.{samples_each}
 use Rattle.flac_frame.specs.Frame.{Frame, frame, header_rules, rate_in, depth_in}
 use Rattle.flac_frame.specs.declared.before.Before.{Before}

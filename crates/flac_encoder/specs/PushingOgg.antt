@@ -1,5 +1,5 @@
 -- An encoder of an Ogg stream that samples are pushed to, a block at a time, and its stream (RFC 9639, section 10.1).
-use Rattle.std.specs.Prelude.{◌≡◌, ℕ, ◌+◌, ◌^◌, ◌<◌, ℤ, Bool, true, cond, List, [], ◌∷◌, ◌++◌, length, map, replicate, Option, Some, None, option_map}
+use Rattle.std.specs.Prelude.{◌≡◌, ℕ, ◌+◌, ◌^◌, ◌<◌, ℤ, Bool, true, false, cond, List, [], ◌∷◌, ◌++◌, length, map, replicate, Option, Some, None, Result, IfErr}
 use Rattle.std.specs.List.{All}
 use Rattle.std.specs.Option.{option_or}
 use Rattle.flac_bits.specs.Bits.{bits_of}
@@ -7,17 +7,19 @@ use Rattle.flac_bits.specs.declared.target.Target as target
 use Rattle.flac_bits.specs.declared.why.Why.TheVariants.{Truncated}
 use Rattle.flac_meta.specs.declared.block.Block.{Block}
 use Rattle.flac_meta.specs.declared.block.Block.TheVariants as blocks
-use Rattle.flac_subframe.specs.declared.linear.LinearPredictor.{LinearPredictor}
+use Rattle.flac_subframe.specs.declared.format.linear.LinearPredictor.{LinearPredictor}
 use Rattle.flac_frame.specs.Audio.{samples_each}
 use Rattle.flac_native.specs.Decoding.{beginning}
 use Rattle.flac_native.specs.Stream.{Piece, marked, framed}
 use Rattle.flac_native.specs.Given.{closing}
-use Rattle.flac_encoder.specs.Pushing.{Shape, shape_fault, open_info, Pushed, unpushed, trying, FailsIn, StandsFor, sound_of, frame_with}
+use Rattle.flac_encoder.specs.Pushing.{Shape, setup_fault, open_info, Pushed, unpushed, trying, IsFirst, FailsIn, StandsFor, sound_of, frame_with}
 use Rattle.flac_native.specs.Writing.{SpellsFrame, SpellsLeast}
 use Rattle.flac_native.specs.declared.fault.EncodeFault.{EncodeFault}
-use Rattle.flac_native.specs.declared.fault.EncodeFault.TheVariants.{BadMapping, Setup}
+use Rattle.flac_native.specs.declared.fault.EncodeFault.TheVariants.{BadMapping, Setup, Write}
 use Rattle.flac_pages.specs.declared.writing.PacketKind.TheVariants as kind_of
+use Rattle.flac_pages.specs.declared.writing.PacketMarks.{PacketMarks}
 use Rattle.flac_pages.specs.Placed.{Placed, IsPlaced, stream_spelling}
+use Rattle.flac_pages.specs.Written.{packet_spelling}
 use Rattle.flac_ogg.specs.Held.{ArePages}
 use Rattle.flac_ogg.specs.Stream.{OggStream}
 use Rattle.flac_ogg.specs.Native.{AreStream, native_text, packet_spellings}
@@ -40,7 +42,11 @@ trying_ogg e ps = record { pushed = trying e.pushed ps; serial = e.serial; seque
 
 -- Why an encoder cannot be made, if so: the format, or the list does not begin with a Vorbis comment.
 abbrev pub open_fault : Shape → List Block → Option EncodeFault
-open_fault s list = option_or (option_map Setup (shape_fault s)) (cond (begins_with_comment list) None (Some BadMapping))
+open_fault s list = option_or (setup_fault s) (cond (begins_with_comment list) None (Some BadMapping))
+
+-- the fault that is reported if an encoder is not made
+abbrev pub IsOpenFault : Shape → List Block → EncodeFault → Type 0
+IsOpenFault s list e = IsFirst (open_fault s list) e
 
 -- a fault of the format; or else another one, if the list begins with a Vorbis comment
 abbrev pub listed_fault : EncodeFault → (listed : Bool) → EncodeFault
@@ -66,6 +72,20 @@ pub record IsOpen {S : Type 0} (list : List Block) (e : PushedOgg S) (packets : 
   pub kinds : kinds_in packets ≡ replicate (length list + 1) kind_of.Header
   pub stands : StandsForOgg e (closing (blocks.StreamInfo (open_info e.pushed.shape) ∷ list)) packets text
 
+-- the stream is the same
+abbrev pub KeepsOggStream : {S : Type 0} → (old new : PushedOgg S) → Type 0
+KeepsOggStream old new = (items : List Piece) (packets : List Placed) (written : List Bool) → StandsForOgg old items packets written → StandsForOgg new items packets written
+
+-- ---- the packet that is held
+
+-- the marks of a frame, up to whose end the stream has `end` samples of each channel
+abbrev pub frame_marks : (serial sequence end : ℕ) → (last : Bool) → PacketMarks
+frame_marks serial sequence end last = record { serial = serial; sequence = sequence; kind = kind_of.Frame end; first = false; last = last }
+
+-- the pages of such a frame
+abbrev pub frame_pages : (serial sequence end : ℕ) → (last : Bool) → List ℕ → List Bool
+frame_pages serial sequence end last packet = packet_spelling (frame_marks serial sequence end last) packet
+
 -- ---- the calls
 
 -- The encoder was made: its stream is that of STREAMINFO and the list, each in a header packet, and the target was sent
@@ -88,6 +108,10 @@ pub record BeginsOpening {S : Type 0} (g : target.Ghosts S) (shape : Shape) (ser
   pub text : List Bool
   pub opens : IsOpen list to packets text
   pub fails : FailsIn g text old left
+
+-- with Write the encoder could not be made, and this is left of the target
+abbrev pub FailsOpen : {S X : Type 0} → target.Ghosts S → Shape → (serial : ℕ) → List Block → (old : S) → Result X EncodeFault → Type 0
+FailsOpen {S} g shape serial list old result = IfErr result (λ e. e ≡ Write → (left : S) × BeginsOpening g shape serial list old left)
 
 -- The packet is the next frame: it has exactly the samples of the block, no frame of its family, with the predictors of
 -- the encoder, is shorter, its last page has the number of samples so far, and the stream of the encoder is then the
@@ -116,8 +140,23 @@ pub record BeginsPushOgg {S : Type 0} (g : target.Ghosts S) (block : List (List 
   pub held : bits_of old.middle ≡ front ++ rest
   pub sent : bits_of (g.sent new.pushed.target) ≡ bits_of (g.sent old.pushed.target) ++ front
 
+-- the same if the target is known, and with Write
+abbrev pub SentPacket : {S : Type 0} → target.Ghosts S → List (List ℤ) → (old new : PushedOgg S) → Type 0
+SentPacket g block old new = g.known old.pushed.target ≡ true → PushesOgg g block old new
+
+abbrev pub BegunPacket : {S : Type 0} → target.Ghosts S → List (List ℤ) → (old new : PushedOgg S) → EncodeFault → Type 0
+BegunPacket g block old new e = e ≡ Write → g.known old.pushed.target ≡ true → BeginsPushOgg g block old new
+
 -- The target was sent the packet that was held, marked last. So what was sent is the stream of the encoder.
 pub record EndsOgg {S : Type 0} (g : target.Ghosts S) (e : PushedOgg S) (new : S) : Type 0 where
   pub sent : bits_of (g.sent new) ≡ bits_of (g.sent e.pushed.target) ++ bits_of e.last
   pub whole : (items : List Piece) (packets : List Placed) (written : List Bool) → StandsForOgg e items packets written
       → (written ++ bits_of e.last ≡ stream_spelling e.serial packets) × OggStream e.pushed.shape.profile (beginning Truncated) items (written ++ bits_of e.last)
+
+-- the same if the target is known
+abbrev pub SentEnd : {S : Type 0} → target.Ghosts S → PushedOgg S → (new : S) → Type 0
+SentEnd g e new = g.known e.pushed.target ≡ true → EndsOgg g e new
+
+-- with Write the target, of which this is left, was sent a prefix of that packet, and returned an error
+abbrev pub FailsEnd : {S X : Type 0} → target.Ghosts S → PushedOgg S → Result X EncodeFault → Type 0
+FailsEnd {S} g e result = IfErr result (λ f. f ≡ Write → (left : S) × FailsIn g (bits_of e.last) e.pushed.target left)

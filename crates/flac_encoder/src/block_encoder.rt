@@ -1,11 +1,10 @@
 //! Encodes the blocks of a stream as its frames, for each container.
 
-ghost use Rattle.std.specs.Prelude.{◌≡◌, ◌≢◌, ◌<◌, ◌^◌, None, Some, IfOk, IfErr, OnOk, map, option_map};
+ghost use Rattle.std.specs.Prelude.{◌≡◌, ◌≢◌, ◌<◌, ◌^◌, None, Some, IfOk, IfErr, OnOk};
 ghost use Rattle.flac_bits.specs.Bits.{bits_of};
 ghost use Rattle.flac_frame.specs.Audio.{samples_each};
 ghost use Rattle.flac_native.specs.Given.{predictors_fault};
-ghost use Rattle.flac_encoder.specs.Pushing.{shape_of, shape_fault, unpushed, behind_block, spent_with, trying, size_fault, push_fault, IsFirst, IsNext};
-ghost use Rattle.flac_native.specs.declared.fault.EncodeFault.TheVariants.{Setup};
+ghost use Rattle.flac_encoder.specs.Pushing.{shape_of, shape_fault, setup_fault, unpushed, behind_block, spent_with, trying, trying_fault, block_channels, size_fault, push_fault, IsFirst, IsNextFrame};
 
 use crate::stream_format::{StreamFormat, block_len};
 use flac_frame::{EncodeBuffers, SetupFault};
@@ -81,7 +80,7 @@ impl BlockEncoder {
     pub fn new(alloc: Global, format: &StreamFormat) -> Result<BlockEncoder, EncodeFault>
         ensures made { IfOk result (λ e. e ≡ unpushed (shape_of format.now) tt) }
         ensures accepted { OnOk result (shape_fault (shape_of format.now) ≡ None) }
-        ensures refused { IfErr result (λ e. IsFirst (option_map Setup (shape_fault (shape_of format.now))) e) }
+        ensures refused { IfErr result (λ e. IsFirst (setup_fault (shape_of format.now)) e) }
         ensures unsent { IfErr result (λ e. e ≢ EncodeFault.Write) }
     {
         if let Some(fault) = format.fault() {
@@ -112,8 +111,8 @@ impl BlockEncoder {
     /// too large. The encoder is as it was then.
     pub fn set_predictors(&mut self, predictors: Vec<LinearPredictor>) -> Result<(), SetupFault>
         ensures set { OnOk result (self.new ≡ trying self.old predictors.items) }
-        ensures accepted { OnOk result (predictors_fault self.old.shape.profile self.old.shape.rate predictors.items ≡ None) }
-        ensures refused { IfErr result (λ e. predictors_fault self.old.shape.profile self.old.shape.rate predictors.items ≡ Some e) }
+        ensures accepted { OnOk result (trying_fault self.old predictors.items ≡ None) }
+        ensures refused { IfErr result (λ e. trying_fault self.old predictors.items ≡ Some e) }
         ensures kept { IfErr result (λ e. self.new ≡ self.old) }
     {
         let StreamFormat { profile, rate, .. } = self.format;
@@ -144,7 +143,7 @@ impl BlockEncoder {
     /// The first reason for which a block is refused, or `None`.
     #[tactic(auto, unfolding(crate::specs::Pushing::push_fault))]
     fn push_fault(&self, block: &[&[i32]]) -> Option<EncodeFault>
-        ensures { result ≡ push_fault self.now (map (λ c. c.now) block.now) }
+        ensures { result ≡ push_fault self.now (block_channels block.now) }
     {
         if self.spent {
             return Some(EncodeFault::Spent);
@@ -174,10 +173,10 @@ impl BlockEncoder {
     /// The encoder is as it was, also after an error.
     pub fn encode(&mut self, block: &[&[i32]]) -> Result<Vec<u8>, EncodeFault>
         ensures kept { self.new ≡ self.old }
-        ensures next { IfOk result (λ bytes. IsNext self.old (behind_block self.old (samples_each (map (λ c. c.now) block.now)) tt) (map (λ c. c.now) block.now) (bits_of bytes.items)) }
-        ensures accepted { OnOk result (push_fault self.old (map (λ c. c.now) block.now) ≡ None) }
+        ensures next { IfOk result (λ bytes. IsNextFrame self.old (block_channels block.now) (bits_of bytes.items)) }
+        ensures accepted { OnOk result (push_fault self.old (block_channels block.now) ≡ None) }
         ensures format { OnOk result (shape_fault self.old.shape ≡ None) }
-        ensures refused { IfErr result (λ e. IsFirst (push_fault self.old (map (λ c. c.now) block.now)) e) }
+        ensures refused { IfErr result (λ e. IsFirst (push_fault self.old (block_channels block.now)) e) }
         ensures unsent { IfErr result (λ e. e ≢ EncodeFault.Write) }
     {
         if let Some(fault) = self.push_fault(block) {
@@ -200,8 +199,8 @@ impl BlockEncoder {
     /// Counts the frame of a block, which was put into the container: from now on a block is encoded as the frame
     /// behind it. The block must be one that [`BlockEncoder::encode`] does not refuse.
     pub fn sent(&mut self, block: &[&[i32]])
-        requires { push_fault self.old (map (λ c. c.now) block.now) ≡ None }
-        ensures { self.new ≡ behind_block self.old (samples_each (map (λ c. c.now) block.now)) tt }
+        requires { push_fault self.old (block_channels block.now) ≡ None }
+        ensures { self.new ≡ behind_block self.old (samples_each (block_channels block.now)) tt }
     {
         let len = block_len(block) as u64;
         self.number += 1;

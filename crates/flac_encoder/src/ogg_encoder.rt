@@ -1,22 +1,14 @@
 //! Encodes an Ogg stream a block at a time.
 
-ghost use Rattle.std.specs.Prelude.{◌≡◌, ◌≢◌, List, Bool, ◌⊎◌, ◌≤◌, ◌<◌, ◌+◌, ◌^◌, ◌↔◌, ◌++◌, [], length, map, option_map, true, false, IfOk, OnOk, IfErr, None, Some, Err};
+ghost use Rattle.std.specs.Prelude.{◌≡◌, ◌≢◌, ◌⊎◌, ◌↔◌, ◌++◌, true, false, IfOk, OnOk, IfErr, None, Some, Err};
 ghost use Rattle.flac_bits.specs.Bits.{bits_of};
 ghost use Rattle.flac_bits.specs.Forms.{AreBytes};
-ghost use Rattle.flac_bits.specs.State.{Rises};
-ghost use Rattle.flac_frame.specs.Audio.{samples_each};
-ghost use Rattle.flac_native.specs.Given.{predictors_fault};
-ghost use Rattle.flac_native.specs.Stream.{Piece};
-ghost use Rattle.flac_encoder.specs.Pushing.{shape_of, shape_fault, open_info, unpushed, behind_block, spent_with, push_fault, IsFirst, FailsIn};
-ghost use Rattle.flac_native.specs.Writing.{head_spelling};
-ghost use Rattle.flac_native.specs.declared.fault.EncodeFault.TheVariants.{Spent, Setup};
-ghost use Rattle.flac_pages.specs.Placed.{Placed, sequence_behind};
-ghost use Rattle.flac_pages.specs.Written.{packet_spelling};
-ghost use Rattle.flac_pages.specs.declared.writing.PacketKind.TheVariants.{Frame};
-ghost use Rattle.flac_ogg.specs.Headers.{AreHeaders};
-ghost use Rattle.flac_ogg.specs.Native.{packet_spellings};
-ghost use Rattle.flac_ogg.specs.Writing.{header_count};
-ghost use Rattle.flac_encoder.specs.PushingOgg.{open_fault, listed_fault, trying_ogg, StandsForOgg, Opens, BeginsOpening, PushesOgg, BeginsPushOgg, EndsOgg};
+ghost use Rattle.flac_encoder.specs.Pushing.{shape_of, shape_fault, setup_fault, subset_shape, open_info, IsUnpushed, trying_fault, block_channels, push_fault, IsAfterBlock, IsFirst, IsNativeHead, IsSpent, FailsIn, StaysKnown};
+ghost use Rattle.flac_native.specs.declared.fault.EncodeFault.TheVariants.{Spent};
+ghost use Rattle.flac_pages.specs.Placed.{sequence_behind};
+ghost use Rattle.flac_ogg.specs.Headers.{AreHeadersOf};
+ghost use Rattle.flac_ogg.specs.Writing.{HasWriteError, CountsWriteError};
+ghost use Rattle.flac_encoder.specs.PushingOgg.{open_fault, listed_fault, trying_ogg, frame_pages, IsOpenFault, Opens, FailsOpen, KeepsOggStream, SentPacket, BegunPacket, SentEnd, FailsEnd};
 
 use crate::block_encoder::BlockEncoder;
 use crate::stream_encoder::StreamEncoder;
@@ -80,9 +72,9 @@ fn native_head(
     format: &StreamFormat,
     list: &BlockList,
 ) -> Result<Vec<u8>, EncodeFault>
-    ensures head { IfOk result (λ head. bits_of head.items ≡ head_spelling (open_info (shape_of format.now)) list.now) }
+    ensures head { IfOk result (λ head. IsNativeHead (shape_of format.now) list.now head.items) }
     ensures accepted { OnOk result (shape_fault (shape_of format.now) ≡ None) }
-    ensures refused { IfErr result (λ e. IsFirst (option_map Setup (shape_fault (shape_of format.now))) e) }
+    ensures refused { IfErr result (λ e. IsFirst (setup_fault (shape_of format.now)) e) }
     ensures unsent { IfErr result (λ e. e ≢ EncodeFault.Write) }
 {
     let target = Collected::new(alloc);
@@ -114,10 +106,10 @@ fn listed_fault(fault: EncodeFault, listed: bool) -> EncodeFault
 
 /// The same, if the list begins with a Vorbis comment.
 fn open_head(alloc: Global, format: &StreamFormat, list: &BlockList) -> Result<Vec<u8>, EncodeFault>
-    ensures head { IfOk result (λ head. bits_of head.items ≡ head_spelling (open_info (shape_of format.now)) list.now) }
+    ensures head { IfOk result (λ head. IsNativeHead (shape_of format.now) list.now head.items) }
     ensures accepted { OnOk result (shape_fault (shape_of format.now) ≡ None) }
     ensures listed { OnOk result (open_fault (shape_of format.now) list.now ≡ None) }
-    ensures refused { IfErr result (λ e. IsFirst (open_fault (shape_of format.now) list.now) e) }
+    ensures refused { IfErr result (λ e. IsOpenFault (shape_of format.now) list.now e) }
     ensures unsent { IfErr result (λ e. e ≢ EncodeFault.Write) }
 {
     let listed = begins_with_comment(list.blocks());
@@ -140,11 +132,11 @@ fn open_headers(
     format: &StreamFormat,
     list: &BlockList,
 ) -> Result<Headers, EncodeFault>
-    ensures made { IfOk result (λ h. AreHeaders (packet_spellings (header_count (length list.now)) (open_info (shape_of format.now)) list.now []) h) }
+    ensures made { IfOk result (λ h. AreHeadersOf (open_info (shape_of format.now)) list.now h) }
     ensures serial { IfOk result (λ h. h.serial ≡ serial) }
     ensures accepted { OnOk result (shape_fault (shape_of format.now) ≡ None) }
     ensures listed { OnOk result (open_fault (shape_of format.now) list.now ≡ None) }
-    ensures refused { IfErr result (λ e. IsFirst (open_fault (shape_of format.now) list.now) e) }
+    ensures refused { IfErr result (λ e. IsOpenFault (shape_of format.now) list.now e) }
     ensures unsent { IfErr result (λ e. e ≢ EncodeFault.Write) }
 {
     let head = open_head(alloc, format, list)?;
@@ -178,8 +170,8 @@ fn hold_frame(
     end: u64,
     packet: &[u8],
 ) -> Result<HeldPacket, Why>
-    ensures middle { IfOk result (λ h. bits_of h.middle.items ≡ packet_spelling (record { serial = serial; sequence = sequence; kind = Frame end; first = false; last = false }) packet.now) }
-    ensures last { IfOk result (λ h. bits_of h.last.items ≡ packet_spelling (record { serial = serial; sequence = sequence; kind = Frame end; first = false; last = true }) packet.now) }
+    ensures middle { IfOk result (λ h. bits_of h.middle.items ≡ frame_pages serial sequence end false packet.now) }
+    ensures last { IfOk result (λ h. bits_of h.last.items ≡ frame_pages serial sequence end true packet.now) }
     ensures next { IfOk result (λ h. h.next ≡ sequence_behind sequence packet.now) }
     ensures bytes { AreBytes packet.now }
     ensures memory { IfErr result (λ e. e ≡ Why.Memory) }
@@ -225,16 +217,16 @@ impl<W: Target + Drop> OggEncoder<W> {
         list: &BlockList,
         target: W,
     ) -> Result<OggEncoder<W>, EncodeFault>
-        ensures made { IfOk result (λ e. e.pushed ≡ unpushed (record { profile = Profile.Subset; rate = rate; bits = bits; channels = channels; block_size = block_size }) e.pushed.target) }
+        ensures made { IfOk result (λ e. IsUnpushed (subset_shape rate bits channels block_size) e.pushed) }
         ensures serial { IfOk result (λ e. e.serial ≡ serial) }
         ensures opens { IfOk result (λ e. Opens W.Target list.now target e) }
         ensures known { IfOk result (λ e. W.known target ≡ true → W.known e.pushed.target ≡ true) }
         ensures counted { IfOk result (λ e. W.errors e.pushed.target ≡ W.errors target) }
         ensures names { IfOk result (λ e. W.names e.pushed.target ≡ W.names target) }
-        ensures accepted { OnOk result (open_fault (record { profile = Profile.Subset; rate = rate; bits = bits; channels = channels; block_size = block_size }) list.now ≡ None) }
-        ensures refused { IfErr result (λ e. IsFirst (open_fault (record { profile = Profile.Subset; rate = rate; bits = bits; channels = channels; block_size = block_size }) list.now) e) }
+        ensures accepted { OnOk result (open_fault (subset_shape rate bits channels block_size) list.now ≡ None) }
+        ensures refused { IfErr result (λ e. IsOpenFault (subset_shape rate bits channels block_size) list.now e) }
         // An error of the target is counted, and a prefix of the header packets was sent before it.
-        ensures failed { IfErr result (λ e. e ≡ EncodeFault.Write → (left : W) × BeginsOpening W.Target (record { profile = Profile.Subset; rate = rate; bits = bits; channels = channels; block_size = block_size }) serial list.now target left) }
+        ensures failed { FailsOpen W.Target (subset_shape rate bits channels block_size) serial list.now target result }
     {
         let format = StreamFormat {
             profile: Profile::Subset,
@@ -268,16 +260,16 @@ impl<W: Target + Drop> OggEncoder<W> {
         list: &BlockList,
         target: W,
     ) -> Result<OggEncoder<W>, EncodeFault>
-        ensures made { IfOk result (λ e. e.pushed ≡ unpushed (shape_of format.now) e.pushed.target) }
+        ensures made { IfOk result (λ e. IsUnpushed (shape_of format.now) e.pushed) }
         ensures serial { IfOk result (λ e. e.serial ≡ serial) }
         ensures opens { IfOk result (λ e. Opens W.Target list.now target e) }
         ensures known { IfOk result (λ e. W.known target ≡ true → W.known e.pushed.target ≡ true) }
         ensures counted { IfOk result (λ e. W.errors e.pushed.target ≡ W.errors target) }
         ensures names { IfOk result (λ e. W.names e.pushed.target ≡ W.names target) }
         ensures accepted { OnOk result (open_fault (shape_of format.now) list.now ≡ None) }
-        ensures refused { IfErr result (λ e. IsFirst (open_fault (shape_of format.now) list.now) e) }
+        ensures refused { IfErr result (λ e. IsOpenFault (shape_of format.now) list.now e) }
         // An error of the target is counted, and a prefix of the header packets was sent before it.
-        ensures failed { IfErr result (λ e. e ≡ EncodeFault.Write → (left : W) × BeginsOpening W.Target (shape_of format.now) serial list.now target left) }
+        ensures failed { FailsOpen W.Target (shape_of format.now) serial list.now target result }
     {
         let headers = open_headers(alloc, serial, format, list)?;
         let _blocks = list.blocks(); // for the proof alone: what holds of every list
@@ -307,9 +299,9 @@ impl<W: Target + Drop> OggEncoder<W> {
     /// Those of [`StreamEncoder::set_predictors`]. The encoder is as it was then.
     pub fn set_predictors(&mut self, predictors: Vec<LinearPredictor>) -> Result<(), SetupFault>
         ensures set { OnOk result (self.new ≡ trying_ogg self.old predictors.items) }
-        ensures stands { OnOk result ((items : List Piece) (packets : List Placed) (written : List Bool) → StandsForOgg self.old items packets written → StandsForOgg self.new items packets written) }
-        ensures accepted { OnOk result (predictors_fault self.old.pushed.shape.profile self.old.pushed.shape.rate predictors.items ≡ None) }
-        ensures refused { IfErr result (λ e. predictors_fault self.old.pushed.shape.profile self.old.pushed.shape.rate predictors.items ≡ Some e) }
+        ensures stands { OnOk result (KeepsOggStream self.old self.new) }
+        ensures accepted { OnOk result (trying_fault self.old.pushed predictors.items ≡ None) }
+        ensures refused { IfErr result (λ e. trying_fault self.old.pushed predictors.items ≡ Some e) }
         ensures kept { IfErr result (λ e. self.new ≡ self.old) }
     {
         self.blocks.set_predictors(predictors)
@@ -325,19 +317,19 @@ impl<W: Target + Drop> OggEncoder<W> {
     /// Those of [`StreamEncoder::push`], but after [`EncodeFault::Write`] the target was sent a prefix of the packet
     /// that was held. After each other error the encoder is as it was, and nothing was sent.
     pub fn push(&mut self, block: &[&[i32]]) -> Result<(), EncodeFault>
-        ensures next { OnOk result (self.new.pushed ≡ behind_block self.old.pushed (samples_each (map (λ c. c.now) block.now)) self.new.pushed.target) }
+        ensures next { OnOk result (IsAfterBlock self.old.pushed (block_channels block.now) self.new.pushed) }
         ensures serial { self.new.serial ≡ self.old.serial }
-        ensures written { OnOk result (W.known self.old.pushed.target ≡ true → PushesOgg W.Target (map (λ c. c.now) block.now) self.old self.new) }
-        ensures known { OnOk result (W.known self.old.pushed.target ≡ true → W.known self.new.pushed.target ≡ true) }
+        ensures written { OnOk result (SentPacket W.Target (block_channels block.now) self.old self.new) }
+        ensures known { OnOk result (StaysKnown W.Target self.old.pushed self.new.pushed) }
         ensures counted { OnOk result (W.errors self.new.pushed.target ≡ W.errors self.old.pushed.target) }
-        ensures accepted { OnOk result (push_fault self.old.pushed (map (λ c. c.now) block.now) ≡ None) }
-        ensures refused { IfErr result (λ e. IsFirst (push_fault self.old.pushed (map (λ c. c.now) block.now)) e) }
+        ensures accepted { OnOk result (push_fault self.old.pushed (block_channels block.now) ≡ None) }
+        ensures refused { IfErr result (λ e. IsFirst (push_fault self.old.pushed (block_channels block.now)) e) }
         ensures kept { IfErr result (λ e. e ≢ EncodeFault.Write → self.new ≡ self.old) }
-        ensures begun { IfErr result (λ e. e ≡ EncodeFault.Write → W.known self.old.pushed.target ≡ true → BeginsPushOgg W.Target (map (λ c. c.now) block.now) self.old self.new) }
-        ensures spent { IfErr result (λ e. e ≡ EncodeFault.Write → self.new.pushed ≡ spent_with self.old.pushed self.new.pushed.target) }
-        ensures failed { IfErr result (λ e. e ≡ EncodeFault.Write → W.known self.old.pushed.target ≡ true → W.errors self.old.pushed.target < W.errors self.new.pushed.target) }
+        ensures begun { IfErr result (λ e. BegunPacket W.Target (block_channels block.now) self.old self.new e) }
+        ensures spent { IfErr result (λ e. e ≡ EncodeFault.Write → IsSpent self.old.pushed self.new.pushed) }
+        ensures failed { IfErr result (λ e. HasWriteError W.Target self.old.pushed.target self.new.pushed.target e) }
         // An error of the target is counted, if the count can rise, whatever is known of it.
-        ensures risen { IfErr result (λ e. e ≡ EncodeFault.Write → Rises (W.errors self.old.pushed.target) (W.errors self.new.pushed.target)) }
+        ensures risen { IfErr result (λ e. CountsWriteError W.Target self.old.pushed.target self.new.pushed.target e) }
         ensures names { W.names self.new.pushed.target ≡ W.names self.old.pushed.target }
     {
         let packet = self.blocks.encode(block)?;
@@ -371,14 +363,14 @@ impl<W: Target + Drop> OggEncoder<W> {
     /// [`EncodeFault::Spent`] after a call that returned [`EncodeFault::Write`]. [`EncodeFault::Write`] if the target
     /// returns an error. The target is not returned then.
     pub fn finish(self) -> Result<W, EncodeFault>
-        ensures written { IfOk result (λ target. W.known self.pushed.target ≡ true → EndsOgg W.Target self target) }
+        ensures written { IfOk result (λ target. SentEnd W.Target self target) }
         ensures known { IfOk result (λ target. W.known self.pushed.target ≡ true → W.known target ≡ true) }
         ensures counted { IfOk result (λ target. W.errors target ≡ W.errors self.pushed.target) }
         ensures names { IfOk result (λ target. W.names target ≡ W.names self.pushed.target) }
         ensures spent { (result ≡ Err EncodeFault.Spent) ↔ (self.pushed.spent ≡ true) }
         ensures only { IfErr result (λ e. (e ≡ EncodeFault.Spent) ⊎ (e ≡ EncodeFault.Write)) }
         // An error of the target is counted, and a prefix of the packet was sent before it.
-        ensures failed { IfErr result (λ e. e ≡ EncodeFault.Write → (left : W) × FailsIn W.Target (bits_of self.last) self.pushed.target left) }
+        ensures failed { FailsEnd W.Target self result }
     {
         let spent = self.blocks.is_spent();
         let (held, target) = self.into_parts();

@@ -1,15 +1,8 @@
 //! Encodes a native stream a block at a time.
 
-ghost use Rattle.std.specs.Prelude.{◌≡◌, None, ◌<◌, IfOk, IfErr, Some, ◌≢◌, ◌++◌, ◌↔◌, option_map, true, OnOk, Err, Bool, List, map};
-ghost use Rattle.flac_encoder.specs.Pushing.{shape_of, shape_fault, open_info, unpushed, behind_block, spent_with, trying, push_fault, IsFirst, FailsIn, StandsFor, Pushes, BeginsPush};
-ghost use Rattle.flac_bits.specs.Bits.{bits_of};
-ghost use Rattle.flac_frame.specs.Audio.{samples_each};
-ghost use Rattle.flac_native.specs.Given.{predictors_fault};
-ghost use Rattle.flac_native.specs.Writing.{head_spelling};
-ghost use Rattle.flac_bits.specs.State.{Rises};
-ghost use Rattle.flac_native.specs.Stream.{Piece};
-ghost use Rattle.flac_native.specs.declared.fault.EncodeFault.TheVariants.{Setup};
-ghost use Rattle.flac_native.specs.Whole.{head_parts};
+ghost use Rattle.std.specs.Prelude.{◌≡◌, None, IfOk, IfErr, Some, ◌≢◌, ◌↔◌, true, OnOk, Err};
+ghost use Rattle.flac_encoder.specs.Pushing.{shape_of, shape_fault, setup_fault, subset_shape, IsUnpushed, IsAfterBlock, trying, trying_fault, block_channels, push_fault, IsFirst, IsSpent, StandsForHead, SentHead, FailsHead, KeepsStream, SentFrame, BegunFrame};
+ghost use Rattle.flac_ogg.specs.Writing.{HasWriteError, CountsWriteError};
 
 use crate::block_encoder::BlockEncoder;
 use crate::stream_format::StreamFormat;
@@ -64,16 +57,16 @@ impl<W: Target + Drop> StreamEncoder<W> {
         list: &BlockList,
         target: W,
     ) -> Result<StreamEncoder<W>, EncodeFault>
-        ensures made { IfOk result (λ e. e ≡ unpushed (record { profile = Profile.Subset; rate = rate; bits = bits; channels = channels; block_size = block_size }) e.target) }
-        ensures stands { IfOk result (λ e. StandsFor e (head_parts (open_info e.shape) list.now) (head_spelling (open_info e.shape) list.now)) }
-        ensures written { IfOk result (λ e. W.known target ≡ true → bits_of (W.sent e.target) ≡ bits_of (W.sent target) ++ head_spelling (open_info e.shape) list.now) }
+        ensures made { IfOk result (λ e. IsUnpushed (subset_shape rate bits channels block_size) e) }
+        ensures stands { IfOk result (λ e. StandsForHead e list.now) }
+        ensures written { IfOk result (λ e. SentHead W.Target list.now target e) }
         ensures known { IfOk result (λ e. W.known target ≡ true → W.known e.target ≡ true) }
         ensures counted { IfOk result (λ e. W.errors e.target ≡ W.errors target) }
         ensures names { IfOk result (λ e. W.names e.target ≡ W.names target) }
-        ensures accepted { OnOk result (shape_fault (record { profile = Profile.Subset; rate = rate; bits = bits; channels = channels; block_size = block_size }) ≡ None) }
-        ensures refused { IfErr result (λ e. IsFirst (option_map Setup (shape_fault (record { profile = Profile.Subset; rate = rate; bits = bits; channels = channels; block_size = block_size }))) e) }
+        ensures accepted { OnOk result (shape_fault (subset_shape rate bits channels block_size) ≡ None) }
+        ensures refused { IfErr result (λ e. IsFirst (setup_fault (subset_shape rate bits channels block_size)) e) }
         // An error of the target is counted, and a prefix was sent before it.
-        ensures failed { IfErr result (λ e. e ≡ EncodeFault.Write → (left : W) × FailsIn W.Target (head_spelling (open_info (record { profile = Profile.Subset; rate = rate; bits = bits; channels = channels; block_size = block_size })) list.now) target left) }
+        ensures failed { FailsHead W.Target (subset_shape rate bits channels block_size) list.now target result }
     {
         let format = StreamFormat {
             profile: Profile::Subset,
@@ -103,16 +96,16 @@ impl<W: Target + Drop> StreamEncoder<W> {
         list: &BlockList,
         target: W,
     ) -> Result<StreamEncoder<W>, EncodeFault>
-        ensures made { IfOk result (λ e. e ≡ unpushed (shape_of format.now) e.target) }
-        ensures stands { IfOk result (λ e. StandsFor e (head_parts (open_info e.shape) list.now) (head_spelling (open_info e.shape) list.now)) }
-        ensures written { IfOk result (λ e. W.known target ≡ true → bits_of (W.sent e.target) ≡ bits_of (W.sent target) ++ head_spelling (open_info e.shape) list.now) }
+        ensures made { IfOk result (λ e. IsUnpushed (shape_of format.now) e) }
+        ensures stands { IfOk result (λ e. StandsForHead e list.now) }
+        ensures written { IfOk result (λ e. SentHead W.Target list.now target e) }
         ensures known { IfOk result (λ e. W.known target ≡ true → W.known e.target ≡ true) }
         ensures counted { IfOk result (λ e. W.errors e.target ≡ W.errors target) }
         ensures names { IfOk result (λ e. W.names e.target ≡ W.names target) }
         ensures accepted { OnOk result (shape_fault (shape_of format.now) ≡ None) }
-        ensures refused { IfErr result (λ e. IsFirst (option_map Setup (shape_fault (shape_of format.now))) e) }
+        ensures refused { IfErr result (λ e. IsFirst (setup_fault (shape_of format.now)) e) }
         // An error of the target is counted, and a prefix was sent before it.
-        ensures failed { IfErr result (λ e. e ≡ EncodeFault.Write → (left : W) × FailsIn W.Target (head_spelling (open_info (shape_of format.now)) list.now) target left) }
+        ensures failed { FailsHead W.Target (shape_of format.now) list.now target result }
     {
         let blocks = BlockEncoder::new(alloc, format)?;
         let _blocks = list.blocks(); // for its clauses alone
@@ -138,9 +131,9 @@ impl<W: Target + Drop> StreamEncoder<W> {
     /// too large. The encoder is as it was then.
     pub fn set_predictors(&mut self, predictors: Vec<LinearPredictor>) -> Result<(), SetupFault>
         ensures set { OnOk result (self.new ≡ trying self.old predictors.items) }
-        ensures stands { OnOk result ((items : List Piece) (text : List Bool) → StandsFor self.old items text → StandsFor self.new items text) }
-        ensures accepted { OnOk result (predictors_fault self.old.shape.profile self.old.shape.rate predictors.items ≡ None) }
-        ensures refused { IfErr result (λ e. predictors_fault self.old.shape.profile self.old.shape.rate predictors.items ≡ Some e) }
+        ensures stands { OnOk result (KeepsStream self.old self.new) }
+        ensures accepted { OnOk result (trying_fault self.old predictors.items ≡ None) }
+        ensures refused { IfErr result (λ e. trying_fault self.old predictors.items ≡ Some e) }
         ensures kept { IfErr result (λ e. self.new ≡ self.old) }
     {
         self.blocks.set_predictors(predictors)
@@ -165,18 +158,18 @@ impl<W: Target + Drop> StreamEncoder<W> {
     /// After [`EncodeFault::Write`] the target was sent a prefix of the frame. After each other error the encoder is as
     /// it was, and nothing was sent.
     pub fn push(&mut self, block: &[&[i32]]) -> Result<(), EncodeFault>
-        ensures next { OnOk result (self.new ≡ behind_block self.old (samples_each (map (λ c. c.now) block.now)) self.new.target) }
-        ensures written { OnOk result (W.known self.old.target ≡ true → Pushes W.Target (map (λ c. c.now) block.now) self.old self.new) }
+        ensures next { OnOk result (IsAfterBlock self.old (block_channels block.now) self.new) }
+        ensures written { OnOk result (SentFrame W.Target (block_channels block.now) self.old self.new) }
         ensures known { OnOk result (W.known self.old.target ≡ true → W.known self.new.target ≡ true) }
         ensures counted { OnOk result (W.errors self.new.target ≡ W.errors self.old.target) }
-        ensures accepted { OnOk result (push_fault self.old (map (λ c. c.now) block.now) ≡ None) }
-        ensures refused { IfErr result (λ e. IsFirst (push_fault self.old (map (λ c. c.now) block.now)) e) }
+        ensures accepted { OnOk result (push_fault self.old (block_channels block.now) ≡ None) }
+        ensures refused { IfErr result (λ e. IsFirst (push_fault self.old (block_channels block.now)) e) }
         ensures kept { IfErr result (λ e. e ≢ EncodeFault.Write → self.new ≡ self.old) }
-        ensures begun { IfErr result (λ e. e ≡ EncodeFault.Write → W.known self.old.target ≡ true → BeginsPush W.Target (map (λ c. c.now) block.now) self.old self.new) }
-        ensures spent { IfErr result (λ e. e ≡ EncodeFault.Write → self.new ≡ spent_with self.old self.new.target) }
-        ensures failed { IfErr result (λ e. e ≡ EncodeFault.Write → W.known self.old.target ≡ true → W.errors self.old.target < W.errors self.new.target) }
+        ensures begun { IfErr result (λ e. BegunFrame W.Target (block_channels block.now) self.old self.new e) }
+        ensures spent { IfErr result (λ e. e ≡ EncodeFault.Write → IsSpent self.old self.new) }
+        ensures failed { IfErr result (λ e. HasWriteError W.Target self.old.target self.new.target e) }
         // An error of the target is counted, if the count can rise, whatever is known of it.
-        ensures risen { IfErr result (λ e. e ≡ EncodeFault.Write → Rises (W.errors self.old.target) (W.errors self.new.target)) }
+        ensures risen { IfErr result (λ e. CountsWriteError W.Target self.old.target self.new.target e) }
         ensures names { W.names self.new.target ≡ W.names self.old.target }
     {
         let frame = self.blocks.encode(block)?;

@@ -1,14 +1,12 @@
 //! The format of a stream that is encoded a block at a time.
 
 ghost use Rattle.std.specs.Prelude.{◌≡◌, None, ◌≤◌, ◌<◌, ◌^◌, map, IfOk, IfErr};
-ghost use Rattle.flac_bits.specs.Bits.{bits_of};
-ghost use Rattle.flac_subframe.specs.Handed.{AreWithin};
+ghost use Rattle.flac_subframe.specs.format.Handed.{AreWithin};
 ghost use Rattle.flac_frame.specs.Audio.{samples_each};
 ghost use Rattle.flac_frame.specs.Encoding.{most_in};
 ghost use Rattle.flac_frame.specs.Frame.{limits_at};
 ghost use Rattle.flac_native.specs.Given.{predictors_fault};
-ghost use Rattle.flac_encoder.specs.Pushing.{shape_of, shape_fault, open_info, block_fault, frame_with, sound_of};
-ghost use Rattle.flac_native.specs.Writing.{SpellsFrame, SpellsLeast};
+ghost use Rattle.flac_encoder.specs.Pushing.{shape_of, shape_in, shape_fault, open_info, block_fault, block_channels, sound_in, IsFrameAt, IsLeastFrameAt};
 
 use flac_bits::{BitWriter, Collected, Why};
 use flac_frame::{
@@ -45,7 +43,7 @@ impl StreamFormat {
     /// let mut encoder = StreamEncoder::new_in(alloc, &format, &blocks, file)?;
     /// ```
     pub fn of(info: &StreamInfo, profile: Profile) -> StreamFormat
-        ensures { shape_of result ≡ record { profile = profile; rate = info.now.rate; bits = info.now.depth; channels = info.now.channels; block_size = info.now.greatest_block } }
+        ensures { shape_of result ≡ shape_in profile info.now }
     {
         StreamFormat {
             profile,
@@ -96,7 +94,7 @@ impl StreamFormat {
     /// ```
     pub fn block_fault(&self, block: &[&[i32]]) -> Option<SetupFault>
         requires { (1 ≤ self.now.bits) × (self.now.bits ≤ 32) }
-        ensures { result ≡ block_fault self.now.channels self.now.bits (map (λ c. c.now) block.now) }
+        ensures { result ≡ block_fault self.now.channels self.now.bits (block_channels block.now) }
     {
         if block.len() as u64 != self.channels as u64 {
             return Some(SetupFault::BadChannels);
@@ -129,16 +127,16 @@ impl StreamFormat {
         buffers: &mut EncodeBuffers,
     ) -> Result<Vec<u8>, Why>
         requires format { shape_fault (shape_of self.now) ≡ None }
-        requires block { block_fault self.now.channels self.now.bits (map (λ c. c.now) block.now) ≡ None }
+        requires block { block_fault self.now.channels self.now.bits (block_channels block.now) ≡ None }
         requires predictors { predictors_fault self.now.profile self.now.rate predictors.now ≡ None }
-        requires some { 0 < samples_each (map (λ c. c.now) block.now) }
-        requires size { samples_each (map (λ c. c.now) block.now) ≤ self.now.block_size }
+        requires some { 0 < samples_each (block_channels block.now) }
+        requires size { samples_each (block_channels block.now) ≤ self.now.block_size }
         requires room { self.now.block_size ≤ buffers.old.block }
         requires most { most_in self.now.profile ≤ buffers.old.most }
         requires number { number < 2 ^ 31 }
         ensures kept { buffers.new ≡ buffers.old }
-        ensures frame { IfOk result (λ bytes. SpellsFrame (sound_of (shape_of self.now) (map (λ c. c.now) block.now)) (frame_with number (map (λ c. c.now) block.now)) (bits_of bytes.items)) }
-        ensures least { IfOk result (λ bytes. SpellsLeast predictors.now (sound_of (shape_of self.now) (map (λ c. c.now) block.now)) (frame_with number (map (λ c. c.now) block.now)) (bits_of bytes.items)) }
+        ensures frame { IfOk result (λ b. IsFrameAt (sound_in self.now block.now) number b.items) }
+        ensures least { IfOk result (λ b. IsLeastFrameAt predictors.now (sound_in self.now block.now) number b.items) }
         ensures memory { IfErr result (λ e. e ≡ Why.Memory) }
     {
         let channels = copied(alloc, block)?;
@@ -151,9 +149,9 @@ impl StreamFormat {
 }
 
 /// How many samples each channel of a block has, by its first channel; 0 if there is none. It is for encoders that
-/// stand on [`StreamFormat::encode_block`], as `OggEncoder` of `flac_ogg`.
+/// stand on [`StreamFormat::encode_block`], as [`crate::OggEncoder`].
 pub fn block_len(block: &[&[i32]]) -> usize
-    ensures { result ≡ samples_each (map (λ c. c.now) block.now) }
+    ensures { result ≡ samples_each (block_channels block.now) }
 {
     if block.is_empty() {
         return 0;
@@ -163,7 +161,7 @@ pub fn block_len(block: &[&[i32]]) -> usize
 
 /// The samples of each channel, copied. Its only error is `Memory`: an allocation failed.
 fn copied(alloc: Global, block: &[&[i32]]) -> Result<Vec<Vec<i32>>, Why>
-    ensures items { IfOk result (λ channels. map (λ c. c.items) channels.items ≡ map (λ c. c.now) block.now) }
+    ensures items { IfOk result (λ channels. map (λ c. c.items) channels.items ≡ block_channels block.now) }
     ensures memory { IfErr result (λ e. e ≡ Why.Memory) }
 {
     let mut channels = Vec::with_capacity(alloc, block.len())?;
@@ -188,8 +186,8 @@ fn frame_bytes(
     requires orders { AreWithin (limits_at audio.now.profile audio.now.rate).linear predictors.now }
     requires number { number < 2 ^ 31 }
     ensures kept { buffers.new ≡ buffers.old }
-    ensures frame { IfOk result (λ bytes. SpellsFrame audio.now (frame_with number audio.now.channels) (bits_of bytes.items)) }
-    ensures least { IfOk result (λ bytes. SpellsLeast predictors.now audio.now (frame_with number audio.now.channels) (bits_of bytes.items)) }
+    ensures frame { IfOk result (λ b. IsFrameAt audio.now number b.items) }
+    ensures least { IfOk result (λ b. IsLeastFrameAt predictors.now audio.now number b.items) }
     ensures memory { IfErr result (λ e. e ≡ Why.Memory) }
 {
     let _channels = audio.channels(); // for its clauses alone

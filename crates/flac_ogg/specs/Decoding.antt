@@ -1,10 +1,13 @@
 -- How an input is read as an Ogg stream.
 use Rattle.std.specs.Prelude.{◌≡◌, ◌≢◌, ◌⊎◌, ℕ, Bool, true, false, List, [], ◌++◌, length, None}
+use Rattle.flac_bits.specs.Bits.{bits_of}
 use Rattle.flac_bits.specs.State.{Mark}
 use Rattle.flac_bits.specs.Items.{after}
 use Rattle.flac_bits.specs.Handing.{Reading}
+use Rattle.flac_bits.specs.declared.source.Source as source
 use Rattle.flac_bits.specs.declared.why.Why.{Why}
 use Rattle.flac_bits.specs.declared.why.Why.TheVariants.{Read, Memory}
+use Rattle.flac_native.specs.Decoding.{start_mark}
 use Rattle.flac_native.specs.Stream.{Piece, Progress, grammar}
 use Rattle.flac_native.specs.declared.fault.Place.{Place}
 use Rattle.flac_native.specs.declared.fault.Place.TheVariants as place
@@ -58,6 +61,10 @@ ogg_reading profile mark text = record {
   place = λ items. grammar.place (after grammar (start profile) items);
   breaks = λ items at why. BreaksAtPage profile mark items text at why ⊎ ((items ≡ []) × (at ≡ place.Marker) × (why ≡ Memory));
 }
+
+-- how what a source has to come is read as an Ogg stream
+abbrev pub ogg_reading_of : {R : Type 0} → source.Ghosts R → Profile → R → Reading Piece Place
+ogg_reading_of g profile s = ogg_reading profile (start_mark (g.behind s)) (bits_of (g.coming s))
 
 -- ---- where pages begin
 

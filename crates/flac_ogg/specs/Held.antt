@@ -1,7 +1,12 @@
 -- Pages of packets of which the last is held back, since it is not known yet whether more follow (RFC 3533, section 6).
 use Rattle.std.specs.Prelude.{◌≡◌, ℕ, Bool, true, false, List, [], ◌∷◌, ◌++◌}
+use Rattle.flac_pages.specs.declared.writing.PacketMarks.{PacketMarks}
 use Rattle.flac_pages.specs.Placed.{Placed, marks_of, sequence_behind, stream_spelling}
 use Rattle.flac_pages.specs.Written.{packet_spelling}
+
+-- the pages of a packet of these marks, apart from whether the packet is the last
+abbrev pub pages_marked : PacketMarks → (last : Bool) → List ℕ → List Bool
+pages_marked m last packet = packet_spelling (record m { last = last }) packet
 
 -- the pages of packets one after another, from the page of a number on, of which none is marked last
 abbrev pub open_from : (serial sequence : ℕ) → (first : Bool) → List Placed → List Bool

@@ -4,9 +4,11 @@ pub mod Steps
 pub mod Decoding
 pub mod Fronts
 pub mod Either
+pub mod Calls
 pub mod Verifying
 pub mod Telling
 pub mod Coming
+pub mod Opened
 pub mod Native
 pub mod Laws
 pub mod Listed

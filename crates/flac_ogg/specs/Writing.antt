@@ -1,5 +1,8 @@
 -- What encoding writes as an Ogg stream, and that it is one of what was given (RFC 9639, section 10.1).
-use Rattle.std.specs.Prelude.{◌≡◌, ℕ, zero, suc, ◌+◌, ◌*◌, min, Bool, true, false, cond, ◌&&◌, nat_eq, nat_lt, List, [], ◌∷◌, ◌++◌, length, map, replicate}
+use Rattle.std.specs.Prelude.{◌≡◌, ◌<◌, ℕ, zero, suc, ◌+◌, ◌*◌, min, Bool, true, false, cond, ◌&&◌, nat_eq, nat_lt, List, [], ◌∷◌, ◌++◌, length, map, replicate}
+use Rattle.flac_bits.specs.Bits.{bits_of}
+use Rattle.flac_bits.specs.State.{Rises}
+use Rattle.flac_bits.specs.declared.target.Target as target
 use Rattle.flac_bits.specs.declared.why.Why.TheVariants.{Truncated}
 use Rattle.flac_meta.specs.declared.block.Block.{Block}
 use Rattle.flac_meta.specs.declared.block.Block.TheVariants as blocks
@@ -8,6 +11,8 @@ use Rattle.flac_native.specs.Decoding.{beginning}
 use Rattle.flac_native.specs.Stream.{framed}
 use Rattle.flac_native.specs.Given.{Cut, blocks_in, info_of, frames_of, closing}
 use Rattle.flac_native.specs.Writing.{AreFrames, AreLeastFrames, AreSizes}
+use Rattle.flac_native.specs.declared.fault.EncodeFault.{EncodeFault}
+use Rattle.flac_native.specs.declared.fault.EncodeFault.TheVariants.{Write}
 use Rattle.flac_pages.specs.declared.writing.PacketKind.{PacketKind}
 use Rattle.flac_pages.specs.declared.writing.PacketKind.TheVariants as kind_of
 use Rattle.flac_pages.specs.Placed.{Placed, stream_spelling}
@@ -65,3 +70,21 @@ pub record BeginsOgg (serial : ℕ) (p : Cut) (list : List Block) (a : Sound) (b
   pub rest : List Bool
   pub written : after ≡ before ++ front
   pub encodes : EncodesOgg serial p list a before (before ++ (front ++ rest))
+
+-- ---- the target of a call
+
+-- it was sent such a stream, if it is known
+abbrev pub HasSentOgg : {W : Type 0} → target.Ghosts W → (serial : ℕ) → Cut → List Block → Sound → (old new : W) → Type 0
+HasSentOgg g serial p list a old new = g.known old ≡ true → EncodesOgg serial p list a (bits_of (g.sent old)) (bits_of (g.sent new))
+
+-- with Write it was sent a prefix of one, if it is known
+abbrev pub BeganOgg : {W : Type 0} → target.Ghosts W → (serial : ℕ) → Cut → List Block → Sound → (old new : W) → EncodeFault → Type 0
+BeganOgg g serial p list a old new e = e ≡ Write → g.known old ≡ true → BeginsOgg serial p list a (bits_of (g.sent old)) (bits_of (g.sent new))
+
+-- with Write it returned an error, if it is known
+abbrev pub HasWriteError : {W : Type 0} → target.Ghosts W → (old new : W) → EncodeFault → Type 0
+HasWriteError g old new e = e ≡ Write → g.known old ≡ true → g.errors old < g.errors new
+
+-- with Write its count of errors rose, if it could, whatever is known of it
+abbrev pub CountsWriteError : {W : Type 0} → target.Ghosts W → (old new : W) → EncodeFault → Type 0
+CountsWriteError g old new e = e ≡ Write → Rises (g.errors old) (g.errors new)

@@ -1,23 +1,17 @@
 //! Decodes a stream in either container.
 
-ghost use Rattle.std.specs.Prelude.{◌≡◌, ◌≢◌, true, List, IfOk, IfErr, None, Some, ◌<◌, ◌≤◌, ◌+◌, ◌*◌, ◌++◌, [], OnOk, Ok, ◌⊎◌};
-ghost use Rattle.flac_bits.specs.Bits.{bits_of};
-ghost use Rattle.flac_bits.specs.State.{short_of, Rises};
-ghost use Rattle.flac_native.specs.Stream.{Piece};
+ghost use Rattle.std.specs.Prelude.{◌≡◌, ◌≢◌, true, IfOk, IfErr, None, ◌<◌, ◌≤◌, ◌+◌, ◌*◌, ◌++◌, [], OnOk, Ok};
+ghost use Rattle.flac_bits.specs.State.{Rises};
 ghost use Rattle.flac_native.specs.Track.{IsAt};
-ghost use Rattle.flac_native.specs.Decoding.{beginning, taken};
 ghost use Rattle.flac_native.specs.Giving.{stage_of};
 ghost use Rattle.flac_native.specs.declared.decoder.Course.TheVariants.{Begun};
-ghost use Rattle.flac_native.specs.declared.fault.Place.{Place as Where};
-ghost use Rattle.flac_bits.specs.declared.why.Why.{Why as Reason};
-ghost use Rattle.flac_ogg.specs.Stream.{start, OggStream, OggRefused};
-ghost use Rattle.flac_pages.specs.Packets.{ahead, at_front};
-ghost use Rattle.flac_ogg.specs.Coming.{ItemsCome, IsClear};
-ghost use Rattle.flac_bits.specs.Handing.{Hands, Decides, outcome_of};
-ghost use Rattle.flac_native.specs.Item.{told};
-ghost use Rattle.flac_ogg.specs.Decoding.{IsFront, ogg_reading};
+ghost use Rattle.flac_ogg.specs.Stream.{start};
+ghost use Rattle.flac_pages.specs.Packets.{at_front_of};
+ghost use Rattle.flac_ogg.specs.Calls.{HadNoError, KeepsEnd, TakesFront, HasReadError, HasAnyError, HandsOgg, HandsAs, HandsAny, DecidesOgg, DecidesAs, DecidesAny};
+ghost use Rattle.flac_ogg.specs.Coming.{IsClear};
+ghost use Rattle.flac_ogg.specs.Opened.{its_pages, IsFrontOf, StreamComes, RefusalComes};
 ghost use Rattle.flac_ogg.specs.Fronts.{front_bytes, front_count};
-ghost use Rattle.flac_ogg.specs.Either.{begins_page, read_either, read_any};
+ghost use Rattle.flac_ogg.specs.Either.{begins_page};
 
 use crate::packets::OggPackets;
 use flac_bits::{Source, Why};
@@ -28,7 +22,7 @@ use std::io;
 
 /// The pages of a source, with room for one. If the allocation of that fails, the source is returned.
 fn pages_of<R: Source>(alloc: Global, source: R) -> Result<Pages<R>, Refused<R>>
-    ensures ok { IfOk result (λ p. p ≡ at_front (R.known source) (R.errors source) (R.raised source) (8 * R.most source) (R.names source) (bits_of (R.coming source)) (short_of ((R.behind source).fails))) }
+    ensures ok { IfOk result (λ p. p ≡ at_front_of R.Source source) }
     ensures memory { IfErr result (λ x. x.fault ≡ record { at = Place.Marker; why = Why.Memory }) }
     ensures left { IfErr result (λ x. x.left ≡ source) }
 {
@@ -55,18 +49,18 @@ pub fn ogg_decoder_returning<R: Source>(
 ) -> Result<Decoder<OggPackets<R>>, Refused<R>>
     ensures track { IfOk result (λ d. IsAt (stage_of d).track (start profile)) }
     ensures course { IfOk result (λ d. (stage_of d).course ≡ Begun) }
-    ensures known { IfOk result (λ d. (stage_of d).container.pages.known ≡ R.known source) }
-    ensures errors { IfOk result (λ d. (stage_of d).container.pages.errors ≡ R.errors source) }
-    ensures met { IfOk result (λ d. (stage_of d).container.pages.raised ≡ R.raised source) }
-    ensures most { IfOk result (λ d. ((stage_of d).container.pages.most ≡ 8 * R.most source) × ((stage_of d).container.pages.body ≡ [])) }
-    ensures names { IfOk result (λ d. (stage_of d).container.pages.names ≡ R.names source) }
+    ensures known { IfOk result (λ d. (its_pages d).known ≡ R.known source) }
+    ensures errors { IfOk result (λ d. (its_pages d).errors ≡ R.errors source) }
+    ensures met { IfOk result (λ d. (its_pages d).raised ≡ R.raised source) }
+    ensures most { IfOk result (λ d. ((its_pages d).most ≡ 8 * R.most source) × ((its_pages d).body ≡ [])) }
+    ensures names { IfOk result (λ d. (its_pages d).names ≡ R.names source) }
     // What is still to come is what the input is.
-    ensures stream { IfOk result (λ d. (items : List Piece) → OggStream profile (beginning (short_of ((R.behind source).fails))) items (bits_of (R.coming source)) → ItemsCome (start profile) (ahead (stage_of d).container.pages) items None) }
-    ensures refused { IfOk result (λ d. (items : List Piece) (at : Where) (why : Reason) → OggRefused profile (beginning (short_of ((R.behind source).fails))) items (bits_of (R.coming source)) at why → ItemsCome (start profile) (ahead (stage_of d).container.pages) items (Some (at, why))) }
+    ensures stream { IfOk result (λ d. StreamComes R.Source profile source (its_pages d)) }
+    ensures refused { IfOk result (λ d. RefusalComes R.Source profile source (its_pages d)) }
     // No page was read.
-    ensures front { IfOk result (λ d. R.known source ≡ true → IsFront (beginning (short_of ((R.behind source).fails))) (bits_of (R.coming source)) (stage_of d).container.pages) }
+    ensures front { IfOk result (λ d. IsFrontOf R.Source source (its_pages d)) }
     // Read is returned only if the source returns an error in the call, unless one is announced.
-    ensures clear { IfOk result (λ d. (R.behind source).fails ≡ None → IsClear (stage_of d).container.pages (stage_of d).track) }
+    ensures clear { IfOk result (λ d. (R.behind source).fails ≡ None → IsClear (its_pages d) (stage_of d).track) }
     ensures memory { IfErr result (λ x. x.fault ≡ record { at = Place.Marker; why = Why.Memory }) }
     ensures left { IfErr result (λ x. x.left ≡ source) }
 {
@@ -97,18 +91,18 @@ pub fn ogg_decoder<R: Source + Drop>(
 ) -> Result<Decoder<OggPackets<R>>, Fault>
     ensures track { IfOk result (λ d. IsAt (stage_of d).track (start profile)) }
     ensures course { IfOk result (λ d. (stage_of d).course ≡ Begun) }
-    ensures known { IfOk result (λ d. (stage_of d).container.pages.known ≡ R.known source) }
-    ensures errors { IfOk result (λ d. (stage_of d).container.pages.errors ≡ R.errors source) }
-    ensures met { IfOk result (λ d. (stage_of d).container.pages.raised ≡ R.raised source) }
-    ensures most { IfOk result (λ d. ((stage_of d).container.pages.most ≡ 8 * R.most source) × ((stage_of d).container.pages.body ≡ [])) }
-    ensures names { IfOk result (λ d. (stage_of d).container.pages.names ≡ R.names source) }
+    ensures known { IfOk result (λ d. (its_pages d).known ≡ R.known source) }
+    ensures errors { IfOk result (λ d. (its_pages d).errors ≡ R.errors source) }
+    ensures met { IfOk result (λ d. (its_pages d).raised ≡ R.raised source) }
+    ensures most { IfOk result (λ d. ((its_pages d).most ≡ 8 * R.most source) × ((its_pages d).body ≡ [])) }
+    ensures names { IfOk result (λ d. (its_pages d).names ≡ R.names source) }
     // What is still to come is what the input is.
-    ensures stream { IfOk result (λ d. (items : List Piece) → OggStream profile (beginning (short_of ((R.behind source).fails))) items (bits_of (R.coming source)) → ItemsCome (start profile) (ahead (stage_of d).container.pages) items None) }
-    ensures refused { IfOk result (λ d. (items : List Piece) (at : Where) (why : Reason) → OggRefused profile (beginning (short_of ((R.behind source).fails))) items (bits_of (R.coming source)) at why → ItemsCome (start profile) (ahead (stage_of d).container.pages) items (Some (at, why))) }
+    ensures stream { IfOk result (λ d. StreamComes R.Source profile source (its_pages d)) }
+    ensures refused { IfOk result (λ d. RefusalComes R.Source profile source (its_pages d)) }
     // No page was read.
-    ensures front { IfOk result (λ d. R.known source ≡ true → IsFront (beginning (short_of ((R.behind source).fails))) (bits_of (R.coming source)) (stage_of d).container.pages) }
+    ensures front { IfOk result (λ d. IsFrontOf R.Source source (its_pages d)) }
     // Read is returned only if the source returns an error in the call, unless one is announced.
-    ensures clear { IfOk result (λ d. (R.behind source).fails ≡ None → IsClear (stage_of d).container.pages (stage_of d).track) }
+    ensures clear { IfOk result (λ d. (R.behind source).fails ≡ None → IsClear (its_pages d) (stage_of d).track) }
     ensures memory { IfErr result (λ f. f.why ≡ Why.Memory) }
     ensures place { IfErr result (λ f. f.at ≡ Place.Marker) }
 {
@@ -142,19 +136,18 @@ pub fn decode_ogg<R: Source, S: Sink>(
 ) -> Result<(), Fault>
     // Ok only if the bytes are an Ogg stream, and the sink took exactly its items; refused only as the bytes are, after
     // exactly the items before; and in each case the sink took the items of whole packets, from the start.
-    ensures hands { R.known source.old ≡ true → S.known sink.old ≡ true →
-        Hands (ogg_reading profile (beginning (short_of ((R.behind source.old).fails))) (bits_of (R.coming source.old))) (taken S.takes) S.errors (R.errors source.new ≡ R.errors source.old) sink.old sink.new (outcome_of told result) }
+    ensures hands { HandsOgg R.Source S.Sink profile source.old source.new sink.old sink.new result }
     // An Ogg stream is not refused, unless memory runs out, and the place and the reason are those that the bytes show.
-    ensures decides { R.known source.old ≡ true → S.known sink.old ≡ true → R.errors source.new ≡ R.errors source.old → S.errors sink.new ≡ S.errors sink.old →
-        Decides (ogg_reading profile (beginning (short_of ((R.behind source.old).fails))) (bits_of (R.coming source.old))) (outcome_of told result) }
+    ensures decides { DecidesOgg R.Source S.Sink profile source.old source.new sink.old sink.new result }
     // Read is returned only if the source returned an error in the call, unless one was announced.
-    ensures read { IfErr result (λ f. R.known source.old ≡ true → (R.behind source.old).fails ≡ None → f.why ≡ Why.Read → R.errors source.old < R.errors source.new) }
+    ensures read { IfErr result (λ f. HasReadError R.Source source.old source.new f.why) }
     // An error of the source and of the sink is counted, if the count can rise, whatever is known of them: no other
     // call returns it.
     ensures risen { IfErr result (λ f. f.why ≡ Why.Read → Rises (R.raised source.old) (R.raised source.new)) }
     ensures sink { IfErr result (λ f. f.why ≡ Why.Sink → Rises (S.errors sink.old) (S.errors sink.new)) }
     ensures write { IfErr result (λ f. f.why ≢ Why.Write) }
-    // Ok only if the source returned no error in the call, unless one was announced, whatever is known of its bytes.
+    // Ok only if the source returned no error in the call, whatever is known of its bytes: none that was not announced
+    // (`errors`), and none that was announced (`raised` counts both).
     ensures counted { OnOk result (R.errors source.new ≡ R.errors source.old) }
     ensures raised { OnOk result (R.raised source.new ≡ R.raised source.old) }
     ensures kept { R.errors source.old ≤ R.errors source.new }
@@ -243,11 +236,11 @@ pub fn begins_page(front: Option<u8>) -> bool
 /// [`Why::Read`] at the marker if the source returns an error.
 pub fn pull_front<R: Source>(source: &mut R) -> Result<Option<u8>, Fault>
     ensures known { OnOk result (R.known source.old ≡ true → R.known source.new ≡ true) }
-    ensures bytes { IfOk result (λ front. R.known source.old ≡ true → R.coming source.old ≡ front_bytes front ++ R.coming source.new) }
+    ensures bytes { IfOk result (λ front. TakesFront R.Source source.old source.new front) }
     ensures end { result ≡ Ok None → R.known source.old ≡ true → R.coming source.old ≡ [] }
-    ensures counted { OnOk result ((R.errors source.new ≡ R.errors source.old) × (R.raised source.new ≡ R.raised source.old)) }
+    ensures counted { OnOk result (HadNoError R.Source source.old source.new) }
     ensures kept { R.errors source.old ≤ R.errors source.new }
-    ensures behind { R.known source.old ≡ true → R.errors source.new ≡ R.errors source.old → R.behind source.new ≡ R.behind source.old }
+    ensures behind { KeepsEnd R.Source source.old source.new }
     ensures place { IfErr result (λ f. f.at ≡ Place.Marker) }
     ensures why { IfErr result (λ f. f.why ≡ Why.Read) }
     ensures rises { IfErr result (λ f. R.known source.old ≡ true → R.raised source.old < R.raised source.new) }
@@ -273,16 +266,14 @@ fn decode_as<R: Source, S: Sink>(
     profile: Profile,
     sink: &mut S,
 ) -> Result<(), Fault>
-    ensures hands { R.known source.old ≡ true → S.known sink.old ≡ true →
-        Hands (read_either profile is_ogg (beginning (short_of ((R.behind source.old).fails))) (bits_of (R.coming source.old))) (taken S.takes) S.errors
-        ((R.errors source.new ≡ R.errors source.old) × (R.raised source.new ≡ R.raised source.old)) sink.old sink.new (outcome_of told result) }
-    ensures decides { R.known source.old ≡ true → S.known sink.old ≡ true → R.errors source.new ≡ R.errors source.old → R.raised source.new ≡ R.raised source.old → S.errors sink.new ≡ S.errors sink.old →
-        Decides (read_either profile is_ogg (beginning (short_of ((R.behind source.old).fails))) (bits_of (R.coming source.old))) (outcome_of told result) }
-    // Ok only if the source returned no error in the call, unless one was announced, whatever is known of its bytes.
+    ensures hands { HandsAs R.Source S.Sink profile is_ogg source.old source.new sink.old sink.new result }
+    ensures decides { DecidesAs R.Source S.Sink profile is_ogg source.old source.new sink.old sink.new result }
+    // Ok only if the source returned no error in the call, whatever is known of its bytes: none that was not announced
+    // (`errors`), and none that was announced (`raised` counts both).
     ensures counted { OnOk result (R.errors source.new ≡ R.errors source.old) }
     ensures raised { OnOk result (R.raised source.new ≡ R.raised source.old) }
     ensures kept { R.errors source.old ≤ R.errors source.new }
-    ensures read { IfErr result (λ f. R.known source.old ≡ true → (R.behind source.old).fails ≡ None → f.why ≡ Why.Read → (R.errors source.old < R.errors source.new) ⊎ (R.raised source.old < R.raised source.new)) }
+    ensures read { IfErr result (λ f. HasAnyError R.Source source.old source.new f.why) }
     // An error of the source and of the sink is counted, if the count can rise, whatever is known of them: no other
     // call returns it.
     ensures risen { IfErr result (λ f. f.why ≡ Why.Read → Rises (R.raised source.old) (R.raised source.new)) }
@@ -316,18 +307,16 @@ pub fn decode_any<R: Source, S: Sink>(
 ) -> Result<(), Fault>
     // Ok only if the bytes are such a stream, and the sink took exactly its items; refused only as the bytes are, after
     // exactly the items before; and in each case the sink took whole items, from the start.
-    ensures hands { R.known source.old ≡ true → S.known sink.old ≡ true →
-        Hands (read_any profile (begins_page (R.coming source.old)) (beginning (short_of ((R.behind source.old).fails))) (bits_of (R.coming source.old))) (taken S.takes) S.errors
-        ((R.errors source.new ≡ R.errors source.old) × (R.raised source.new ≡ R.raised source.old)) sink.old sink.new (outcome_of told result) }
+    ensures hands { HandsAny R.Source S.Sink profile source.old source.new sink.old sink.new result }
     // Such a stream is not refused, unless memory runs out, and the place and the reason are those that the bytes show.
-    ensures decides { R.known source.old ≡ true → S.known sink.old ≡ true → R.errors source.new ≡ R.errors source.old → R.raised source.new ≡ R.raised source.old → S.errors sink.new ≡ S.errors sink.old →
-        Decides (read_any profile (begins_page (R.coming source.old)) (beginning (short_of ((R.behind source.old).fails))) (bits_of (R.coming source.old))) (outcome_of told result) }
-    // Ok only if the source returned no error in the call, unless one was announced, whatever is known of its bytes.
+    ensures decides { DecidesAny R.Source S.Sink profile source.old source.new sink.old sink.new result }
+    // Ok only if the source returned no error in the call, whatever is known of its bytes: none that was not announced
+    // (`errors`), and none that was announced (`raised` counts both).
     ensures counted { OnOk result (R.errors source.new ≡ R.errors source.old) }
     ensures raised { OnOk result (R.raised source.new ≡ R.raised source.old) }
     ensures kept { R.errors source.old ≤ R.errors source.new }
     // Read is returned only if the source returned an error in the call, unless one was announced.
-    ensures read { IfErr result (λ f. R.known source.old ≡ true → (R.behind source.old).fails ≡ None → f.why ≡ Why.Read → (R.errors source.old < R.errors source.new) ⊎ (R.raised source.old < R.raised source.new)) }
+    ensures read { IfErr result (λ f. HasAnyError R.Source source.old source.new f.why) }
     // An error of the source and of the sink is counted, if the count can rise, whatever is known of them: no other
     // call returns it.
     ensures risen { IfErr result (λ f. f.why ≡ Why.Read → Rises (R.raised source.old) (R.raised source.new)) }

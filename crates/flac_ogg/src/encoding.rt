@@ -1,29 +1,23 @@
 //! Encodes samples as an Ogg stream.
 
-ghost use Rattle.std.specs.Prelude.{◌≡◌, ◌≢◌, [], ◌++◌, ◌≤◌, ◌<◌, ◌^◌, ◌↔◌, length, nat_eq, true, false, IfOk, IfErr, OnOk, None, Err, ◌∷◌, ◌+◌, ◌*◌, ◌/◌, List, Bool};
+ghost use Rattle.std.specs.Prelude.{◌≡◌, ◌≢◌, ◌≤◌, ◌<◌, ◌↔◌, length, true, false, IfOk, IfErr, OnOk, Err, ◌+◌, ◌*◌, ◌/◌};
 ghost use Rattle.flac_bits.specs.Bits.{bits_of};
-ghost use Rattle.flac_bits.specs.State.{Rises};
-ghost use Rattle.flac_bits.specs.Written.{Writes};
-ghost use Rattle.flac_meta.specs.Listed.{block_fault};
-ghost use Rattle.flac_meta.specs.Spelling.{block_spelling};
-ghost use Rattle.flac_meta.specs.declared.block.Block.TheVariants as block_of;
-ghost use Rattle.flac_native.specs.Given.{fits_plan, info_of, room_of};
+ghost use Rattle.flac_native.specs.Given.{fits_plan, room_of};
 ghost use Rattle.flac_native.specs.Numbers.{is_of_whole};
-ghost use Rattle.flac_native.specs.Writing.{AreCounted, AreChoices, HasRoom};
+ghost use Rattle.flac_native.specs.Writing.{AreChoices, HasRoom};
 ghost use Rattle.flac_native.specs.inner.Writing.{WritesAll};
-ghost use Rattle.flac_ogg.specs.Headers.{AreHeaders};
-ghost use Rattle.flac_ogg.specs.Native.{mapping_spelling, packet_spellings};
-ghost use Rattle.flac_ogg.specs.Writing.{begins_with_comment, may_be_ogg, header_count, EncodesOgg, BeginsOgg};
-ghost use Rattle.flac_ogg.specs.inner.Writing.{SendsPackets, SendsOgg};
+ghost use Rattle.flac_ogg.specs.Headers.{AreHeadersOf};
+ghost use Rattle.flac_ogg.specs.Writing.{begins_with_comment, may_be_ogg, HasSentOgg, BeganOgg, HasWriteError, CountsWriteError};
+ghost use Rattle.flac_ogg.specs.inner.Writing.{CountsFrames, info_with, SendsFrames, SendsWhole};
 ghost use Rattle.flac_frame.specs.Audio.{samples_each};
 ghost use Rattle.flac_pages.specs.Placed.{sequence_behind};
 ghost use Rattle.flac_pages.specs.Written.{packet_spelling};
 
-use crate::headers::{Headers, write_mapped};
-use crate::verifying::bytes_fit;
-use flac_bits::{BitWriter, Collected, Target, Why, send_all};
+use crate::bytes::bytes_fit;
+use crate::headers::{Headers, header_packets};
+use flac_bits::{BitWriter, Target, Why, send_all};
 use flac_frame::{Audio, EncodeBuffers};
-use flac_meta::{Block, BlockList, StreamInfo, write_block};
+use flac_meta::{Block, BlockList};
 use flac_native::{ChosenFrames, EncodeFault, Plan, Room};
 use flac_pages::{MOST_BODY, MOST_PAGE, PacketKind, PacketMarks, write_packet};
 use std::alloc::Global;
@@ -43,77 +37,6 @@ fn may_be_ogg(plan: &Plan, list: &BlockList) -> bool
     ensures { result ≡ may_be_ogg plan.now list.now }
 {
     plan.seek_every() == 0 && begins_with_comment(list.blocks())
-}
-
-/// How many header packets follow the first one; 0 if 16 bits cannot hold it (RFC 9639, section 10.1).
-pub(crate) fn header_count(blocks: usize) -> u64
-    ensures value { result ≡ header_count blocks }
-    ensures small { result < 2 ^ 16 }
-{
-    if blocks > 65535 { 0 } else { blocks as u64 }
-}
-
-/// Writes what the first packet has before STREAMINFO (RFC 9639, section 10.1).
-fn write_mapping<W: Target>(count: u64, writer: &mut BitWriter<W>) -> Result<(), Why>
-    requires { count < 2 ^ 16 }
-    ensures { Writes (mapping_spelling count) writer.old writer.new result }
-{
-    write_mapped(count, b"fLaC", writer)
-}
-
-/// Writes the first packet: the mapping, and STREAMINFO, which is marked last if there are no other blocks.
-fn write_first<W: Target>(
-    info: StreamInfo,
-    blocks: usize,
-    writer: &mut BitWriter<W>,
-) -> Result<(), Why>
-    ensures { Writes (mapping_spelling (header_count blocks) ++ block_spelling (nat_eq blocks 0) (block_of.StreamInfo info)) writer.old writer.new result }
-{
-    write_mapping(header_count(blocks), writer)?;
-    write_block(&Block::StreamInfo(info), blocks == 0, writer)
-}
-
-/// The first packet. Its only error is `Memory`: an allocation failed.
-fn first_packet(alloc: Global, info: StreamInfo, blocks: usize) -> Result<Vec<u8>, Why>
-    ensures packet { IfOk result (λ packet. bits_of packet.items ≡ mapping_spelling (header_count blocks) ++ block_spelling (nat_eq blocks 0) (block_of.StreamInfo info)) }
-    ensures memory { IfErr result (λ e. e ≡ Why.Memory) }
-{
-    let mut writer = BitWriter::new(Collected::new(alloc));
-    match write_first(info, blocks, &mut writer) {
-        Ok(()) => writer.into_bytes(),
-        Err(why) => Err(why.in_memory()),
-    }
-}
-
-/// A block as a packet. Its only error is `Memory`: an allocation failed.
-pub(crate) fn block_packet(alloc: Global, block: &Block, last: bool) -> Result<Vec<u8>, Why>
-    requires { block_fault block.now ≡ None }
-    ensures packet { IfOk result (λ packet. bits_of packet.items ≡ block_spelling last block.now) }
-    ensures memory { IfErr result (λ e. e ≡ Why.Memory) }
-{
-    let mut writer = BitWriter::new(Collected::new(alloc));
-    match write_block(block, last, &mut writer) {
-        Ok(()) => writer.into_bytes(),
-        Err(why) => Err(why.in_memory()),
-    }
-}
-
-/// The header packets: the mapping with STREAMINFO, and a block each. Its only error is `Memory`: an allocation failed.
-fn header_packets(
-    alloc: Global,
-    serial: u32,
-    info: StreamInfo,
-    list: &BlockList,
-) -> Result<Headers, Why>
-    ensures made { IfOk result (λ h. AreHeaders (packet_spellings (header_count (length list.now)) info list.now []) h) }
-    ensures serial { IfOk result (λ h. h.serial ≡ serial) }
-    ensures memory { IfErr result (λ e. e ≡ Why.Memory) }
-{
-    let blocks = list.blocks();
-    let first = first_packet(alloc, info, blocks.len())?;
-    let mut headers = Headers::new(alloc, serial, first.as_slice())?;
-    headers.push_blocks(alloc, list)?;
-    Ok(headers)
 }
 
 /// Encodes samples as an Ogg stream with this serial number: the mapping with STREAMINFO, the blocks of the list, and a
@@ -145,14 +68,14 @@ pub fn encode_ogg<W: Target>(
     target: &mut W,
 ) -> Result<(), EncodeFault>
     requires { fits_plan plan.now audio.now ≡ true }
-    ensures written { OnOk result (W.known target.old ≡ true → EncodesOgg serial plan.now list.now audio.now (bits_of (W.sent target.old)) (bits_of (W.sent target.new))) }
+    ensures written { OnOk result (HasSentOgg W.Target serial plan.now list.now audio.now target.old target.new) }
     // Ok only if the target returned no error.
     ensures known { OnOk result (W.known target.old ≡ true → W.known target.new ≡ true) }
     ensures counted { OnOk result (W.errors target.new ≡ W.errors target.old) }
-    ensures begun { IfErr result (λ e. e ≡ EncodeFault.Write → W.known target.old ≡ true → BeginsOgg serial plan.now list.now audio.now (bits_of (W.sent target.old)) (bits_of (W.sent target.new))) }
-    ensures failed { IfErr result (λ e. e ≡ EncodeFault.Write → W.known target.old ≡ true → W.errors target.old < W.errors target.new) }
+    ensures begun { IfErr result (λ e. BeganOgg W.Target serial plan.now list.now audio.now target.old target.new e) }
+    ensures failed { IfErr result (λ e. HasWriteError W.Target target.old target.new e) }
     // An error of the target is counted, if the count can rise, whatever is known of it.
-    ensures risen { IfErr result (λ e. e ≡ EncodeFault.Write → Rises (W.errors target.old) (W.errors target.new)) }
+    ensures risen { IfErr result (λ e. CountsWriteError W.Target target.old target.new e) }
     ensures mapping { (result ≡ Err EncodeFault.BadMapping) ↔ (may_be_ogg plan.now list.now ≡ false) }
     ensures repeated { result ≢ Err EncodeFault.RepeatedBlock }
     ensures whole { IfErr result (λ e. is_of_whole e ≡ true) }
@@ -198,9 +121,9 @@ fn prepare(
 ) -> Result<Prepared, Why>
     requires fits { fits_plan plan.now audio.now ≡ true }
     requires room { buffers.old ≡ room_of plan.now }
-    ensures counted { IfOk result (λ p. AreCounted plan.now audio.now p.frames.least p.frames.greatest p.frames.points.items) }
+    ensures counted { IfOk result (λ p. CountsFrames plan.now audio.now p.frames) }
     ensures choices { IfOk result (λ p. AreChoices plan.now audio.now p.frames.choices.items) }
-    ensures headers { IfOk result (λ p. AreHeaders (packet_spellings (header_count (length list.now)) (info_of plan.now audio.now p.frames.least p.frames.greatest) list.now []) p.headers) }
+    ensures headers { IfOk result (λ p. AreHeadersOf (info_with plan.now audio.now p.frames) list.now p.headers) }
     ensures serial { IfOk result (λ p. p.headers.serial ≡ serial) }
     ensures room { IfOk result (λ p. HasRoom plan.now audio.now p.room.places) }
     ensures pages { IfOk result (λ p. 65307 * (p.frames.greatest / 65025 + 1) ≤ p.pages.places) }
@@ -228,12 +151,12 @@ fn send_prepared<W: Target>(
     target: &mut W,
 ) -> Result<(), Why>
     requires fits { fits_plan plan.now audio.now ≡ true }
-    requires counted { AreCounted plan.now audio.now prepared.frames.least prepared.frames.greatest prepared.frames.points.items }
+    requires counted { CountsFrames plan.now audio.now prepared.frames }
     requires choices { AreChoices plan.now audio.now prepared.frames.choices.items }
     requires buffers { buffers.old ≡ room_of plan.now }
     requires room { HasRoom plan.now audio.now prepared.room.places }
     requires pages { 65307 * (prepared.frames.greatest / 65025 + 1) ≤ prepared.pages.places }
-    ensures { (first : List Bool) (texts : List (List Bool)) (h : AreHeaders (first ∷ texts) prepared.headers) → SendsOgg W.Target prepared.headers.serial plan.now audio.now h.packets target.old target.new result }
+    ensures { SendsWhole W.Target prepared.headers plan.now audio.now target.old target.new result }
 {
     let Prepared {
         frames,
@@ -310,12 +233,12 @@ fn send_frames<W: Target>(
 ) -> Result<(), Why>
     requires fits { fits_plan planned.now.plan.now planned.now.audio.now ≡ true }
     requires some { 0 < samples_each planned.now.audio.now.channels }
-    requires counted { AreCounted planned.now.plan.now planned.now.audio.now planned.now.frames.now.least planned.now.frames.now.greatest planned.now.frames.now.points.items }
+    requires counted { CountsFrames planned.now.plan.now planned.now.audio.now planned.now.frames.now }
     requires choices { AreChoices planned.now.plan.now planned.now.audio.now planned.now.frames.now.choices.items }
     requires buffers { buffers.old ≡ room_of planned.now.plan.now }
     requires room { HasRoom planned.now.plan.now planned.now.audio.now room.places }
     requires pages { 65307 * (planned.now.frames.now.greatest / 65025 + 1) ≤ pages.places }
-    ensures { SendsPackets W.Target headers.now.serial headers.now.held.next planned.now.plan.now planned.now.audio.now target.old target.new result }
+    ensures { SendsFrames W.Target headers.now planned.now.plan.now planned.now.audio.now target.old target.new result }
 {
     let Planned {
         plan,
@@ -361,12 +284,12 @@ fn send_stream<W: Target>(
     target: &mut W,
 ) -> Result<(), Why>
     requires fits { fits_plan planned.now.plan.now planned.now.audio.now ≡ true }
-    requires counted { AreCounted planned.now.plan.now planned.now.audio.now planned.now.frames.now.least planned.now.frames.now.greatest planned.now.frames.now.points.items }
+    requires counted { CountsFrames planned.now.plan.now planned.now.audio.now planned.now.frames.now }
     requires choices { AreChoices planned.now.plan.now planned.now.audio.now planned.now.frames.now.choices.items }
     requires buffers { buffers.old ≡ room_of planned.now.plan.now }
     requires room { HasRoom planned.now.plan.now planned.now.audio.now room.places }
     requires pages { 65307 * (planned.now.frames.now.greatest / 65025 + 1) ≤ pages.places }
-    ensures { (first : List Bool) (texts : List (List Bool)) (h : AreHeaders (first ∷ texts) headers.now) → SendsOgg W.Target headers.now.serial planned.now.plan.now planned.now.audio.now h.packets target.old target.new result }
+    ensures { SendsWhole W.Target headers.now planned.now.plan.now planned.now.audio.now target.old target.new result }
 {
     let Planned { plan, audio, .. } = *planned;
     let _size = plan.block_size(); // for the proof alone: what holds of every plan

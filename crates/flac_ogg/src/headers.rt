@@ -1,21 +1,14 @@
 //! The header packets of a stream.
 
-ghost use Rattle.std.specs.Prelude.{◌≡◌, ◌≤◌, ◌<◌, ◌^◌, ◌∷◌, [], ◌++◌, List, Bool, length, IfOk, IfErr, OnOk};
-ghost use Rattle.flac_bits.specs.Bits.{unsigned, bits_of};
-ghost use Rattle.flac_bits.specs.Forms.{IsBytes, joined};
-ghost use Rattle.flac_bits.specs.Written.{Writes};
-ghost use Rattle.flac_info.specs.Info.{Info};
-ghost use Rattle.flac_native.specs.Writing.{head_spelling};
-ghost use Rattle.flac_ogg.specs.Headers.{AreHeaders};
-ghost use Rattle.flac_ogg.specs.Native.{block_spellings, packet_spellings};
-ghost use Rattle.flac_ogg.specs.Writing.{header_count};
+ghost use Rattle.std.specs.Prelude.{◌≡◌, ◌≤◌, ◌∷◌, [], length, IfOk, IfErr, OnOk};
+ghost use Rattle.flac_bits.specs.Bits.{bits_of};
+ghost use Rattle.flac_ogg.specs.Headers.{AreHeaders, AreHeadersOf, AreHeadersOfHead, AddsHeader, AddsBlocks};
 
-use crate::encoding::{block_packet, header_count};
+use crate::bytes::bytes_fit;
 use crate::held_packet::HeldPacket;
-use crate::packets::{MAPPING_NAME, MAPPING_VERSION};
-use crate::verifying::bytes_fit;
-use flac_bits::{BitWriter, Collected, Target, Why};
-use flac_meta::BlockList;
+use crate::mapping::{block_packet, first_packet, mapped};
+use flac_bits::Why;
+use flac_meta::{BlockList, StreamInfo};
 use flac_pages::{PacketKind, PacketMarks};
 use std::alloc::Global;
 
@@ -53,7 +46,7 @@ impl Headers {
 
     /// Adds a header packet. Its only error is `Memory`: an allocation failed; the packets are of no use then.
     fn push(&mut self, alloc: Global, packet: &[u8]) -> Result<(), Why>
-        ensures put { OnOk result ((first : List Bool) (texts : List (List Bool)) → AreHeaders (first ∷ texts) self.old → AreHeaders ((first ∷ texts) ++ bits_of packet.now ∷ []) self.new) }
+        ensures put { OnOk result (AddsHeader (bits_of packet.now) self.old self.new) }
         ensures serial { OnOk result (self.new.serial ≡ self.old.serial) }
         ensures memory { IfErr result (λ e. e ≡ Why.Memory) }
     {
@@ -73,7 +66,7 @@ impl Headers {
 
     /// Adds a packet for each block. Its only error is `Memory`: an allocation failed.
     pub(crate) fn push_blocks(&mut self, alloc: Global, list: &BlockList) -> Result<(), Why>
-        ensures put { OnOk result ((first : List Bool) → AreHeaders (first ∷ []) self.old → AreHeaders (first ∷ block_spellings list.now) self.new) }
+        ensures put { OnOk result (AddsBlocks list.now self.old self.new) }
         ensures serial { OnOk result (self.new.serial ≡ self.old.serial) }
         ensures memory { IfErr result (λ e. e ≡ Why.Memory) }
     {
@@ -87,44 +80,33 @@ impl Headers {
     }
 }
 
-/// Writes the mapping before `head`, which is the marker or begins with it (RFC 9639, section 10.1).
-pub(crate) fn write_mapped<W: Target>(
-    count: u64,
-    head: &[u8],
-    writer: &mut BitWriter<W>,
-) -> Result<(), Why>
-    requires { count < 2 ^ 16 }
-    ensures { Writes (joined (unsigned 40 0x7F464C4143 ∷ unsigned 16 0x0100 ∷ unsigned 16 count ∷ bits_of head.now ∷ [])) writer.old writer.new result }
-{
-    writer.put(40, MAPPING_NAME)?;
-    writer.put(16, MAPPING_VERSION)?;
-    writer.put(16, count)?;
-    writer.put_bytes(head)?;
-    Ok(())
-}
-
-/// The first packet of a stream with `blocks` blocks after STREAMINFO: the mapping, and then the marker and STREAMINFO
-/// as they begin a native stream. Its only error is `Memory`: an allocation failed.
-fn mapped(alloc: Global, blocks: usize, head: &[u8]) -> Result<Vec<u8>, Why>
-    ensures packet { IfOk result (λ packet. bits_of packet.items ≡ joined (unsigned 40 0x7F464C4143 ∷ unsigned 16 0x0100 ∷ unsigned 16 (header_count blocks) ∷ bits_of head.now ∷ [])) }
+/// The header packets: the mapping with STREAMINFO, and a block each. Its only error is `Memory`: an allocation failed.
+pub(crate) fn header_packets(
+    alloc: Global,
+    serial: u32,
+    info: StreamInfo,
+    list: &BlockList,
+) -> Result<Headers, Why>
+    ensures made { IfOk result (λ h. AreHeadersOf info list.now h) }
+    ensures serial { IfOk result (λ h. h.serial ≡ serial) }
     ensures memory { IfErr result (λ e. e ≡ Why.Memory) }
 {
-    let mut writer = BitWriter::new(Collected::new(alloc));
-    match write_mapped(header_count(blocks), head, &mut writer) {
-        Ok(()) => writer.into_bytes(),
-        Err(why) => Err(why.in_memory()),
-    }
+    let blocks = list.blocks();
+    let first = first_packet(alloc, info, blocks.len())?;
+    let mut headers = Headers::new(alloc, serial, first.as_slice())?;
+    headers.push_blocks(alloc, list)?;
+    Ok(headers)
 }
 
 /// The header packets of the blocks with which a native stream begins: STREAMINFO, after the mapping, and those of the
-/// list (RFC 9639, section 10.1). For encoders of other crates, such as `OggEncoder` of `flac_encoder`. `head` is what a
-/// native stream of them begins with: the marker and STREAMINFO are its first 42 bytes.
+/// list (RFC 9639, section 10.1). For encoders of other crates, such as `OggEncoder` of `flac_encoder`. `head` is what
+/// a native stream of them begins with: the marker and STREAMINFO are its first 42 bytes.
 ///
 /// # Errors
 /// [`Why::Memory`] if an allocation fails.
 pub fn headers_of(alloc: Global, serial: u32, head: &[u8], list: &BlockList) -> Result<Headers, Why>
     requires { 42 ≤ length head.now }
-    ensures made { IfOk result (λ h. (info : Info) → IsBytes 16 info.digest → bits_of head.now ≡ head_spelling info list.now → AreHeaders (packet_spellings (header_count (length list.now)) info list.now []) h) }
+    ensures made { IfOk result (λ h. AreHeadersOfHead head.now list.now h) }
     ensures serial { IfOk result (λ h. h.serial ≡ serial) }
     ensures memory { IfErr result (λ e. e ≡ Why.Memory) }
 {

@@ -4,6 +4,7 @@ ghost use Rattle.std.specs.Prelude.{◌≡◌, true, false, IfOk, IfErr};
 ghost use Rattle.flac_bits.specs.Bits.{bits_of};
 ghost use Rattle.flac_pages.specs.Placed.{sequence_behind};
 ghost use Rattle.flac_pages.specs.Written.{packet_spelling};
+ghost use Rattle.flac_ogg.specs.Held.{pages_marked};
 
 use flac_bits::{BitWriter, Collected, Why};
 use flac_pages::{PacketMarks, write_packet};
@@ -57,8 +58,8 @@ impl HeldPacket {
     /// Holds a packet of these marks, apart from whether it is the last. Its only error is `Memory`: an allocation
     /// failed.
     pub fn new(alloc: Global, marks: PacketMarks, packet: &[u8]) -> Result<HeldPacket, Why>
-        ensures middle { IfOk result (λ h. bits_of h.middle.items ≡ packet_spelling (record marks { last = false }) packet.now) }
-        ensures last { IfOk result (λ h. bits_of h.last.items ≡ packet_spelling (record marks { last = true }) packet.now) }
+        ensures middle { IfOk result (λ h. bits_of h.middle.items ≡ pages_marked marks false packet.now) }
+        ensures last { IfOk result (λ h. bits_of h.last.items ≡ pages_marked marks true packet.now) }
         ensures next { IfOk result (λ h. h.next ≡ sequence_behind marks.sequence packet.now) }
         ensures memory { IfErr result (λ e. e ≡ Why.Memory) }
     {

@@ -3,7 +3,7 @@
 ghost use Rattle.flac_ogg.specs.Laws.{OggIsReadOnce, OggIsRead, CallsBreakAtPages};
 ghost use Rattle.flac_ogg.specs.Native.{OggStreamsAreStreams, EncodedAreOggItems};
 ghost use Rattle.flac_ogg.specs.RoundTrip.{EncodedOggIsRead};
-ghost use Rattle.flac_ogg.specs.Wider.{SubsetOggIsLax};
+ghost use Rattle.flac_ogg.specs.Wider.{SubsetOggIsLax, NothingIsOutsideLaxInOgg};
 
 use crate::packets::OggPackets;
 use flac_bits::Source;
@@ -41,6 +41,12 @@ pub fn encoded_are_read()
 /// same items.
 pub fn subset_is_lax()
     ensures { SubsetOggIsLax }
+{}
+
+/// Without the subset's limits no Ogg stream is refused as outside the subset (RFC 9639, section 7): with
+/// [`crate::Profile::Lax`] no call returns [`crate::Why::NotSubset`].
+pub fn nothing_is_outside_lax()
+    ensures { NothingIsOutsideLaxInOgg }
 {}
 
 /// A decoder of known bytes, as [`crate::ogg_decoder`] makes it, gave some items, and then a call of

@@ -15,11 +15,13 @@
 //! It re-exports what its users need from the crates below.
 #![tactic(auto)]
 
+mod bytes;
 mod decoding;
 mod encoding;
 mod headers;
 mod held_packet;
 mod laws;
+mod mapping;
 mod packets;
 mod verifying;
 
@@ -41,8 +43,8 @@ pub use flac_pages::{PacketBytes, Pages};
 pub use headers::{Headers, headers_of};
 pub use held_packet::HeldPacket;
 pub use laws::{
-    calls_break_at_pages, encoded_are_read, encoded_items, only_one_way, same_items, some_way,
-    subset_is_lax,
+    calls_break_at_pages, encoded_are_read, encoded_items, nothing_is_outside_lax, only_one_way,
+    same_items, some_way, subset_is_lax,
 };
 pub use packets::OggPackets;
 pub use verifying::{encode_and_decode, verify};

@@ -1,7 +1,6 @@
 //! Bytes in memory: verifying a stream, and encoding and decoding again.
 
-ghost use Rattle.flac_bits.specs.Forms.{AreBytes};
-ghost use Rattle.std.specs.Prelude.{◌≢◌, ⊤, [], true, IfErr, ◌≡◌, ◌↔◌, List, false, IfOk, Err, Some, None};
+ghost use Rattle.std.specs.Prelude.{◌≢◌, ⊤, [], true, IfErr, ◌≡◌, ◌↔◌, List, false, IfOk, Err};
 ghost use Rattle.flac_bits.specs.Handing.{outcome_of};
 ghost use Rattle.flac_native.specs.Item.{told};
 ghost use Rattle.flac_ogg.specs.Verifying.{Verifies, bytes_reading};
@@ -12,6 +11,7 @@ ghost use Rattle.flac_native.specs.Stream.{Piece};
 ghost use Rattle.flac_ogg.specs.RoundTrip.{EncodedBytes, IsJust, NativeBytes, OggBytes, is_no_ogg, is_repeated};
 ghost use Rattle.flac_ogg.specs.Writing.{may_be_ogg};
 
+use crate::bytes::bytes_fit;
 use crate::decoding::decode_any;
 use crate::encoding::encode_ogg;
 use flac_bits::{Collected, Memory, Why};
@@ -19,11 +19,6 @@ use flac_frame::{Audio, FrameView};
 use flac_meta::{Block, BlockList};
 use flac_native::{EncodeFault, Fault, Plan, Profile, Sink, SinkFault, encode};
 use std::alloc::Global;
-
-/// Does nothing: it is called for the proof alone, that each byte is below 256.
-pub(crate) fn bytes_fit(bytes: &[u8])
-    ensures { AreBytes bytes.now }
-{}
 
 /// Takes every block and every frame.
 #[derive(Drop)]

@@ -88,6 +88,11 @@ abbrev pub TellsItem : {X A : Type 0} → (X → A) → Option ℕ → Layout A 
 TellsItem view room l m p (Ok x) = IsItem room l m p (view x)
 TellsItem view room l m p (Err why) = IsNoItem room l m p why
 
+-- the same of the packet that a reader of packets has begun, if the bytes of the source are known and it returned no
+-- error in the call
+abbrev pub TellsPacket : {X A : Type 0} → (X → A) → Option ℕ → Layout A → (old new : Place) → Result X (Option ℕ × Why) → Type 0
+TellsPacket view room l old new result = old.known ≡ true → new.errors ≡ old.errors → TellsItem view room l (packet_mark old) (packet_of old) result
+
 -- ---- how it is read
 
 -- after the item's last bit, which is the packet's last
@@ -127,6 +132,11 @@ counted xs = length xs ∷ xs
 -- The page that a reader of packets is on as numbers, which a list of names can hold.
 unfoldable pub numbers_of : OnPage → List ℕ
 numbers_of p = bit_value p.known ∷ bit_value p.more ∷ p.count ∷ (counted p.lacing ++ length p.behind ∷ flat_map counted p.behind)
+
+-- What stays of pages that were lent, as names: the name under which they were lent, how many errors of the device they
+-- had met then, the page that they were on, and the references that they go through.
+abbrev pub lent_names : GName → Place → List GName → List GName
+lent_names name lent names = name ∷ lent.raised ∷ (numbers_of (on_page lent) ++ names)
 
 -- A reader of bits is at the first bit of the packet that was begun, by pages that are lent under this name and were on
 -- this page when they were lent. What stays of them, whatever it meets: the name, how many errors of the device they

@@ -3,6 +3,7 @@ pub mod Pages
 pub mod Runs
 pub mod Packets
 pub mod Items
+pub mod Bytes
 pub mod Given
 pub mod Written
 pub mod Placed

@@ -2,7 +2,9 @@
 use Rattle.std.specs.Prelude.{◌≡◌, ℕ, suc, ◌+◌, ◌-◌, ◌*◌, ◌/◌, ◌%◌, ◌<◌, Bool, true, false, cond, List, [], ◌∷◌, ◌++◌, length, take, drop, map, replicate, Option, Some, None, nat_eq, ◌&&◌, not, min, Result, Ok, Err, ◌≤◌}
 use Rattle.std.specs.Borrow.{GName}
 use Rattle.std.specs.List.{flat_map}
-use Rattle.flac_bits.specs.State.{Cursor, Behind, Rises}
+use Rattle.flac_bits.specs.Bits.{bits_of}
+use Rattle.flac_bits.specs.State.{Cursor, Behind, Rises, short_of}
+use Rattle.flac_bits.specs.declared.source.Source as source
 use Rattle.flac_bits.specs.declared.why.Why.{Why}
 use Rattle.flac_bits.specs.Reasons.{of_output}
 use Rattle.flac_bits.specs.declared.why.Why.TheVariants.{Read}
@@ -75,6 +77,10 @@ at_front known errors raised most names text short = record {
   count = 0;
   cursor = record { left = text; mark = record { unread = 0; bytes = 0; check8 = 0; check16 = 0; short = short } };
 }
+
+-- the same of this source: before its first byte
+abbrev pub at_front_of : {R : Type 0} → source.Ghosts R → R → Place
+at_front_of g s = at_front (g.known s) (g.errors s) (g.raised s) (8 * g.most s) (g.names s) (bits_of (g.coming s)) (short_of ((g.behind s).fails))
 
 -- What good pages still have: lacing values and bytes; then the page, counted from 0, and its fault, if one ends them
 -- early; and the fault if no packet is left, such as a byte after the last page.

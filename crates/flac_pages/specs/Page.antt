@@ -1,5 +1,5 @@
 -- A page of an Ogg stream (RFC 3533, section 6).
-use Rattle.std.specs.Prelude.{ℕ, ◌+◌, ◌/◌, ◌%◌, ◌^◌, Bool, false, not, ◌||◌, cond, List, [], ◌∷◌, length, Option, Some, None, nat_eq}
+use Rattle.std.specs.Prelude.{◌≡◌, ◌≤◌, ℕ, ◌+◌, ◌/◌, ◌%◌, ◌^◌, Bool, false, not, ◌||◌, cond, List, [], ◌∷◌, length, Option, Some, None, nat_eq}
 use Rattle.std.specs.Int.{to_le_bytes, w32, w64}
 use Rattle.std.specs.List.{sum}
 use Rattle.flac_bits.specs.Bits.{bits_of}
@@ -17,6 +17,14 @@ pub record Page : Type 0 where
   pub head : Head
   pub lacing : List ℕ
   pub body : List ℕ
+
+-- the page of these fixed fields, lacing values and bytes
+abbrev pub page_of : Head → (lacing body : List ℕ) → Page
+page_of head lacing body = record { head = head; lacing = lacing; body = body }
+
+-- the bytes are those of the segments, of which there are at most 255
+abbrev pub IsWholePage : Page → Type 0
+IsWholePage p = (length p.body ≡ sum p.lacing) × (length p.body ≤ 65025) × (length p.lacing ≤ 255)
 
 -- ---- the header's flags (section 6, field 3)
 

@@ -10,12 +10,16 @@ use Rattle.flac_pages.specs.declared.page.Head.{Head}
 use Rattle.flac_pages.specs.declared.writing.PacketKind.{PacketKind}
 use Rattle.flac_pages.specs.declared.writing.PacketKind.TheVariants.{Header, Frame}
 use Rattle.flac_pages.specs.declared.writing.PacketMarks.{PacketMarks}
-use Rattle.flac_pages.specs.Page.{Page, page, page_spelling, page_sum, with_sum, end_rules}
+use Rattle.flac_pages.specs.Page.{Page, page_of, page, page_spelling, page_sum, with_sum, end_rules}
 use Rattle.flac_pages.specs.Packets.{Packets, lacing_of}
 
 -- a page with its checksum
 abbrev pub summed : Page → Page
 summed p = with_sum (page_sum p) p
+
+-- a page of just these bytes of a packet, up to its end
+abbrev pub last_page : Head → List ℕ → Page
+last_page head bytes = page_of head (lacing_of bytes) bytes
 
 -- The granule position of a packet's page, on which the packet ends or goes on (RFC 9639, section 10.1): 0 on each page
 -- of a header packet; on a page of a frame the samples so far if the frame ends there, and all ones if it goes on.

@@ -2,3 +2,4 @@
 pub mod Packets
 pub mod Items
 pub mod Heads
+pub mod Reading

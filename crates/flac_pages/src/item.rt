@@ -1,14 +1,14 @@
 //! One item in one packet.
 
-ghost use Rattle.std.specs.Prelude.{◌≡◌, ◌≢◌, ◌≤◌, ◌+◌, ◌*◌, [], ◌∷◌, ◌++◌, true, false, length, OnOk, IfOk, IfErr, IfSome, None, Ok, Err};
+ghost use Rattle.std.specs.Prelude.{◌≡◌, ◌≢◌, ◌≤◌, ◌+◌, ◌*◌, true, false, length, OnOk, IfOk, IfErr, IfSome, None, Ok, Err};
 ghost use Rattle.flac_bits.specs.Bits.{is_nil};
 ghost use Rattle.flac_bits.specs.Layout.{bits as number};
 ghost use Rattle.flac_bits.specs.Lists.{list_of};
 ghost use Rattle.flac_bits.specs.Reading.{Counts};
-ghost use Rattle.flac_bits.specs.State.{short_of};
-ghost use Rattle.flac_pages.specs.Items.{end_of, behind_item, packet_of, packet_mark, TellsItem, Meets, TellsPages, numbers_of, GivesBack, IsAtPacket, JudgesPacket, GoesBehind, HasBehind, CountsSo, HasItsPage};
+ghost use Rattle.flac_pages.specs.Items.{TellsPacket, Meets, TellsPages, GivesBack, JudgesPacket, GoesBehind, HasBehind, CountsSo, HasItsPage};
+ghost use Rattle.flac_pages.specs.Bytes.{StartsAt, names_of};
 ghost use Rattle.flac_pages.specs.Packets.{on_page};
-ghost use Rattle.flac_pages.specs.inner.Items.{why_in};
+ghost use Rattle.flac_pages.specs.inner.Items.{why_in, FailsAtEnd};
 
 use crate::packet_bytes::PacketBytes;
 use crate::page::{PacketFault, PageFault};
@@ -17,8 +17,9 @@ use flac_bits::{BitReader, Source, Why, read_bytes};
 
 /// Makes a reader of the bits of a packet, to read an item from. [`end_item`] returns the pages.
 pub fn packet_bits<R: Source>(packet: PacketBytes<'_, R>) -> BitReader<PacketBytes<'_, R>>
-    ensures at { packet.entry.fault ≡ None → packet.entry.errors ≡ 0 → IsAtPacket packet.entry.pages.ghost_name (on_page packet.entry.lent.value) packet.entry.pages.now result }
-    ensures names { result.names ≡ packet.entry.pages.ghost_name ∷ packet.entry.lent.value.raised ∷ (numbers_of (on_page packet.entry.lent.value) ++ packet.entry.pages.now.names) }
+    ensures at { StartsAt packet.entry result }
+    // proof only
+    ensures names { result.names ≡ names_of packet.entry }
 {
     BitReader::new(packet)
 }
@@ -47,7 +48,7 @@ fn at_end<R: Source>(bits: &mut BitReader<R>) -> Result<bool, Why>
     ensures memory { IfErr result (λ e. e ≢ Why.Memory) }
     ensures over { IfOk result (λ over. bits.old.known ≡ true → over ≡ is_nil bits.old.cursor.left) }
     ensures ended { result ≡ Ok true → bits.old.known ≡ true → bits.old.cursor.mark.short ≡ Why.Read → ⊥ }
-    ensures read { IfErr result (λ e. (e ≡ Why.Read) × (bits.old.known ≡ true → bits.new.errors ≡ bits.old.errors → (bits.old.cursor.left ≡ []) × (bits.old.cursor.mark.short ≡ Why.Read))) }
+    ensures read { IfErr result (λ e. FailsAtEnd bits.old bits.new e) }
 {
     bits.start_checks();
     bits.at_end()
@@ -58,11 +59,12 @@ fn end_behind<'a, R: Source>(
     bits: BitReader<PacketBytes<'a, R>>,
 ) -> (Result<(), PacketFault>, &'a mut Pages<R>)
     ensures kept { bits.entry.errors ≤ result.1.now.errors }
+    // proof only
     ensures back { GivesBack bits.entry result.1.ghost_name result.1.now (Ok tt) result.0 }
     ensures spends { OnOk result.0 (8 * (result.1.now.most + length result.1.now.body) ≤ bits.entry.most) }
     ensures memory { IfErr result.0 (λ e. e.1 ≢ Why.Memory) }
     ensures page { bits.entry.raised ≡ 0 → IfErr result.0 (λ e. HasItsPage result.1.now.count e) }
-    ensures judges { bits.entry.known ≡ true → result.1.now.errors ≡ bits.entry.errors → bits.entry.cursor.mark.short ≡ short_of bits.entry.behind.fails → result.0 ≡ behind_item (end_of bits.entry.behind) (is_nil bits.entry.cursor.left) tt }
+    ensures judges { JudgesPacket bits.entry result.1.now (Ok tt) result.0 }
     ensures behind { OnOk result.0 (GoesBehind bits.entry result.1.now) }
 {
     let mut bits = bits;
@@ -93,6 +95,7 @@ pub fn end_item<'a, R: Source, X: Drop>(
     read: Result<X, Why>,
 ) -> (Result<X, PacketFault>, &'a mut Pages<R>)
     ensures kept { bits.entry.errors ≤ result.1.now.errors }
+    // proof only
     ensures back { GivesBack bits.entry result.1.ghost_name result.1.now read result.0 }
     // The bits that were read are spent.
     ensures spends { OnOk result.0 (8 * (result.1.now.most + length result.1.now.body) ≤ bits.entry.most) }
@@ -131,7 +134,7 @@ pub fn read_packet<R: Source>(pages: &mut Pages<R>, out: &mut [u8]) -> Result<()
     ensures page { IfErr result (λ e. HasItsPage pages.new.count e) }
     // If a refused page breaks the packet off, it ends in none of the pages before that page.
     ensures pages { TellsPages (on_page pages.old) pages.new result }
-    ensures tells { pages.old.known ≡ true → pages.new.errors ≡ pages.old.errors → TellsItem (λ _. out.new) None (list_of (length out.old) (number 8)) (packet_mark pages.old) (packet_of pages.old) result }
+    ensures tells { TellsPacket (λ _. out.new) None (list_of (length out.old) (number 8)) pages.old pages.new result }
     ensures stands { OnOk result ((pages.new.rest ≡ 0) × (pages.new.more ≡ false)) }
     ensures ahead { OnOk result (pages.old.known ≡ true → HasBehind pages.old pages.new) }
 {

@@ -1,6 +1,6 @@
 //! The bytes of one packet.
 
-ghost use Rattle.std.specs.Prelude.{◌≡◌, ◌≢◌, ◌≤◌, ◌<◌, ◌+◌, ◌^◌, ◌-◌, ◌&&◌, ◌∷◌, ◌++◌, true, nat_lt, length, IfSome, None, Some};
+ghost use Rattle.std.specs.Prelude.{◌≡◌, ◌≢◌, ◌+◌, ◌^◌, ◌-◌, ◌&&◌, ◌∷◌, ◌++◌, true, nat_lt, length, IfSome, None};
 ghost use Rattle.std.specs.Option.{ForSome};
 ghost use Rattle.flac_bits.specs.declared.why.Why.TheVariants.{Memory};
 ghost use Rattle.flac_pages.specs.Items.{numbers_of};

@@ -1,13 +1,12 @@
 //! The pages of a stream, one after another, and the position in the current page.
 
-ghost use Rattle.std.specs.Prelude.{◌≡◌, ◌≢◌, [], ◌≤◌, ◌<◌, ◌+◌, ◌*◌, ℕ, Bool, true, false, length, IfOk, IfErr, IfSome, OnOk, None, Some};
-ghost use Rattle.flac_bits.specs.State.{short_of};
-ghost use Rattle.flac_bits.specs.Bits.{bits_of};
+ghost use Rattle.std.specs.Prelude.{◌≡◌, ◌≢◌, [], ◌≤◌, ◌<◌, ◌+◌, true, false, length, IfOk, IfErr, IfSome, None};
 ghost use Rattle.flac_pages.specs.Pages.{unless_over, end_fault};
 ghost use Rattle.flac_pages.specs.Page.{went_on, goes_on_behind};
 ghost use Rattle.flac_pages.specs.Items.{HasItsPage};
 ghost use Rattle.flac_pages.specs.inner.Items.{EndsPacket};
-ghost use Rattle.flac_pages.specs.Packets.{at_front, Met, Begins};
+ghost use Rattle.flac_pages.specs.Packets.{at_front_of, Met, Begins};
+ghost use Rattle.flac_pages.specs.inner.Reading.{IfKnown, StaysCalm};
 ghost use Rattle.flac_pages.specs.inner.Packets.{next_segment, Turns, Steps, Finds, Copies, ended};
 
 use crate::page::{Before, PacketFault, PageFault};
@@ -83,7 +82,7 @@ impl<R: Source + Drop> Pages<R> {
     /// # Errors
     /// [`Why::Memory`] if the allocation fails.
     pub fn new(alloc: Global, source: R) -> Result<Pages<R>, Why>
-        ensures ok { IfOk result (λ p. p ≡ at_front (R.known source) (R.errors source) (R.raised source) (8 * R.most source) (R.names source) (bits_of (R.coming source)) (short_of ((R.behind source).fails))) }
+        ensures ok { IfOk result (λ p. p ≡ at_front_of R.Source source) }
         ensures err { IfErr result (λ e. e ≡ Why.Memory) }
     {
         let page = PageRoom::new(alloc)?;
@@ -96,7 +95,7 @@ impl<R: Source> Pages<R> {
     /// empty.
     pub fn over(page: PageRoom, source: R) -> Pages<R>
         requires { (page.lacing ≡ []) × (page.body ≡ []) }
-        ensures { result ≡ at_front (R.known source) (R.errors source) (R.raised source) (8 * R.most source) (R.names source) (bits_of (R.coming source)) (short_of ((R.behind source).fails)) }
+        ensures { result ≡ at_front_of R.Source source }
     {
         Pages {
             reader: BitReader::new(source),
@@ -381,9 +380,9 @@ fn end_fault<R: Source>(reader: &mut BitReader<R>) -> Option<Why>
     ensures kept { reader.old.errors ≤ reader.new.errors }
     ensures names { reader.new.names ≡ reader.old.names }
     ensures memory { IfSome result (λ e. e ≢ Why.Memory) }
-    ensures calm { result ≡ None → (reader.old.known ≡ true → reader.new.known ≡ true) × (reader.new.errors ≡ reader.old.errors) × (reader.new.raised ≡ reader.old.raised) }
+    ensures calm { result ≡ None → StaysCalm reader.old reader.new }
     ensures met { IfSome result (λ e. Met e reader.old.raised reader.new.raised) }
-    ensures fault { reader.old.known ≡ true → reader.new.errors ≡ reader.old.errors → result ≡ end_fault reader.old.cursor }
+    ensures fault { IfKnown reader.old reader.new (result ≡ end_fault reader.old.cursor) }
 {
     match reader.at_end() {
         Ok(true) => unless_over(reader.short()),

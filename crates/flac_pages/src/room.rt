@@ -1,15 +1,15 @@
 //! The room that holds a page.
 
-ghost use Rattle.std.specs.Prelude.{◌≡◌, ◌≢◌, ◌≤◌, ◌<◌, ◌+◌, ◌*◌, ◌^◌, [], length, take, get_or, vec_len, OnOk, IfOk, IfErr, IfSome, OnErr, false};
+ghost use Rattle.std.specs.Prelude.{◌≡◌, ◌≢◌, ◌≤◌, ◌<◌, ◌+◌, [], length, take, get_or, vec_len, OnOk, IfOk, IfErr, IfSome, OnErr, false};
 ghost use Rattle.std.specs.List.{sum};
 ghost use Rattle.flac_bits.specs.Reasons.{of_output};
 ghost use Rattle.flac_bits.specs.Layout.{bits as number, first_broken, run};
 ghost use Rattle.flac_bits.specs.Lists.{list_of};
-ghost use Rattle.flac_bits.specs.Reading.{Counts, Reads, Gives, CallInPlace};
-ghost use Rattle.flac_bits.specs.Unchecked.{begun_anew};
+ghost use Rattle.flac_bits.specs.Reading.{Counts, Reads, CallInPlace};
 ghost use Rattle.flac_pages.specs.Pages.{between, next_page};
-ghost use Rattle.flac_pages.specs.Page.{page_sum, page_behind, end_rules};
+ghost use Rattle.flac_pages.specs.Page.{IsWholePage, page_sum, page_behind, end_rules};
 ghost use Rattle.flac_pages.specs.Runs.{MeansPage};
+ghost use Rattle.flac_pages.specs.inner.Reading.{GivesAnew, GivesPage};
 
 use crate::fields::read_head;
 use crate::page::{Before, Head, MOST_BODY};
@@ -153,8 +153,8 @@ impl PageRoom {
         before: Option<Before>,
         first: u8,
     ) -> Result<(), Why>
-        ensures reading { CallInPlace (length self.new.body) (Gives (λ _. self.new) (begun_anew (run (page_behind before first) reader.old.cursor))) reader.old reader.new result }
-        ensures whole { OnOk result ((length self.new.body ≡ sum self.new.lacing) × (length self.new.body ≤ 65025) × (length self.new.lacing ≤ 255)) }
+        ensures reading { GivesPage self.new (run (page_behind before first)) reader.old reader.new result }
+        ensures whole { OnOk result (IsWholePage self.new) }
     {
         self.head = read_head(reader, first)?;
         self.count = reader.take(8)? as u8;
@@ -203,7 +203,7 @@ fn read_unchecked_some<R: Source>(
     n: usize,
 ) -> Result<(), Why>
     requires { n ≤ length out.now }
-    ensures reading { CallInPlace n (Gives (λ _. take n out.new) (begun_anew (run (list_of n (number 8)) reader.old.cursor))) reader.old reader.new result }
+    ensures reading { GivesAnew n (take n out.new) (run (list_of n (number 8))) reader.old reader.new result }
 {
     read_unchecked(reader, &mut out[..n])
 }
@@ -212,7 +212,7 @@ fn read_unchecked_some<R: Source>(
 fn read_body<R: Source>(reader: &mut BitReader<R>, out: &mut Vec<u8>, n: usize) -> Result<(), Why>
     requires { n ≤ vec_len out.now }
     ensures room { vec_len out.new ≡ vec_len out.old }
-    ensures reading { CallInPlace n (Gives (λ _. take n out.new.items) (begun_anew (run (list_of n (number 8)) reader.old.cursor))) reader.old reader.new result }
+    ensures reading { GivesAnew n (take n out.new.items) (run (list_of n (number 8))) reader.old reader.new result }
 {
     read_unchecked_some(reader, out, n)
 }
@@ -246,7 +246,7 @@ pub fn next_page<R: Source>(
     before: Option<Before>,
 ) -> Result<(), Why>
     ensures spends { OnOk result (reader.new.most + 8 + length room.new.body ≤ reader.old.most) }
-    ensures whole { OnOk result ((length room.new.body ≡ sum room.new.lacing) × (length room.new.body ≤ 65025) × (length room.new.lacing ≤ 255)) }
+    ensures whole { OnOk result (IsWholePage room.new) }
     ensures cleared { OnErr result ((room.new.lacing ≡ []) × (room.new.body ≡ [])) }
     ensures counts { Counts reader.old reader.new result }
     ensures memory { IfErr result (λ e. e ≢ Why.Memory) }
@@ -262,8 +262,8 @@ pub(crate) fn next_page_here<R: Source>(
     room: &mut PageRoom,
     before: Option<Before>,
 ) -> Result<(), Why>
-    ensures reading { CallInPlace (8 + length room.new.body) (Gives (λ _. room.new) (begun_anew (next_page before reader.old.cursor))) reader.old reader.new result }
-    ensures whole { OnOk result ((length room.new.body ≡ sum room.new.lacing) × (length room.new.body ≤ 65025) × (length room.new.lacing ≤ 255)) }
+    ensures reading { GivesAnew (8 + length room.new.body) room.new (next_page before) reader.old reader.new result }
+    ensures whole { OnOk result (IsWholePage room.new) }
     ensures cleared { OnErr result ((room.new.lacing ≡ []) × (room.new.body ≡ [])) }
 {
     match reader.take(8) {

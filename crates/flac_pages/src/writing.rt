@@ -1,12 +1,11 @@
 //! Writing of pages and packets.
 
-ghost use Rattle.std.specs.Prelude.{◌≡◌, ◌≤◌, ◌<◌, ◌+◌, ◌*◌, ◌/◌, ◌%◌, ◌^◌, ◌∷◌, ◌++◌, [], length, take, replicate, IfOk};
+ghost use Rattle.std.specs.Prelude.{◌≡◌, ◌≤◌, ◌<◌, ◌+◌, ◌/◌, ◌%◌, ◌^◌, ◌∷◌, ◌++◌, [], length, take, replicate, IfOk};
 ghost use Rattle.flac_bits.specs.Written.{Writes};
-ghost use Rattle.flac_pages.specs.Page.{page_sum, page_spelling};
-ghost use Rattle.flac_pages.specs.Packets.{lacing_of};
+ghost use Rattle.flac_pages.specs.Page.{page_of, page_sum, page_spelling};
 ghost use Rattle.flac_pages.specs.Placed.{AreInOrder, placed_in, stream_spelling};
 ghost use Rattle.flac_pages.specs.inner.Heads.{head_bytes};
-ghost use Rattle.flac_pages.specs.Written.{granule_at, summed, head_at, packet_spelling};
+ghost use Rattle.flac_pages.specs.Written.{granule_at, last_page, summed, head_at, packet_spelling};
 
 use crate::page::{CAPTURE_PATTERN, CONTINUED, FIRST, Head, LAST, MOST_BODY};
 use flac_bits::{BitWriter, Target, Why, crc32_after};
@@ -81,7 +80,7 @@ fn head_bytes(head: Head, sum: u32, count: u8) -> [u8; 27]
 /// as 0. `lacing` has at most 255 values.
 pub fn page_checksum(head: Head, lacing: &[u8], body: &[u8]) -> u32
     requires { length lacing.now ≤ 255 }
-    ensures { result ≡ page_sum (record { head = head; lacing = lacing.now; body = body.now }) }
+    ensures { result ≡ page_sum (page_of head lacing.now body.now) }
 {
     let count = lacing.len() as u8;
     let check = crc32_after(0, &head_bytes(head, 0, count));
@@ -101,7 +100,7 @@ pub fn write_page<W: Target>(
     writer: &mut BitWriter<W>,
 ) -> Result<(), Why>
     requires { length lacing.now ≤ 255 }
-    ensures { Writes (page_spelling (summed (record { head = head; lacing = lacing.now; body = body.now }))) writer.old writer.new result }
+    ensures { Writes (page_spelling (summed (page_of head lacing.now body.now))) writer.old writer.new result }
 {
     let sum = page_checksum(head, lacing, body);
     let count = lacing.len() as u8;
@@ -146,7 +145,7 @@ fn put_lacing(bytes: usize, lacing: &mut [u8; 255]) -> usize
 #[tactic(auto, unfolding(crate::specs::Packets::lacing_of))]
 fn write_last<W: Target>(head: Head, rest: &[u8], writer: &mut BitWriter<W>) -> Result<(), Why>
     requires { length rest.now < 65025 }
-    ensures { Writes (page_spelling (summed (record { head = head; lacing = lacing_of rest.now; body = rest.now }))) writer.old writer.new result }
+    ensures { Writes (page_spelling (summed (last_page head rest.now))) writer.old writer.new result }
 {
     let mut lacing = [255u8; 255];
     let count = put_lacing(rest.len(), &mut lacing);

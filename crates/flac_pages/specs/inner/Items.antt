@@ -1,5 +1,6 @@
 -- For proofs of reading packets: how a call ends one, and why.
-use Rattle.std.specs.Prelude.{◌≡◌, ◌≢◌, ◌≤◌, ◌+◌, ℕ, length, true, false, Option, Some, None, Result, Ok, Err, IfSome}
+use Rattle.std.specs.Prelude.{◌≡◌, ◌≢◌, ◌≤◌, ◌+◌, ℕ, [], length, true, false, Option, Some, None, Result, Ok, Err, IfSome}
+use Rattle.flac_bits.specs.State.{State}
 use Rattle.flac_bits.specs.declared.why.Why.{Why}
 use Rattle.flac_bits.specs.declared.why.Why.TheVariants.{Read, Truncated, PacketLength}
 use Rattle.flac_pages.specs.Packets.{Place, Met, behind_of, on_page, ReadsPages, BreaksAt}
@@ -20,6 +21,10 @@ why_in (Some f) Read = (Some f.0, f.1)
 why_in fault why = (None, why)
 
 -- ---- what the calls do that check a packet's end
+
+-- the reason is Read, and an announced error comes in place of the end of the bits
+abbrev pub FailsAtEnd : State → State → Why → Type 0
+FailsAtEnd old new e = (e ≡ Read) × (old.known ≡ true → new.errors ≡ old.errors → (old.cursor.left ≡ []) × (old.cursor.mark.short ≡ Read))
 
 -- A reader of packets passed the packet that it had begun, to the start of the next one. Or the packet does not end
 -- there, and this is why.

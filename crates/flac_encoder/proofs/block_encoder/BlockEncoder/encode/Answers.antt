@@ -1,6 +1,6 @@
 use Rattle.std.specs.Prelude.{⊤}
 use Rattle.std.proofs.Common.{◌≤◌, map, sym, subst, refl, ◌∙◌, arith}
-use Rattle.flac_subframe.specs.Room.{Room}
+use Rattle.flac_subframe.specs.search.Room.{Room}
 use Rattle.flac_bits.specs.Bits.{bits_of}
 use Rattle.flac_frame.specs.Audio.{samples_each}
 use Rattle.flac_native.specs.Writing.{SpellsLeast}

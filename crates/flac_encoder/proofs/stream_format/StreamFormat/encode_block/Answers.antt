@@ -1,6 +1,6 @@
 use Rattle.std.proofs.Common.{◌≡◌, ◌≤◌, ℕ, ℤ, List, Option, Some, None, map, refl, sym, subst, arith}
 use Rattle.std.proofs.lemmas.Result.{err_from_is_err_and}
-use Rattle.flac_subframe.specs.Handed.{AreWithin}
+use Rattle.flac_subframe.specs.format.Handed.{AreWithin}
 use Rattle.flac_frame.specs.Audio.{Sound, audio_fault}
 use Rattle.flac_frame.specs.Frame.{limits_at}
 use Rattle.flac_encoder.specs.Pushing.{shape_of}

@@ -5,7 +5,7 @@ use Rattle.flac_meta.specs.Spelling.{block_spelling}
 use Rattle.flac_meta.specs.declared.block.Block.TheVariants as block_of
 use Rattle.flac_ogg.specs.Native.{mapping_spelling}
 use Rattle.flac_ogg.proofs.Packing.{info_faultless}
-use Rattle.flac_ogg.proofs.encoding.write_first.Goals as goal
+use Rattle.flac_ogg.proofs.mapping.write_first.Goals as goal
 
 pub returns-in_err-write_mapping : goal.returns-in_err-write_mapping
 returns-in_err-write_mapping g c =

@@ -1,4 +1,4 @@
-use Rattle.flac_ogg.proofs.encoding.write_mapping.Goals as goal
+use Rattle.flac_ogg.proofs.mapping.write_mapping.Goals as goal
 
 pub returns : goal.returns
 returns g c = c.write_mapped.ensures

@@ -4,7 +4,7 @@ use Rattle.flac_bits.specs.Written.{Written}
 use Rattle.flac_meta.specs.Spelling.{block_spelling}
 use Rattle.flac_native.proofs.Heads.{Blank, head_collected}
 use Rattle.flac_native.proofs.WholeBytes.{block_whole}
-use Rattle.flac_ogg.proofs.encoding.block_packet.Goals as goal
+use Rattle.flac_ogg.proofs.mapping.block_packet.Goals as goal
 
 pub returns-in-Ok-clause-packet : goal.returns-in-Ok-clause-packet
 returns-in-Ok-clause-packet c =

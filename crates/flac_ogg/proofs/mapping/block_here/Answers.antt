@@ -3,7 +3,7 @@ use Rattle.flac_bits.proofs.Meaning.{reads}
 use Rattle.flac_native.specs.Stream.{layout_in}
 use Rattle.flac_native.specs.Track.{stand_of, kept}
 use Rattle.flac_native.specs.declared.track.Phase.TheVariants.{Blocks}
-use Rattle.flac_ogg.proofs.packets.block_here.Goals as goal
+use Rattle.flac_ogg.proofs.mapping.block_here.Goals as goal
 
 pub returns-clause-reading : goal.returns-clause-reading
 returns-clause-reading g c = record {

@@ -8,7 +8,7 @@ use Rattle.flac_bits.specs.declared.why.Why.TheVariants.{BadMapping, Memory}
 use Rattle.flac_bits.proofs.Counting.{answered_then, failed_then, refused_then}
 use Rattle.flac_bits.proofs.Telling.{told_then, told_fault}
 use Rattle.flac_ogg.specs.Mapping.{mapping}
-use Rattle.flac_ogg.proofs.packets.read_mapping.Goals as goal
+use Rattle.flac_ogg.proofs.mapping.read_mapping.Goals as goal
 
 -- what is judged of the numbers that were read
 abbrev judged : (name version marker : ℕ) → Cursor → Result (⊤ × Cursor) Reason

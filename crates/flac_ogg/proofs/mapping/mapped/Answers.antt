@@ -5,7 +5,7 @@ use Rattle.flac_bits.specs.Written.{Written}
 use Rattle.flac_native.proofs.Heads.{Blank, head_collected}
 use Rattle.flac_ogg.specs.Writing.{header_count}
 use Rattle.flac_ogg.proofs.Headed.{mapped_whole}
-use Rattle.flac_ogg.proofs.headers.mapped.Goals as goal
+use Rattle.flac_ogg.proofs.mapping.mapped.Goals as goal
 
 pub returns-in-Ok-clause-packet : goal.returns-in-Ok-clause-packet
 returns-in-Ok-clause-packet c =

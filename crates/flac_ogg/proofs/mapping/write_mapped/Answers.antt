@@ -3,7 +3,7 @@ use Rattle.std.proofs.lemmas.Result.{err_from_is_err_and}
 use Rattle.flac_bits.specs.Bits.{unsigned, bits_of}
 use Rattle.flac_bits.specs.Forms.{joined}
 use Rattle.flac_bits.proofs.Writing.{towards_start, towards_more, towards_end, towards_fail}
-use Rattle.flac_ogg.proofs.headers.write_mapped.Goals as goal
+use Rattle.flac_ogg.proofs.mapping.write_mapped.Goals as goal
 
 pub returns-in_err-put : goal.returns-in_err-put
 returns-in_err-put g c =

@@ -7,7 +7,7 @@ use Rattle.flac_ogg.specs.Headers.{AreHeaders}
 use Rattle.flac_ogg.specs.Native.{mapping_spelling, block_spellings}
 use Rattle.flac_ogg.specs.Writing.{header_count}
 use Rattle.flac_ogg.proofs.Whole.{first_text}
-use Rattle.flac_ogg.proofs.encoding.header_packets.Goals as goal
+use Rattle.flac_ogg.proofs.headers.header_packets.Goals as goal
 
 pub returns-clause-made : goal.returns-clause-made
 returns-clause-made c =

@@ -8,7 +8,7 @@ use Rattle.flac_native.proofs.WholeBytes.{block_whole, whole_append}
 use Rattle.flac_ogg.specs.Native.{mapping_spelling}
 use Rattle.flac_ogg.specs.Writing.{header_count}
 use Rattle.flac_ogg.proofs.Packing.{mapping_whole}
-use Rattle.flac_ogg.proofs.encoding.first_packet.Goals as goal
+use Rattle.flac_ogg.proofs.mapping.first_packet.Goals as goal
 
 pub returns-in-Ok-clause-packet : goal.returns-in-Ok-clause-packet
 returns-in-Ok-clause-packet c =

@@ -8,7 +8,7 @@ use Rattle.flac_bits.specs.declared.why.Why.{Why}
 use Rattle.flac_bits.proofs.Counting.{Answered, answered_then, failed_then}
 use Rattle.flac_bits.proofs.Telling.{told_then, told_fault}
 use Rattle.flac_native.specs.Track.{piece_of}
-use Rattle.flac_ogg.proofs.packets.read_first_block.Goals as goal
+use Rattle.flac_ogg.proofs.mapping.read_first_block.Goals as goal
 
 -- after a call that returned a value, one whose result is returned
 fewer : {X : Type 0} (old mid new : ℕ) (r : Result X Why) → mid + 104 ≤ old → OnOk r (new < mid) → OnOk r (new < old)

@@ -1,7 +1,7 @@
 use Rattle.std.proofs.Common.{◌+◌, ◌<◌, ◌≤◌, ℕ, arith}
 use Rattle.std.proofs.lemmas.Result.{err_from_is_err_and}
 use Rattle.flac_meta.proofs.Exits.{had_room, same_room}
-use Rattle.flac_ogg.proofs.packets.read_block.Goals as goal
+use Rattle.flac_ogg.proofs.mapping.read_block.Goals as goal
 
 -- the bits that can still come
 fewer : (old new : ℕ) → new + 32 ≤ old → new < old
