@@ -1,13 +1,19 @@
-pub mod Collecting
-pub mod Encodings
+-- Lemmas, by what they are about.
+
+-- ---- what sinks keep: STREAMINFO and comments, and samples
 pub mod Kept
-pub mod Numbered
-pub mod FramesRead
+pub mod Collecting
+-- ---- a cursor: the metadata before it, the frame at it, and the stream that it is in
 pub mod Heading
 pub mod HeadBytes
+pub mod StreamStarts
+pub mod FramesRead
 pub mod HandedOver
 pub mod InStreams
-pub mod StreamStarts
+-- ---- encoding: why samples are refused, and numbers of reasons
+pub mod Encodings
+pub mod Numbered
+-- ---- how many bytes an encoded stream has at most
 pub mod Verbatims
 pub mod LongestFrames
 pub mod LongestHeads

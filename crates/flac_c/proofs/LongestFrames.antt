@@ -1,6 +1,6 @@
 -- How long the least frame of a block is at most: that of the channels each by itself and verbatim is no shorter (RFC
 -- 9639, sections 9.1.3, 9.2.1 and 9.2.4).
-use Rattle.std.proofs.Common.{◌≡◌, ◌∙◌, refl, sym, ap, subst, ℕ, suc, ◌+◌, ◌-◌, ◌*◌, ◌^◌, ◌≤◌, ◌<◌, arith, mul-add, mul_assoc, mul-le-mul_left, mul-suc, ℤ, Bool, true, false, cond, ◌||◌, nat_lt, nat_le, List, [], ◌∷◌, ◌++◌, length, length-append, get_or, map, take, drop, Option, Some, None, All}
+use Rattle.std.proofs.Common.{◌≡◌, ◌∙◌, refl, sym, ap, subst, ℕ, suc, ◌+◌, ◌-◌, ◌*◌, ◌^◌, ◌≤◌, ◌<◌, arith, mul-add, mul_assoc, mul-le-mul_left, mul-suc, ℤ, Bool, true, false, cond, ◌||◌, nat_lt, nat_le, List, [], ◌∷◌, ◌++◌, length, length-append, get_or, take, drop, Option, Some, None, All}
 use Rattle.std.proofs.lemmas.Bool.Decides.{nat_tests}
 use Rattle.std.proofs.lemmas.List.{length-map}
 use Rattle.flac_bits.specs.Forms.{joined}
@@ -10,9 +10,9 @@ use Rattle.flac_header.specs.Choice.{size_choice, rate_choice_in, depth_choice_i
 use Rattle.flac_header.specs.Spelling.{header_spelling}
 use Rattle.flac_header.specs.declared.subset.Profile.{Profile}
 use Rattle.flac_header.specs.declared.subset.Profile.TheVariants.{Subset, Lax}
-use Rattle.flac_subframe.specs.declared.limits.Limits.{Limits}
-use Rattle.flac_subframe.specs.declared.linear.LinearPredictor.{LinearPredictor}
-use Rattle.flac_subframe.proofs.Family.{none_within}
+use Rattle.flac_subframe.specs.declared.format.limits.Limits.{Limits}
+use Rattle.flac_subframe.specs.declared.format.linear.LinearPredictor.{LinearPredictor}
+use Rattle.flac_subframe.proofs.lemmas.search.Family.{none_within}
 use Rattle.flac_frame.specs.Audio.{Sound, IsSound, samples_each}
 use Rattle.flac_frame.specs.Encoding.{block_of, EachStands, IsEncoding, IsOfWidened, IsLeastWith, partition_limit, subframes_cost}
 use Rattle.flac_frame.specs.Frame.{limits_at}

@@ -7,19 +7,19 @@ use Rattle.std.proofs.lemmas.Int.{ints}
 use Rattle.std.proofs.lemmas.List.{get_or_default, get_or-map, length-map}
 use Rattle.std.proofs.lemmas.List.Elements.{All-head, All-tail}
 use Rattle.flac_bits.specs.Signed.{FitsBits}
-use Rattle.flac_subframe.specs.declared.limits.Limits.{Limits}
-use Rattle.flac_subframe.specs.Bodies.{verbatim}
-use Rattle.flac_subframe.specs.Chosen.{fixed_below, offered}
-use Rattle.flac_subframe.specs.declared.linear.LinearPredictor.{LinearPredictor}
-use Rattle.flac_subframe.specs.Family.{Stands}
-use Rattle.flac_subframe.specs.Numbers.{sample_at}
-use Rattle.flac_subframe.specs.Spelling.{content_spelling, subframe_spelling, IsSubframe}
-use Rattle.flac_subframe.specs.Subframe.{Form, Verbatim, samples_of}
-use Rattle.flac_subframe.specs.Wasted.{times_power, Multiple, IsWasted}
-use Rattle.flac_subframe.proofs.Family.{wasted_less, may_stand}
-use Rattle.flac_subframe.proofs.Lengths.{length-samples}
-use Rattle.flac_subframe.proofs.Powers.{half_low, times_more, all_times, even, none_wasted, silent}
-use Rattle.flac_subframe.proofs.WholeLeast.{length-subframe}
+use Rattle.flac_subframe.specs.declared.format.limits.Limits.{Limits}
+use Rattle.flac_subframe.specs.format.Bodies.{verbatim}
+use Rattle.flac_subframe.specs.format.Chosen.{fixed_below, offered}
+use Rattle.flac_subframe.specs.declared.format.linear.LinearPredictor.{LinearPredictor}
+use Rattle.flac_subframe.specs.format.Family.{Stands}
+use Rattle.flac_subframe.specs.format.Numbers.{sample_at}
+use Rattle.flac_subframe.specs.format.Spelling.{content_spelling, subframe_spelling, IsSubframe}
+use Rattle.flac_subframe.specs.format.Subframe.{Form, Verbatim, samples_of}
+use Rattle.flac_subframe.specs.format.Wasted.{times_power, Multiple, IsWasted}
+use Rattle.flac_subframe.proofs.lemmas.search.Family.{wasted_less, may_stand}
+use Rattle.flac_subframe.proofs.lemmas.search.Lengths.{length-samples}
+use Rattle.flac_subframe.proofs.lemmas.format.Powers.{half_low, times_more, all_times, even, none_wasted, silent}
+use Rattle.flac_subframe.proofs.lemmas.search.WholeLeast.{length-subframe}
 use Rattle.flac_frame.specs.Encoding.{EachStands}
 use Rattle.flac_frame.specs.inner.Encoding.{AreForms}
 

@@ -43,3 +43,7 @@ bound_of s count t = min (bytes_among s count (count / max s.channels 1) t) 1844
 -- no stream of `count` samples by these settings and with these comments has more bytes
 abbrev pub IsEnough : FlacProvedSettings → (count : ℕ) → FlacProvedTags → ℕ → Type 0
 IsEnough s count t bytes = (samples : List ℤ) (stream : List ℕ) → length samples ≡ count → IsEncoded s samples t stream → length stream ≤ bytes
+
+-- a stream has room in a buffer if such a number of bytes has
+abbrev pub FitsBound : FlacProvedSettings → (count : ℕ) → FlacProvedTags → (room len : ℕ) → Type 0
+FitsBound s count t room len = bound_of s count t ≤ room → len ≤ room

@@ -67,19 +67,37 @@ pub record HandsOver (f : Frame) (end : ℕ) (old new : FlacProvedCursor) (out w
 
 -- ---- a call
 
+-- a frame is at a cursor by this STREAMINFO, and its samples are written
+abbrev pub HandsNext : Info → List ℕ → (old new : FlacProvedCursor) → (out written : List ℤ) → (len : ℕ) → Type 0
+HandsNext i bytes old new out written len = (f : Frame) × (n : ℕ) × IsFrameAt i (drop old.offset bytes) f n × HandsOver f (old.offset + n) old new out written len
+
+-- by the STREAMINFO that the cursor has
+abbrev pub HandsFrame : List ℕ → (old new : FlacProvedCursor) → (out written : List ℤ) → (len : ℕ) → Type 0
+HandsFrame bytes old new out written len = HandsNext (info_from_c old.info) bytes old new out written len
+
 -- The stream is over at the cursor, or a frame is there and its samples are written.
 abbrev pub GivesNext : List ℕ → (old new : FlacProvedCursor) → (out written : List ℤ) → ℕ → Type 0
 GivesNext bytes old new out written len =
     ((old.offset ≡ length bytes) × (new ≡ old) × (written ≡ out) × (len ≡ 0))
-    ⊎ ((f : Frame) × (n : ℕ) × IsFrameAt (info_from_c old.info) (drop old.offset bytes) f n × HandsOver f (old.offset + n) old new out written len)
+    ⊎ HandsFrame bytes old new out written len
 
--- There is no frame: memory ran out, or the cursor has no STREAMINFO, or this is why.
+-- There is no frame at the cursor: memory ran out, or the cursor has no STREAMINFO, or this is why.
+abbrev pub NoFrame : List ℕ → FlacProvedCursor → Why → Type 0
+NoFrame bytes c why =
+    (why ≡ Memory) ⊎ (((why ≡ BadStreamInfo) × (KeepsRules (info_from_c c.info) → ⊥)) ⊎ NoFrameAt (info_from_c c.info) (drop c.offset bytes) why)
+
 abbrev pub RefusesNext : List ℕ → FlacProvedCursor → Option (Place × Why) → Type 0
-RefusesNext bytes c outcome =
-    (why : Why) × (outcome ≡ Some (place.Frame c.frames, why))
-    × ((why ≡ Memory) ⊎ (((why ≡ BadStreamInfo) × (KeepsRules (info_from_c c.info) → ⊥)) ⊎ NoFrameAt (info_from_c c.info) (drop c.offset bytes) why))
+RefusesNext bytes c outcome = (why : Why) × (outcome ≡ Some (place.Frame c.frames, why)) × NoFrame bytes c why
+
+-- this holds of each frame that is at the cursor, and its number of bytes, if the cursor has a STREAMINFO
+abbrev pub OfFrame : List ℕ → FlacProvedCursor → (Frame → ℕ → Type 0) → Type 0
+OfFrame bytes c holds = KeepsRules (info_from_c c.info) → (f : Frame) → (n : ℕ) → IsFrameAt (info_from_c c.info) (drop c.offset bytes) f n → holds f n
 
 -- ---- in a stream
+
+-- this holds of the parts that the bytes are, if they are a native stream
+abbrev pub OfStream : List ℕ → (List Piece → Type 0) → Type 0
+OfStream bytes holds = (items : List Piece) → Stream grammar (opening Subset) (beginning Truncated) items (bits_of bytes) → holds items
 
 -- The bytes are a native stream of these parts. Those in front end at the cursor, which has their STREAMINFO; the
 -- others are still to come.
@@ -94,6 +112,10 @@ pub record StandsIn (bytes : List ℕ) (c : FlacProvedCursor) (front more : List
 -- The bytes are a native stream of these items, and the cursor is at its first frame, right after the metadata.
 abbrev pub StartsIn : List ℕ → FlacProvedCursor → List Piece → Type 0
 StartsIn bytes c items = (front : List Piece) × (more : List Piece) × (items ≡ front ++ more) × (are_metadata front ≡ true) × StandsIn bytes c front more
+
+-- this holds of the parts of a stream in front of a cursor, the frame there, and the parts after it
+abbrev pub OfNextFrame : List ℕ → FlacProvedCursor → ((front more : List Piece) → Frame → Type 0) → Type 0
+OfNextFrame bytes c holds = (front : List Piece) → (more : List Piece) → (f : Frame) → StandsIn bytes c front (framed f ∷ more) → holds front more f
 
 -- Of a stream the samples of the next frame are written, and the cursor after it is in the same stream.
 abbrev pub GoesOn : List ℕ → (old new : FlacProvedCursor) → (out written : List ℤ) → ℕ → (front more : List Piece) → Frame → Type 0

@@ -1,5 +1,5 @@
 -- What C gives to be encoded, and what is made of it.
-use Rattle.std.specs.Prelude.{◌≡◌, ◌⊎◌, ℕ, ◌/◌, ◌%◌, cond, ◌||◌, nat_eq, nat_lt, ℤ, List, [], ◌∷◌, length, map, Option, Some, None, option_map}
+use Rattle.std.specs.Prelude.{◌≡◌, ◌⊎◌, ℕ, ◌%◌, cond, ◌||◌, nat_eq, nat_lt, ℤ, List, [], ◌∷◌, length, map, Option, Some, None, option_map, Result, MatchResult}
 use Rattle.std.specs.Option.{option_or}
 use Rattle.flac_bits.specs.Reasons as reasons
 use Rattle.flac_meta.specs.Listed.{list_fault, info_seen}
@@ -13,7 +13,8 @@ use Rattle.flac_frame.specs.declared.setup.SetupFault.{SetupFault}
 use Rattle.flac_frame.specs.declared.setup.SetupFault.TheVariants.{BadChannels, LengthsDiffer}
 use Rattle.flac_native.specs.Given.{Cut, cut_of, plan_fault}
 use Rattle.flac_ogg.specs.RoundTrip.{EncodedBytes, is_no_ogg}
-use Rattle.flac_c.specs.Interleaved.{channels_at}
+use Rattle.flac_c.specs.Answers.{IsCopied}
+use Rattle.flac_c.specs.Interleaved.{all_channels}
 use Rattle.flac_c.specs.declared.tags.FlacProvedText.{FlacProvedText}
 use Rattle.flac_c.specs.declared.tags.FlacProvedTags.{FlacProvedTags}
 use Rattle.flac_c.specs.declared.encoding.FlacProvedSettings.{FlacProvedSettings}
@@ -22,7 +23,7 @@ use Rattle.flac_c.specs.declared.encoding.FlacProvedSettings.{FlacProvedSettings
 
 -- the samples as channels of the same number of samples
 abbrev pub sound_of : FlacProvedSettings → List ℤ → Sound
-sound_of s samples = record { profile = Subset; rate = s.rate; bits = s.bits; channels = channels_at samples s.channels (length samples / s.channels) s.channels }
+sound_of s samples = record { profile = Subset; rate = s.rate; bits = s.bits; channels = all_channels samples s.channels }
 
 abbrev pub plan_of : FlacProvedSettings → Sound → Cut
 plan_of s a = cut_of s.block_size a s.seek_every
@@ -59,6 +60,14 @@ stream_fault s t a =
 
 -- ---- what is made of it
 
+-- bytes that are a stream of these samples by this plan, with these comments, native or Ogg
+abbrev pub EncodedBy : FlacProvedSettings → FlacProvedTags → Sound → List ℕ → Type 0
+EncodedBy s t a stream = EncodedBytes (serial_of s) (plan_of s a) (blocks_of t) a stream
+
+-- a plan is made, or this is why not
+abbrev pub IsPlanned : FlacProvedSettings → Sound → Result Cut SetupFault → Type 0
+IsPlanned s a result = MatchResult result (λ p. p ≡ plan_of s a) (λ e. plan_fault (plan_of s a) ≡ Some e)
+
 -- they are samples that can be encoded, the same number of each channel
 pub record CanBeEncoded (s : FlacProvedSettings) (samples : List ℤ) : Type 0 where
   pub whole : length samples % s.channels ≡ 0
@@ -68,10 +77,18 @@ pub record CanBeEncoded (s : FlacProvedSettings) (samples : List ℤ) : Type 0 w
 pub record IsEncoded (s : FlacProvedSettings) (samples : List ℤ) (t : FlacProvedTags) (stream : List ℕ) : Type 0 where
   pub can : CanBeEncoded s samples
   pub none : stream_fault s t (sound_of s samples) ≡ None
-  pub bytes : EncodedBytes (serial_of s) (plan_of s (sound_of s samples)) (blocks_of t) (sound_of s samples) stream
+  pub bytes : EncodedBy s t (sound_of s samples) stream
+
+-- memory ran out, or this number is that of a reason
+abbrev pub IsMemoryOr : (reason : Option ℕ) → ℕ → Type 0
+IsMemoryOr reason n = (n ≡ 2) ⊎ (reason ≡ Some n)
 
 -- memory ran out, or this is the number of the first reason
 abbrev pub IsRefused : FlacProvedSettings → List ℤ → FlacProvedTags → ℕ → Type 0
 IsRefused s samples t n =
     (n ≡ 2) ⊎ ((option_map setup.number_of (samples_fault s samples) ≡ Some n)
     ⊎ (CanBeEncoded s samples × (stream_fault s t (sound_of s samples) ≡ Some n)))
+
+-- a stream of these samples and comments is written to the front of a buffer, as far as there is room
+abbrev pub WritesEncoded : FlacProvedSettings → List ℤ → FlacProvedTags → (out new : List ℕ) → (len : ℕ) → Type 0
+WritesEncoded s samples t out new len = (stream : List ℕ) × IsEncoded s samples t stream × IsCopied stream out new len

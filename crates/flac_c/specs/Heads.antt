@@ -11,6 +11,7 @@ use Rattle.flac_native.specs.Stream.{Piece, marked, block, framed, info_after}
 use Rattle.flac_native.specs.declared.fault.Place.{Place}
 use Rattle.flac_native.specs.declared.fault.Place.TheVariants as place
 use Rattle.flac_ogg.specs.Verifying.{bytes_reading, Verifies}
+use Rattle.flac_c.specs.Answers.{IsCopied}
 use Rattle.flac_c.specs.declared.info.FlacProvedInfo.{FlacProvedInfo}
 
 -- the comments after a block (RFC 9639, section 8.6)
@@ -55,6 +56,14 @@ Begins bytes info comments = ((n : ℕ) × BeginsBy (take n bytes) true info com
 -- the bytes are refused in this way, or they are a stream without STREAMINFO, which none is
 abbrev pub Lacks : List ℕ → Option (Place × Why) → Type 0
 Lacks bytes outcome = Verifies Subset bytes outcome ⊎ ((outcome ≡ Some (place.Marker, NotStreamInfoFirst)) × ((items : List Piece) × (bytes_reading Subset bytes).whole items × (info_from None items ≡ None)))
+
+-- a stream begins with STREAMINFO and comments of which this holds
+abbrev pub BeginsSo : List ℕ → (Info → Option Comments → Type 0) → Type 0
+BeginsSo bytes holds = (info : Info) × (comments : Option Comments) × Begins bytes (Some info) comments × holds info comments
+
+-- this of the comments is written to the front of a buffer, as far as there is room
+abbrev pub WritesText : List ℕ → (Option Comments → List ℕ) → (out new : List ℕ) → (len : ℕ) → Type 0
+WritesText bytes of out new len = BeginsSo bytes (λ _ comments. IsCopied (of comments) out new len)
 
 -- how many comments there are
 abbrev pub count_of : Option Comments → ℕ

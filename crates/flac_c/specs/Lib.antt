@@ -5,5 +5,6 @@ pub mod Heads
 pub mod Interleaved
 pub mod Sampled
 pub mod Starts
+pub mod Texts
 pub mod Bound
 pub mod inner

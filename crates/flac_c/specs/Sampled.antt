@@ -1,7 +1,10 @@
 -- The samples of a stream as numbers, interleaved channel by channel.
-use Rattle.std.specs.Prelude.{ℤ, List, [], ◌∷◌, ◌++◌}
+use Rattle.std.specs.Prelude.{ℕ, ℤ, List, [], ◌∷◌, ◌++◌}
+use Rattle.flac_header.specs.declared.subset.Profile.TheVariants.{Subset}
 use Rattle.flac_frame.specs.Interleaved.{interleaved}
 use Rattle.flac_native.specs.Stream.{Piece, marked, block, framed}
+use Rattle.flac_ogg.specs.Verifying.{bytes_reading}
+use Rattle.flac_c.specs.Answers.{IsCopied}
 
 -- the samples of all frames, interleaved channel by channel
 abbrev pub numbers_from : List Piece → List ℤ
@@ -9,3 +12,7 @@ numbers_from [] = []
 numbers_from (marked ∷ xs) = numbers_from xs
 numbers_from (block last b ∷ xs) = numbers_from xs
 numbers_from (framed f ∷ xs) = interleaved f ++ numbers_from xs
+
+-- the bytes are one whole stream, and this of its parts is written to the front of a buffer, as far as there is room
+abbrev pub WritesStream : {X : Type 0} → List ℕ → (List Piece → List X) → (out new : List X) → (len : ℕ) → Type 0
+WritesStream bytes of out new len = (items : List Piece) × (bytes_reading Subset bytes).whole items × IsCopied (of items) out new len

@@ -61,16 +61,19 @@ abbrev pub at_point : Option SeekPoint → FlacProvedCursor → FlacProvedCursor
 at_point None c = c
 at_point (Some p) c = record c { offset = min (c.offset + p.offset) 18446744073709551615; sample = p.sample }
 
+-- The bytes begin with a marker and all metadata blocks. This holds of these parts, of how many bytes they have, and of
+-- STREAMINFO.
+abbrev pub BeginsByHead : List ℕ → (List Piece → ℕ → Info → Type 0) → Type 0
+BeginsByHead bytes holds = (parts : List Piece) × (n : ℕ) × (i : Info) × IsHead bytes n parts × ((after grammar (opening Subset) parts).stand.info ≡ Some i) × holds parts n i
+
 -- the cursor is at the first frame
 abbrev pub StandsFirst : List ℕ → FlacProvedCursor → Type 0
-StandsFirst bytes c = (parts : List Piece) × (n : ℕ) × (i : Info) × IsHead bytes n parts × ((after grammar (opening Subset) parts).stand.info ≡ Some i) × (c ≡ first_frame i (comments_from None parts) n)
+StandsFirst bytes c = BeginsByHead bytes (λ parts n i. c ≡ first_frame i (comments_from None parts) n)
 
 -- the cursor is at the offset that the seek table has for the frame of the last point at or before a sample; at the
 -- first frame if there is no such point
 abbrev pub StandsBefore : List ℕ → ℕ → FlacProvedCursor → Type 0
-StandsBefore bytes sample c =
-    (parts : List Piece) × (n : ℕ) × (i : Info) × IsHead bytes n parts × ((after grammar (opening Subset) parts).stand.info ≡ Some i)
-    × (c ≡ at_point (point_from sample None parts) (first_frame i (comments_from None parts) n))
+StandsBefore bytes sample c = BeginsByHead bytes (λ parts n i. c ≡ at_point (point_from sample None parts) (first_frame i (comments_from None parts) n))
 
 -- The marker or a block is refused there, as the stream is; or, at the marker, there are blocks without STREAMINFO,
 -- which no stream has; unless memory ran out.

@@ -1,7 +1,7 @@
 //! The channels of interleaved samples.
 
 ghost use Rattle.std.specs.Prelude.{◌≡◌, ◌<◌, ◌≤◌, ◌/◌, map, length, IfOk};
-ghost use Rattle.flac_c.specs.Interleaved.{channel_at, channels_at};
+ghost use Rattle.flac_c.specs.Interleaved.{channel_at, all_channels};
 
 use std::alloc::{AllocError, Global};
 
@@ -35,7 +35,7 @@ pub(crate) fn channels_of(
     count: usize,
 ) -> Result<Vec<Vec<i32>>, AllocError>
     requires { 1 ≤ count }
-    ensures { IfOk result (λ v. map (λ c. c.items) v.items ≡ channels_at samples.now count (length samples.now / count) count) }
+    ensures { IfOk result (λ v. map (λ c. c.items) v.items ≡ all_channels samples.now count) }
 {
     let mut channels = Vec::with_capacity(alloc, count)?;
     for channel in 0..count {

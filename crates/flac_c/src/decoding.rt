@@ -1,13 +1,12 @@
 //! Decodes a stream to bytes.
 
-ghost use Rattle.std.specs.Prelude.{◌≡◌, ◌≢◌, min, true, List, OnOk, IfErr, Some, None};
-ghost use Rattle.flac_bits.specs.Handing.{TakesAll};
-ghost use Rattle.flac_native.specs.Decoding.{taken};
+ghost use Rattle.std.specs.Prelude.{◌≡◌, ◌≢◌, min, true, OnOk, IfErr, Some, None};
 ghost use Rattle.flac_native.specs.Item.{told};
 ghost use Rattle.flac_native.specs.Samples.{samples_from};
-ghost use Rattle.flac_native.specs.Stream.{Piece};
-ghost use Rattle.flac_ogg.specs.Verifying.{Verifies, bytes_reading};
-ghost use Rattle.flac_c.specs.Answers.{IsAnswered, IsCopied, in_c};
+ghost use Rattle.flac_ogg.specs.Verifying.{Verifies};
+ghost use Rattle.flac_c.specs.Answers.{IsAnswered, in_c};
+ghost use Rattle.flac_c.specs.Sampled.{WritesStream};
+ghost use Rattle.flac_c.specs.inner.Sampled.{TakesStream};
 
 use crate::fault::{FlacProvedFault, in_c};
 use crate::texts::copy;
@@ -31,7 +30,7 @@ fn of_memory(why: Why) -> Why
 pub(crate) fn collect<S: Sink>(alloc: Global, bytes: &[u8], sink: &mut S) -> Result<(), Fault>
     requires known { S.known sink.old ≡ true }
     requires none { S.errors sink.old ≡ 0 }
-    ensures done { OnOk result ((items : List Piece) × (bytes_reading Profile.Subset bytes.now).whole items × TakesAll (taken S.takes) sink.old items sink.new) }
+    ensures done { OnOk result (TakesStream S.Sink bytes.now sink.old sink.new) }
     ensures refused { IfErr result (λ f. Verifies Profile.Subset bytes.now (Some (told f))) }
 {
     let mut source = Memory::new(bytes);
@@ -60,7 +59,7 @@ pub extern "C" fn flac_proved_decode(
     len: &mut usize,
     fault: &mut FlacProvedFault,
 ) -> u32
-    ensures decoded { result ≡ 0 → (items : List Piece) × (bytes_reading Profile.Subset bytes.now).whole items × IsCopied (samples_from (min width 4) 0 items) out.old out.new len.new }
+    ensures decoded { result ≡ 0 → WritesStream bytes.now (samples_from (min width 4) 0) out.old out.new len.new }
     ensures refused { result ≢ 0 → IsAnswered (Verifies Profile.Subset bytes.now) fault.new }
     ensures kept { result ≢ 0 → (out.new ≡ out.old) × (len.new ≡ len.old) }
     ensures number { result ≡ fault.new.number }

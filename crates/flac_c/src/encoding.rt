@@ -1,19 +1,17 @@
 //! Encodes samples.
 
-ghost use Rattle.std.specs.Prelude.{◌≡◌, ◌≢◌, ◌≤◌, ◌⊎◌, ◌%◌, ℕ, length, IfOk, IfErr, OnOk, MatchResult, Some, None, List, option_map, true};
+ghost use Rattle.std.specs.Prelude.{◌≡◌, ◌≢◌, length, IfOk, IfErr, OnOk, None, option_map, true};
 ghost use Rattle.flac_frame.specs.Setup.{number_of};
-ghost use Rattle.flac_native.specs.Given.{plan_fault, fits_plan};
-ghost use Rattle.flac_ogg.specs.RoundTrip.{EncodedBytes};
-ghost use Rattle.flac_c.specs.Answers.{IsCopied};
-ghost use Rattle.flac_c.specs.Bound.{bound_of};
-ghost use Rattle.flac_c.specs.Encoded.{sound_of, plan_of, blocks_of, serial_of, samples_fault, stream_fault, CanBeEncoded, IsEncoded, IsRefused};
+ghost use Rattle.flac_native.specs.Given.{fits_plan};
+ghost use Rattle.flac_c.specs.Bound.{FitsBound};
+ghost use Rattle.flac_c.specs.Encoded.{sound_of, serial_of, samples_fault, stream_fault, IsPlanned, IsMemoryOr, CanBeEncoded, EncodedBy, IsEncoded, IsRefused, WritesEncoded};
 
 use crate::channels::channels_of;
 use crate::tags::{FlacProvedTags, blocks_of};
 use crate::texts::copy;
 use flac_bits::Why;
 use flac_frame::{Audio, SetupFault};
-use flac_native::{EncodeFault, Plan};
+use flac_native::Plan;
 use flac_ogg::encode_and_decode;
 use std::alloc::Global;
 
@@ -55,7 +53,7 @@ fn serial_of(settings: &FlacProvedSettings) -> Option<u32>
 fn audio_of(alloc: Global, settings: &FlacProvedSettings, samples: &[i32]) -> Result<Audio, u32>
     ensures sound { IfOk result (λ a. a ≡ sound_of settings.now samples.now) }
     ensures good { OnOk result (CanBeEncoded settings.now samples.now) }
-    ensures refused { IfErr result (λ n. (n ≡ 2) ⊎ (option_map number_of (samples_fault settings.now samples.now) ≡ Some n)) }
+    ensures refused { IfErr result (λ n. IsMemoryOr (option_map number_of (samples_fault settings.now samples.now)) n) }
     ensures some { IfErr result (λ n. n ≢ 0) }
 {
     let count = settings.channels as usize;
@@ -83,7 +81,7 @@ fn audio_of(alloc: Global, settings: &FlacProvedSettings, samples: &[i32]) -> Re
 /// # Errors
 /// The first reason for which they cannot be: the block size, the seek points.
 fn own_plan(settings: &FlacProvedSettings, audio: &Audio) -> Result<Plan, SetupFault>
-    ensures made { MatchResult result (λ p. p ≡ plan_of settings.now audio.now) (λ e. plan_fault (plan_of settings.now audio.now) ≡ Some e) }
+    ensures made { IsPlanned settings.now audio.now result }
     ensures fits { IfOk result (λ p. fits_plan p audio.now ≡ true) }
 {
     Plan::new_in(
@@ -105,9 +103,9 @@ fn stream_of(
     tags: &FlacProvedTags<'_>,
     audio: &Audio,
 ) -> Result<Vec<u8>, u32>
-    ensures encoded { IfOk result (λ v. EncodedBytes (serial_of settings.now) (plan_of settings.now audio.now) (blocks_of tags.now) audio.now v.items) }
+    ensures encoded { IfOk result (λ v. EncodedBy settings.now tags.now audio.now v.items) }
     ensures accepted { OnOk result (stream_fault settings.now tags.now audio.now ≡ None) }
-    ensures refused { IfErr result (λ n. (n ≡ 2) ⊎ (stream_fault settings.now tags.now audio.now ≡ Some n)) }
+    ensures refused { IfErr result (λ n. IsMemoryOr (stream_fault settings.now tags.now audio.now) n) }
     ensures some { IfErr result (λ n. n ≢ 0) }
 {
     let plan = match own_plan(settings, audio) {
@@ -167,8 +165,8 @@ pub extern "C" fn flac_proved_encode(
     out: &mut [u8],
     len: &mut usize,
 ) -> u32
-    ensures encoded { result ≡ 0 → (stream : List ℕ) × IsEncoded settings.now samples.now tags.now stream × IsCopied stream out.old out.new len.new }
-    ensures fits { result ≡ 0 → bound_of settings.now (length samples.now) tags.now ≤ length out.old → len.new ≤ length out.old }
+    ensures encoded { result ≡ 0 → WritesEncoded settings.now samples.now tags.now out.old out.new len.new }
+    ensures fits { result ≡ 0 → FitsBound settings.now (length samples.now) tags.now (length out.old) len.new }
     ensures refused { result ≢ 0 → IsRefused settings.now samples.now tags.now result }
     ensures kept { result ≢ 0 → (out.new ≡ out.old) × (len.new ≡ len.old) }
 {

@@ -1,11 +1,9 @@
 //! Reads STREAMINFO and the comments at the start of a stream.
 
-ghost use Rattle.std.specs.Prelude.{◌≡◌, ◌≢◌, [], nat_lt, true, false, is_some, List, IfErr, OnOk, None, Some};
+ghost use Rattle.std.specs.Prelude.{◌≡◌, ◌≢◌, [], nat_lt, true, false, is_some, IfErr, OnOk, None, Some};
 ghost use Rattle.flac_native.specs.Item.{told};
-ghost use Rattle.flac_native.specs.Stream.{Piece};
-ghost use Rattle.flac_ogg.specs.Verifying.{Verifies, bytes_reading};
-ghost use Rattle.flac_c.specs.Heads.{info_from, BeginsBy, EndsBy, Begins, Lacks};
-ghost use Rattle.flac_c.specs.inner.Heads.{info_behind, comments_behind, frames_behind};
+ghost use Rattle.flac_c.specs.Heads.{BeginsBy, Begins, Lacks};
+ghost use Rattle.flac_c.specs.inner.Heads.{info_behind, comments_behind, frames_behind, EndsIn, IsRefusedFor, HasInfo};
 
 use flac_bits::{Memory, Why};
 use flac_frame::FrameView;
@@ -89,10 +87,10 @@ fn decode_head(alloc: Global, bytes: &[u8], head: &mut Head) -> Result<(), Fault
     requires over { head.old.is_over ≡ false }
     requires failures { head.old.failures.count ≡ 0 }
     ensures begun { head.new.failures.count ≡ 0 → BeginsBy bytes.now head.new.is_over head.new.info head.new.comments }
-    ensures ended { head.new.failures.count ≡ 0 → OnOk result (EndsBy bytes.now head.new.info head.new.comments) }
-    ensures stopped { head.new.failures.count ≡ 0 → IfErr result (λ f. f.why ≢ Why.Memory → EndsBy bytes.now head.new.info head.new.comments) }
-    ensures refused { head.new.failures.count ≡ 0 → IfErr result (λ f. Verifies Profile.Subset bytes.now (Some (told f))) }
-    ensures whole { OnOk result ((items : List Piece) × (bytes_reading Profile.Subset bytes.now).whole items × (head.new.info ≡ info_from None items)) }
+    ensures ended { head.new.failures.count ≡ 0 → OnOk result (EndsIn bytes.now head.new) }
+    ensures stopped { head.new.failures.count ≡ 0 → IfErr result (λ f. f.why ≢ Why.Memory → EndsIn bytes.now head.new) }
+    ensures refused { head.new.failures.count ≡ 0 → IfErr result (IsRefusedFor bytes.now) }
+    ensures whole { OnOk result (HasInfo bytes.now head.new) }
 {
     let mut source = Memory::new(bytes);
     decode_any(alloc, &mut source, Profile::Subset, head)

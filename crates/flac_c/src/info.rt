@@ -1,10 +1,9 @@
 //! Stream information, the comments, and the name of the program that wrote a stream.
 
-ghost use Rattle.std.specs.Prelude.{◌≡◌, ◌≢◌, Some, Option, None};
-ghost use Rattle.flac_info.specs.Info.{Info};
+ghost use Rattle.std.specs.Prelude.{◌≡◌, ◌≢◌, Option, None};
 ghost use Rattle.flac_meta.specs.declared.comments.Comments.{Comments as Listed};
 ghost use Rattle.flac_c.specs.Answers.{IsAnswered, IsCopied, in_c};
-ghost use Rattle.flac_c.specs.Heads.{Begins, Lacks, count_of, comment_of, vendor_of, info_in_c};
+ghost use Rattle.flac_c.specs.Heads.{BeginsSo, WritesText, Lacks, count_of, comment_of, vendor_of, info_in_c};
 
 use crate::fault::{FlacProvedFault, in_c};
 use crate::head::{Head, read_head};
@@ -105,7 +104,7 @@ pub extern "C" fn flac_proved_info(
     info: &mut FlacProvedInfo,
     fault: &mut FlacProvedFault,
 ) -> u32
-    ensures found { result ≡ 0 → (i : Info) × (comments : Option Listed) × Begins bytes.now (Some i) comments × (info.new ≡ info_in_c i comments) }
+    ensures found { result ≡ 0 → BeginsSo bytes.now (λ i comments. info.new ≡ info_in_c i comments) }
     ensures refused { result ≢ 0 → IsAnswered (Lacks bytes.now) fault.new }
     ensures kept { result ≢ 0 → info.new ≡ info.old }
     ensures number { result ≡ fault.new.number }
@@ -138,7 +137,7 @@ pub extern "C" fn flac_proved_comment(
     len: &mut usize,
     fault: &mut FlacProvedFault,
 ) -> u32
-    ensures found { result ≡ 0 → (i : Info) × (comments : Option Listed) × Begins bytes.now (Some i) comments × IsCopied (comment_of comments index) out.old out.new len.new }
+    ensures found { result ≡ 0 → WritesText bytes.now (λ comments. comment_of comments index) out.old out.new len.new }
     ensures refused { result ≢ 0 → IsAnswered (Lacks bytes.now) fault.new }
     ensures kept { result ≢ 0 → (out.new ≡ out.old) × (len.new ≡ len.old) }
     ensures number { result ≡ fault.new.number }
@@ -167,7 +166,7 @@ pub extern "C" fn flac_proved_vendor(
     len: &mut usize,
     fault: &mut FlacProvedFault,
 ) -> u32
-    ensures found { result ≡ 0 → (i : Info) × (comments : Option Listed) × Begins bytes.now (Some i) comments × IsCopied (vendor_of comments) out.old out.new len.new }
+    ensures found { result ≡ 0 → WritesText bytes.now vendor_of out.old out.new len.new }
     ensures refused { result ≢ 0 → IsAnswered (Lacks bytes.now) fault.new }
     ensures kept { result ≢ 0 → (out.new ≡ out.old) × (len.new ≡ len.old) }
     ensures number { result ≡ fault.new.number }

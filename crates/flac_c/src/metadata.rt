@@ -4,7 +4,7 @@ ghost use Rattle.std.specs.Prelude.{◌≡◌, ◌≢◌, true, [], None, Some, 
 ghost use Rattle.flac_bits.specs.Fence.{StopsIn};
 ghost use Rattle.flac_bits.specs.State.{fresh};
 ghost use Rattle.flac_meta.specs.Block.{block as block_layout};
-ghost use Rattle.flac_c.specs.inner.Blocks.{Noted, IsFound, BlockRead, HeadRead, IsRefusedAt};
+ghost use Rattle.flac_c.specs.inner.Blocks.{Noted, IsFound, BlockRead, HeadRead, IsRefusedIn};
 
 use flac_bits::{BitReader, Memory, Why};
 use flac_meta::{Block, SeekPoint, Seen, StreamInfo, read_block};
@@ -79,7 +79,7 @@ pub(crate) fn read_parts(
     requires known { bits.old.known ≡ true }
     requires none { IsFound found.old.sample [] found.old }
     ensures read { OnOk result (HeadRead bits.old bits.new found.old.sample found.new) }
-    ensures refused { IfErr result (λ f. bits.new.errors ≡ bits.old.errors → f.why ≢ Why.Memory → IsRefusedAt bits.old f) }
+    ensures refused { IfErr result (IsRefusedIn bits.old bits.new) }
 {
     bits.start_checks();
     match read_marker(bits) {

@@ -1,12 +1,11 @@
 //! Decodes a stream to numbers.
 
-ghost use Rattle.std.specs.Prelude.{◌≡◌, ◌≢◌, ◌++◌, [], nat_lt, List, OnOk, None};
-ghost use Rattle.flac_native.specs.Stream.{Piece};
+ghost use Rattle.std.specs.Prelude.{◌≡◌, ◌≢◌, ◌++◌, [], nat_lt, OnOk, None};
 ghost use Rattle.flac_frame.specs.Lent.{frame_of};
 ghost use Rattle.flac_frame.specs.Interleaved.{interleaved};
-ghost use Rattle.flac_ogg.specs.Verifying.{Verifies, bytes_reading};
-ghost use Rattle.flac_c.specs.Answers.{IsAnswered, IsCopied, in_c};
-ghost use Rattle.flac_c.specs.Sampled.{numbers_from};
+ghost use Rattle.flac_ogg.specs.Verifying.{Verifies};
+ghost use Rattle.flac_c.specs.Answers.{IsAnswered, in_c};
+ghost use Rattle.flac_c.specs.Sampled.{numbers_from, WritesStream};
 ghost use Rattle.flac_c.specs.inner.Sampled.{numbers_in};
 
 use crate::decoding::collect;
@@ -70,7 +69,7 @@ pub extern "C" fn flac_proved_samples(
     len: &mut usize,
     fault: &mut FlacProvedFault,
 ) -> u32
-    ensures decoded { result ≡ 0 → (items : List Piece) × (bytes_reading Profile.Subset bytes.now).whole items × IsCopied (numbers_from items) out.old out.new len.new }
+    ensures decoded { result ≡ 0 → WritesStream bytes.now numbers_from out.old out.new len.new }
     ensures refused { result ≢ 0 → IsAnswered (Verifies Profile.Subset bytes.now) fault.new }
     ensures kept { result ≢ 0 → (out.new ≡ out.old) × (len.new ≡ len.old) }
     ensures number { result ≡ fault.new.number }

@@ -1,19 +1,11 @@
 //! Makes cursors in a native stream.
 
-ghost use Rattle.std.specs.Prelude.{◌≡◌, ◌≢◌, ◌⊎◌, [], ℕ, List, IfOk, IfErr, OnOk, Some, None, Option};
-ghost use Rattle.flac_info.specs.Info.{Info};
+ghost use Rattle.std.specs.Prelude.{◌≡◌, ◌≢◌, ◌⊎◌, [], IfOk, IfErr, Some, None};
 ghost use Rattle.flac_native.specs.Item.{told};
-ghost use Rattle.flac_header.specs.declared.subset.Profile.TheVariants.{Subset};
-ghost use Rattle.flac_native.specs.Stream.{Piece, grammar, opening};
-ghost use Rattle.flac_bits.specs.Bits.{bits_of};
-ghost use Rattle.flac_bits.specs.Items.{Stream, after};
-ghost use Rattle.flac_bits.specs.declared.why.Why.TheVariants.{Truncated};
-ghost use Rattle.flac_native.specs.Decoding.{beginning};
-ghost use Rattle.flac_c.specs.Cursors.{StartsIn};
+ghost use Rattle.flac_c.specs.Cursors.{OfStream, StartsIn};
 ghost use Rattle.flac_c.specs.Answers.{IsAnswered, in_c};
-ghost use Rattle.flac_c.specs.inner.Blocks.{IsFound};
-ghost use Rattle.flac_c.specs.Heads.{comments_from};
-ghost use Rattle.flac_c.specs.Starts.{IsHead, point_from, first_frame, at_point, StandsFirst, StandsBefore, RefusesHead};
+ghost use Rattle.flac_c.specs.inner.Blocks.{IsFound, FrontRead, IsStart};
+ghost use Rattle.flac_c.specs.Starts.{at_point, StandsFirst, StandsBefore, RefusesHead};
 
 use crate::cursor::FlacProvedCursor;
 use crate::fault::{FlacProvedFault, in_c};
@@ -27,7 +19,7 @@ use std::alloc::Global;
 /// Reads the marker and all blocks, and returns how many bytes they have.
 fn read_front(alloc: Global, bytes: &[u8], found: &mut Metadata) -> Result<u64, Fault>
     requires { IsFound found.old.sample [] found.old }
-    ensures read { IfOk result (λ n. (parts : List Piece) × IsHead bytes.now n parts × IsFound found.old.sample parts found.new) }
+    ensures read { IfOk result (λ n. FrontRead bytes.now n found.old.sample found.new) }
     ensures refused { IfErr result (λ f. RefusesHead bytes.now (Some (told f))) }
 {
     // Read only for the proof, which then knows that a slice is shorter than 2^64 bytes.
@@ -46,8 +38,7 @@ fn read_front(alloc: Global, bytes: &[u8], found: &mut Metadata) -> Result<u64, 
 /// Makes a cursor at the first frame. `found` gets the seek point at or before the sample that is sought.
 fn read_start(alloc: Global, bytes: &[u8], found: &mut Metadata) -> Result<FlacProvedCursor, Fault>
     requires { IsFound found.old.sample [] found.old }
-    ensures read { IfOk result (λ c. (parts : List Piece) × (n : ℕ) × (i : Info) × IsHead bytes.now n parts × ((after grammar (opening Subset) parts).stand.info ≡ Some i)
-        × (c ≡ first_frame i (comments_from None parts) n) × (found.new.point ≡ point_from found.old.sample None parts)) }
+    ensures read { IfOk result (λ c. IsStart bytes.now found.old.sample c found.new.point) }
     ensures refused { IfErr result (λ f. RefusesHead bytes.now (Some (told f))) }
 {
     let offset = match read_front(alloc, bytes, found) {
@@ -96,7 +87,7 @@ pub extern "C" fn flac_proved_start(
     fault: &mut FlacProvedFault,
 ) -> u32
     ensures first { result ≡ 0 → StandsFirst bytes.now cursor.new }
-    ensures streams { (items : List Piece) → Stream grammar (opening Subset) (beginning Truncated) items (bits_of bytes.now) → (result ≡ 2) ⊎ ((result ≡ 0) × StartsIn bytes.now cursor.new items) }
+    ensures streams { OfStream bytes.now (λ all. (result ≡ 2) ⊎ ((result ≡ 0) × StartsIn bytes.now cursor.new all)) }
     ensures refused { result ≢ 0 → IsAnswered (RefusesHead bytes.now) fault.new }
     ensures kept { result ≢ 0 → cursor.new ≡ cursor.old }
     ensures number { result ≡ fault.new.number }
@@ -132,7 +123,7 @@ pub extern "C" fn flac_proved_seek(
     fault: &mut FlacProvedFault,
 ) -> u32
     ensures before { result ≡ 0 → StandsBefore bytes.now sample cursor.new }
-    ensures streams { (items : List Piece) → Stream grammar (opening Subset) (beginning Truncated) items (bits_of bytes.now) → (result ≡ 2) ⊎ (result ≡ 0) }
+    ensures streams { OfStream bytes.now (λ _. (result ≡ 2) ⊎ (result ≡ 0)) }
     ensures refused { result ≢ 0 → IsAnswered (RefusesHead bytes.now) fault.new }
     ensures kept { result ≢ 0 → cursor.new ≡ cursor.old }
     ensures number { result ≡ fault.new.number }

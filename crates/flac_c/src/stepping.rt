@@ -1,12 +1,11 @@
 //! Decodes one frame of a native stream after another.
 
-ghost use Rattle.std.specs.Prelude.{◌≡◌, ◌≢◌, ◌≤◌, ◌<◌, ◌+◌, ◌⊎◌, ◌∷◌, List, ℕ, IfOk, IfErr, IsOkAnd, None, Some, drop};
+ghost use Rattle.std.specs.Prelude.{◌≡◌, ◌≢◌, ◌≤◌, ◌<◌, ◌+◌, ◌⊎◌, ℕ, IfOk, IfErr, IsOkAnd, None, drop};
 ghost use Rattle.flac_info.specs.Info.{KeepsRules};
 ghost use Rattle.flac_frame.specs.Frame.{Frame};
 ghost use Rattle.flac_frame.specs.Lent.{frame_of};
-ghost use Rattle.flac_native.specs.Stream.{Piece, framed};
 ghost use Rattle.flac_c.specs.Answers.{IsAnswered, in_c};
-ghost use Rattle.flac_c.specs.Cursors.{info_from_c, IsFrameAt, NoFrameAt, HandsOver, GivesNext, RefusesNext, StandsIn, GoesOn};
+ghost use Rattle.flac_c.specs.Cursors.{info_from_c, IsFrameAt, NoFrameAt, NoFrame, OfFrame, HandsOver, HandsNext, HandsFrame, GivesNext, RefusesNext, OfNextFrame, GoesOn};
 
 use crate::cursor::{FlacProvedCursor, info_from_c, passed};
 use crate::fault::{FlacProvedFault, in_c};
@@ -24,7 +23,8 @@ fn fill_frame(bytes: &[u8], info: &StreamInfo, buffers: &mut FrameBuffers) -> Re
     requires first { buffers.old.before ≡ None }
     ensures found { IfOk result (λ n. IsFrameAt info.now bytes.now buffers.new.held n) }
     ensures fault { IfErr result (λ why. NoFrameAt info.now bytes.now why) }
-    ensures only { (f : Frame) → (n : ℕ) → IsFrameAt info.now bytes.now f n → IsOkAnd result (λ m. (buffers.new.held ≡ f) × (m ≡ n)) }
+    ensures only { (f : Frame) → (n : ℕ) → IsFrameAt info.now bytes.now f n
+        → IsOkAnd result (λ m. (buffers.new.held ≡ f) × (m ≡ n)) }
 {
     // Read only for the proof, which then knows that a slice is shorter than 2^64 bytes.
     let _len = bytes.len();
@@ -71,8 +71,7 @@ fn step(
     requires block { info.now.greatest_block ≤ buffers.old.max_block }
     requires first { buffers.old.before ≡ None }
     requires short { cursor.old.info.greatest_block ≤ 65535 }
-    ensures found { IfOk result (λ len. (f : Frame) × (n : ℕ) × IsFrameAt info.now (drop cursor.old.offset bytes.now) f n
-        × HandsOver f (cursor.old.offset + n) cursor.old cursor.new out.old out.new len) }
+    ensures found { IfOk result (λ len. HandsNext info.now bytes.now cursor.old cursor.new out.old out.new len) }
     ensures fault { IfErr result (λ why. NoFrameAt info.now (drop cursor.old.offset bytes.now) why) }
     ensures kept { IfErr result (λ _. (cursor.new ≡ cursor.old) × (out.new ≡ out.old)) }
     ensures only { (f : Frame) → (n : ℕ) → IsFrameAt info.now (drop cursor.old.offset bytes.now) f n
@@ -93,12 +92,11 @@ fn step_alone(
     cursor: &mut FlacProvedCursor,
     out: &mut [i32],
 ) -> Result<usize, Why>
-    ensures found { IfOk result (λ len. (f : Frame) × (n : ℕ) × IsFrameAt (info_from_c cursor.old.info) (drop cursor.old.offset bytes.now) f n
-        × HandsOver f (cursor.old.offset + n) cursor.old cursor.new out.old out.new len) }
-    ensures fault { IfErr result (λ why. (why ≡ Why.Memory) ⊎ (((why ≡ Why.BadStreamInfo) × (KeepsRules (info_from_c cursor.old.info) → ⊥)) ⊎ NoFrameAt (info_from_c cursor.old.info) (drop cursor.old.offset bytes.now) why)) }
+    ensures found { IfOk result (HandsFrame bytes.now cursor.old cursor.new out.old out.new) }
+    ensures fault { IfErr result (NoFrame bytes.now cursor.old) }
     ensures kept { IfErr result (λ _. (cursor.new ≡ cursor.old) × (out.new ≡ out.old)) }
-    ensures only { KeepsRules (info_from_c cursor.old.info) → (f : Frame) → (n : ℕ) → IsFrameAt (info_from_c cursor.old.info) (drop cursor.old.offset bytes.now) f n
-        → (result ≡ Err Why.Memory) ⊎ IsOkAnd result (λ len. HandsOver f (cursor.old.offset + n) cursor.old cursor.new out.old out.new len) }
+    ensures only { OfFrame bytes.now cursor.old (λ f n.
+        (result ≡ Err Why.Memory) ⊎ IsOkAnd result (HandsOver f (cursor.old.offset + n) cursor.old cursor.new out.old out.new)) }
 {
     let info = info_from_c(&cursor.info)?;
     let mut buffers = FrameBuffers::new(
@@ -131,10 +129,10 @@ pub extern "C" fn flac_proved_next(
 ) -> u32
     ensures given { result ≡ 0 → GivesNext bytes.now cursor.old cursor.new out.old out.new len.new }
     ensures refused { result ≢ 0 → IsAnswered (RefusesNext bytes.now cursor.old) fault.new }
-    ensures frames { KeepsRules (info_from_c cursor.old.info) → (f : Frame) → (n : ℕ) → IsFrameAt (info_from_c cursor.old.info) (drop cursor.old.offset bytes.now) f n
-        → (result ≡ 2) ⊎ ((result ≡ 0) × HandsOver f (cursor.old.offset + n) cursor.old cursor.new out.old out.new len.new) }
-    ensures streams { (front : List Piece) → (more : List Piece) → (f : Frame) → StandsIn bytes.now cursor.old front (framed f ∷ more)
-        → (result ≡ 2) ⊎ ((result ≡ 0) × GoesOn bytes.now cursor.old cursor.new out.old out.new len.new front more f) }
+    ensures frames { OfFrame bytes.now cursor.old (λ f n.
+        (result ≡ 2) ⊎ ((result ≡ 0) × HandsOver f (cursor.old.offset + n) cursor.old cursor.new out.old out.new len.new)) }
+    ensures streams { OfNextFrame bytes.now cursor.old (λ front more f.
+        (result ≡ 2) ⊎ ((result ≡ 0) × GoesOn bytes.now cursor.old cursor.new out.old out.new len.new front more f)) }
     ensures kept { result ≢ 0 → (cursor.new ≡ cursor.old) × (out.new ≡ out.old) × (len.new ≡ len.old) }
     ensures number { result ≡ fault.new.number }
     ensures clear { result ≡ 0 → fault.new ≡ in_c None }

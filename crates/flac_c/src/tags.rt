@@ -1,8 +1,6 @@
 //! The comments that a stream gets.
 
-ghost use Rattle.std.specs.Prelude.{◌≡◌, ◌⊎◌, IfOk, IfErr, OnOk, Some, None, map};
-ghost use Rattle.flac_bits.specs.Reasons.{number_of};
-ghost use Rattle.flac_bits.specs.declared.why.Why.{Why as Reason};
+ghost use Rattle.std.specs.Prelude.{◌≡◌, ◌⊎◌, IfOk, IfErr, OnOk, Some, None};
 ghost use Rattle.flac_meta.specs.Listed.{list_fault, info_seen};
 ghost use Rattle.flac_c.specs.Encoded.{texts_of, comments_of, blocks_of};
 

@@ -1,9 +1,10 @@
 //! The texts of numbers.
 
-ghost use Rattle.std.specs.Prelude.{◌≡◌, ◌<◌, ◌⊎◌, length, [], Some, None};
-ghost use Rattle.flac_bits.specs.Reasons.{number_of, text_of};
-ghost use Rattle.flac_frame.specs.Setup.{number_of as setup_number, text_of as setup_text};
-ghost use Rattle.flac_c.specs.Answers.{copied, place_text, IsCopied};
+ghost use Rattle.std.specs.Prelude.{◌≡◌, ◌<◌, ◌⊎◌, [], Some, None};
+ghost use Rattle.flac_bits.specs.Reasons.{number_of};
+ghost use Rattle.flac_frame.specs.Setup.{number_of as setup_number};
+ghost use Rattle.flac_c.specs.Answers.{place_text, IsCopied};
+ghost use Rattle.flac_c.specs.Texts.{CopiesReason, CopiesSetup, IsNoReason};
 
 use crate::fault::kind_name;
 use flac_bits::Why;
@@ -18,56 +19,58 @@ pub(crate) fn copy<T: Copy>(items: &[T], out: &mut [T]) -> usize
     items.len()
 }
 
+/// The reasons of a refusal in the order of their numbers, which begin at 1.
+const REASONS: [Why; 39] = [
+    Why::Read,
+    Why::Memory,
+    Why::Truncated,
+    Why::BadMarker,
+    Why::NotStreamInfoFirst,
+    Why::ForbiddenType,
+    Why::BlockLength,
+    Why::BadStreamInfo,
+    Why::RepeatedBlock,
+    Why::SeekOrder,
+    Why::CueSheet,
+    Why::BadSync,
+    Why::ReservedCode,
+    Why::NotSubset,
+    Why::BadNumber,
+    Why::HeaderCheck,
+    Why::HeaderMismatch,
+    Why::Sequence,
+    Why::BlockSize,
+    Why::BadSubframe,
+    Why::BadPredictor,
+    Why::BadPartition,
+    Why::ResidualRange,
+    Why::NonzeroPadding,
+    Why::FrameTooLong,
+    Why::FrameCheck,
+    Why::SampleRange,
+    Why::TotalMismatch,
+    Why::Md5Mismatch,
+    Why::Sink,
+    Why::BadPage,
+    Why::PageCheck,
+    Why::PageOrder,
+    Why::OtherStream,
+    Why::PacketLength,
+    Why::NoEndPage,
+    Why::BadMapping,
+    Why::Spent,
+    Why::Write,
+];
+
 /// The reason with this number, 1 to 39.
 fn reason_of(number: u32) -> Option<Why>
     ensures each { (why : Why) → number_of why ≡ number → result ≡ Some why }
     ensures other { (number ≡ 0) ⊎ (39 < number) → result ≡ None }
 {
-    let reasons = [
-        Why::Read,
-        Why::Memory,
-        Why::Truncated,
-        Why::BadMarker,
-        Why::NotStreamInfoFirst,
-        Why::ForbiddenType,
-        Why::BlockLength,
-        Why::BadStreamInfo,
-        Why::RepeatedBlock,
-        Why::SeekOrder,
-        Why::CueSheet,
-        Why::BadSync,
-        Why::ReservedCode,
-        Why::NotSubset,
-        Why::BadNumber,
-        Why::HeaderCheck,
-        Why::HeaderMismatch,
-        Why::Sequence,
-        Why::BlockSize,
-        Why::BadSubframe,
-        Why::BadPredictor,
-        Why::BadPartition,
-        Why::ResidualRange,
-        Why::NonzeroPadding,
-        Why::FrameTooLong,
-        Why::FrameCheck,
-        Why::SampleRange,
-        Why::TotalMismatch,
-        Why::Md5Mismatch,
-        Why::Sink,
-        Why::BadPage,
-        Why::PageCheck,
-        Why::PageOrder,
-        Why::OtherStream,
-        Why::PacketLength,
-        Why::NoEndPage,
-        Why::BadMapping,
-        Why::Spent,
-        Why::Write,
-    ];
     if number < 1 || number > 39 {
         return None;
     }
-    Some(reasons[number as usize - 1])
+    Some(REASONS[number as usize - 1])
 }
 
 /// The reason with this number, 40 to 47, 51 or 52.
@@ -75,26 +78,19 @@ fn setup_of(number: u32) -> Option<SetupFault>
     ensures each { (fault : SetupFault) → setup_number fault ≡ number → result ≡ Some fault }
     ensures other { (number < 40) ⊎ (((47 < number) × (number < 51)) ⊎ (52 < number)) → result ≡ None }
 {
-    let faults = [
-        SetupFault::BadRate,
-        SetupFault::BadDepth,
-        SetupFault::BadChannels,
-        SetupFault::LengthsDiffer,
-        SetupFault::SampleTooLarge,
-        SetupFault::TooLong,
-        SetupFault::BadBlockSize,
-        SetupFault::TooManyPoints,
-    ];
-    if number == 51 {
-        return Some(SetupFault::PredictorOrder);
+    match number {
+        40 => Some(SetupFault::BadRate),
+        41 => Some(SetupFault::BadDepth),
+        42 => Some(SetupFault::BadChannels),
+        43 => Some(SetupFault::LengthsDiffer),
+        44 => Some(SetupFault::SampleTooLarge),
+        45 => Some(SetupFault::TooLong),
+        46 => Some(SetupFault::BadBlockSize),
+        47 => Some(SetupFault::TooManyPoints),
+        51 => Some(SetupFault::PredictorOrder),
+        52 => Some(SetupFault::TooManyPredictors),
+        _ => None,
     }
-    if number == 52 {
-        return Some(SetupFault::TooManyPredictors);
-    }
-    if number < 40 || number > 47 {
-        return None;
-    }
-    Some(faults[number as usize - 40])
 }
 
 /// Copies the number and the name of a reason, as `26 FrameCheck`, to the front of `out`, as far as there is room, and
@@ -102,9 +98,9 @@ fn setup_of(number: u32) -> Option<SetupFault>
 /// of no reason: 0, 48 to 50, and those above 52.
 #[unsafe(no_mangle)]
 pub extern "C" fn flac_proved_strerror(number: u32, out: &mut [u8]) -> usize
-    ensures reason { (why : Why) → number_of why ≡ number → IsCopied (text_of why) out.old out.new result }
-    ensures setup { (fault : SetupFault) → setup_number fault ≡ number → IsCopied (setup_text fault) out.old out.new result }
-    ensures other { (number ≡ 0) ⊎ (((47 < number) × (number < 51)) ⊎ (52 < number)) → IsCopied [] out.old out.new result }
+    ensures reason { CopiesReason number out.old out.new result }
+    ensures setup { CopiesSetup number out.old out.new result }
+    ensures other { IsNoReason number → IsCopied [] out.old out.new result }
 {
     if let Some(why) = reason_of(number) {
         return copy(why.as_str().as_bytes(), out);

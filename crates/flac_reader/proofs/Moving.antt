@@ -1,5 +1,5 @@
 -- What one call of a decoder does to what it has still to give.
-use Rattle.std.proofs.Common.{◌≡◌, ◌≤◌, inl, inr, true, false, List, [], ◌∷◌, ◌++◌, map, Option, Some, None, IfSome, Result, Ok, Err, IfOk, IfErr, refl, sym, ap, subst, ◌∙◌, arith}
+use Rattle.std.proofs.Common.{◌≡◌, ◌≤◌, true, false, List, [], ◌∷◌, map, Option, Some, None, IfSome, Result, Ok, Err, IfOk, IfErr, refl, sym, ap, subst, ◌∙◌, arith}
 use Rattle.std.specs.Prelude.{◌≢◌, OnOk}
 use Rattle.std.proofs.lemmas.Result.{IfOk-weaker}
 use Rattle.flac_bits.specs.Reasons.{of_output}
@@ -9,8 +9,7 @@ use Rattle.flac_bits.specs.declared.why.Why.TheVariants.{Memory, Read, Spent}
 use Rattle.flac_meta.specs.declared.block.Block.{Block}
 use Rattle.flac_frame.specs.Frame.{Frame}
 use Rattle.flac_native.specs.Item.{Item, metadata, frame, told}
-use Rattle.flac_bits.specs.Items.{after}
-use Rattle.flac_native.specs.Stream.{Piece, marked, block, framed, Progress, grammar, next}
+use Rattle.flac_native.specs.Stream.{Progress}
 use Rattle.flac_native.specs.Track.{IsAt, is_behind_blocks, is_going}
 use Rattle.flac_native.specs.Giving.{StillGives, ComesInOrder, Stage, held, seen_by, Goes, MovesFrom, Moves, IsFirst as First}
 use Rattle.flac_native.specs.declared.fault.Place.{Place}

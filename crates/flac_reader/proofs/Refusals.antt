@@ -103,13 +103,12 @@ refuses_input {g = g} r s last p f known errors raised errors_left raised_left b
 
 -- of an input that is known and is read so too, or is not known
 pub refuses_as : (r q : Reading Piece Place) (known knows : Bool) (errors raised now_errors now_raised errors_left raised_left : ℕ) (f : Fault) → now_errors ≡ errors → now_raised ≡ raised → (knows ≡ true → known ≡ true)
-    → (knows ≡ true → (blocks : List Block) (frames : List Frame) (end : Option (Place × Why)) → IsReadAs q blocks frames end → IsReadAs r blocks frames end)
-    → RefusesInput r known now_errors now_raised errors_left raised_left f → RefusesInput q knows errors raised errors_left raised_left f
+    → (knows ≡ true → q ≡ r) → RefusesInput r known now_errors now_raised errors_left raised_left f → RefusesInput q knows errors raised errors_left raised_left f
 refuses_as r q known knows errors raised now_errors now_raised errors_left raised_left f e n told same h = record {
   kept = omega (arith, h.kept, e);
   risen = λ is. subst (λ k. Rises k raised_left) n (h.risen is);
   output = h.output;
-  refused = λ k same_errors same_raised other blocks frames end is. h.refused (told k) (same_errors ∙ sym e) (same_raised ∙ sym n) other blocks frames end (same k blocks frames end is);
+  refused = λ k same_errors same_raised other blocks frames end is. h.refused (told k) (same_errors ∙ sym e) (same_raised ∙ sym n) other blocks frames end (subst (λ z. IsReadAs z blocks frames end) (same k) is);
 }
 
 -- of an input whose first byte could not be read
@@ -137,9 +136,9 @@ same_page : (front : Option ℕ) (coming now : List ℕ) → coming ≡ front_by
 same_page None coming now e over = ap begins_page (over refl)
 same_page (Some b) coming now e over = ap begins_page e
 
--- the bytes behind the first one, and that one in front of them
+-- the bytes after the first one, and that one in front of them, are read as all of them
 pub front_read : (profile : Profile) (front : Option ℕ) (coming now : List ℕ) (is_ogg : Bool) (m k : Mark) → coming ≡ front_bytes front ++ now → (front ≡ None → coming ≡ []) → is_ogg ≡ begins_page (front_bytes front) → m ≡ k
-    → (blocks : List Block) (frames : List Frame) (end : Option (Place × Why)) → IsReadAs (read_either profile (begins_page coming) m (bits_of coming)) blocks frames end → IsReadAs (read_either profile is_ogg k (bits_of (front_bytes front ++ now))) blocks frames end
-front_read profile front coming now is_ogg m k e over page same blocks frames end is =
-    let P : Bool → Mark → List ℕ → Type 0 = λ b a t. IsReadAs (read_either profile b a (bits_of t)) blocks frames end in
-    subst (λ t. P is_ogg k t) e (subst (λ a. P is_ogg a coming) same (subst (λ b. P b m coming) (same_page front coming now e over ∙ sym page) is))
+    → read_either profile (begins_page coming) m (bits_of coming) ≡ read_either profile is_ogg k (bits_of (front_bytes front ++ now))
+front_read profile front coming now is_ogg m k e over page same =
+    ap (λ b. read_either profile b m (bits_of coming)) (same_page front coming now e over ∙ sym page)
+    ∙ (ap (λ a. read_either profile is_ogg a (bits_of coming)) same ∙ ap (λ t. read_either profile is_ogg k (bits_of t)) e)

@@ -13,10 +13,11 @@ use Rattle.flac_frame.specs.declared.view.FrameView.{FrameView}
 use Rattle.flac_native.specs.Stream.{Progress}
 use Rattle.flac_native.specs.Track.{IsAt, stand_of}
 use Rattle.flac_native.specs.Item.{Item, metadata, frame, told}
-use Rattle.flac_native.specs.Giving.{StillGives, EndsBy, Stage, held, seen_by}
+use Rattle.flac_native.specs.Giving.{StillGives, EndsBy, Stage, stage_of, held, seen_by}
 use Rattle.flac_native.specs.declared.fault.Place.{Place}
 use Rattle.flac_native.specs.declared.fault.Fault.{Fault}
 use Rattle.flac_native.specs.declared.decoder.Course.{Course}
+use Rattle.flac_native.specs.declared.decoder.Decoder.{Decoder}
 use Rattle.flac_native.specs.declared.decoder.Course.TheVariants as course
 use Rattle.flac_native.specs.declared.track.Phase.TheVariants.{Frames}
 use Rattle.flac_native.specs.declared.container.Container as container
@@ -25,6 +26,10 @@ use Rattle.flac_reader.specs.Starting.{frames_start}
 use Rattle.flac_reader.specs.declared.keep.Keep.{Keep}
 
 -- ---- a decoder
+
+-- the item that was read last
+abbrev pub item_in : {C : Type 0} → Stage C → Option Item
+item_in s = held s.course s.track
 
 -- A decoder still has to return these items, and then the end of the stream, or its refusal. After the end each call
 -- returns the end again, and after a refusal it reports that it is spent, at the place of that refusal.
@@ -92,21 +97,35 @@ only_frame None = None
 only_frame (Some (metadata b)) = None
 only_frame (Some (frame f)) = Some (frame f)
 
+-- how many samples of each channel
+abbrev pub size_of : Option Item → ℕ
+size_of None = 0
+size_of (Some (metadata b)) = 0
+size_of (Some (frame f)) = f.size
+
 -- the result of a call, seen by view, is the first of the frames that were still to come, or else the end
 abbrev pub GivesFrame : {C X : Type 0} → container.Ghosts C → (ahead : Bool) → Stage C → Stage C → (X → Option Item) → Result X Fault → Type 0
 GivesFrame g ahead old new view result =
     IsCalm g old new → HadRoom result → (frames : List Frame) (end : Option (Place × Why)) → FramesCome g ahead old frames end → IsFirst g (map frame frames) end (seen_by view result) new
+
+-- the same of a call that reads one frame, which the decoder holds then
+abbrev pub ReadsFrame : {C X : Type 0} → container.Ghosts C → (ahead : Bool) → Stage C → Stage C → Result X Fault → Type 0
+ReadsFrame g ahead old new result = GivesFrame g ahead old new (λ _. item_in new) result
+
+-- ---- the metadata and the frames
+
+-- this holds of the blocks, the frames and the end that a decoder still has to return
+abbrev pub OfItems : {C : Type 0} → container.Ghosts C → Stage C → (List Block → List Frame → Option (Place × Why) → Type 0) → Type 0
+OfItems g s holds = (blocks : List Block) (frames : List Frame) (end : Option (Place × Why)) → Comes g s (stream_items blocks frames) end → holds blocks frames end
 
 -- a call read all blocks, and the wanted ones are kept, unless the stream was refused before its first frame
 abbrev pub HeadIs : {C : Type 0} → container.Ghosts C → Keep → List Block → List Frame → Option (Place × Why) → List Block → Result ⊤ Fault → Stage C → Type 0
 HeadIs g keep blocks frames end kept (Ok x) s = (kept ≡ filter (keeps keep) blocks) × FramesCome g true s frames end
 HeadIs g keep blocks frames end kept (Err f) s = (frames ≡ []) × (end ≡ Some (told f))
 
--- how many samples of each channel
-abbrev pub size_of : Option Item → ℕ
-size_of None = 0
-size_of (Some (metadata b)) = 0
-size_of (Some (frame f)) = f.size
+-- the same of all that a decoder still has to return, if the source returned no error and memory did not run out
+abbrev pub ReadsBlocks : {C : Type 0} → container.Ghosts C → (old new : Stage C) → Keep → List Block → Result ⊤ Fault → Type 0
+ReadsBlocks g old new keep kept result = IsCalm g old new → HadRoom result → OfItems g old (λ blocks frames end. HeadIs g keep blocks frames end kept result new)
 
 -- The metadata was read from old on, of a source whose bytes are known: the wanted blocks are kept, the frames come
 -- next, and the bytes before them are counted. No error was met.
@@ -116,6 +135,10 @@ pub record HeadOf {C : Type 0} (g : container.Ghosts C) (old new : Stage C) (kee
   pub raised : g.raised new.container ≡ g.raised old.container
   pub met : g.met new.container ≡ g.met old.container
   pub names : g.names new.container ≡ g.names old.container
-  pub blocks : g.known old.container ≡ true → (blocks : List Block) (frames : List Frame) (end : Option (Place × Why)) → Comes g old (stream_items blocks frames) end → kept ≡ filter (keeps keep) blocks
-  pub frames : g.known old.container ≡ true → (blocks : List Block) (frames : List Frame) (end : Option (Place × Why)) → Comes g old (stream_items blocks frames) end → FramesCome g ahead new frames end
-  pub counted : g.known old.container ≡ true → (blocks : List Block) (frames : List Frame) (end : Option (Place × Why)) → Comes g old (stream_items blocks frames) end → start ≡ frames_start blocks
+  pub blocks : g.known old.container ≡ true → OfItems g old (λ blocks frames end. kept ≡ filter (keeps keep) blocks)
+  pub frames : g.known old.container ≡ true → OfItems g old (λ blocks frames end. FramesCome g ahead new frames end)
+  pub counted : g.known old.container ≡ true → OfItems g old (λ blocks frames end. start ≡ frames_start blocks)
+
+-- the same of a decoder before and after
+abbrev pub ReadsHead : {C : Type 0} {g : container.Ghosts C} → (old new : Decoder C g) → Keep → (kept : List Block) → (ahead : Bool) → (start : ℕ) → Type 0
+ReadsHead {g = g} old new keep kept ahead start = HeadOf g (stage_of old) (stage_of new) keep kept ahead start

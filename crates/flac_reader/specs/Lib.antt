@@ -2,10 +2,13 @@ pub mod Kept
 pub mod Starting
 pub mod Coming
 pub mod Giving
+pub mod Inputs
 pub mod Opening
 pub mod Either
 pub mod Places
 pub mod Sampling
+pub mod Stereo
+pub mod Time
 pub mod Refusing
 pub mod Seeking
 pub mod Moved

@@ -1,6 +1,6 @@
 -- The samples of frames, one by one: interleaved, channel by channel at each index, as they are played (RFC 9639,
 -- section 9.2).
-use Rattle.std.specs.Prelude.{ℕ, ◌-◌, Bool, true, false, cond, nat_lt, ℤ, List, [], ◌∷◌, ◌++◌, length, drop, Option, Some, None}
+use Rattle.std.specs.Prelude.{◌≡◌, ℕ, ◌-◌, Bool, true, false, cond, nat_lt, ℤ, List, [], ◌∷◌, ◌++◌, length, drop, Option, Some, None, MatchOption}
 use Rattle.flac_frame.specs.Frame.{Frame}
 use Rattle.flac_frame.specs.Interleaved.{rows, interleaved}
 use Rattle.flac_native.specs.Item.{Item, metadata, frame}
@@ -15,6 +15,10 @@ all_samples (f ∷ fs) = interleaved f ++ all_samples fs
 -- the samples of a frame from that of a channel at an index on; none if there is no such channel
 unfoldable pub samples_from : Frame → (channel index : ℕ) → List ℤ
 samples_from f channel index = cond (nat_lt channel (length f.channels)) (drop channel (rows f.channels (f.size - index) index)) []
+
+-- the first of them, and the channel and the index of the next one; none if there is no such channel or index
+abbrev pub IsSampleAt : Frame → (channel index : ℕ) → Option (ℤ × ℕ × ℕ) → Type 0
+IsSampleAt f channel index result = MatchOption result (samples_from f channel index ≡ []) (λ p. samples_from f channel index ≡ p.0 ∷ samples_from f p.1 p.2)
 
 -- what is left of the frame that was read last
 abbrev pub left_in : Option Item → (channel index : ℕ) → List ℤ

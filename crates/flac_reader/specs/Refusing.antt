@@ -3,6 +3,7 @@ use Rattle.std.specs.Prelude.{◌≡◌, ◌≢◌, ◌≤◌, ◌⊎◌, ℕ, B
 use Rattle.flac_bits.specs.State.{Rises}
 use Rattle.flac_bits.specs.Handing.{Reading}
 use Rattle.flac_bits.specs.Reasons.{of_output}
+use Rattle.flac_bits.specs.declared.source.Source as source
 use Rattle.flac_bits.specs.declared.why.Why.{Why}
 use Rattle.flac_bits.specs.declared.why.Why.TheVariants.{Memory, Read, NotStreamInfoFirst}
 use Rattle.flac_meta.specs.declared.block.Block.{Block}
@@ -13,10 +14,12 @@ use Rattle.flac_native.specs.Giving.{Stage}
 use Rattle.flac_native.specs.declared.fault.Place.{Place}
 use Rattle.flac_native.specs.declared.fault.Place.TheVariants as place
 use Rattle.flac_native.specs.declared.fault.Fault.{Fault}
+use Rattle.flac_native.specs.declared.fault.Refused.{Refused}
 use Rattle.flac_native.specs.declared.container.Container as container
 use Rattle.flac_reader.specs.Kept.{first_info}
-use Rattle.flac_reader.specs.Coming.{Comes, IsCalm, stream_items}
-use Rattle.flac_reader.specs.Opening.{IsReadAs}
+use Rattle.flac_reader.specs.Coming.{IsCalm, OfItems}
+use Rattle.flac_reader.specs.Inputs.{Input}
+use Rattle.flac_reader.specs.Opening.{OfInput}
 
 -- The fault is that of the stream, which is refused there before its first frame; or the metadata is whole and has no
 -- STREAMINFO (RFC 9639, section 8.2).
@@ -31,7 +34,7 @@ pub record RefusedHead {C : Type 0} (g : container.Ghosts C) (old last : Stage C
   pub risen : f.why ≡ Read → Rises (g.met old.container) (g.met last.container)
   pub output : of_output f.why ≡ false
   pub names : g.names last.container ≡ g.names old.container
-  pub refused : IsCalm g old last → f.why ≢ Memory → (blocks : List Block) (frames : List Frame) (end : Option (Place × Why)) → Comes g old (stream_items blocks frames) end → IsRefusal blocks frames end f
+  pub refused : IsCalm g old last → f.why ≢ Memory → OfItems g old (λ blocks frames end. IsRefusal blocks frames end f)
 
 -- The input was not opened for this reason. An error of the source raised its counts, and none of the output is met;
 -- without one, if the input is known and memory did not run out, it is refused in this way.
@@ -39,4 +42,8 @@ pub record RefusesInput (r : Reading Piece Place) (known : Bool) (errors raised 
   pub kept : errors ≤ errors_left
   pub risen : f.why ≡ Read → Rises raised raised_left
   pub output : of_output f.why ≡ false
-  pub refused : known ≡ true → errors_left ≡ errors → raised_left ≡ raised → f.why ≢ Memory → (blocks : List Block) (frames : List Frame) (end : Option (Place × Why)) → IsReadAs r blocks frames end → IsRefusal blocks frames end f
+  pub refused : known ≡ true → errors_left ≡ errors → raised_left ≡ raised → f.why ≢ Memory → OfInput r (λ blocks frames end. IsRefusal blocks frames end f)
+
+-- A source that is read so was not opened, and is returned with the reason.
+abbrev pub RefusesSource : {S : Type 0} → source.Ghosts S → Input → S → Refused S → Type 0
+RefusesSource s input over x = RefusesInput (input (s.coming over) (s.behind over)) (s.known over) (s.errors over) (s.raised over) (s.errors x.left) (s.raised x.left) x.fault

@@ -34,6 +34,10 @@ ComeBehind (spot.Inside channel index) reader samples end = SamplesLeft reader (
 abbrev pub SamplesCome : {C : Type 0} {g : container.Ghosts C} → Samples C g → List ℤ → Option (Place × Why) → Type 0
 SamplesCome s samples end = ComeBehind s.spot s.reader samples end
 
+-- a reader was made an iterator over the samples of the frames that it still has to return
+abbrev pub SamplesOf : {C : Type 0} {g : container.Ghosts C} → Reader C g → Samples C g → Type 0
+SamplesOf {g = g} reader s = (frames : List Frame) (end : Option (Place × Why)) → FramesCome g reader.ahead (stage_of reader.decoder) frames end → SamplesCome s (all_samples frames) end
+
 -- ---- what a call returns
 
 -- the call returned the first of these samples, or else the end or the refusal, which is returned once

@@ -1,13 +1,9 @@
 //! Opens streams in either container.
 
-ghost use Rattle.std.specs.Prelude.{◌≡◌, ◌++◌, true, IfOk, IfErr, Ok};
-ghost use Rattle.flac_bits.specs.Bits.{bits_of};
-ghost use Rattle.flac_bits.specs.State.{short_of};
-ghost use Rattle.flac_native.specs.Decoding.{beginning};
-ghost use Rattle.flac_ogg.specs.Fronts.{front_bytes};
-ghost use Rattle.flac_ogg.specs.Either.{begins_page, read_either};
-ghost use Rattle.flac_reader.specs.Either.{OpensEither, StartsEither};
-ghost use Rattle.flac_reader.specs.Refusing.{RefusesInput};
+ghost use Rattle.std.specs.Prelude.{◌≡◌, IfOk, IfErr};
+ghost use Rattle.flac_reader.specs.Inputs.{any_input};
+ghost use Rattle.flac_reader.specs.Either.{OpensEitherSource, StartsEitherSource};
+ghost use Rattle.flac_reader.specs.Refusing.{RefusesSource};
 
 use crate::keep::Keep;
 use crate::opening::{open_native, open_ogg};
@@ -38,32 +34,6 @@ fn without_front<R: Source>(refused: Refused<Fronted<R>>) -> Refused<R>
     }
 }
 
-/// Opens a stream in the container that its first byte names.
-fn open_as<R: Source + Drop>(
-    alloc: Global,
-    is_ogg: bool,
-    source: Fronted<R>,
-    profile: Profile,
-    keep: Keep,
-) -> Result<Opened<Reader<BitReader<Fronted<R>>>, Reader<OggPackets<Fronted<R>>>>, Refused<R>>
-    ensures opens { IfOk result (λ o. R.known source.source ≡ true → OpensEither (read_either profile is_ogg (beginning (short_of ((R.behind source.source).fails))) (bits_of (front_bytes source.front ++ R.coming source.source))) keep o) }
-    ensures starts { IfOk result (λ o. StartsEither (R.known source.source) (R.errors source.source) (R.raised source.source) (R.names source.source) o) }
-    ensures refused { IfErr result (λ x. RefusesInput (read_either profile is_ogg (beginning (short_of ((R.behind source.source).fails))) (bits_of (front_bytes source.front ++ R.coming source.source))) (R.known source.source) (R.errors source.source) (R.raised source.source) (R.errors x.left) (R.raised x.left) x.fault) }
-    ensures names { IfErr result (λ x. R.names x.left ≡ R.names source.source) }
-{
-    if is_ogg {
-        match open_ogg(alloc, source, profile, keep) {
-            Ok(reader) => Ok(Opened::Ogg(reader)),
-            Err(refused) => Err(without_front(refused)),
-        }
-    } else {
-        match open_native(alloc, source, profile, keep) {
-            Ok(reader) => Ok(Opened::Native(reader)),
-            Err(refused) => Err(without_front(refused)),
-        }
-    }
-}
-
 /// Opens a stream in either container: an Ogg stream if the first byte is `O`, that of a page (RFC 9639, section 10.1),
 /// a native one otherwise (section 6). It reads the metadata, and the first frame, which [`Reader::next`] lends then.
 ///
@@ -85,26 +55,34 @@ pub fn open<R: Source + Drop>(
 ) -> Result<Opened<Reader<BitReader<Fronted<R>>>, Reader<OggPackets<Fronted<R>>>>, Refused<R>>
     // The blocks that are kept, and the frames to come, are those of the stream that the bytes are in the container
     // that the first of them names.
-    ensures opens { IfOk result (λ o. R.known source ≡ true → OpensEither (read_either profile (begins_page (R.coming source)) (beginning (short_of ((R.behind source).fails))) (bits_of (R.coming source))) keep o) }
+    ensures opens { IfOk result (λ o. OpensEitherSource R.Source (any_input profile) source keep o) }
     // The numbers are 0, and no error of the source was met.
-    ensures starts { IfOk result (λ o. StartsEither (R.known source) (R.errors source) (R.raised source) (R.names source) o) }
+    ensures starts { IfOk result (λ o. StartsEitherSource R.Source source o) }
     // Refused only as the input is, before its first frame; or because memory runs out, or because of an error of the
     // source, which the source that is returned has counted.
-    ensures refused { IfErr result (λ x. RefusesInput (read_either profile (begins_page (R.coming source)) (beginning (short_of ((R.behind source).fails))) (bits_of (R.coming source))) (R.known source) (R.errors source) (R.raised source) (R.errors x.left) (R.raised x.left) x.fault) }
+    ensures refused { IfErr result (λ x. RefusesSource R.Source (any_input profile) source x) }
     ensures names { IfErr result (λ x. R.names x.left ≡ R.names source) }
 {
     let mut source = source;
-    match pull_front(&mut source) {
-        Ok(front) => open_as(
-            alloc,
-            begins_page(front),
-            Fronted { front, source },
-            profile,
-            keep,
-        ),
-        Err(fault) => Err(Refused {
-            fault,
-            left: source,
-        }),
+    let front = match pull_front(&mut source) {
+        Ok(front) => front,
+        Err(fault) => {
+            return Err(Refused {
+                fault,
+                left: source,
+            });
+        }
+    };
+    let source = Fronted { front, source };
+    if begins_page(front) {
+        match open_ogg(alloc, source, profile, keep) {
+            Ok(reader) => Ok(Opened::Ogg(reader)),
+            Err(refused) => Err(without_front(refused)),
+        }
+    } else {
+        match open_native(alloc, source, profile, keep) {
+            Ok(reader) => Ok(Opened::Native(reader)),
+            Err(refused) => Err(without_front(refused)),
+        }
     }
 }

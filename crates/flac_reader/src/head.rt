@@ -1,15 +1,12 @@
 //! Reads the metadata of a stream.
 
-ghost use Rattle.std.specs.Prelude.{◌≡◌, ◌≢◌, ◌⊎◌, ◌++◌, [], ◌∷◌, List, Option, Some, true, false, OnOk, IfOk, IfErr};
-ghost use Rattle.flac_meta.specs.declared.block.Block.{Block as ABlock};
-ghost use Rattle.flac_frame.specs.Frame.{Frame};
+ghost use Rattle.std.specs.Prelude.{◌≡◌, ◌≢◌, ◌⊎◌, [], Some, true, false, OnOk, IfOk, IfErr};
 ghost use Rattle.flac_native.specs.Track.{is_going};
-ghost use Rattle.flac_native.specs.Giving.{stage_of, held};
+ghost use Rattle.flac_native.specs.Giving.{stage_of};
 ghost use Rattle.flac_reader.specs.Kept.{first_info};
-ghost use Rattle.flac_reader.specs.Coming.{Comes, IsCalm, IsPast, HadRoom, Counted, HeadIs, HeadOf, GivesFrame, stream_items};
+ghost use Rattle.flac_reader.specs.Coming.{IsPast, Counted, ReadsBlocks, ReadsHead, ReadsFrame};
 ghost use Rattle.flac_reader.specs.Refusing.{RefusedHead};
-ghost use Rattle.flac_reader.specs.inner.Taking.{Took};
-ghost use Rattle.flac_reader.specs.Starting.{and_blocks};
+ghost use Rattle.flac_reader.specs.inner.Taking.{TakesItem, PassesBlocks, CountsBlocks};
 
 use crate::keep::{Keep, keep_block};
 use flac_native::{Block, Container, Decoder, Fault, Item, Place, StreamInfo, Why};
@@ -32,11 +29,11 @@ fn take_block<C: Container>(
     kept: &mut Vec<Block>,
     size: &mut u64,
 ) -> Result<bool, Fault>
+    ensures gives { TakesItem decoder.old decoder.new keep kept.old.items kept.new.items size.old size.new result }
+    // proof only
     ensures counts { Counted C.Container (stage_of decoder.old) (stage_of decoder.new) result }
-    ensures gives { IsCalm C.Container (stage_of decoder.old) (stage_of decoder.new) → HadRoom result → (blocks : List ABlock) (frames : List Frame) (end : Option (Place × Why)) → Comes C.Container (stage_of decoder.old) (stream_items blocks frames) end →
-        Took C.Container keep blocks frames end kept.old.items kept.new.items size.old size.new result (stage_of decoder.new) }
     ensures going { IfOk result (λ more. more ≡ true → is_going (stage_of decoder.new).course ≡ true) }
-    ensures past { IfOk result (λ more. more ≡ false → is_going (stage_of decoder.old).course ≡ true → IsPast (stage_of decoder.new)) }
+    ensures past { IfOk result (λ more. more ≡ false → PassesBlocks decoder.old decoder.new) }
     ensures unkept { IfOk result (λ more. more ≡ false → kept.new.items ≡ kept.old.items) }
 {
     match decoder.step() {
@@ -68,11 +65,10 @@ fn read_counted<C: Container>(
     size: &mut u64,
 ) -> Result<(), Fault>
     requires { kept.old.items ≡ [] }
+    ensures head { ReadsBlocks C.Container (stage_of decoder.old) (stage_of decoder.new) keep kept.new.items result }
+    ensures size { OnOk result (CountsBlocks decoder.old decoder.new size.old size.new) }
+    // proof only
     ensures counts { Counted C.Container (stage_of decoder.old) (stage_of decoder.new) result }
-    ensures head { IsCalm C.Container (stage_of decoder.old) (stage_of decoder.new) → HadRoom result → (blocks : List ABlock) (frames : List Frame) (end : Option (Place × Why)) → Comes C.Container (stage_of decoder.old) (stream_items blocks frames) end →
-        HeadIs C.Container keep blocks frames end kept.new.items result (stage_of decoder.new) }
-    ensures size { OnOk result (IsCalm C.Container (stage_of decoder.old) (stage_of decoder.new) → (blocks : List ABlock) (frames : List Frame) (end : Option (Place × Why)) → Comes C.Container (stage_of decoder.old) (stream_items blocks frames) end →
-        size.new ≡ and_blocks size.old blocks) }
     ensures past { OnOk result ((kept.new.items ≡ []) ⊎ IsPast (stage_of decoder.new)) }
 {
     for index in 0..u64::MAX {
@@ -108,8 +104,7 @@ pub fn read_blocks<C: Container>(
     ensures counts { Counted C.Container (stage_of decoder.old) (stage_of decoder.new) result }
     // Of a stream that is read so, all wanted blocks are kept, and the frames come next; refused only as the stream is,
     // with no frame before.
-    ensures head { IsCalm C.Container (stage_of decoder.old) (stage_of decoder.new) → HadRoom result → (blocks : List ABlock) (frames : List Frame) (end : Option (Place × Why)) → Comes C.Container (stage_of decoder.old) (stream_items blocks frames) end →
-        HeadIs C.Container keep blocks frames end kept.new.items result (stage_of decoder.new) }
+    ensures head { ReadsBlocks C.Container (stage_of decoder.old) (stage_of decoder.new) keep kept.new.items result }
 {
     let mut size = 0;
     read_counted(decoder, keep, kept, &mut size)
@@ -138,7 +133,7 @@ pub(crate) fn read_head<C: Container>(
 ) -> Result<Head, Fault>
     requires { kept.old.items ≡ [] }
     ensures info { IfOk result (λ h. first_info kept.new.items ≡ Some h.info) }
-    ensures head { IfOk result (λ h. HeadOf C.Container (stage_of decoder.old) (stage_of decoder.new) keep kept.new.items true h.start) }
+    ensures head { IfOk result (λ h. ReadsHead decoder.old decoder.new keep kept.new.items true h.start) }
     ensures past { IfOk result (λ _. IsPast (stage_of decoder.new)) }
     ensures refused { IfErr result (λ f. RefusedHead C.Container (stage_of decoder.old) (stage_of decoder.new) f) }
 {
@@ -159,11 +154,12 @@ pub(crate) fn read_head<C: Container>(
 /// Reads the next frame, unless it was read ahead.
 pub(crate) fn forward<C: Container>(decoder: &mut Decoder<C>, ahead: &mut bool) -> Result<(), Fault>
     ensures ahead { ahead.new ≡ false }
-    ensures counts { Counted C.Container (stage_of decoder.old) (stage_of decoder.new) result }
     ensures given { ahead.old ≡ true → IfErr result (λ _. ⊥) × (decoder.new ≡ decoder.old) }
+    ensures frame { ReadsFrame C.Container ahead.old (stage_of decoder.old) (stage_of decoder.new) result }
+    // proof only
+    ensures counts { Counted C.Container (stage_of decoder.old) (stage_of decoder.new) result }
     ensures memory { IsPast (stage_of decoder.old) → IfErr result (λ f. f.why ≢ Why.Memory) }
     ensures past { IsPast (stage_of decoder.old) → OnOk result (IsPast (stage_of decoder.new)) }
-    ensures frame { GivesFrame C.Container ahead.old (stage_of decoder.old) (stage_of decoder.new) (λ _. held (stage_of decoder.new).course (stage_of decoder.new).track) result }
 {
     if *ahead {
         *ahead = false;

@@ -1,14 +1,9 @@
 //! Opens native and Ogg streams.
 
-ghost use Rattle.std.specs.Prelude.{◌≡◌, IfOk, IfErr, true};
-ghost use Rattle.flac_bits.specs.Bits.{bits_of};
-ghost use Rattle.flac_bits.specs.State.{short_of};
-ghost use Rattle.flac_bits.specs.Handing.{by_grammar};
-ghost use Rattle.flac_native.specs.Stream.{grammar, opening};
-ghost use Rattle.flac_native.specs.Decoding.{beginning};
-ghost use Rattle.flac_ogg.specs.Decoding.{ogg_reading};
-ghost use Rattle.flac_reader.specs.Opening.{Opens, Starts};
-ghost use Rattle.flac_reader.specs.Refusing.{RefusesInput};
+ghost use Rattle.std.specs.Prelude.{◌≡◌, IfOk, IfErr};
+ghost use Rattle.flac_reader.specs.Inputs.{native_input, ogg_input};
+ghost use Rattle.flac_reader.specs.Opening.{OpensSource, StartsSource};
+ghost use Rattle.flac_reader.specs.Refusing.{RefusesSource};
 
 use crate::keep::Keep;
 use crate::reader::Reader;
@@ -33,12 +28,12 @@ pub fn open_native<R: Source + Drop>(
     keep: Keep,
 ) -> Result<Reader<BitReader<R>>, Refused<R>>
     // The blocks that are kept, and the frames to come, are those of the stream that the bytes are.
-    ensures opens { IfOk result (λ r. R.known source ≡ true → Opens (by_grammar grammar (opening profile) (beginning (short_of ((R.behind source).fails))) (bits_of (R.coming source))) keep r) }
+    ensures opens { IfOk result (λ r. OpensSource R.Source (native_input profile) source keep r) }
     // The numbers are 0, and no error of the source was met.
-    ensures starts { IfOk result (λ r. Starts (R.known source) (R.errors source) (R.raised source) (R.names source) r) }
+    ensures starts { IfOk result (λ r. StartsSource R.Source source r) }
     // Refused only as the input is, before its first frame; or because memory runs out, or because of an error of the
     // source, which the source that is returned has counted.
-    ensures refused { IfErr result (λ x. RefusesInput (by_grammar grammar (opening profile) (beginning (short_of ((R.behind source).fails))) (bits_of (R.coming source))) (R.known source) (R.errors source) (R.raised source) (R.errors x.left) (R.raised x.left) x.fault) }
+    ensures refused { IfErr result (λ x. RefusesSource R.Source (native_input profile) source x) }
     ensures names { IfErr result (λ x. R.names x.left ≡ R.names source) }
 {
     match Reader::over(alloc, Decoder::new(alloc, source, profile), keep) {
@@ -68,12 +63,12 @@ pub fn open_ogg<R: Source + Drop>(
     keep: Keep,
 ) -> Result<Reader<OggPackets<R>>, Refused<R>>
     // The blocks that are kept, and the frames to come, are those of the stream that the bytes are.
-    ensures opens { IfOk result (λ r. R.known source ≡ true → Opens (ogg_reading profile (beginning (short_of ((R.behind source).fails))) (bits_of (R.coming source))) keep r) }
+    ensures opens { IfOk result (λ r. OpensSource R.Source (ogg_input profile) source keep r) }
     // The numbers are 0, and no error of the source was met.
-    ensures starts { IfOk result (λ r. Starts (R.known source) (R.errors source) (R.raised source) (R.names source) r) }
+    ensures starts { IfOk result (λ r. StartsSource R.Source source r) }
     // Refused only as the input is, before its first frame; or because memory runs out, or because of an error of the
     // source, which the source that is returned has counted.
-    ensures refused { IfErr result (λ x. RefusesInput (ogg_reading profile (beginning (short_of ((R.behind source).fails))) (bits_of (R.coming source))) (R.known source) (R.errors source) (R.raised source) (R.errors x.left) (R.raised x.left) x.fault) }
+    ensures refused { IfErr result (λ x. RefusesSource R.Source (ogg_input profile) source x) }
     ensures names { IfErr result (λ x. R.names x.left ≡ R.names source) }
 {
     let decoder = match ogg_decoder_returning(alloc, source, profile) {

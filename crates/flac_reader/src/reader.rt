@@ -1,18 +1,16 @@
 //! A reader: metadata at once, then one frame after another.
 
-ghost use Rattle.std.specs.Prelude.{◌≡◌, ◌≢◌, ◌-◌, ◌*◌, ◌/◌, ◌^◌, ⊤, IfOk, IfErr, List, MatchOption, None, Option, Some, true};
+ghost use Rattle.std.specs.Prelude.{◌≡◌, ◌-◌, ◌^◌, ⊤, IfOk, IfErr, None, Some, true, option_copied};
 ghost use Rattle.std.specs.Duration.{as_nanos};
-ghost use Rattle.flac_bits.specs.declared.why.Why.{Why};
-ghost use Rattle.flac_frame.specs.Frame.{Frame};
-ghost use Rattle.flac_native.specs.declared.fault.Place.{Place};
 ghost use Rattle.std.specs.Borrow.{sem, follows_so};
 ghost use mathlib.Core.Option.{none};
-ghost use Rattle.flac_native.specs.Giving.{stage_of, held};
+ghost use Rattle.flac_native.specs.Giving.{stage_of};
 ghost use Rattle.flac_meta.specs.SeekTable.{last_before};
 ghost use Rattle.flac_reader.specs.Kept.{first_info, first_comments, first_points};
 ghost use Rattle.flac_reader.specs.Refusing.{RefusedHead};
 ghost use Rattle.flac_reader.specs.Seeking.{offset_before};
-ghost use Rattle.flac_reader.specs.Coming.{lent, only_frame, size_of, FramesCome, HeadOf, IsPast};
+ghost use Rattle.flac_reader.specs.Coming.{lent, size_of, ReadsHead, IsPast};
+ghost use Rattle.flac_reader.specs.Time.{nanos_of, IsLength};
 
 use crate::head::{Head, forward, read_head};
 use crate::keep::Keep;
@@ -71,10 +69,10 @@ impl<C: Container + Drop> Reader<C> {
         ensures info { IfOk result (λ r. first_info r.blocks.items ≡ Some r.info) }
         ensures ahead { IfOk result (λ r. r.ahead ≡ true) }
         ensures start { IfOk result (λ r. (r.first ≡ 0) × (r.behind ≡ 0)) }
-        // The last metadata block was read: no allocation fails from then on.
+        // The last metadata block was read: no `next` of it is out of memory.
         ensures past { IfOk result (λ r. IsPast (stage_of r.decoder)) }
         // All wanted blocks are kept, and the frames come next: those of the stream that the decoder was to give.
-        ensures head { IfOk result (λ r. HeadOf C.Container (stage_of decoder) (stage_of r.decoder) keep r.blocks.items r.ahead r.start) }
+        ensures head { IfOk result (λ r. ReadsHead decoder r.decoder keep r.blocks.items r.ahead r.start) }
         // Refused only as the stream is that the decoder was to give, before its first frame, or because memory runs
         // out. The decoder that is returned has counted an error of the device.
         ensures refused { IfErr result (λ x. RefusedHead C.Container (stage_of decoder) (stage_of x.left) x.fault) }
@@ -93,9 +91,8 @@ impl<C: Container + Drop> Reader<C> {
 
 impl<C: Container> Reader<C> {
     ghost use Rattle.flac_reader.specs.contracts.reader.Reader.{the_row};
-    ghost use Rattle.flac_reader.specs.Giving.{Gives};
-    ghost use Rattle.flac_reader.specs.Places.{all_samples};
-    ghost use Rattle.flac_reader.specs.Sampling.{SamplesCome};
+    ghost use Rattle.flac_reader.specs.Giving.{Gives, last_frame};
+    ghost use Rattle.flac_reader.specs.Sampling.{SamplesOf};
 
     /// Makes a reader whose decoder has already read the next frame, or the end. That frame's first sample has this
     /// number.
@@ -105,6 +102,7 @@ impl<C: Container> Reader<C> {
         blocks: Vec<Block>,
         first: u64,
     ) -> Reader<C>
+        // proof only
         ensures decoder { result.decoder ≡ decoder }
         ensures head { (result.info ≡ head.info) × (result.start ≡ head.start) }
         ensures blocks { result.blocks ≡ blocks }
@@ -146,7 +144,7 @@ impl<C: Container> Reader<C> {
     /// ```
     #[tactic(auto, unfolding(crate::specs::Kept::first_comments), using(crate::proofs::Firsts::comments_more))]
     pub fn comments(&self) -> Option<&Comments>
-        ensures { MatchOption result (first_comments self.now.blocks.items ≡ None) (λ c. first_comments self.now.blocks.items ≡ Some c.now) }
+        ensures { option_copied result ≡ first_comments self.now.blocks.items }
     {
         for block in self.blocks.iter() {
             match block {
@@ -199,7 +197,7 @@ impl<C: Container> Reader<C> {
     /// let at = reader.time().as_secs();
     /// ```
     pub fn time(&self) -> Duration
-        ensures { as_nanos result ≡ self.now.first * 1000000000 / self.now.info.rate }
+        ensures { as_nanos result ≡ nanos_of self.now.first self.now.info.rate }
     {
         time_of(self.first, &self.info)
     }
@@ -207,7 +205,7 @@ impl<C: Container> Reader<C> {
     /// The time that all samples take, as STREAMINFO states it, rounded down to a nanosecond; `None` if STREAMINFO does
     /// not state how many samples there are (RFC 9639, section 8.2).
     pub fn duration(&self) -> Option<Duration>
-        ensures { MatchOption result (self.now.info.total ≡ 0) (λ d. (self.now.info.total ≢ 0) × (as_nanos d ≡ self.now.info.total * 1000000000 / self.now.info.rate)) }
+        ensures { IsLength self.now.info result }
     {
         match self.info.total() {
             0 => None,
@@ -225,10 +223,10 @@ impl<C: Container> Reader<C> {
     /// ```
     pub fn into_samples(self) -> Samples<C>
         ensures reader { result.reader ≡ self }
-        // So many steps are left: one for each sample, each frame, and the end.
+        // As many steps are left as can be counted: one for each sample, each frame, and the end.
         ensures left { result.left ≡ 2 ^ 64 - 1 }
         // All samples of the frames to come are given, and then the same end.
-        ensures come { (frames : List Frame) (end : Option (Place × Why)) → FramesCome C.Container self.ahead (stage_of self.decoder) frames end → SamplesCome result (all_samples frames) end }
+        ensures come { SamplesOf self result }
     {
         Samples::over(self)
     }
@@ -256,7 +254,7 @@ impl<C: Container> Reader<C> {
 
     /// The frame that was read last.
     pub(crate) fn frame(&self) -> Option<FrameView<'_>>
-        ensures { lent result ≡ only_frame (held (stage_of self.now.decoder).course (stage_of self.now.decoder).track) }
+        ensures { lent result ≡ last_frame self.now }
     {
         match self.decoder.view() {
             Item::Block(_) => None,
@@ -267,7 +265,7 @@ impl<C: Container> Reader<C> {
 
     /// How many samples of each channel the frame has that was read last; 0 if there is none.
     fn frame_len(&self) -> u64
-        ensures { result ≡ size_of (only_frame (held (stage_of self.now.decoder).course (stage_of self.now.decoder).track)) }
+        ensures { result ≡ size_of (last_frame self.now) }
     {
         match self.frame() {
             Some(frame) => frame.len() as u64,
@@ -277,7 +275,7 @@ impl<C: Container> Reader<C> {
 
     /// Reads the next frame, which [`Reader::frame`] lends then.
     pub(crate) fn step(&mut self) -> Result<(), Fault>
-        ensures { Gives self.old self.new (λ _. only_frame (held (stage_of self.new.decoder).course (stage_of self.new.decoder).track)) result }
+        ensures { Gives self.old self.new (λ _. last_frame self.new) result }
     {
         match forward(&mut self.decoder, &mut self.ahead) {
             Ok(()) => {}

@@ -2,8 +2,6 @@
 
 ghost use Rattle.std.specs.Prelude.{◌≡◌, ◌-◌, ◌^◌};
 ghost use Rattle.std.specs.Iterator.{at_most};
-ghost use Rattle.flac_native.specs.Giving.{stage_of, held};
-ghost use Rattle.flac_reader.specs.Coming.{only_frame};
 ghost use Rattle.flac_reader.specs.Sampling.{GivesSample, calls_left, turned};
 
 use crate::reader::Reader;
@@ -30,11 +28,12 @@ pub struct Samples<C: Container> {
 }
 
 impl<C: Container> Samples<C> {
-    ghost use Rattle.flac_reader.specs.Giving.{Gives};
+    ghost use Rattle.flac_reader.specs.Giving.{Gives, last_frame};
     ghost use Rattle.flac_reader.specs.inner.Stepping.{TakesSample, EntersFrame};
 
     /// The samples of the frames that the reader has not lent yet.
     pub(crate) fn over(reader: Reader<C>) -> Samples<C>
+        // proof only
         ensures reader { result.reader ≡ reader }
         ensures spot { result.spot ≡ Spot.Next }
         ensures left { result.left ≡ 2 ^ 64 - 1 }
@@ -67,9 +66,10 @@ impl<C: Container> Samples<C> {
 
     /// The next sample of the frame that was read last.
     fn take(&mut self) -> Option<i32>
+        ensures sample { TakesSample self.old.spot self.new.spot (last_frame self.old.reader) result }
+        // proof only
         ensures reader { self.new.reader ≡ self.old.reader }
         ensures left { self.new.left ≡ self.old.left }
-        ensures sample { TakesSample self.old.spot self.new.spot (only_frame (held (stage_of self.old.reader.decoder).course (stage_of self.old.reader.decoder).track)) result }
     {
         let Spot::Inside(channel, index) = self.spot else {
             return None;
@@ -82,9 +82,10 @@ impl<C: Container> Samples<C> {
 
     /// Goes to the next frame; false at the end.
     fn enter(&mut self) -> Result<bool, Fault>
-        ensures gives { Gives self.old.reader self.new.reader (λ _. only_frame (held (stage_of self.new.reader.decoder).course (stage_of self.new.reader.decoder).track)) result }
+        ensures gives { Gives self.old.reader self.new.reader (λ _. last_frame self.new.reader) result }
+        ensures spot { EntersFrame (last_frame self.new.reader) self.new.spot result }
+        // proof only
         ensures left { self.new.left ≡ self.old.left }
-        ensures spot { EntersFrame (only_frame (held (stage_of self.new.reader.decoder).course (stage_of self.new.reader.decoder).track)) self.new.spot result }
     {
         self.spot = Spot::Over;
         match self.reader.step() {

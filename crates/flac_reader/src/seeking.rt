@@ -1,13 +1,11 @@
 //! Finds the frame that holds a sample.
 
-ghost use Rattle.std.specs.Prelude.{◌≡◌, ◌≢◌, ◌-◌, ◌^◌, List, Option, IfOk, IfErr, IfSome, map, true};
-ghost use Rattle.flac_frame.specs.Frame.{Frame};
+ghost use Rattle.std.specs.Prelude.{◌≡◌, ◌≢◌, IfOk, IfErr, IfSome};
 ghost use Rattle.flac_frame.specs.Lent.{frame_of};
-ghost use Rattle.flac_native.specs.Item.{frame as framed};
-ghost use Rattle.flac_native.specs.Giving.{stage_of, held};
-ghost use Rattle.flac_reader.specs.Coming.{Comes, IsCalm, IsPast, HadRoom, Counted};
+ghost use Rattle.flac_native.specs.Giving.{stage_of};
+ghost use Rattle.flac_reader.specs.Coming.{IsPast, Counted, item_in};
 ghost use Rattle.flac_reader.specs.Seeking.{number_of};
-ghost use Rattle.flac_reader.specs.inner.Seeking.{FirstIfHeld, Passes, Searches};
+ghost use Rattle.flac_reader.specs.inner.Seeking.{FirstIfHeld, PassesFrame, SearchesFrames, KnownAtMemory, too_many_frames};
 
 use flac_native::{Container, Decoder, Fault, FrameView, Item, Place, StreamInfo, Why};
 
@@ -29,12 +27,12 @@ fn pass_frame<C: Container>(
     info: &StreamInfo,
     sample: u64,
 ) -> Result<Option<u64>, Fault>
+    ensures passes { PassesFrame C.Container info.now sample (stage_of decoder.old) (stage_of decoder.new) result }
+    ensures first { IfOk result (λ o. IfSome o (λ n. n ≡ number_of info.now (item_in (stage_of decoder.new)))) }
+    // proof only
     ensures counts { Counted C.Container (stage_of decoder.old) (stage_of decoder.new) result }
     ensures memory { IsPast (stage_of decoder.old) → IfErr result (λ f. f.why ≢ Why.Memory) }
     ensures past { IsPast (stage_of decoder.old) → IfOk result (λ _. IsPast (stage_of decoder.new)) }
-    ensures first { IfOk result (λ o. IfSome o (λ n. n ≡ number_of info.now (held (stage_of decoder.new).course (stage_of decoder.new).track))) }
-    ensures passes { IsCalm C.Container (stage_of decoder.old) (stage_of decoder.new) → HadRoom result → (frames : List Frame) (end : Option (Place × Why)) → Comes C.Container (stage_of decoder.old) (map framed frames) end →
-        Passes C.Container info.now sample frames end result (stage_of decoder.new) }
 {
     match decoder.step() {
         Ok(()) => {}
@@ -54,12 +52,14 @@ pub(crate) fn find_frame<C: Container>(
     info: &StreamInfo,
     sample: u64,
 ) -> Result<u64, Fault>
+    ensures finds { SearchesFrames C.Container info.now sample (stage_of decoder.old) (stage_of decoder.new) result }
+    ensures first { IfOk result (λ n. n ≡ number_of info.now (item_in (stage_of decoder.new))) }
+    ensures memory { IsPast (stage_of decoder.old) → IfErr result (λ f. f.why ≡ Why.Memory → f ≡ too_many_frames) }
+    // Memory runs out after frames that were read without an error: what was known is still known.
+    ensures known { IsPast (stage_of decoder.old) → IfErr result (KnownAtMemory decoder.old decoder.new) }
+    // proof only
     ensures counts { Counted C.Container (stage_of decoder.old) (stage_of decoder.new) result }
-    ensures memory { IsPast (stage_of decoder.old) → IfErr result (λ f. f.why ≡ Why.Memory → f ≡ record { at = Place.Frame (2 ^ 64 - 1); why = Why.Memory }) }
     ensures past { IsPast (stage_of decoder.old) → IfOk result (λ _. IsPast (stage_of decoder.new)) }
-    ensures first { IfOk result (λ n. n ≡ number_of info.now (held (stage_of decoder.new).course (stage_of decoder.new).track)) }
-    ensures finds { IsCalm C.Container (stage_of decoder.old) (stage_of decoder.new) → HadRoom result → (frames : List Frame) (end : Option (Place × Why)) → Comes C.Container (stage_of decoder.old) (map framed frames) end →
-        Searches C.Container info.now sample frames end true result (stage_of decoder.new) }
 {
     for _ in 0..u64::MAX {
         match pass_frame(decoder, info, sample) {

@@ -1,30 +1,23 @@
 //! Readers of native streams at the frame that holds a sample. The frames of an Ogg stream are not sought.
 
-ghost use Rattle.std.specs.Prelude.{◌≡◌, ◌⊎◌, ◌-◌, ◌^◌, IfOk, IfErr, drop, true, is_some, List, []};
-ghost use Rattle.flac_bits.specs.Bits.{bits_of};
-ghost use Rattle.flac_bits.specs.State.{short_of};
-ghost use Rattle.flac_bits.specs.Handing.{by_grammar};
-ghost use Rattle.flac_bits.specs.declared.why.Why.TheVariants.{Truncated};
-ghost use Rattle.flac_frame.specs.Frame.{Frame};
-ghost use Rattle.flac_native.specs.Stream.{grammar};
-ghost use Rattle.flac_native.specs.Decoding.{beginning};
-ghost use Rattle.flac_native.specs.Resuming.{resumed};
-ghost use Rattle.flac_native.specs.Giving.{stage_of, held};
+ghost use Rattle.std.specs.Prelude.{◌≡◌, IfOk, IfErr, drop, true, is_some, []};
+ghost use Rattle.flac_native.specs.Giving.{stage_of};
 ghost use Rattle.flac_reader.specs.Kept.{first_points};
 ghost use Rattle.flac_reader.specs.Coming.{IsPast};
-ghost use Rattle.flac_reader.specs.Opening.{IsOver};
-ghost use Rattle.flac_reader.specs.Moved.{IsMoved, IsNotMoved, read_resumed};
-ghost use Rattle.flac_reader.specs.Seeking.{offset_before, search_start, number_of, Sought, SeeksTo, RefusesSeek, Cuts, SeeksFrames};
+ghost use Rattle.flac_reader.specs.Opening.{IsOver, IsOverSource};
+ghost use Rattle.flac_reader.specs.Moved.{FindsDevice, RefusesDevice};
+ghost use Rattle.flac_reader.specs.Seeking.{search_start, point_offset, search_offset, IsNumbered, MemoryAtEnds, no_memory, SeeksBytes, SeeksStream, SoughtSource, RefusesSeekSource};
 
 use crate::head::Head;
 use crate::reader::Reader;
+use crate::returned::{Returned, move_to};
 use crate::seeking::find_frame;
 use flac_bits::BitReader;
 use flac_native::{
     Counted, Decoder, Fault, Memory, Place, Profile, Refused, Source, Why, bytes_from,
 };
 use std::alloc::Global;
-use std::io::{Read, Seek, SeekFrom};
+use std::io::{Read, Seek};
 
 impl<R: Source> Reader<BitReader<R>> {
     /// How many bytes a native stream has before its first frame: those of the marker and of the metadata blocks (RFC
@@ -82,15 +75,15 @@ impl<R: Source + Drop> Reader<BitReader<R>> {
     ) -> Result<Reader<BitReader<Memory<'a>>>, Fault>
         ensures blocks { IfOk result (λ r. (r.blocks ≡ self.blocks) × (r.info ≡ self.info) × (r.start ≡ self.start)) }
         ensures ahead { IfOk result (λ r. r.ahead ≡ true) }
-        ensures first { IfOk result (λ r. (r.first ≡ r.behind) × (r.behind ≡ number_of self.info (held (stage_of r.decoder).course (stage_of r.decoder).track))) }
+        ensures first { IfOk result (λ r. IsNumbered self.info r) }
         ensures source { IfOk result (λ r. IsOver true 0 0 [] r) }
-        // The last metadata block was read: no allocation fails from then on.
+        // The last metadata block was read: no `next` of it is out of memory.
         ensures past { IfOk result (λ r. IsPast (stage_of r.decoder)) }
         // Memory runs out before a frame is read, or after as many frames as can be counted.
-        ensures memory { IfErr result (λ f. f.why ≡ Why.Memory → (f.at ≡ Place.Marker) ⊎ (f.at ≡ Place.Frame (2 ^ 64 - 1))) }
+        ensures memory { IfErr result MemoryAtEnds }
         // Of the frames from that point on, the first that holds the sample comes next, and then all others; refused
         // only as the bytes are, with no such frame before.
-        ensures found { SeeksTo self.info sample (by_grammar grammar (resumed profile self.info) (beginning Truncated) (bits_of (drop (offset_before sample (first_points self.blocks.items)) frames.now))) result }
+        ensures found { SeeksBytes profile self.info sample (drop (point_offset self sample) frames.now) result }
     {
         let offset = self.offset_before(sample);
         let source = Memory::new(bytes_from(frames, offset));
@@ -118,18 +111,18 @@ impl<R: Source + Drop> Reader<BitReader<R>> {
     ) -> Result<Reader<BitReader<Memory<'a>>>, Fault>
         ensures blocks { IfOk result (λ r. (r.blocks ≡ self.blocks) × (r.info ≡ self.info) × (r.start ≡ self.start)) }
         ensures ahead { IfOk result (λ r. r.ahead ≡ true) }
-        ensures first { IfOk result (λ r. (r.first ≡ r.behind) × (r.behind ≡ number_of self.info (held (stage_of r.decoder).course (stage_of r.decoder).track))) }
+        ensures first { IfOk result (λ r. IsNumbered self.info r) }
         ensures source { IfOk result (λ r. IsOver true 0 0 [] r) }
-        // The last metadata block was read: no allocation fails from then on.
+        // The last metadata block was read: no `next` of it is out of memory.
         ensures past { IfOk result (λ r. IsPast (stage_of r.decoder)) }
         // Memory runs out before a frame is read, or after as many frames as can be counted.
-        ensures memory { IfErr result (λ f. f.why ≡ Why.Memory → (f.at ≡ Place.Marker) ⊎ (f.at ≡ Place.Frame (2 ^ 64 - 1))) }
+        ensures memory { IfErr result MemoryAtEnds }
         // Of the frames from that point on, the first that holds the sample comes next, and then all others; refused
         // only as the bytes are, with no such frame before.
-        ensures found { SeeksTo self.info sample (by_grammar grammar (resumed profile self.info) (beginning Truncated) (bits_of (drop (search_start self.start sample (first_points self.blocks.items)) stream.now))) result }
+        ensures found { SeeksBytes profile self.info sample (drop (search_offset self sample) stream.now) result }
         // If the bytes are a stream with some frames after that point, exactly these are searched, and the rest of them
         // is given up to the end of the stream.
-        ensures whole { (frames : List Frame) → Cuts profile stream.now self.info (search_start self.start sample (first_points self.blocks.items)) frames → SeeksFrames self.info sample frames result }
+        ensures whole { SeeksStream profile self.info sample stream.now (search_offset self sample) result }
     {
         let offset = self.seek_offset(sample);
         let source = Memory::new(bytes_from(stream, offset));
@@ -158,18 +151,21 @@ impl<R: Source + Drop> Reader<BitReader<R>> {
     ) -> Result<Reader<BitReader<S>>, Refused<S>>
         ensures blocks { IfOk result (λ r. (r.blocks ≡ self.blocks) × (r.info ≡ self.info) × (r.start ≡ self.start)) }
         ensures ahead { IfOk result (λ r. r.ahead ≡ true) }
-        ensures first { IfOk result (λ r. (r.first ≡ r.behind) × (r.behind ≡ number_of self.info (held (stage_of r.decoder).course (stage_of r.decoder).track))) }
-        ensures source { IfOk result (λ r. IsOver (S.known source) (S.errors source) (S.raised source) (S.names source) r) }
-        // The last metadata block was read: no allocation fails from then on.
+        ensures first { IfOk result (λ r. IsNumbered self.info r) }
+        ensures source { IfOk result (λ r. IsOverSource S.Source source r) }
+        // The last metadata block was read: no `next` of it is out of memory.
         ensures past { IfOk result (λ r. IsPast (stage_of r.decoder)) }
         // Memory runs out before a frame is read, or after as many frames as can be counted.
-        ensures memory { IfErr result (λ x. x.fault.why ≡ Why.Memory → (x.fault.at ≡ Place.Marker) ⊎ (x.fault.at ≡ Place.Frame (2 ^ 64 - 1))) }
+        ensures memory { IfErr result (λ x. MemoryAtEnds x.fault) }
         // Of the frames of the source, the first that holds the sample comes next, and then all others.
-        ensures found { IfOk result (λ r. S.known source ≡ true → Sought self.info sample (by_grammar grammar (resumed profile self.info) (beginning (short_of ((S.behind source).fails))) (bits_of (S.coming source))) r) }
+        ensures found { IfOk result (λ r. SoughtSource S.Source profile self.info sample source r) }
         // Refused only as the input is, with no such frame before; or because memory runs out, or because of an error
         // of the source, which the source that is returned has counted.
-        ensures refused { IfErr result (λ x. RefusesSeek self.info sample (by_grammar grammar (resumed profile self.info) (beginning (short_of ((S.behind source).fails))) (bits_of (S.coming source))) (S.known source) (S.errors source) (S.raised source) (S.errors x.left) (S.raised x.left) x.fault) }
+        ensures refused { IfErr result (λ x. RefusesSeekSource S.Source profile self.info sample source x) }
         ensures names { IfErr result (λ x. S.names x.left ≡ S.names source) }
+        // If memory ran out, the bytes are still known if they were; before anything was read, the source is as it was.
+        ensures known { IfErr result (λ x. x.fault.why ≡ Why.Memory → S.known source ≡ true → S.known x.left ≡ true) }
+        ensures unread { IfErr result (λ x. x.fault ≡ no_memory → x.left ≡ source) }
     {
         let Reader {
             decoder: _,
@@ -207,39 +203,46 @@ impl<R: Source + Drop> Reader<BitReader<R>> {
     ///
     /// # Errors
     /// [`Why::Read`] at frame 0 if the device cannot be moved. Else those of [`Reader::seek`]. The device is returned
-    /// with them, with its last error if that came of reading ([`Counted::last_error`]).
+    /// with them, with its last error, of moving it or of reading it ([`Returned::last_error`]).
     pub fn seek_file<T: Read + Seek + Drop>(
         self,
         alloc: Global,
         device: T,
         profile: Profile,
         sample: u64,
-    ) -> Result<Reader<BitReader<Counted<T>>>, Refused<Counted<T>>>
+    ) -> Result<Reader<BitReader<Counted<T>>>, Refused<Returned<T>>>
         ensures blocks { IfOk result (λ r. (r.blocks ≡ self.blocks) × (r.info ≡ self.info) × (r.start ≡ self.start)) }
         ensures ahead { IfOk result (λ r. r.ahead ≡ true) }
-        ensures first { IfOk result (λ r. (r.first ≡ r.behind) × (r.behind ≡ number_of self.info (held (stage_of r.decoder).course (stage_of r.decoder).track))) }
-        // The last metadata block was read: no allocation fails from then on.
+        ensures first { IfOk result (λ r. IsNumbered self.info r) }
+        // The last metadata block was read: no `next` of it is out of memory.
         ensures past { IfOk result (λ r. IsPast (stage_of r.decoder)) }
         // Memory runs out before a frame is read, or after as many frames as can be counted.
-        ensures memory { IfErr result (λ x. x.fault.why ≡ Why.Memory → (x.fault.at ≡ Place.Marker) ⊎ (x.fault.at ≡ Place.Frame (2 ^ 64 - 1))) }
+        ensures memory { IfErr result (λ x. MemoryAtEnds x.fault) }
         // Of the frames of the device from that point on, the first that holds the sample comes next, and then all
         // others.
-        ensures found { IfOk result (λ r. (moved : T) × IsMoved T.stream_position T.stream_bytes device moved (search_start self.start sample (first_points self.blocks.items)) × IsOver (is_some (T.remaining moved)) 0 0 [] r × (is_some (T.remaining moved) ≡ true → Sought self.info sample (read_resumed profile self.info (T.remaining moved)) r)) }
-        // Refused only if the device could not be moved, and is returned where it was, with no error counted; or as its
-        // bytes from there on are, with no such frame before; or because memory runs out, or because of an error of the
-        // device, which is returned with its errors counted.
-        ensures refused { IfErr result (λ x. IsNotMoved T.stream_position T.stream_bytes device x ⊎ ((moved : T) × IsMoved T.stream_position T.stream_bytes device moved (search_start self.start sample (first_points self.blocks.items)) × RefusesSeek self.info sample (read_resumed profile self.info (T.remaining moved)) (is_some (T.remaining moved)) 0 0 x.left.errors x.left.errors x.fault)) }
+        ensures found { IfOk result (λ r. FindsDevice T.Seek T.Read self device profile sample r) }
+        // Refused only if the device could not be moved, and is returned where it was; or as its bytes from there on
+        // are, with no such frame before; or because memory runs out, or because of an error of the device.
+        ensures refused { IfErr result (λ x. RefusesDevice T.Seek T.Read self device profile sample x) }
+        // For an error of the device only if it returned one, in moving or in reading.
+        ensures asked { IfErr result (λ x. x.fault.why ≡ Why.Read → is_some x.left.last ≡ true) }
     {
-        let mut device = device;
         let offset = self.seek_offset(sample);
-        match device.seek(SeekFrom::Start(offset)) {
-            Ok(_) => self.seek_from(alloc, Counted::new(device), profile, sample),
-            Err(_) => {
-                let left = Counted::new(device);
+        let device = match move_to(device, offset) {
+            Ok(device) => device,
+            Err(left) => {
                 let fault = Fault {
                     at: Place::Frame(0),
                     why: Why::Read,
                 };
+                return Err(Refused { fault, left });
+            }
+        };
+        match self.seek_from(alloc, Counted::new(device), profile, sample) {
+            Ok(reader) => Ok(reader),
+            Err(refused) => {
+                let fault = refused.fault;
+                let left = Returned::after_reading(refused.left);
                 Err(Refused { fault, left })
             }
         }

@@ -1,8 +1,8 @@
 //! The place of the next sample.
 
-ghost use Rattle.std.specs.Prelude.{◌≡◌, ◌∷◌, [], MatchOption};
+ghost use Rattle.std.specs.Prelude.{◌≡◌};
 ghost use Rattle.flac_frame.specs.Lent.{frame_of};
-ghost use Rattle.flac_reader.specs.Places.{samples_from};
+ghost use Rattle.flac_reader.specs.Places.{IsSampleAt};
 
 use flac_native::FrameView;
 
@@ -39,7 +39,7 @@ pub(crate) fn sample_at(
     channel: usize,
     index: usize,
 ) -> Option<(i32, usize, usize)>
-    ensures { MatchOption result (samples_from (frame_of frame.now) channel index ≡ []) (λ p. samples_from (frame_of frame.now) channel index ≡ p.0 ∷ samples_from (frame_of frame.now) p.1 p.2) }
+    ensures { IsSampleAt (frame_of frame.now) channel index result }
 {
     if channel >= frame.channels() || index >= frame.len() {
         return None;

@@ -1,9 +1,9 @@
 //! The samples of a frame of two channels, in pairs.
 
-ghost use Rattle.std.specs.Prelude.{◌≡◌, ◌≢◌, [], MatchOption, length, slice_index_or};
 ghost use Rattle.std.specs.List.{zip};
 ghost use Rattle.std.specs.Iterator.{YieldsFirst, item_count};
 ghost use Rattle.flac_frame.specs.Lent.{frame_of};
+ghost use Rattle.flac_reader.specs.Stereo.{AreStereo};
 
 use flac_native::FrameView;
 
@@ -41,7 +41,7 @@ impl<'a> Iterator for StereoSamples<'a> {
 /// }
 /// ```
 pub fn stereo_samples<'a>(frame: &FrameView<'a>) -> Option<StereoSamples<'a>>
-    ensures { MatchOption result (length (frame_of frame.now).channels ≢ 2) (λ s. (length (frame_of frame.now).channels ≡ 2) × (s.left.now ≡ slice_index_or (frame_of frame.now).channels 0 []) × (s.right.now ≡ slice_index_or (frame_of frame.now).channels 1 [])) }
+    ensures { AreStereo (frame_of frame.now) result }
 {
     if frame.channels() != 2 {
         return None;

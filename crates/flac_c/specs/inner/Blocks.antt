@@ -1,18 +1,21 @@
 -- For proofs of reading metadata: blocks that are read one after another.
-use Rattle.std.specs.Prelude.{◌≡◌, ℕ, Bool, true, List, ◌++◌, Option, None}
+use Rattle.std.specs.Prelude.{◌≡◌, ◌≢◌, ℕ, Bool, true, List, ◌++◌, Option, None}
 use Rattle.flac_bits.specs.State.{State, past, fresh}
 use Rattle.flac_bits.specs.Meaning.{Spells}
 use Rattle.flac_bits.specs.Items.{Joined, Refused, after, mark_behind}
+use Rattle.flac_bits.specs.declared.why.Why.TheVariants.{Memory}
 use Rattle.flac_meta.specs.Block.{block as block_layout, seen_after}
 use Rattle.flac_meta.specs.declared.block.Seen.{Seen}
 use Rattle.flac_meta.specs.declared.block.Block.{Block}
 use Rattle.flac_meta.specs.declared.comments.Comments.{Comments}
+use Rattle.flac_meta.specs.declared.seek_table.SeekPoint.{SeekPoint}
 use Rattle.flac_header.specs.declared.subset.Profile.TheVariants.{Subset}
 use Rattle.flac_native.specs.Stream.{Piece, grammar, opening, info_after}
 use Rattle.flac_native.specs.declared.fault.Fault.{Fault}
 use Rattle.flac_native.specs.declared.track.Phase.TheVariants.{Blocks, Frames}
 use Rattle.flac_c.specs.Heads.{comments_from, comments_after, count_of}
-use Rattle.flac_c.specs.Starts.{are_metadata, point_after, point_from}
+use Rattle.flac_c.specs.Starts.{are_metadata, point_after, point_from, IsHead, BeginsByHead, first_frame}
+use Rattle.flac_c.specs.declared.cursor.FlacProvedCursor.{FlacProvedCursor}
 use Rattle.flac_c.specs.declared.metadata.Metadata.{Metadata}
 
 -- STREAMINFO, the number of comments and the seek point of a block are kept
@@ -68,3 +71,17 @@ pub record HeadRead (start now : State) (sample : ℕ) (found : Metadata) : Type
 -- what comes from the start on is refused at this place
 abbrev pub IsRefusedAt : State → Fault → Type 0
 IsRefusedAt start f = (parts : List Piece) × Refused grammar (opening Subset) start.cursor.mark parts start.cursor.left f.at f.why
+
+-- the same, if the source returned no error and memory did not run out
+abbrev pub IsRefusedIn : (start now : State) → Fault → Type 0
+IsRefusedIn start now f = now.errors ≡ start.errors → f.why ≢ Memory → IsRefusedAt start f
+
+-- ---- a cursor
+
+-- the marker and all blocks are the first n bytes, and what a cursor needs of them is kept
+abbrev pub FrontRead : List ℕ → (n sample : ℕ) → Metadata → Type 0
+FrontRead bytes n sample found = (parts : List Piece) × IsHead bytes n parts × IsFound sample parts found
+
+-- a cursor is at the first frame, and this is the point before the sample that is sought
+abbrev pub IsStart : List ℕ → (sample : ℕ) → FlacProvedCursor → Option SeekPoint → Type 0
+IsStart bytes sample c point = BeginsByHead bytes (λ parts n i. (c ≡ first_frame i (comments_from None parts) n) × (point ≡ point_from sample None parts))

@@ -8,7 +8,7 @@ use Rattle.flac_c.proofs.starting.flac_proved_start.Goals as goal
 pub returns-in-Ok-clause-streams : goal.returns-in-Ok-clause-streams
 returns-in-Ok-clause-streams c = λ items stream.
     let r = c.in-Ok.ensures.read in
-    inr (refl, starts_in c.args.bytes.now items stream c.in-Ok.first (r.0, r.1, r.2, r.3, r.4, r.5))
+    inr (refl, starts_in c.args.bytes.now items stream c.in-Ok.first (r.0, r.1, r.2, r.3, r.4, r.5.0))
 
 pub returns-in-Err-clause-streams : goal.returns-in-Err-clause-streams
 returns-in-Err-clause-streams c = λ items stream.

@@ -1,43 +1,59 @@
-use Rattle.std.proofs.Common.{rules, ◌++◌, ℕ, Option, Result, Ok, ap, sym, ◌∙◌}
-use Rattle.std.proofs.lemmas.Result.{IfErr-weaker}
-use Rattle.flac_bits.specs.Bits.{bits_of}
-use Rattle.flac_bits.specs.Reasons.{of_output}
-use Rattle.flac_bits.specs.State.{Behind, short_of}
-use Rattle.flac_native.specs.Decoding.{beginning}
+use Rattle.std.proofs.Common.{◌++◌, ℕ, true, false, Option, Result, Ok, ap, sym, subst, ◌∙◌}
+use Rattle.flac_native.specs.Decoding.{start_mark}
 use Rattle.flac_native.specs.declared.fault.Fault.{Fault}
 use Rattle.flac_ogg.specs.Fronts.{front_bytes}
-use Rattle.flac_ogg.specs.Either.{begins_page, read_either}
-use Rattle.flac_reader.proofs.Refusals.{refuses_as, refuses_unread, front_read}
+use Rattle.flac_reader.specs.Inputs.{native_input, ogg_input, any_input}
+use Rattle.flac_reader.specs.Opening.{Opens}
+use Rattle.flac_reader.proofs.Refusals.{refuses_as, front_read}
 use Rattle.flac_reader.proofs.either.open.Goals as goal
 
 abbrev answer : Option ℕ → Result (Option ℕ) Fault
 answer o = Ok o
 
-pub returns-in-Ok-clause-refused : goal.returns-in-Ok-clause-refused
-returns-in-Ok-clause-refused g c =
+pub returns-in-Ok-open_ogg-clause-opens : goal.returns-in-Ok-open_ogg-clause-opens
+returns-in-Ok-open_ogg-clause-opens g c = λ known.
     let R = g.R.Source in
     let old = c.args.source in
     let mid = c.pull_front.new.source in
-    let front = c.in-Ok.front in
     let told = c.in-Ok.ensures in
-    let counted = told.counted in
-    IfErr-weaker c.open_as.result _ _ (λ x p.
-    refuses_as (read_either c.args.profile c.begins_page.result (beginning (short_of ((R.behind mid).fails))) (bits_of (front_bytes front ++ R.coming mid))) (read_either c.args.profile (begins_page (R.coming old)) (beginning (short_of ((R.behind old).fails))) (bits_of (R.coming old)))
-    (R.known mid) (R.known old) (R.errors old) (R.raised old) (R.errors mid) (R.raised mid) (R.errors x.left) (R.raised x.left) x.fault counted.0 counted.1 told.known
-    (λ known. front_read c.args.profile front (R.coming old) (R.coming mid) c.begins_page.result (beginning (short_of ((R.behind old).fails))) (beginning (short_of ((R.behind mid).fails))) (told.bytes known) (λ none. told.end (ap answer none) known) c.begins_page.ensures
-    (ap (λ (b : Behind). beginning (short_of b.fails)) (sym (told.behind known counted.0))))
-    p) c.open_as.ensures.refused
+    subst (λ r. Opens r c.args.keep c.in-Ok-open_ogg.reader)
+    (sym (front_read c.args.profile c.in-Ok.front (R.coming old) (R.coming mid) true (start_mark (R.behind old)) (start_mark (R.behind mid)) (told.bytes known) (λ none. told.end (ap answer none) known) (sym c.if-begins_page.true ∙ c.begins_page.ensures)
+    (ap start_mark (sym (told.behind known told.counted.0)))))
+    (c.in-Ok-open_ogg.ensures.opens (told.known known))
 
-pub returns-in-Ok-clause-names : goal.returns-in-Ok-clause-names
-returns-in-Ok-clause-names g c = IfErr-weaker c.open_as.result _ _ (λ x names. names ∙ c.in-Ok.ensures.names) c.open_as.ensures.names
-
-pub returns-in-Err-clause-refused : goal.returns-in-Err-clause-refused
-returns-in-Err-clause-refused g c =
+pub returns-in-Ok-open_native-clause-opens : goal.returns-in-Ok-open_native-clause-opens
+returns-in-Ok-open_native-clause-opens g c = λ known.
     let R = g.R.Source in
     let old = c.args.source in
     let mid = c.pull_front.new.source in
-    let told = c.in-Err.ensures in
-    refuses_unread _ (R.known old) (R.errors old) (R.raised old) (R.errors mid) (R.raised mid) c.in-Err.fault told.kept told.risen (ap of_output told.why) told.rises
+    let told = c.in-Ok.ensures in
+    subst (λ r. Opens r c.args.keep c.in-Ok-open_native.reader)
+    (sym (front_read c.args.profile c.in-Ok.front (R.coming old) (R.coming mid) false (start_mark (R.behind old)) (start_mark (R.behind mid)) (told.bytes known) (λ none. told.end (ap answer none) known) (sym c.if-begins_page.false ∙ c.begins_page.ensures)
+    (ap start_mark (sym (told.behind known told.counted.0)))))
+    (c.in-Ok-open_native.ensures.opens (told.known known))
 
-pub returns-in-Ok-clause-opens : goal.returns-in-Ok-clause-opens
-returns-in-Ok-clause-opens g c = search rules
+pub returns-in-Err-open_ogg-clause-refused : goal.returns-in-Err-open_ogg-clause-refused
+returns-in-Err-open_ogg-clause-refused g c =
+    let R = g.R.Source in
+    let old = c.args.source in
+    let mid = c.pull_front.new.source in
+    let told = c.in-Ok.ensures in
+    let x = c.in-Err-open_ogg.refused in
+    rw c.without_front.ensures (refuses_as (ogg_input c.args.profile (front_bytes c.in-Ok.front ++ R.coming mid) (R.behind mid)) (any_input c.args.profile (R.coming old) (R.behind old))
+    (R.known mid) (R.known old) (R.errors old) (R.raised old) (R.errors mid) (R.raised mid) (R.errors x.left.source) (R.raised x.left.source) x.fault told.counted.0 told.counted.1 told.known
+    (λ known. front_read c.args.profile c.in-Ok.front (R.coming old) (R.coming mid) true (start_mark (R.behind old)) (start_mark (R.behind mid)) (told.bytes known) (λ none. told.end (ap answer none) known) (sym c.if-begins_page.true ∙ c.begins_page.ensures)
+    (ap start_mark (sym (told.behind known told.counted.0))))
+    c.in-Err-open_ogg.ensures.refused)
+
+pub returns-in-Err-open_native-clause-refused : goal.returns-in-Err-open_native-clause-refused
+returns-in-Err-open_native-clause-refused g c =
+    let R = g.R.Source in
+    let old = c.args.source in
+    let mid = c.pull_front.new.source in
+    let told = c.in-Ok.ensures in
+    let x = c.in-Err-open_native.refused in
+    rw c.without_front-in-Err-open_native.ensures (refuses_as (native_input c.args.profile (front_bytes c.in-Ok.front ++ R.coming mid) (R.behind mid)) (any_input c.args.profile (R.coming old) (R.behind old))
+    (R.known mid) (R.known old) (R.errors old) (R.raised old) (R.errors mid) (R.raised mid) (R.errors x.left.source) (R.raised x.left.source) x.fault told.counted.0 told.counted.1 told.known
+    (λ known. front_read c.args.profile c.in-Ok.front (R.coming old) (R.coming mid) false (start_mark (R.behind old)) (start_mark (R.behind mid)) (told.bytes known) (λ none. told.end (ap answer none) known) (sym c.if-begins_page.false ∙ c.begins_page.ensures)
+    (ap start_mark (sym (told.behind known told.counted.0))))
+    c.in-Err-open_native.ensures.refused)

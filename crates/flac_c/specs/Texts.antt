@@ -1,0 +1,19 @@
+-- The texts of numbers.
+use Rattle.std.specs.Prelude.{◌≡◌, ◌<◌, ◌⊎◌, ℕ, List}
+use Rattle.flac_bits.specs.Reasons as reasons
+use Rattle.flac_bits.specs.declared.why.Why.{Why}
+use Rattle.flac_frame.specs.Setup as setup
+use Rattle.flac_frame.specs.declared.setup.SetupFault.{SetupFault}
+use Rattle.flac_c.specs.Answers.{IsCopied}
+
+-- the text of the reason with this number is copied, if there is one: that of a refusal, or that of samples and plans
+-- that cannot be encoded
+abbrev pub CopiesReason : (number : ℕ) → (out new : List ℕ) → (len : ℕ) → Type 0
+CopiesReason number out new len = (why : Why) → reasons.number_of why ≡ number → IsCopied (reasons.text_of why) out new len
+
+abbrev pub CopiesSetup : (number : ℕ) → (out new : List ℕ) → (len : ℕ) → Type 0
+CopiesSetup number out new len = (fault : SetupFault) → setup.number_of fault ≡ number → IsCopied (setup.text_of fault) out new len
+
+-- a number of no reason
+abbrev pub IsNoReason : ℕ → Type 0
+IsNoReason number = (number ≡ 0) ⊎ (((47 < number) × (number < 51)) ⊎ (52 < number))
