@@ -6,7 +6,7 @@ use Rattle.flac_native.specs.declared.fault.EncodeFault.{EncodeFault}
 use Rattle.flac_cli.specs.Refusals.{refusal_of}
 use Rattle.flac_cli.specs.declared.predictors.ListFault.{ListFault}
 use Rattle.flac_cli.specs.declared.predictors.ListFault.TheVariants as faults
-use Rattle.flac_cli.specs.declared.encoding.Refusal.TheVariants.{Input, Setup, NotRaw, RawLength, Output}
+use Rattle.flac_cli.specs.declared.encode.Refusal.TheVariants.{Input, Setup, NotRaw, RawLength, Output}
 
 -- A fault of the samples is none.
 pub not_setup : {X : Type 0} (f : SetupFault) (e : EncodeFault) → Setup f ≡ Output e → X

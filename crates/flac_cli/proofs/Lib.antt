@@ -1,23 +1,28 @@
-pub mod Back
+-- Lines of text, and which file an error's line names.
+pub mod Lined
+pub mod Printed
+pub mod NamedLines
+-- Streams that are read, and what is reported of them.
 pub mod BlocksFirst
 pub mod Counting
-pub mod Failed
-pub mod Fronts
-pub mod Jobs
-pub mod Kept
-pub mod Lined
-pub mod Listed
-pub mod NamedLines
 pub mod Outcomes
-pub mod Planning
-pub mod Printed
-pub mod ReadKept
-pub mod Refused
 pub mod Reported
+pub mod Jobs
+-- Raw samples.
+pub mod Fronts
 pub mod Rows
-pub mod Searched
-pub mod WaveDecoded
-pub mod Waved
-pub mod WaveRefused
-pub mod Waving
 pub mod Wide
+-- Encoding: lists of predictors, plans, and why an encoding is refused.
+pub mod Back
+pub mod Failed
+pub mod Listed
+pub mod Planning
+pub mod Refused
+pub mod Searched
+-- WAV files: those that a stream keeps, writing them, and why one is refused.
+pub mod Kept
+pub mod ReadKept
+pub mod WaveDecoded
+pub mod WaveRefused
+pub mod Waved
+pub mod Waving

@@ -10,7 +10,7 @@ use Rattle.std.proofs.lemmas.List.FromFn.{length-enumerate_from, get_or-enumerat
 use Rattle.std.proofs.lemmas.List.Sums.{AllPass-from_list_all, list_all-from_AllPass}
 use Rattle.std.proofs.lemmas.Bool.Decides.{nat_tests}
 use Rattle.flac_bits.specs.Signed.{FitsBits}
-use Rattle.flac_subframe.specs.Bodies.{Chooses, linear}
+use Rattle.flac_subframe.specs.format.Bodies.{Chooses, linear}
 use Rattle.flac_cli.specs.Predictors.{is_blank, digits_after, natural_in, number_in, numbers_after, fits, is_predictor, natural, predictor_with, line_of, line_in, lines_after}
 
 -- ---- digits

@@ -12,7 +12,7 @@ use Rattle.flac_meta.specs.declared.block.Block.{Block}
 use Rattle.flac_header.specs.declared.subset.Profile.{Profile}
 use Rattle.flac_frame.specs.Audio.{Sound}
 use Rattle.flac_frame.specs.declared.setup.SetupFault.{SetupFault}
-use Rattle.flac_subframe.specs.declared.linear.LinearPredictor.{LinearPredictor}
+use Rattle.flac_subframe.specs.declared.format.linear.LinearPredictor.{LinearPredictor}
 use Rattle.flac_native.specs.Given.{Cut}
 use Rattle.flac_bits.specs.State.{Behind, short_of}
 use Rattle.flac_native.specs.Stream.{Piece}

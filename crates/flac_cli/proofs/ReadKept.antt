@@ -39,11 +39,11 @@ one_reading (container.Ogg serial) p list a stream small e parts whole =
     (one_ogg_reading p.profile (beginning Truncated) (bits_of stream)).streams parts items read given
 
 pub kept_files_come_back : KeptFilesComeBack
-kept_files_come_back asked bytes stream small w parts whole =
+kept_files_come_back asked bytes stream keep small w parts whole =
     let p = cut_found (record asked { format = w.format }) w.audio w.predictors w.found in
     let raw = w.keeps.raw in
     let read = subst (λ q. (bytes_reading q stream).whole parts) (sym raw.profiled) whole in
-    ap wave_in (one_reading asked.container p w.list w.audio stream small w.encodes parts read) ∙ w.back
+    ap wave_in (one_reading asked.container p w.list w.audio stream small w.encodes parts read) ∙ w.back keep
 
 -- it is read as a stream of what was given
 given_reading : (c : ContainerKind) (p : Cut) (list : List Block) (a : Sound) (stream : List ℕ) → AreBytes stream → (e : EncodesIn c p list a [] (bits_of stream)) → (bytes_reading p.profile stream).whole (parts_in c p list a [] (bits_of stream) e)
@@ -59,18 +59,18 @@ given_reading (container.Ogg serial) p list a stream small e =
     subst (λ k. (read_either p.profile k (beginning Truncated) (bits_of stream)).whole items) (sym b.container) given
 
 pub kept_files_are_read : KeptFilesAreRead
-kept_files_are_read asked bytes stream small w =
+kept_files_are_read asked bytes stream keep small w =
     let p = cut_found (record asked { format = w.format }) w.audio w.predictors w.found in
     let parts = parts_in asked.container p w.list w.audio [] (bits_of stream) w.encodes in
     let whole = given_reading asked.container p w.list w.audio stream small w.encodes in (
       parts,
       subst (λ q. (bytes_reading q stream).whole parts) w.keeps.raw.profiled whole,
-      kept_fits asked bytes w.format w.audio w.list p [] (bits_of stream) w.keeps w.encodes,
+      kept_fits asked bytes w.format w.audio w.list p [] (bits_of stream) w.keeps w.encodes keep,
     )
 
 pub kept_files_are_decoded : KeptFilesAreDecoded
-kept_files_are_decoded asked bytes stream small w path status before after r =
-    elim (r.fits.each (streamed None) (kept_files_are_read asked bytes stream small w)) [
+kept_files_are_decoded asked bytes stream keep small w path status before after r =
+    elim (r.fits.each (streamed None) (kept_files_are_read asked bytes stream keep small w)) [
       | inl out ↦ let a = subst (λ o. IsWaveAnswer o path status before after) out.1 r.answer in inr (out.0, a.0, a.1)
       | inr done ↦ inl (subst (λ o. IsWaveAnswer o path status before after) done r.answer)
     ]

@@ -14,7 +14,7 @@ use Rattle.flac_meta.specs.Listed.{list_fault, info_seen}
 use Rattle.flac_meta.specs.declared.block.Block.{Block}
 use Rattle.flac_frame.specs.Audio.{Sound, IsSound, samples_each, as_long, each_small, samples_fault, channels_fault, audio_fault}
 use Rattle.flac_frame.specs.declared.setup.SetupFault.{SetupFault}
-use Rattle.flac_subframe.specs.declared.linear.LinearPredictor.{LinearPredictor}
+use Rattle.flac_subframe.specs.declared.format.linear.LinearPredictor.{LinearPredictor}
 use Rattle.flac_native.specs.Given.{Cut, plan_fault}
 use Rattle.flac_native.specs.Message.{sample_width}
 use Rattle.flac_native.specs.declared.fault.EncodeFault.{EncodeFault}
@@ -29,8 +29,8 @@ use Rattle.flac_cli.specs.Raw.{raw_channels, raw_sound}
 use Rattle.flac_cli.specs.inner.Raw.{AreChannels}
 use Rattle.flac_cli.specs.Refusals.{format_fault, raw_fault, input_fault, stream_fault, refusal, refusal_of, IsReason, IsOutside}
 use Rattle.flac_cli.specs.Reports.{Files, fault_line, path_of, line_text, IsReport}
-use Rattle.flac_cli.specs.declared.encoding.Refusal.{Refusal}
-use Rattle.flac_cli.specs.declared.encoding.Refusal.TheVariants.{Input, Setup, NotRaw, RawLength, Output}
+use Rattle.flac_cli.specs.declared.encode.Refusal.{Refusal}
+use Rattle.flac_cli.specs.declared.encode.Refusal.TheVariants.{Input, Setup, NotRaw, RawLength, Output}
 use Rattle.flac_cli.specs.declared.predictors.ListFault.{ListFault}
 use Rattle.flac_cli.specs.declared.predictors.ListFault.TheVariants as faults
 use Rattle.flac_jobs.specs.Kinds.{file_kind}

@@ -8,11 +8,11 @@ use Rattle.flac_native.specs.declared.fault.EncodeFault.{EncodeFault}
 use Rattle.flac_native.proofs.Planned.{still_found}
 use Rattle.flac_predict.specs.Found.{IsPrefixOf}
 use Rattle.flac_predict.specs.declared.search.Search.{Search}
-use Rattle.flac_subframe.specs.declared.linear.LinearPredictor.{LinearPredictor}
+use Rattle.flac_subframe.specs.declared.format.linear.LinearPredictor.{LinearPredictor}
 use Rattle.flac_cli.specs.Asked.{Asked}
 use Rattle.flac_cli.specs.Encoded.{AreFound, cut_as, cut_found}
 use Rattle.flac_cli.specs.Refusals.{stream_fault, IsOutside}
-use Rattle.flac_cli.specs.declared.encoding.Refusal.TheVariants.{Output}
+use Rattle.flac_cli.specs.declared.encode.Refusal.TheVariants.{Output}
 use Rattle.flac_cli.specs.inner.Searching.{search_of, IsSearched}
 use Rattle.flac_jobs.specs.declared.formats.ContainerKind.{ContainerKind}
 use Rattle.flac_jobs.specs.declared.formats.ContainerKind.TheVariants as container

@@ -7,10 +7,11 @@ use Rattle.flac_meta.specs.Listed.{list_fault, info_seen}
 use Rattle.flac_meta.specs.declared.block.Block.{Block}
 use Rattle.flac_frame.specs.Audio.{Sound}
 use Rattle.flac_frame.specs.declared.setup.SetupFault.{SetupFault}
-use Rattle.flac_subframe.specs.declared.linear.LinearPredictor.{LinearPredictor}
+use Rattle.flac_subframe.specs.declared.format.linear.LinearPredictor.{LinearPredictor}
 use Rattle.flac_native.specs.Given.{Cut, plan_fault}
 use Rattle.flac_native.specs.declared.fault.EncodeFault.{EncodeFault}
 use Rattle.flac_native.specs.declared.fault.EncodeFault.TheVariants as encode
+use Rattle.flac_wave.specs.Shift.{AreBytes, wide_of}
 use Rattle.flac_wave.specs.Wave.{Parts, IsWave, ArePiecesAfter, IsErrorOf}
 use Rattle.flac_wave.specs.declared.waves.WaveError.{WaveError}
 use Rattle.flac_wave.specs.declared.waves.WaveError.TheVariants as error
@@ -22,14 +23,14 @@ use Rattle.flac_cli.specs.Raw.{IsRaw, raw_sound}
 use Rattle.flac_cli.specs.Refusals.{raw_fault, stream_fault, refusal_of, IsOutside as IsOutsideOf}
 use Rattle.flac_cli.specs.Reports.{Files, fault_line}
 use Rattle.flac_cli.specs.WaveRefusals.{samples_refusal, file_refusal, IsFileReason, IsWaveReason, refusal_of_wave, IsOutside, wave_path, wave_text, IsWaveReport}
-use Rattle.flac_cli.specs.Waves.{wave_samples, kept_list, format_as, Keeps}
+use Rattle.flac_cli.specs.Waves.{stream_samples, blocks_for, format_as, Keeps}
 use Rattle.flac_cli.specs.inner.Preparing.{IsReady}
-use Rattle.flac_cli.specs.declared.encoding.Refusal.{Refusal}
-use Rattle.flac_cli.specs.declared.encoding.Refusal.TheVariants.{Input, Setup, Output}
+use Rattle.flac_cli.specs.declared.encode.Refusal.{Refusal}
+use Rattle.flac_cli.specs.declared.encode.Refusal.TheVariants.{Input, Setup, Output}
 use Rattle.flac_cli.specs.declared.predictors.ListFault.{ListFault}
 use Rattle.flac_cli.specs.declared.predictors.ListFault.TheVariants as faults
-use Rattle.flac_cli.specs.declared.wave_encoding.WaveRefusal.{WaveRefusal}
-use Rattle.flac_cli.specs.declared.wave_encoding.WaveRefusal.TheVariants.{Refused}
+use Rattle.flac_cli.specs.declared.encode_wave.WaveRefusal.{WaveRefusal}
+use Rattle.flac_cli.specs.declared.encode_wave.WaveRefusal.TheVariants.{Refused}
 use Rattle.flac_jobs.specs.declared.formats.RawFormat.{RawFormat}
 
 -- ---- the first reason, of samples and blocks
@@ -75,29 +76,30 @@ refused_file asked ps bytes (error.Fault f) h = inr (inl (f, h, refl))
 pub no_memory : (asked : Asked) (ps : List LinearPredictor) (bytes : List ℕ) → IsOutside (Refused (Input why.Memory)) ⊎ IsFileReason asked ps bytes (Some (Refused (Input why.Memory)))
 no_memory asked ps bytes = inl (Input why.Memory, refl, inl refl)
 
-module _ (asked : Asked) (ps : List LinearPredictor) (bytes : List ℕ) (file : Parts) (after : List (List ℕ)) (wave : IsWave bytes file) (cut : ArePiecesAfter file.samples file.back after) (format : RawFormat) (form : format ≡ format_as asked.format file.format) where
+module _ (asked : Asked) (ps : List LinearPredictor) (bytes : List ℕ) (file : Parts) (after : List (List ℕ)) (wave : IsWave bytes file) (cut : ArePiecesAfter file.samples file.back after) (format : RawFormat) (form : format ≡ format_as asked.format file) where
   abbrev blocks : List Block
-  blocks = kept_list asked.words (file.pieces ++ after)
+  blocks = blocks_for asked file.format (file.pieces ++ after)
 
   abbrev samples : List ℕ
-  samples = wave_samples format.bits file.samples
+  samples = stream_samples (wide_of file.format) format.bits file.samples
 
   -- the reason of its samples and blocks
   of_file : (o : Option Refusal) → samples_refusal (record asked { format = format }) ps blocks samples ≡ o → file_refusal asked ps file after ≡ o
-  of_file o h = subst (λ f. samples_refusal (record asked { format = f }) ps blocks (wave_samples f.bits file.samples) ≡ o) form h
+  of_file o h = subst (λ f. samples_refusal (record asked { format = f }) ps blocks (stream_samples (wide_of file.format) f.bits file.samples) ≡ o) form h
 
   pub as_reason : (r : Refusal) → IsOutsideOf r ⊎ (samples_refusal (record asked { format = format }) ps blocks samples ≡ Some r) → IsOutside (Refused r) ⊎ IsFileReason asked ps bytes (Some (Refused r))
   as_reason r (inl out) = inl (r, refl, out)
   as_reason r (inr h) = inr (inr (file, after, wave, cut, sym (ap (λ o. option_map Refused o) (of_file (Some r) h))))
 
-  abbrev pub keeps_all : (a : Sound) (list : List Block) → IsRaw asked.profile format samples a → list ≡ blocks → Keeps asked bytes format a list
-  keeps_all a list raw same = record {
+  abbrev pub keeps_all : (a : Sound) (list : List Block) → AreBytes file.samples → IsRaw asked.profile format samples a → list ≡ blocks → Keeps asked bytes format a list
+  keeps_all a list small raw same = record {
     file = file;
     pieces = after;
     wave = wave;
     cut = cut;
+    small = small;
     form = form;
-    raw = subst (λ f. IsRaw asked.profile f (wave_samples f.bits file.samples) a) form raw;
+    raw = subst (λ f. IsRaw asked.profile f (stream_samples (wide_of file.format) f.bits file.samples) a) form raw;
     blocks = same;
   }
 

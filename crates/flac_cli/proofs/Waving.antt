@@ -1,11 +1,12 @@
 -- What a writer of a WAV file has written.
-use Rattle.std.proofs.Common.{◌≡◌, ◌≤◌, ◌<◌, ◌+◌, ◌-◌, ◌%◌, ℕ, zero, suc, Bool, true, false, cond, List, [], ◌∷◌, ◌++◌, length, take, drop, map, refl, ap, sym, ◌∙◌, subst, append_assoc, append-nil, arith, length-append}
-use Rattle.std.specs.Prelude.{nat_lt, nat_eq, ◌&&◌, None, is_none}
+use Rattle.std.proofs.Common.{◌≡◌, ◌≤◌, ◌<◌, ◌+◌, ◌-◌, ◌/◌, ◌%◌, ℕ, zero, suc, Bool, true, false, cond, List, [], ◌∷◌, ◌++◌, length, take, drop, refl, ap, sym, ◌∙◌, subst, append_assoc, append-nil, arith, length-append}
+use Rattle.std.specs.Prelude.{nat_lt, nat_eq, ◌&&◌, Option, Some, None, is_none}
 use Rattle.std.proofs.Math.Nat.{mod-lt}
 use Rattle.std.proofs.lemmas.Bool.{false≢true, ltb-true, ltb-false, eqb-true, eqb-false}
-use Rattle.std.proofs.lemmas.List.{take_all, take-append-le, drop-append-le, length-map}
+use Rattle.std.proofs.lemmas.List.{take_all, take-append-le, drop-append-le}
 use Rattle.flac_bits.specs.Handing.{TakesAll}
 use Rattle.flac_meta.specs.declared.block.Block.{Block}
+use Rattle.flac_meta.specs.declared.comments.Comments.{Comments}
 use Rattle.flac_meta.specs.declared.block.Block.TheVariants as block_of
 use Rattle.flac_native.specs.Stream.{Piece, marked, block, framed}
 use Rattle.flac_native.specs.Item.{Item, metadata, frame}
@@ -14,12 +15,14 @@ use Rattle.flac_native.specs.Message.{sample_width}
 use Rattle.flac_native.specs.Samples.{samples_from, frame_bytes, depth_after}
 use Rattle.flac_wave.specs.Kept.{has_head, bits_after, bits_in}
 use Rattle.flac_wave.specs.Plain.{plain_format, plain_front, plain_back, plain_pieces}
-use Rattle.flac_wave.specs.Wave.{is_head, front_of, pieces_after, all_of, pad_of, restored}
+use Rattle.flac_wave.specs.Wave.{is_head, front_of, pieces_after, all_of, restored}
 use Rattle.flac_wave.specs.declared.format.WaveFormat.{WaveFormat}
 use Rattle.flac_wave.proofs.PlainFiles.{plain_made}
-use Rattle.flac_cli.specs.Waves.{turned, is_riff, wave_samples, high_samples, file_samples, piece_of, pieces_in, depth_of, plain_after, plain_of, piece_fault, kept_fault, file_pieces, wave_in}
-use Rattle.flac_cli.specs.inner.Waving.{Held, nothing_held, with_piece, with_plain, with_block, with_samples, with_frame, held_after, held_fault, writes, front_pieces, back_pieces, front_left, adds, end_pad, ending}
-use Rattle.flac_cli.proofs.Waved.{joined_push, Whole, whole_append, rows_whole, high_long, file_append, file_none}
+use Rattle.flac_cli.specs.Waves.{is_riff, file_samples, piece_of, pieces_in, depth_of, plain_after, plain_of, no_plain, Plain, plain_for, piece_fault, kept_fault, wide_by, wide_in, file_pieces, wave_in}
+use Rattle.flac_cli.specs.declared.held_wave.KeptFault.TheVariants as kept
+use Rattle.flac_cli.specs.Speakers.{mask_in}
+use Rattle.flac_cli.specs.inner.Waving.{Held, Holds, nothing_held, with_piece, with_plain, with_block, with_speakers, with_samples, with_frame, held_after, held_fault, held_wide, frame_text, writes, front_pieces, back_pieces, front_left, adds, end_pad, ending}
+use Rattle.flac_cli.proofs.Waved.{joined_push, Whole, whole_append, rows_whole, room_holds, file_append, file_none}
 
 -- ---- runs
 
@@ -118,7 +121,7 @@ plain_makes f total samples odd is =
 
 pub record Headed (s : Held) : Type 0 where
   pub within : s.head ≤ length s.pieces
-  pub plain : MakesFile s.made s.cut
+  pub plain : MakesFile s.plain.made s.cut
   pub front_none : s.head ≡ 0 → (ps : List (List ℕ)) → front_of (s.pieces ++ ps) ≡ all_of s.pieces ++ front_of ps
   pub after_none : s.head ≡ 0 → (ps : List (List ℕ)) → pieces_after (s.pieces ++ ps) ≡ pieces_after ps
   pub front_some : 0 < s.head → (ps : List (List ℕ)) → front_of (s.pieces ++ ps) ≡ all_of (take s.head s.pieces)
@@ -144,7 +147,7 @@ headed_nothing = record {
 
 -- the head after one more piece, by tests
 headed_by : (s : Held) (p : List ℕ) (none here : Bool) → nat_eq s.head 0 ≡ none → is_head p ≡ here → Headed s
-    → Headed (record { pieces = s.pieces ++ p ∷ []; head = cond (none && here) (length s.pieces + 1) s.head; bits = cond none (cond here s.bits (bits_after s.bits p)) s.bits; made = s.made; cut = s.cut; depth = s.depth; begun = s.begun; odd = s.odd })
+    → Headed (record { pieces = s.pieces ++ p ∷ []; head = cond (none && here) (length s.pieces + 1) s.head; bits = cond none (cond here s.bits (bits_after s.bits p)) s.bits; plain = s.plain; cut = s.cut; depth = s.depth; begun = s.begun; odd = s.odd })
 headed_by s p true true n e h =
     let empty : s.head ≡ 0 = eqb-true s.head 0 n in
     let long : length (s.pieces ++ p ∷ []) ≡ length s.pieces + 1 = length-append s.pieces (p ∷ []) in
@@ -213,16 +216,16 @@ headed_piece s p h = headed_by s p _ _ refl refl h
 record Blocked (s t : Held) (b : Block) : Type 0 where
   pieces : t.pieces ≡ s.pieces ++ piece_of b
   depth : t.depth ≡ depth_after s.depth b
-  made : t.made ≡ plain_after s.made b
+  plain : t.plain ≡ plain_after s.plain b
   begun : t.begun ≡ s.begun
   odd : t.odd ≡ s.odd
   headed : Headed s → Headed t
 
-same_held : (s : Held) (b : Block) → piece_of b ≡ [] → depth_after s.depth b ≡ s.depth → plain_after s.made b ≡ s.made → Blocked s s b
-same_held s b none depth made = record { pieces = sym (append-nil s.pieces) ∙ ap (λ l. s.pieces ++ l) (sym none); depth = sym depth; made = sym made; begun = refl; odd = refl; headed = λ h. h }
+same_held : (s : Held) (b : Block) → piece_of b ≡ [] → depth_after s.depth b ≡ s.depth → plain_after s.plain b ≡ s.plain → Blocked s s b
+same_held s b none depth plain = record { pieces = sym (append-nil s.pieces) ∙ ap (λ l. s.pieces ++ l) (sym none); depth = sym depth; plain = sym plain; begun = refl; odd = refl; headed = λ h. h }
 
-planned : (s : Held) (made : List (List ℕ)) (total depth : ℕ) → MakesFile made (length made - cond (nat_eq total 0) 1 0) → Headed s → Headed (with_plain s made total depth)
-planned s made total depth makes h = record {
+planned : (s : Held) (plain : Plain) (depth : ℕ) → MakesFile plain.made (length plain.made - cond (nat_eq plain.total 0) 1 0) → Headed s → Headed (with_plain s plain depth)
+planned s plain depth makes h = record {
   within = h.within;
   plain = makes;
   front_none = h.front_none;
@@ -236,41 +239,42 @@ planned s made total depth makes h = record {
 }
 
 riff_by : (s : Held) (id bytes : List ℕ) (b : Bool) → is_riff id ≡ b → Blocked s (cond b (with_piece s bytes) s) (block_of.Application id bytes)
-riff_by s id bytes true e = record { pieces = ap (λ b. s.pieces ++ cond b (bytes ∷ []) []) (sym e); depth = refl; made = refl; begun = refl; odd = refl; headed = headed_piece s bytes }
-riff_by s id bytes false e = record { pieces = sym (append-nil s.pieces) ∙ ap (λ b. s.pieces ++ cond b (bytes ∷ []) []) (sym e); depth = refl; made = refl; begun = refl; odd = refl; headed = λ h. h }
+riff_by s id bytes true e = record { pieces = ap (λ b. s.pieces ++ cond b (bytes ∷ []) []) (sym e); depth = refl; plain = refl; begun = refl; odd = refl; headed = headed_piece s bytes }
+riff_by s id bytes false e = record { pieces = sym (append-nil s.pieces) ∙ ap (λ b. s.pieces ++ cond b (bytes ∷ []) []) (sym e); depth = refl; plain = refl; begun = refl; odd = refl; headed = λ h. h }
+
+speakers_by : (s : Held) (comments : Comments) (mask : Option ℕ) → mask_in comments.list ≡ mask → Blocked s (with_speakers s mask) (block_of.VorbisComment comments)
+speakers_by s comments None e = record { pieces = sym (append-nil s.pieces); depth = refl; plain = ap (λ o. plain_for s.plain o) (sym e); begun = refl; odd = refl; headed = λ h. h }
+speakers_by s comments (Some m) e = record {
+  pieces = sym (append-nil s.pieces);
+  depth = refl;
+  plain = ap (λ o. plain_for s.plain o) (sym e);
+  begun = refl;
+  odd = refl;
+  headed = planned s _ s.depth (plain_makes (record s.plain.form { mask = Some m }) s.plain.total);
+}
 
 blocked : (s : Held) (b : Block) → Blocked s (with_block s b) b
-blocked s (block_of.StreamInfo info) = record { pieces = sym (append-nil s.pieces); depth = refl; made = refl; begun = refl; odd = refl; headed = planned s _ info.total info.depth (plain_makes (plain_format info.rate info.channels info.depth) info.total) }
+blocked s (block_of.StreamInfo info) = record { pieces = sym (append-nil s.pieces); depth = refl; plain = refl; begun = refl; odd = refl; headed = planned s _ info.depth (plain_makes (plain_format info.rate info.channels info.depth) info.total) }
 blocked s (block_of.Application id bytes) = riff_by s id bytes _ refl
 blocked s (block_of.Padding n) = same_held s (block_of.Padding n) refl refl refl
 blocked s (block_of.SeekTable points) = same_held s (block_of.SeekTable points) refl refl refl
-blocked s (block_of.VorbisComment comments) = same_held s (block_of.VorbisComment comments) refl refl refl
+blocked s (block_of.VorbisComment comments) = speakers_by s comments _ refl
 blocked s (block_of.CueSheet sheet) = same_held s (block_of.CueSheet sheet) refl refl refl
 blocked s (block_of.Picture picture) = same_held s (block_of.Picture picture) refl refl refl
 blocked s (block_of.Other kind bytes) = same_held s (block_of.Other kind bytes) refl refl refl
 
 -- ---- after the first frame
 
-length_by : (b : Bool) (xs : List ℕ) → length (cond b (map turned xs) xs) ≡ length xs
-length_by true xs = length-map xs turned
-length_by false xs = refl
-
-wave_length : (depth : ℕ) (xs : List ℕ) → length (wave_samples depth xs) ≡ length xs
-wave_length depth xs = length_by (nat_lt depth 9) xs
-
-file_length : (depth : ℕ) (xs : List ℕ) → Whole (sample_width depth) xs → length (file_samples depth xs) ≡ length xs
-file_length depth xs whole = wave_length depth (high_samples depth xs) ∙ high_long depth xs whole
-
 record Framed (t u : Held) (xs : List Piece) (text : List ℕ) : Type 0 where
   none : pieces_in xs ≡ []
   same : (d : ℕ) → depth_of d xs ≡ d
-  made : (m : List (List ℕ)) → plain_of m xs ≡ m
+  made : (m : Plain) → plain_of m xs ≡ m
   whole : Whole (sample_width t.depth) (samples_from 0 t.depth xs)
-  sent : text ≡ file_samples t.depth (samples_from 0 t.depth xs)
+  sent : text ≡ file_samples (held_wide t) t.depth (samples_from 0 t.depth xs)
   front : front_pieces u ≡ front_pieces t
   back : back_pieces u ≡ back_pieces t
   begun : u.begun ≡ true
-  odd : u.odd ≡ (t.odd + length (samples_from 0 t.depth xs)) % 2
+  odd : u.odd ≡ (t.odd + length (file_samples (held_wide t) t.depth (samples_from 0 t.depth xs))) % 2
 
 odd_same : (o : ℕ) → o < 2 → o ≡ (o + 0) % 2
 odd_same o few = omega (arith, few)
@@ -281,52 +285,84 @@ zero_sum m = omega arith
 odd_twice : (o n m : ℕ) → ((o + n) % 2 + m) % 2 ≡ (o + (n + m)) % 2
 odd_twice o n m = omega arith
 
+-- what the header of the samples says, with the depth
+abbrev by_header : {X : Type 0} → (Bool → ℕ → ℕ → X) → Held → X
+by_header says s = says (nat_lt 0 s.head) s.bits s.depth
+
 -- what frames leave as it was
 record Quiet (t u : Held) (xs : List Piece) : Type 0 where
   none : pieces_in xs ≡ []
   same : (d : ℕ) → depth_of d xs ≡ d
-  fault : held_fault u ≡ held_fault t
+  head : u.head ≡ t.head
+  bits : u.bits ≡ t.bits
   depth : u.depth ≡ t.depth
 
-fault_after : (b : Bool) (t : Held) (n : ℕ) → held_fault (with_frame b t n) ≡ held_fault t
-fault_after true t n = refl
-fault_after false t n = refl
-
-depth_same : (b : Bool) (t : Held) (n : ℕ) → (with_frame b t n).depth ≡ t.depth
-depth_same true t n = refl
-depth_same false t n = refl
+frame_leaves : (b : Bool) (t : Held) (n : ℕ) → Quiet t (with_frame b t n) []
+frame_leaves true t n = record { none = refl; same = λ d. refl; head = refl; bits = refl; depth = refl }
+frame_leaves false t n = record { none = refl; same = λ d. refl; head = refl; bits = refl; depth = refl }
 
 quiet : (t : Held) (xs : List Piece) → Ordered true xs → Quiet t (after_parts t xs) xs
-quiet t [] o = record { none = refl; same = λ d. refl; fault = refl; depth = refl }
-quiet t (marked ∷ xs) o = let k = quiet t xs o in record { none = k.none; same = k.same; fault = k.fault; depth = k.depth }
+quiet t [] o = record { none = refl; same = λ d. refl; head = refl; bits = refl; depth = refl }
+quiet t (marked ∷ xs) o = let k = quiet t xs o in record { none = k.none; same = k.same; head = k.head; bits = k.bits; depth = k.depth }
 quiet t (block last x ∷ xs) o = absurd (false≢true (sym o.0))
 quiet t (framed f ∷ xs) o =
-    let n = length (frame_bytes 0 t.depth f) in
+    let n = length (frame_text t f) in
     let k = quiet (with_frame (writes t) t n) xs o in
-    record { none = k.none; same = k.same; fault = k.fault ∙ fault_after (writes t) t n; depth = k.depth ∙ depth_same (writes t) t n }
+    let one = frame_leaves (writes t) t n in
+    record { none = k.none; same = k.same; head = k.head ∙ one.head; bits = k.bits ∙ one.bits; depth = k.depth ∙ one.depth }
 
-framed_only : (t : Held) (xs : List Piece) → t.depth ≤ 32 → t.begun ≡ true → t.odd < 2 → writes t ≡ true → Ordered true xs → Framed t (after_parts t xs) xs (added t xs)
-framed_only t [] deep b few w o = record { none = refl; same = λ d. refl; made = λ m. refl; whole = (0, omega arith); sent = sym (file_none t.depth [] refl); front = refl; back = refl; begun = b; odd = odd_same t.odd few }
-framed_only t (marked ∷ xs) deep b few w o =
-    let k = framed_only t xs deep b few w o in
+same_header : {X : Type 0} (says : Bool → ℕ → ℕ → X) (t u : Held) (xs : List Piece) → Quiet t u xs → by_header says u ≡ by_header says t
+same_header says t u xs q =
+    ap (λ k. says (nat_lt 0 k) u.bits u.depth) q.head ∙ (ap (λ k. says (nat_lt 0 t.head) k u.depth) q.bits ∙ ap (λ k. says (nat_lt 0 t.head) t.bits k) q.depth)
+
+-- samples have room in the file, if there is no fault
+holds_by : (head : Bool) (bits depth : ℕ) → depth ≤ 32 → piece_fault head bits depth ≡ None → Holds (wide_by head bits depth) depth
+holds_by true bits depth deep good = room_holds ((bits + 7) / 8) depth (room_by _ good)
+  where
+    room_by : (b : Bool) → cond b None (Some kept.OtherBits) ≡ None → b ≡ true
+    room_by true e = refl
+    room_by false e = absurd cc
+holds_by false bits depth deep good = record { few = omega (arith, deep); room = omega arith; some = λ wider. omega (arith, wider) }
+
+pub held_holds : (s : Held) → s.depth ≤ 32 → held_fault s ≡ None → Holds (held_wide s) s.depth
+held_holds s deep good = holds_by (nat_lt 0 s.head) s.bits s.depth deep good
+
+framed_only : (t : Held) (xs : List Piece) → t.depth ≤ 32 → Holds (held_wide t) t.depth → t.begun ≡ true → t.odd < 2 → writes t ≡ true → Ordered true xs → Framed t (after_parts t xs) xs (added t xs)
+framed_only t [] deep h b few w o =
+    let none = file_none (held_wide t) t.depth [] h refl in
+    record {
+      none = refl;
+      same = λ d. refl;
+      made = λ m. refl;
+      whole = (0, omega arith);
+      sent = sym none;
+      front = refl;
+      back = refl;
+      begun = b;
+      odd = odd_same t.odd few ∙ ap (λ l. (t.odd + length l) % 2) (sym none);
+    }
+framed_only t (marked ∷ xs) deep h b few w o =
+    let k = framed_only t xs deep h b few w o in
     record { none = k.none; same = k.same; made = k.made; whole = k.whole; sent = k.sent; front = k.front; back = k.back; begun = k.begun; odd = k.odd }
-framed_only t (block last x ∷ xs) deep b few w o = absurd (false≢true (sym o.0))
-framed_only t (framed f ∷ xs) deep b few w o =
+framed_only t (block last x ∷ xs) deep h b few w o = absurd (false≢true (sym o.0))
+framed_only t (framed f ∷ xs) deep h b few w o =
     let here = rows_whole (sample_width t.depth) f.channels f.size 0 (omega (arith, deep)) in
-    let n = length (frame_bytes 0 t.depth f) in
-    let text = front_left t ++ file_samples t.depth (frame_bytes 0 t.depth f) in
-    let k = framed_only (with_samples t n) xs deep refl (mod-lt (t.odd + n) {m = 2} (omega arith)) w o in
+    let n = length (frame_text t f) in
+    let text = front_left t ++ frame_text t f in
+    let rest = samples_from 0 t.depth xs in
+    let grown = file_append (held_wide t) t.depth (frame_bytes 0 t.depth f) rest h here in
+    let k = framed_only (with_samples t n) xs deep h refl (mod-lt (t.odd + n) {m = 2} (omega arith)) w o in
     let all : Framed t (after_parts (with_samples t n) xs) (framed f ∷ xs) (text ++ added (with_samples t n) xs) = record {
       none = k.none;
       same = k.same;
       made = k.made;
-      whole = whole_append (sample_width t.depth) (frame_bytes 0 t.depth f) (samples_from 0 t.depth xs) here k.whole;
-      sent = ap (λ c. (cond c [] (all_of (front_pieces t)) ++ file_samples t.depth (frame_bytes 0 t.depth f)) ++ added (with_samples t n) xs) b
-          ∙ (ap (λ l. file_samples t.depth (frame_bytes 0 t.depth f) ++ l) k.sent ∙ sym (file_append t.depth (frame_bytes 0 t.depth f) (samples_from 0 t.depth xs) here));
+      whole = whole_append (sample_width t.depth) (frame_bytes 0 t.depth f) rest here k.whole;
+      sent = ap (λ c. (cond c [] (all_of (front_pieces t)) ++ frame_text t f) ++ added (with_samples t n) xs) b ∙ (ap (λ l. frame_text t f ++ l) k.sent ∙ sym grown);
       front = k.front;
       back = k.back;
       begun = k.begun;
-      odd = k.odd ∙ (odd_twice t.odd n (length (samples_from 0 t.depth xs)) ∙ ap (λ m. (t.odd + m) % 2) (sym (length-append (frame_bytes 0 t.depth f) (samples_from 0 t.depth xs))));
+      odd = k.odd ∙ (odd_twice t.odd n (length (file_samples (held_wide t) t.depth rest))
+          ∙ ap (λ m. (t.odd + m) % 2) (sym (length-append (frame_text t f) (file_samples (held_wide t) t.depth rest)) ∙ ap length (sym grown)));
     } in
     subst (λ c. Framed t (after_parts (with_frame c t n) xs) (framed f ∷ xs) (cond c text [] ++ added (with_frame c t n) xs)) (sym w) all
 
@@ -342,103 +378,120 @@ kept_closed s h samples odd some is =
     ∙ ap (λ o. front_of (s.pieces ++ []) ++ (samples ++ (end_pad o (pieces_after (s.pieces ++ [])) ++ all_of (pieces_after (s.pieces ++ []))))) is)
 
 closed_by : (s : Held) (b : Bool) → nat_lt 0 s.head ≡ b → (h : Headed s) (samples : List ℕ) (odd : ℕ) → odd ≡ length samples % 2
-    → all_of (cond b (take s.head s.pieces) (take s.cut s.made))
-    ++ (samples ++ (end_pad odd (cond b (drop s.head s.pieces) (drop s.cut s.made)) ++ all_of (cond b (drop s.head s.pieces) (drop s.cut s.made))))
-    ≡ restored (file_pieces (s.pieces ++ []) s.made) samples
+    → all_of (cond b (take s.head s.pieces) (take s.cut s.plain.made))
+    ++ (samples ++ (end_pad odd (cond b (drop s.head s.pieces) (drop s.cut s.plain.made)) ++ all_of (cond b (drop s.head s.pieces) (drop s.cut s.plain.made))))
+    ≡ restored (file_pieces (s.pieces ++ []) s.plain.made) samples
 closed_by s true e h samples odd is =
     let some = ltb-true 0 s.head e in
-    kept_closed s h samples odd some is ∙ ap (λ c. restored (cond c (s.pieces ++ []) s.made) samples) (sym (h.has_some some []))
+    kept_closed s h samples odd some is ∙ ap (λ c. restored (cond c (s.pieces ++ []) s.plain.made) samples) (sym (h.has_some some []))
 closed_by s false e h samples odd is =
     let none : s.head ≡ 0 = omega (arith, ltb-false 0 s.head e) in
-    h.plain samples odd is ∙ ap (λ c. restored (cond c (s.pieces ++ []) s.made) samples) (sym (h.has_none none []))
+    h.plain samples odd is ∙ ap (λ c. restored (cond c (s.pieces ++ []) s.plain.made) samples) (sym (h.has_none none []))
 
 closed : (s : Held) (h : Headed s) (samples : List ℕ) (odd : ℕ) → odd ≡ length samples % 2
-    → all_of (front_pieces s) ++ (samples ++ (end_pad odd (back_pieces s) ++ all_of (back_pieces s))) ≡ restored (file_pieces (s.pieces ++ []) s.made) samples
+    → all_of (front_pieces s) ++ (samples ++ (end_pad odd (back_pieces s) ++ all_of (back_pieces s))) ≡ restored (file_pieces (s.pieces ++ []) s.plain.made) samples
 closed s h samples odd is = closed_by s _ refl h samples odd is
 
 pub whole_wave : (s : Held) (xs : List Piece) → (after_parts s xs).depth ≤ 32 → s.begun ≡ false → s.odd ≡ 0 → Headed s → Ordered false xs → held_fault (after_parts s xs) ≡ None
-    → added s xs ++ ending (after_parts s xs) ≡ restored (file_pieces (s.pieces ++ pieces_in xs) (plain_of s.made xs)) (file_samples (depth_of s.depth xs) (samples_from 0 s.depth xs))
+    → added s xs ++ ending (after_parts s xs) ≡ restored (file_pieces (s.pieces ++ pieces_in xs) (plain_of s.plain xs).made) (file_samples (held_wide (after_parts s xs)) (depth_of s.depth xs) (samples_from 0 s.depth xs))
 whole_wave s [] deep b o h order good =
     ap (λ c. cond c [] (all_of (front_pieces s)) ++ (end_pad s.odd (back_pieces s) ++ all_of (back_pieces s))) b
-    ∙ (closed s h [] s.odd o ∙ ap (λ l. restored (file_pieces (s.pieces ++ []) s.made) l) (sym (file_none s.depth [] refl)))
+    ∙ (closed s h [] s.odd o ∙ ap (λ l. restored (file_pieces (s.pieces ++ []) s.plain.made) l) (sym (file_none (held_wide s) s.depth [] (held_holds s deep good) refl)))
 whole_wave s (marked ∷ xs) deep b o h order good = whole_wave s xs deep b o h order good
 whole_wave s (block last x ∷ xs) deep b o h order good =
     let low : (after_parts (with_block s x) xs).depth ≤ 32 = subst (λ c. (after_parts (cond c s (with_block s x)) xs).depth ≤ 32) b deep in
     let k = blocked s x in
-    let end = restored (file_pieces (s.pieces ++ (piece_of x ++ pieces_in xs)) (plain_of (plain_after s.made x) xs)) (file_samples (depth_of (depth_after s.depth x) xs) (samples_from 0 (depth_after s.depth x) xs)) in
+    let wide = held_wide (after_parts (with_block s x) xs) in
+    let pieces = file_pieces (s.pieces ++ (piece_of x ++ pieces_in xs)) (plain_of (plain_after s.plain x) xs).made in
+    let end = restored pieces (file_samples wide (depth_of (depth_after s.depth x) xs) (samples_from 0 (depth_after s.depth x) xs)) in
     let fine : held_fault (after_parts (with_block s x) xs) ≡ None = subst (λ c. held_fault (after_parts (cond c s (with_block s x)) xs) ≡ None) b good in
     let all : added (with_block s x) xs ++ ending (after_parts (with_block s x) xs) ≡ end =
     whole_wave (with_block s x) xs low (k.begun ∙ b) (k.odd ∙ o) (k.headed h) order.1 fine
-    ∙ (ap (λ ps. restored (file_pieces (ps ++ pieces_in xs) (plain_of (with_block s x).made xs)) (file_samples (depth_of (with_block s x).depth xs) (samples_from 0 (with_block s x).depth xs))) k.pieces
-    ∙ (ap (λ ps. restored (file_pieces ps (plain_of (with_block s x).made xs)) (file_samples (depth_of (with_block s x).depth xs) (samples_from 0 (with_block s x).depth xs))) (append_assoc s.pieces (piece_of x) (pieces_in xs))
-    ∙ (ap (λ m. restored (file_pieces (s.pieces ++ (piece_of x ++ pieces_in xs)) (plain_of m xs)) (file_samples (depth_of (with_block s x).depth xs) (samples_from 0 (with_block s x).depth xs))) k.made
-    ∙ ap (λ d. restored (file_pieces (s.pieces ++ (piece_of x ++ pieces_in xs)) (plain_of (plain_after s.made x) xs)) (file_samples (depth_of d xs) (samples_from 0 d xs))) k.depth))) in
-    subst (λ c. added (cond c s (with_block s x)) xs ++ ending (after_parts (cond c s (with_block s x)) xs) ≡ end) (sym b) all
+    ∙ (ap (λ ps. restored (file_pieces (ps ++ pieces_in xs) (plain_of (with_block s x).plain xs).made) (file_samples wide (depth_of (with_block s x).depth xs) (samples_from 0 (with_block s x).depth xs))) k.pieces
+    ∙ (ap (λ ps. restored (file_pieces ps (plain_of (with_block s x).plain xs).made) (file_samples wide (depth_of (with_block s x).depth xs) (samples_from 0 (with_block s x).depth xs))) (append_assoc s.pieces (piece_of x) (pieces_in xs))
+    ∙ (ap (λ m. restored (file_pieces (s.pieces ++ (piece_of x ++ pieces_in xs)) (plain_of m xs).made) (file_samples wide (depth_of (with_block s x).depth xs) (samples_from 0 (with_block s x).depth xs))) k.plain
+    ∙ ap (λ d. restored pieces (file_samples wide (depth_of d xs) (samples_from 0 d xs))) k.depth))) in
+    subst (λ c. added (cond c s (with_block s x)) xs ++ ending (after_parts (cond c s (with_block s x)) xs)
+    ≡ restored pieces (file_samples (held_wide (after_parts (cond c s (with_block s x)) xs)) (depth_of (depth_after s.depth x) xs) (samples_from 0 (depth_after s.depth x) xs))) (sym b) all
 whole_wave s (framed f ∷ xs) deep b o h order good =
     let fb = frame_bytes 0 s.depth f in
-    let n = length fb in
+    let n = length (frame_text s f) in
     let t = with_samples s n in
     let q = quiet (with_frame (writes s) s n) xs order in
-    let low : s.depth ≤ 32 = subst (λ d. d ≤ 32) (q.depth ∙ depth_same (writes s) s n) deep in
+    let one = frame_leaves (writes s) s n in
+    let low : s.depth ≤ 32 = subst (λ d. d ≤ 32) (q.depth ∙ one.depth) deep in
     let here = rows_whole (sample_width s.depth) f.channels f.size 0 (omega (arith, low)) in
-    let fine : held_fault s ≡ None = sym (fault_after (writes s) s n) ∙ (sym q.fault ∙ good) in
+    let fine : held_fault s ≡ None = sym (same_header piece_fault s (with_frame (writes s) s n) [] one) ∙ (sym (same_header piece_fault (with_frame (writes s) s n) _ xs q) ∙ good) in
     let w : writes s ≡ true = ap is_none fine in
-    let k = framed_only t xs low refl (mod-lt (s.odd + n) {m = 2} (omega arith)) w order in
+    let holds = held_holds s low fine in
+    let k = framed_only t xs low holds refl (mod-lt (s.odd + n) {m = 2} (omega arith)) w order in
     let u = after_parts t xs in
-    let all = fb ++ samples_from 0 s.depth xs in
+    let wide = held_wide s in
+    let rest = samples_from 0 s.depth xs in
+    let all = fb ++ rest in
+    let grown = file_append wide s.depth fb rest holds here in
     let front = all_of (front_pieces s) in
-    let text = front_left s ++ file_samples s.depth fb in
-    let odd : u.odd ≡ length (file_samples s.depth all) % 2 =
-    k.odd ∙ (odd_twice s.odd n (length (samples_from 0 s.depth xs)) ∙ (ap (λ z. (z + (n + length (samples_from 0 s.depth xs))) % 2) o ∙ (zero_sum (n + length (samples_from 0 s.depth xs)) ∙ ap (λ m. m % 2) (sym (length-append fb (samples_from 0 s.depth xs)) ∙ sym (file_length s.depth all (whole_append (sample_width s.depth) fb (samples_from 0 s.depth xs) here k.whole)))))) in
+    let text = front_left s ++ frame_text s f in
+    let odd : u.odd ≡ length (file_samples wide s.depth all) % 2 =
+    k.odd ∙ (odd_twice s.odd n (length (file_samples wide s.depth rest)) ∙ (ap (λ z. (z + (n + length (file_samples wide s.depth rest))) % 2) o ∙ (zero_sum (n + length (file_samples wide s.depth rest))
+    ∙ ap (λ m. m % 2) (sym (length-append (frame_text s f) (file_samples wide s.depth rest)) ∙ ap length (sym grown))))) in
     let last : ending u ≡ end_pad u.odd (back_pieces s) ++ all_of (back_pieces s) =
     ap (λ c. cond c [] (all_of (front_pieces u)) ++ (end_pad u.odd (back_pieces u) ++ all_of (back_pieces u))) k.begun
     ∙ ap (λ qs. end_pad u.odd qs ++ all_of qs) k.back in
-    let sent : text ++ added t xs ≡ front ++ file_samples s.depth all =
-    ap (λ c. (cond c [] front ++ file_samples s.depth fb) ++ added t xs) b ∙ (append_assoc front (file_samples s.depth fb) (added t xs)
-    ∙ ap (λ l. front ++ l) (ap (λ l. file_samples s.depth fb ++ l) k.sent ∙ sym (file_append s.depth fb (samples_from 0 s.depth xs) here))) in
-    let end = restored (file_pieces (s.pieces ++ pieces_in xs) (plain_of s.made xs)) (file_samples (depth_of s.depth xs) all) in
-    let whole : (text ++ added t xs) ++ ending u ≡ end =
-    ap (λ l. l ++ ending u) sent ∙ (append_assoc front (file_samples s.depth all) (ending u) ∙ (ap (λ l. front ++ (file_samples s.depth all ++ l)) last
-    ∙ (closed s h (file_samples s.depth all) u.odd odd
-    ∙ (ap (λ ps. restored (file_pieces (s.pieces ++ ps) s.made) (file_samples s.depth all)) (sym k.none)
-    ∙ (ap (λ m. restored (file_pieces (s.pieces ++ pieces_in xs) m) (file_samples s.depth all)) (sym (k.made s.made))
-    ∙ ap (λ d. restored (file_pieces (s.pieces ++ pieces_in xs) (plain_of s.made xs)) (file_samples d all)) (sym (k.same s.depth))))))) in
-    subst (λ c. (cond c text [] ++ added (with_frame c s n) xs) ++ ending (after_parts (with_frame c s n) xs) ≡ end) (sym w) whole
+    let sent : text ++ added t xs ≡ front ++ file_samples wide s.depth all =
+    ap (λ c. (cond c [] front ++ frame_text s f) ++ added t xs) b ∙ (append_assoc front (frame_text s f) (added t xs)
+    ∙ ap (λ l. front ++ l) (ap (λ l. frame_text s f ++ l) k.sent ∙ sym grown)) in
+    let pieces = file_pieces (s.pieces ++ pieces_in xs) (plain_of s.plain xs).made in
+    let whole : (text ++ added t xs) ++ ending u ≡ restored pieces (file_samples (held_wide u) (depth_of s.depth xs) all) =
+    ap (λ l. l ++ ending u) sent ∙ (append_assoc front (file_samples wide s.depth all) (ending u) ∙ (ap (λ l. front ++ (file_samples wide s.depth all ++ l)) last
+    ∙ (closed s h (file_samples wide s.depth all) u.odd odd
+    ∙ (ap (λ ps. restored (file_pieces (s.pieces ++ ps) s.plain.made) (file_samples wide s.depth all)) (sym k.none)
+    ∙ (ap (λ (m : Plain). restored (file_pieces (s.pieces ++ pieces_in xs) m.made) (file_samples wide s.depth all)) (sym (k.made s.plain))
+    ∙ (ap (λ d. restored pieces (file_samples wide d all)) (sym (k.same s.depth))
+    ∙ ap (λ v. restored pieces (file_samples v (depth_of s.depth xs) all)) (sym (same_header wide_by t u xs (quiet t xs order))))))))) in
+    subst (λ c. (cond c text [] ++ added (with_frame c s n) xs) ++ ending (after_parts (with_frame c s n) xs) ≡ restored pieces (file_samples (held_wide (after_parts (with_frame c s n) xs)) (depth_of s.depth xs) all)) (sym w) whole
 
--- from nothing
-pub wave_written : (xs : List Piece) → (after_parts nothing_held xs).depth ≤ 32 → Ordered false xs → held_fault (after_parts nothing_held xs) ≡ None → added nothing_held xs ++ ending (after_parts nothing_held xs) ≡ wave_in xs
-wave_written xs deep order good = whole_wave nothing_held xs deep refl refl headed_nothing order good
+-- ---- what the header of the samples says at the end
 
--- ---- why there is no file
-
-fault_at_end : (s : Held) (b : Bool) → nat_lt 0 s.head ≡ b → Headed s → piece_fault b s.bits s.depth ≡ piece_fault (has_head (s.pieces ++ [])) (bits_in 0 (s.pieces ++ [])) s.depth
-fault_at_end s true e h =
+said_at_end : {X : Type 0} (says : Bool → ℕ → ℕ → X) → ((b c d : ℕ) → says false b d ≡ says false c d) → (s : Held) (b : Bool) → nat_lt 0 s.head ≡ b → Headed s
+    → says b s.bits s.depth ≡ says (has_head (s.pieces ++ [])) (bits_in 0 (s.pieces ++ [])) s.depth
+said_at_end says free s true e h =
     let some = ltb-true 0 s.head e in
-    sym (ap (λ c. piece_fault c (bits_in 0 (s.pieces ++ [])) s.depth) (h.has_some some []) ∙ ap (λ n. piece_fault true n s.depth) (h.bits_some some []))
-fault_at_end s false e h =
+    sym (ap (λ c. says c (bits_in 0 (s.pieces ++ [])) s.depth) (h.has_some some []) ∙ ap (λ n. says true n s.depth) (h.bits_some some []))
+said_at_end says free s false e h =
     let none : s.head ≡ 0 = omega (arith, ltb-false 0 s.head e) in
-    sym (ap (λ c. piece_fault c (bits_in 0 (s.pieces ++ [])) s.depth) (h.has_none none []))
+    sym (ap (λ c. says c (bits_in 0 (s.pieces ++ [])) s.depth) (h.has_none none []) ∙ free (bits_in 0 (s.pieces ++ [])) s.bits s.depth)
 
-judged : (s : Held) (xs : List Piece) → s.begun ≡ false → Headed s → Ordered false xs
-    → held_fault (after_parts s xs) ≡ piece_fault (has_head (s.pieces ++ pieces_in xs)) (bits_in 0 (s.pieces ++ pieces_in xs)) (depth_of s.depth xs)
-judged s [] b h order = fault_at_end s _ refl h
-judged s (marked ∷ xs) b h order = judged s xs b h order
-judged s (block last x ∷ xs) b h order =
+judged : {X : Type 0} (says : Bool → ℕ → ℕ → X) → ((b c d : ℕ) → says false b d ≡ says false c d) → (s : Held) (xs : List Piece) → s.begun ≡ false → Headed s → Ordered false xs
+    → by_header says (after_parts s xs) ≡ says (has_head (s.pieces ++ pieces_in xs)) (bits_in 0 (s.pieces ++ pieces_in xs)) (depth_of s.depth xs)
+judged says free s [] b h order = said_at_end says free s _ refl h
+judged says free s (marked ∷ xs) b h order = judged says free s xs b h order
+judged says free s (block last x ∷ xs) b h order =
     let k = blocked s x in
     let ps = s.pieces ++ (piece_of x ++ pieces_in xs) in
-    let end = piece_fault (has_head ps) (bits_in 0 ps) (depth_of (depth_after s.depth x) xs) in
-    let all : held_fault (after_parts (with_block s x) xs) ≡ end =
-    judged (with_block s x) xs (k.begun ∙ b) (k.headed h) order.1
-    ∙ (ap (λ qs. piece_fault (has_head (qs ++ pieces_in xs)) (bits_in 0 (qs ++ pieces_in xs)) (depth_of (with_block s x).depth xs)) k.pieces
-    ∙ (ap (λ qs. piece_fault (has_head qs) (bits_in 0 qs) (depth_of (with_block s x).depth xs)) (append_assoc s.pieces (piece_of x) (pieces_in xs))
-    ∙ ap (λ d. piece_fault (has_head ps) (bits_in 0 ps) (depth_of d xs)) k.depth)) in
-    subst (λ c. held_fault (after_parts (cond c s (with_block s x)) xs) ≡ end) (sym b) all
-judged s (framed f ∷ xs) b h order =
-    let n = length (frame_bytes 0 s.depth f) in
+    let end = says (has_head ps) (bits_in 0 ps) (depth_of (depth_after s.depth x) xs) in
+    let all : by_header says (after_parts (with_block s x) xs) ≡ end =
+    judged says free (with_block s x) xs (k.begun ∙ b) (k.headed h) order.1
+    ∙ (ap (λ qs. says (has_head (qs ++ pieces_in xs)) (bits_in 0 (qs ++ pieces_in xs)) (depth_of (with_block s x).depth xs)) k.pieces
+    ∙ (ap (λ qs. says (has_head qs) (bits_in 0 qs) (depth_of (with_block s x).depth xs)) (append_assoc s.pieces (piece_of x) (pieces_in xs))
+    ∙ ap (λ d. says (has_head ps) (bits_in 0 ps) (depth_of d xs)) k.depth)) in
+    subst (λ c. by_header says (after_parts (cond c s (with_block s x)) xs) ≡ end) (sym b) all
+judged says free s (framed f ∷ xs) b h order =
+    let n = length (frame_text s f) in
     let q = quiet (with_frame (writes s) s n) xs order in
-    q.fault ∙ (fault_after (writes s) s n ∙ (fault_at_end s _ refl h
-    ∙ (ap (λ ps. piece_fault (has_head (s.pieces ++ ps)) (bits_in 0 (s.pieces ++ ps)) s.depth) (sym q.none)
-    ∙ ap (λ d. piece_fault (has_head (s.pieces ++ pieces_in xs)) (bits_in 0 (s.pieces ++ pieces_in xs)) d) (sym (q.same s.depth)))))
+    same_header says (with_frame (writes s) s n) _ xs q ∙ (same_header says s (with_frame (writes s) s n) [] (frame_leaves (writes s) s n) ∙ (said_at_end says free s _ refl h
+    ∙ (ap (λ ps. says (has_head (s.pieces ++ ps)) (bits_in 0 (s.pieces ++ ps)) s.depth) (sym q.none)
+    ∙ ap (λ d. says (has_head (s.pieces ++ pieces_in xs)) (bits_in 0 (s.pieces ++ pieces_in xs)) d) (sym (q.same s.depth)))))
 
 pub wave_judged : (xs : List Piece) → Ordered false xs → held_fault (after_parts nothing_held xs) ≡ kept_fault xs
-wave_judged xs order = judged nothing_held xs refl headed_nothing order
+wave_judged xs order = judged piece_fault (λ b c d. refl) nothing_held xs refl headed_nothing order
+
+wave_wide : (xs : List Piece) → Ordered false xs → held_wide (after_parts nothing_held xs) ≡ wide_in xs
+wave_wide xs order = judged wide_by (λ b c d. refl) nothing_held xs refl headed_nothing order
+
+-- ---- from nothing
+
+pub wave_written : (xs : List Piece) → (after_parts nothing_held xs).depth ≤ 32 → Ordered false xs → held_fault (after_parts nothing_held xs) ≡ None → added nothing_held xs ++ ending (after_parts nothing_held xs) ≡ wave_in xs
+wave_written xs deep order good =
+    whole_wave nothing_held xs deep refl refl headed_nothing order good
+    ∙ ap (λ w. restored (file_pieces (pieces_in xs) (plain_of no_plain xs).made) (file_samples w (depth_of 0 xs) (samples_from 0 0 xs))) (wave_wide xs order)

@@ -4,11 +4,11 @@ use Rattle.flac_header.specs.declared.subset.Profile.{Profile}
 use Rattle.flac_jobs.specs.declared.formats.RawFormat.{RawFormat}
 use Rattle.flac_jobs.specs.declared.formats.ContainerKind.{ContainerKind}
 use Rattle.flac_jobs.specs.declared.search_effort.SearchEffort.{SearchEffort}
-use Rattle.flac_cli.specs.declared.encoding.Encoding.{Encoding}
+use Rattle.flac_cli.specs.declared.encode.Encoding.{Encoding}
 
 -- The profile of the stream, the format of the raw samples, the container, the words that are its comments, the text
--- of a list of predictors, how far others are sought for each block, and whether any bytes are taken as samples, also
--- those that begin as a file that may hold a song.
+-- of a list of predictors, how far others are sought for each block, whether any bytes are taken as samples, also those
+-- that begin as a file that may hold a song, and whether all of a WAV file is kept.
 pub record Asked : Type 0 where
   pub profile : Profile
   pub format : RawFormat
@@ -17,6 +17,7 @@ pub record Asked : Type 0 where
   pub list : List ℕ
   pub effort : SearchEffort
   pub any : Bool
+  pub keep : Bool
 
 abbrev pub asked_of : Encoding → Asked
-asked_of e = record { profile = e.profile; format = e.format; container = e.container; words = map (λ w. w.now) e.comments.now; list = e.list.now; effort = e.effort; any = e.any }
+asked_of e = record { profile = e.profile; format = e.format; container = e.container; words = map (λ w. w.now) e.comments.now; list = e.list.now; effort = e.effort; any = e.any; keep = e.keep }

@@ -1,10 +1,10 @@
 -- What an encoding of raw samples has written.
-use Rattle.std.specs.Prelude.{◌≡◌, ℕ, Bool, List, [], ◌∷◌, ◌++◌, ◌⊎◌, All, map, codes, Option, Some, None}
+use Rattle.std.specs.Prelude.{◌≡◌, ℕ, Bool, List, [], ◌∷◌, ◌++◌, ◌⊎◌, All, map, codes, false, Option, Some, None}
 use Rattle.flac_meta.specs.declared.comments.Comments.{Comments}
 use Rattle.flac_meta.specs.declared.block.Block.{Block}
 use Rattle.flac_meta.specs.declared.block.Block.TheVariants.{StreamInfo, VorbisComment}
 use Rattle.flac_frame.specs.Audio.{Sound}
-use Rattle.flac_subframe.specs.declared.linear.LinearPredictor.{LinearPredictor}
+use Rattle.flac_subframe.specs.declared.format.linear.LinearPredictor.{LinearPredictor}
 use Rattle.flac_native.specs.Given.{Cut, cut_of, with_predictors, with_found, info_of, frames_of, closing, given}
 use Rattle.flac_native.specs.Stream.{Piece, framed}
 use Rattle.flac_native.specs.Seeking.{points_of, table_of}
@@ -16,7 +16,7 @@ use Rattle.flac_cli.specs.Predictors.{AreListed}
 use Rattle.flac_cli.specs.Raw.{IsRaw}
 use Rattle.flac_cli.specs.Samples.{all_samples}
 use Rattle.flac_cli.specs.Streams.{profile_of}
-use Rattle.flac_cli.specs.declared.runs.Task.{Task}
+use Rattle.flac_cli.specs.declared.dispatch.Task.{Task}
 use Rattle.flac_jobs.specs.declared.formats.ContainerKind.{ContainerKind}
 use Rattle.flac_jobs.specs.declared.formats.ContainerKind.TheVariants as container
 use Rattle.flac_jobs.specs.declared.jobs.Job.{Job}
@@ -73,7 +73,7 @@ pub record EncodesRaw (asked : Asked) (bytes : List ℕ) (before after : List Bo
 -- what a job asks for whose list has this text, if it is an encoding
 abbrev pub asked_for : Job → (list : List ℕ) → Option Asked
 asked_for (job.Encode input output format c comments lax predictors effort raw) list =
-    Some (record { profile = profile_of lax; format = format; container = c; words = map (λ w. w.now) comments.items; list = list; effort = effort; any = raw })
+    Some (record { profile = profile_of lax; format = format; container = c; words = map (λ w. w.now) comments.items; list = list; effort = effort; any = raw; keep = false })
 asked_for other list = None
 
 abbrev pub asked_by : Task → Option Asked

@@ -1,4 +1,5 @@
 pub mod Asked
+pub mod Calls
 pub mod Counted
 pub mod Encoded
 pub mod Lined
@@ -10,6 +11,7 @@ pub mod Refusals
 pub mod Reports
 pub mod Retagged
 pub mod Samples
+pub mod Speakers
 pub mod Streams
 pub mod WaveRefusals
 pub mod Waves

@@ -8,9 +8,9 @@ use Rattle.flac_native.specs.declared.retagging.RetagFault.{RetagFault}
 use Rattle.flac_cli.specs.Outcomes.{reason_text, text_of_kept}
 use Rattle.flac_cli.specs.Reports.{Files, fault_line, path_of, line_text, files_of}
 use Rattle.flac_cli.specs.WaveRefusals.{wave_path, wave_text}
-use Rattle.flac_cli.specs.declared.encoding.Refusal.{Refusal}
+use Rattle.flac_cli.specs.declared.encode.Refusal.{Refusal}
 use Rattle.flac_cli.specs.declared.held_wave.KeptFault.{KeptFault}
-use Rattle.flac_cli.specs.declared.wave_encoding.WaveRefusal.{WaveRefusal}
+use Rattle.flac_cli.specs.declared.encode_wave.WaveRefusal.{WaveRefusal}
 use Rattle.flac_jobs.specs.declared.jobs.Job.{Job}
 use Rattle.flac_jobs.specs.declared.jobs.Job.TheVariants as job
 
@@ -48,7 +48,7 @@ NamesFault (job.Decode input output lax) before after = NamesDecoding input.now 
 NamesFault (job.Encode input output format c comments lax predictors effort raw) before after =
     (e : Refusal) × (after ≡ before ++ fault_line (path_of (files_of (job.Encode input output format c comments lax predictors effort raw)) e) (line_text e))
 NamesFault (job.DecodeWave input output lax) before after = NamesWaveDecoding input.now output.now before after
-NamesFault (job.EncodeWave input output block seek_every c comments lax predictors effort) before after =
-    NamesWaveEncoding (files_of (job.EncodeWave input output block seek_every c comments lax predictors effort)) before after
+NamesFault (job.EncodeWave input output block seek_every c comments lax predictors effort keep) before after =
+    NamesWaveEncoding (files_of (job.EncodeWave input output block seek_every c comments lax predictors effort keep)) before after
 NamesFault (job.Retag input output comments) before after = NamesRetagging input.now output.now before after
 NamesFault other before after = Unit {0}

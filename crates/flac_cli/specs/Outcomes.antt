@@ -1,10 +1,11 @@
 -- What the program reports of a job that reads a stream, native or Ogg.
-use Rattle.std.specs.Prelude.{◌≡◌, ◌⊎◌, ◌≤◌, ◌<◌, ℕ, List, [], ◌++◌, map, codes, Option, Some, None}
+use Rattle.std.specs.Prelude.{◌≡◌, ◌⊎◌, ◌≤◌, ◌<◌, true, ℕ, List, [], ◌++◌, map, codes, Option, Some, None}
 use Rattle.flac_bits.specs.Bits.{bits_of}
 use Rattle.flac_bits.specs.Handing.{Reading}
 use Rattle.flac_bits.specs.Reasons as reasons
 use Rattle.flac_bits.specs.Forms.{AreBytes}
 use Rattle.flac_bits.specs.State.{Behind, short_of, the_end}
+use Rattle.flac_bits.specs.declared.source.Source as source
 use Rattle.flac_bits.specs.declared.why.Why.{Why}
 use Rattle.flac_bits.specs.declared.why.Why.TheVariants as why
 use Rattle.flac_meta.specs.Spelling.{comments_length}
@@ -46,6 +47,10 @@ IsAnswer (Some f) path status before after = (status ≡ 1) × (after ≡ before
 -- how an input is read: as an Ogg stream if its first byte is that of a page, else as a native one
 abbrev pub input_reading : Profile → List ℕ → Behind → Reading Piece Place
 input_reading profile bytes behind = read_any profile (begins_page bytes) (beginning (short_of behind.fails)) (bits_of bytes)
+
+-- the bytes that the source has to give are read as parts of which this holds
+abbrev pub IsReadAs : {S : Type 0} (g : source.Ghosts S) → Profile → S → (List Piece → Type 0) → Type 0
+IsReadAs g profile s Says = (parts : List Piece) × (input_reading profile (g.coming s) (g.behind s)).whole parts × Says parts
 
 -- it is a stream, or is refused at this place and for this reason
 abbrev pub Reads : Profile → List ℕ → Behind → Outcome → Type 0
@@ -121,15 +126,15 @@ pub record ReportsWaveDecoding (profile : Profile) (bytes : List ℕ) (behind : 
   pub answer : IsWaveAnswer outcome path status before after
   pub fits : Fits IsWaveOutOfMemory (ReadsWave profile bytes behind) outcome
 
--- The bytes of a stream that was encoded of a WAV file are a stream that becomes a WAV file.
+-- The bytes of a stream that was encoded of a WAV file and keeps it are a stream that becomes a WAV file.
 abbrev pub KeptFilesAreRead : Type 0
-KeptFilesAreRead = (asked : Asked) (bytes stream : List ℕ) → AreBytes stream → EncodesWave asked bytes [] (bits_of stream) → ReadsWave asked.profile stream the_end (streamed None)
+KeptFilesAreRead = (asked : Asked) (bytes stream : List ℕ) → asked.keep ≡ true → AreBytes stream → EncodesWave asked bytes [] (bits_of stream) → ReadsWave asked.profile stream the_end (streamed None)
 
 -- So what is reported of decoding them, in the same profile, is that this is done, or that memory ran out at some
 -- place.
 abbrev pub KeptFilesAreDecoded : Type 0
 KeptFilesAreDecoded =
-    (asked : Asked) (bytes stream : List ℕ) → AreBytes stream → EncodesWave asked bytes [] (bits_of stream)
+    (asked : Asked) (bytes stream : List ℕ) → asked.keep ≡ true → AreBytes stream → EncodesWave asked bytes [] (bits_of stream)
     → (path : List ℕ) (status : ℕ) (before after : List ℕ) → ReportsWaveDecoding asked.profile stream the_end path status before after
     → ((status ≡ 0) × (after ≡ before)) ⊎ ((at : Place) × (status ≡ 1) × (after ≡ before ++ fault_line path (fault_text (record { at = at; why = why.Memory }))))
 
@@ -144,6 +149,6 @@ ReportsInput (job.Decode input output lax) bytes behind served printed status be
 ReportsInput (job.List input lax) bytes behind served printed status before after = Reports (IsUnlisted printed) (Reads (profile_of lax) bytes behind) input.now status before after
 ReportsInput (job.Encode input output format c comments lax predictors effort raw) bytes behind served printed status before after = Unit {0}
 ReportsInput (job.DecodeWave input output lax) bytes behind served printed status before after = served → ReportsWaveDecoding (profile_of lax) bytes behind input.now status before after
-ReportsInput (job.EncodeWave input output block seek_every c comments lax predictors effort) bytes behind served printed status before after = Unit {0}
+ReportsInput (job.EncodeWave input output block seek_every c comments lax predictors effort keep) bytes behind served printed status before after = Unit {0}
 ReportsInput (job.Retag input output comments) bytes behind served printed status before after =
     served → Reports IsRetagOutOfMemory (IsRetagged (map (λ c. c.now) comments.items) bytes behind) input.now status before after

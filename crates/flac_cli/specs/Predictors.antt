@@ -3,9 +3,9 @@
 use Rattle.std.specs.Prelude.{◌+◌, ◌-◌, ◌*◌, ◌^◌, ◌==◌, ◌||◌, ◌&&◌, ℕ, Bool, cond, nat_lt, ℤ, ◌≡◌, pos, negsuc, neg_ℤ, List, [], ◌∷◌, ◌++◌, length, map, drop, Option, Some, None, option_map, option_and_then, Result, Ok, Err}
 use Rattle.std.specs.List.{filter, list_all, slice_split, before_first}
 use Rattle.std.specs.Str.Parse.{starts_with_minus}
-use Rattle.flac_subframe.specs.Bodies.{Chooses, linear}
-use Rattle.flac_subframe.specs.Handed.{predictor_of}
-use Rattle.flac_subframe.specs.declared.linear.LinearPredictor.{LinearPredictor}
+use Rattle.flac_subframe.specs.format.Bodies.{Chooses, linear}
+use Rattle.flac_subframe.specs.format.Handed.{predictor_of}
+use Rattle.flac_subframe.specs.declared.format.linear.LinearPredictor.{LinearPredictor}
 
 -- ---- words
 

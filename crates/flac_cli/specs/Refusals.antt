@@ -6,7 +6,7 @@ use Rattle.flac_bits.specs.declared.why.Why.TheVariants as why
 use Rattle.flac_header.specs.declared.subset.Profile.{Profile}
 use Rattle.flac_meta.specs.Listed.{list_fault, info_seen}
 use Rattle.flac_meta.specs.declared.block.Block.{Block}
-use Rattle.flac_subframe.specs.declared.linear.LinearPredictor.{LinearPredictor}
+use Rattle.flac_subframe.specs.declared.format.linear.LinearPredictor.{LinearPredictor}
 use Rattle.flac_frame.specs.Audio.{audio_fault}
 use Rattle.flac_frame.specs.Setup as setup
 use Rattle.flac_frame.specs.declared.setup.SetupFault.{SetupFault}
@@ -21,10 +21,10 @@ use Rattle.flac_cli.specs.Asked.{Asked}
 use Rattle.flac_cli.specs.Encoded.{comment_list, cut_as}
 use Rattle.flac_cli.specs.Predictors.{predictors_in, AreListed}
 use Rattle.flac_cli.specs.Raw.{raw_channels, raw_sound}
-use Rattle.flac_cli.specs.declared.encoding.Refusal.{Refusal}
+use Rattle.flac_cli.specs.declared.encode.Refusal.{Refusal}
 use Rattle.flac_cli.specs.declared.predictors.ListFault.{ListFault}
 use Rattle.flac_cli.specs.declared.predictors.ListFault.TheVariants as faults
-use Rattle.flac_cli.specs.declared.encoding.Refusal.TheVariants.{Input, Setup, NotRaw, RawLength, Line, Output}
+use Rattle.flac_cli.specs.declared.encode.Refusal.TheVariants.{Input, Setup, NotRaw, RawLength, Line, Output}
 use Rattle.flac_jobs.specs.Kinds.{file_kind}
 use Rattle.flac_jobs.specs.declared.formats.RawFormat.{RawFormat}
 use Rattle.flac_jobs.specs.declared.formats.ContainerKind.{ContainerKind}

@@ -7,8 +7,8 @@ use Rattle.flac_cli.specs.Asked.{Asked}
 use Rattle.flac_cli.specs.Lined.{text_at}
 use Rattle.flac_cli.specs.declared.lines.At.TheVariants as at
 use Rattle.flac_cli.specs.Refusals.{IsReason, text_of}
-use Rattle.flac_cli.specs.declared.encoding.Refusal.{Refusal}
-use Rattle.flac_cli.specs.declared.encoding.Refusal.TheVariants.{Setup, Line, Output}
+use Rattle.flac_cli.specs.declared.encode.Refusal.{Refusal}
+use Rattle.flac_cli.specs.declared.encode.Refusal.TheVariants.{Setup, Line, Output}
 use Rattle.flac_jobs.specs.declared.jobs.Job.{Job}
 use Rattle.flac_jobs.specs.Asks.{input_of, output_of, list_of}
 

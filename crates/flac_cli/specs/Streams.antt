@@ -21,3 +21,11 @@ IsStream profile parts bytes behind = Stream grammar (opening profile) (beginnin
 -- the bytes of the source are known, and it returned no error in the call
 abbrev pub Tells : {S : Type 0} (g : source.Ghosts S) (old new : S) → Type 0
 Tells g old new = (g.known old ≡ true) × (g.errors new ≡ g.errors old) × (g.raised new ≡ g.raised old)
+
+-- the bytes that the source has to give, and what comes after them, are a stream
+abbrev pub GivesStream : {S : Type 0} (g : source.Ghosts S) → Profile → S → Type 0
+GivesStream g profile s = (parts : List Piece) × IsStream profile parts (g.coming s) (g.behind s)
+
+-- they are a stream of parts of which this holds
+abbrev pub GivesStreamOf : {S : Type 0} (g : source.Ghosts S) → Profile → S → (List Piece → Type 0) → Type 0
+GivesStreamOf g profile s Says = (parts : List Piece) × IsStream profile parts (g.coming s) (g.behind s) × Says parts

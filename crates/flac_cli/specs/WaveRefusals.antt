@@ -4,7 +4,7 @@ use Rattle.std.specs.Option.{option_or}
 use Rattle.flac_bits.specs.declared.why.Why.TheVariants as why
 use Rattle.flac_meta.specs.Listed.{list_fault, info_seen}
 use Rattle.flac_meta.specs.declared.block.Block.{Block}
-use Rattle.flac_subframe.specs.declared.linear.LinearPredictor.{LinearPredictor}
+use Rattle.flac_subframe.specs.declared.format.linear.LinearPredictor.{LinearPredictor}
 use Rattle.flac_native.specs.Given.{plan_fault}
 use Rattle.flac_wave.specs.Reasons as wave
 use Rattle.flac_wave.specs.Wave.{Parts, IsWave, IsNoWave, ArePiecesAfter}
@@ -18,13 +18,13 @@ use Rattle.flac_cli.specs.Predictors.{predictors_in, AreListed}
 use Rattle.flac_cli.specs.Raw.{raw_sound}
 use Rattle.flac_cli.specs.Refusals.{raw_fault, stream_fault, IsOutside as IsOutsideOf}
 use Rattle.flac_cli.specs.Reports.{Files, fault_line, path_of, line_text}
-use Rattle.flac_cli.specs.Waves.{wave_samples, depth_for, kept_list, asked_of_wave}
-use Rattle.flac_cli.specs.declared.encoding.Refusal.{Refusal}
-use Rattle.flac_cli.specs.declared.encoding.Refusal.TheVariants as refusal
+use Rattle.flac_cli.specs.Waves.{samples_for, blocks_for, asked_of_wave}
+use Rattle.flac_cli.specs.declared.encode.Refusal.{Refusal}
+use Rattle.flac_cli.specs.declared.encode.Refusal.TheVariants as refusal
 use Rattle.flac_cli.specs.declared.lines.At.{At}
 use Rattle.flac_cli.specs.declared.lines.At.TheVariants as at
-use Rattle.flac_cli.specs.declared.wave_encoding.WaveRefusal.{WaveRefusal}
-use Rattle.flac_cli.specs.declared.wave_encoding.WaveRefusal.TheVariants.{Wave, Refused}
+use Rattle.flac_cli.specs.declared.encode_wave.WaveRefusal.{WaveRefusal}
+use Rattle.flac_cli.specs.declared.encode_wave.WaveRefusal.TheVariants.{Wave, Refused}
 
 -- ---- reasons
 
@@ -40,7 +40,7 @@ samples_refusal asked ps list raw =
 -- the same of the samples of a WAV file, with the blocks that keep it
 abbrev pub file_refusal : Asked → List LinearPredictor → Parts → (after : List (List ℕ)) → Option Refusal
 file_refusal asked ps file after =
-    samples_refusal (asked_of_wave asked file.format) ps (kept_list asked.words (file.pieces ++ after)) (wave_samples (depth_for file.format) file.samples)
+    samples_refusal (asked_of_wave asked file) ps (blocks_for asked file.format (file.pieces ++ after)) (samples_for file)
 
 -- This is the first reason, if there is one, if these are the predictors: why the bytes are no WAV file; else what
 -- holds of the file's samples and pieces.

@@ -2,13 +2,16 @@
 
 ghost use Rattle.std.specs.Prelude.{◌≡◌, ◌<◌, ◌≤◌, ◌%◌, ◌+◌, ℕ, length, map, OnOk};
 ghost use Rattle.flac_wave.specs.Kept.{bits_after};
+ghost use Rattle.flac_wave.specs.Plain.{CanBeWritten};
 ghost use Rattle.flac_wave.specs.Wave.{is_head};
 ghost use Rattle.flac_cli.specs.Outcomes.{text_of_kept};
-ghost use Rattle.flac_cli.specs.Waves.{is_riff};
-ghost use Rattle.flac_cli.specs.inner.Waving.{Held, nothing_held, with_piece, with_info, with_block, with_samples, with_begun, held_fault, front_pieces, back_pieces};
+ghost use Rattle.flac_cli.specs.Waves.{is_riff, has_room, plain_with};
+ghost use Rattle.flac_cli.specs.inner.Waving.{Held, nothing_held, with_piece, with_plain, with_info, with_speakers, with_block, with_samples, with_begun, held_fault, held_wide, front_pieces, back_pieces};
 
+use crate::speakers::mask_in;
 use byteorder::{ByteOrder, LittleEndian};
 use flac_meta::{Block, StreamInfo};
+use flac_native::sample_width;
 use flac_wave::{WaveFormat, plain_pieces};
 use std::alloc::{AllocError, Global};
 use std::marker::Model;
@@ -16,7 +19,7 @@ use std::marker::Model;
 /// Why there is no WAV file of a stream's samples.
 #[derive(Clone, Copy)]
 pub(crate) enum KeptFault {
-    /// The blocks of the stream keep one whose samples have other bits than the stream's.
+    /// The blocks of the stream keep one whose samples have no room for the stream's.
     OtherBits,
 }
 
@@ -39,6 +42,9 @@ pub(crate) struct HeldWave {
     head: usize,
     /// The pieces of a plain file, which is written if `head` is 0; none before STREAMINFO came.
     made: Vec<Vec<u8>>,
+    /// The format of that file, and how many samples each of its channels has.
+    form: WaveFormat,
+    total: u64,
     /// How many of them come before the samples.
     cut: usize,
     depth: u8,
@@ -50,13 +56,14 @@ pub(crate) struct HeldWave {
 
 impl Model for HeldWave {
     ghost use Rattle.std.specs.Prelude.{◌≤◌, ◌<◌, length, map};
+    ghost use Rattle.flac_wave.specs.Plain.{CanBeWritten};
     ghost use Rattle.flac_cli.specs.inner.Waving.{Held};
 
     ghost Value = { Held };
 
-    ghost view = { λ h. record { pieces = map (λ p. p.items) h.pieces.items; head = h.head; bits = h.bits; made = map (λ p. p.items) h.made.items; cut = h.cut; depth = h.depth; begun = h.begun; odd = h.odd } };
+    ghost view = { λ h. record { pieces = map (λ p. p.items) h.pieces.items; head = h.head; bits = h.bits; plain = record { form = h.form; total = h.total; made = map (λ p. p.items) h.made.items }; cut = h.cut; depth = h.depth; begun = h.begun; odd = h.odd } };
 
-    ghost invariant = { λ h. (h.depth ≤ 32) × (h.odd < 2) × (h.head ≤ length h.pieces.items) × (h.cut ≤ length h.made.items) };
+    ghost invariant = { λ h. (h.depth ≤ 32) × (h.odd < 2) × (h.head ≤ length h.pieces.items) × (h.cut ≤ length h.made.items) × CanBeWritten h.form × (h.total < 68719476736) };
 }
 
 /// Whether a piece is the header of the samples, alone.
@@ -84,6 +91,13 @@ fn bits_after(bits: u16, piece: &[u8]) -> u16
     bits
 }
 
+/// Whether a sample of this depth, of 1 bit at least, has room in so many bytes, of which there are 4 at most.
+fn has_room(wide: u32, depth: u32) -> bool
+    ensures { result ≡ has_room wide depth }
+{
+    wide < 5 && depth > 0 && depth <= 8 * wide
+}
+
 impl HeldWave {
     /// Nothing came.
     pub(crate) fn new(alloc: Global) -> HeldWave
@@ -93,6 +107,8 @@ impl HeldWave {
             pieces: Vec::new(alloc),
             head: 0,
             made: Vec::new(alloc),
+            form: WaveFormat::plain(1, 1, 8),
+            total: 0,
             cut: 0,
             depth: 0,
             begun: false,
@@ -117,23 +133,54 @@ impl HeldWave {
         Ok(())
     }
 
+    /// Makes the pieces of a plain file.
+    fn make(
+        &mut self,
+        alloc: Global,
+        form: WaveFormat,
+        total: u64,
+        depth: u8,
+    ) -> Result<(), AllocError>
+        requires form { CanBeWritten form }
+        requires few { total < 68719476736 }
+        requires depth { depth ≤ 32 }
+        ensures ok { OnOk result (self.new ≡ with_plain self.old (plain_with form total) depth) }
+    {
+        self.made = plain_pieces(alloc, &form, total)?;
+        self.cut = if total == 0 {
+            self.made.len().saturating_sub(1)
+        } else {
+            self.made.len()
+        };
+        self.form = form;
+        self.total = total;
+        self.depth = depth;
+        Ok(())
+    }
+
     /// Takes the format and the number of samples that a plain file has.
     fn plan(&mut self, alloc: Global, info: &StreamInfo) -> Result<(), AllocError>
-        ensures ok { OnOk result (self.new ≡ with_info self.old info.now.rate info.now.channels info.now.depth info.now.total) }
+        ensures ok { OnOk result (self.new ≡
+            with_info self.old info.now.rate info.now.channels info.now.depth info.now.total) }
     {
         let format = WaveFormat::plain(
             info.rate(),
             u32::from(info.channels()),
             u32::from(info.depth()),
         );
-        self.made = plain_pieces(alloc, &format, info.total())?;
-        self.cut = if info.total() == 0 {
-            self.made.len().saturating_sub(1)
-        } else {
-            self.made.len()
+        self.make(alloc, format, info.total(), info.depth())
+    }
+
+    /// Takes the speakers that a comment states.
+    #[tactic(auto, using(crate::proofs::Waved::speakers_written))]
+    fn name_speakers(&mut self, alloc: Global, mask: u32) -> Result<(), AllocError>
+        ensures ok { OnOk result (self.new ≡ with_speakers self.old (Some mask)) }
+    {
+        let format = WaveFormat {
+            mask: Some(mask),
+            ..self.form
         };
-        self.depth = info.depth();
-        Ok(())
+        self.make(alloc, format, self.total, self.depth)
     }
 
     /// Takes what a block has of the file.
@@ -142,6 +189,10 @@ impl HeldWave {
     {
         match block {
             Block::StreamInfo(info) => self.plan(alloc, info),
+            Block::VorbisComment(comments) => match mask_in(comments) {
+                Some(mask) => self.name_speakers(alloc, mask),
+                None => Ok(()),
+            },
             Block::Application { id, bytes } => {
                 if is_riff(id) {
                     return self.add(alloc, bytes.as_slice());
@@ -168,18 +219,25 @@ impl HeldWave {
         self.begun = true;
     }
 
-    /// Why there is no WAV file of the stream's samples: those of the file that is kept have other bits.
+    /// Why there is no WAV file of the stream's samples: those of the file that is kept have no room for them.
     pub(crate) fn fault(&self) -> Option<KeptFault>
         ensures value { result ≡ held_fault self.now }
         ensures few { self.now.depth ≤ 32 }
     {
-        if self.head == 0 {
+        if self.head == 0 || has_room((u32::from(self.bits) + 7) / 8, u32::from(self.depth)) {
             return None;
         }
-        if 8 * ((u32::from(self.bits) + 7) / 8) != u32::from(self.depth) {
-            return Some(KeptFault::OtherBits);
+        Some(KeptFault::OtherBits)
+    }
+
+    /// How many bytes a sample of the file has.
+    pub(crate) fn wide(&self) -> usize
+        ensures { result ≡ held_wide self.now }
+    {
+        if self.head == 0 {
+            return sample_width(u32::from(self.depth));
         }
-        None
+        (usize::from(self.bits) + 7) / 8
     }
 
     /// Whether samples came.

@@ -3,13 +3,13 @@
 ghost use Rattle.flac_cli.specs.Outcomes.{KeptFilesAreRead, KeptFilesAreDecoded};
 ghost use Rattle.flac_cli.specs.Waves.{KeptFilesComeBack};
 
-/// The WAV file of a stream that was encoded of a WAV file is that file, byte for byte, however the stream is read: it
-/// has one reading.
+/// The WAV file of a stream that was encoded of a WAV file, and keeps it, is that file, byte for byte, however the stream is
+/// read: it has one reading.
 pub fn kept_files_come_back()
     ensures { KeptFilesComeBack }
 {}
 
-/// What was encoded of a WAV file is a stream that keeps a WAV file of its samples. So decoding it to a WAV file, in the
+/// What was encoded of a WAV file, and keeps it, is a stream that becomes a WAV file. So decoding it to a WAV file, in the
 /// same profile, ends with status 0, unless memory runs out or a device fails.
 pub fn kept_files_are_read()
     ensures read { KeptFilesAreRead }

@@ -1,13 +1,15 @@
 //! Lines of text for a target.
 
-ghost use Rattle.std.specs.Prelude.{◌≡◌, ◌≤◌, ◌<◌, ◌+◌, ◌%◌, ◌++◌, true, [], length, take, decimal, Some, OnOk, OnErr};
+ghost use Rattle.std.specs.Prelude.{◌≡◌, ◌≤◌, ◌<◌, ◌+◌, ◌++◌, true, [], length, take, decimal, Some, OnOk, OnErr};
 ghost use Rattle.flac_native.specs.Places.{place_text};
+ghost use Rattle.flac_cli.specs.Calls.{HasSent};
 ghost use Rattle.flac_cli.specs.Lined.{text_at};
-ghost use Rattle.flac_cli.specs.inner.Lined.{Adds, at_place};
+ghost use Rattle.flac_cli.specs.inner.Lined.{Adds, at_place, Prints};
 ghost use Rattle.flac_cli.specs.Reports.{fault_line};
 
 use flac_bits::{Target, Why, send_all};
 use flac_native::Place;
+use hex::encode_to_slice;
 use itoa::Buffer;
 
 /// How many bytes are held before they are sent.
@@ -79,10 +81,11 @@ impl<W: Target> Lines<W> {
     pub(crate) fn send(&mut self) -> Result<(), Why>
         ensures names { W.names self.new.target ≡ W.names self.old.target }
         ensures known { OnOk result (W.known self.old.target ≡ true → W.known self.new.target ≡ true) }
-        ensures sent { OnOk result (W.known self.old.target ≡ true → W.sent self.new.target ≡ W.sent self.old.target ++ take self.old.held self.old.bytes) }
+        ensures sent { HasSent W.Target self.old.target self.new.target (take self.old.held self.old.bytes) result }
         ensures held { self.new.held ≡ 0 }
         ensures kept { W.errors self.old.target ≤ W.errors self.new.target }
-        ensures failed { OnErr result (W.known self.old.target ≡ true → W.errors self.old.target < W.errors self.new.target) }
+        ensures failed { OnErr result (W.known self.old.target ≡ true →
+            W.errors self.old.target < W.errors self.new.target) }
     {
         let held = self.held;
         self.held = 0;
@@ -106,7 +109,8 @@ impl<W: Target> Lines<W> {
     /// # Errors
     /// [`Why::Write`] if the target fails.
     pub(crate) fn put_bytes(&mut self, text: &[u8]) -> Result<(), Why>
-        ensures { Adds W.Target text.now self.old.target self.new.target (take self.old.held self.old.bytes) (take self.new.held self.new.bytes) result }
+        ensures { Adds W.Target text.now self.old.target self.new.target
+            (take self.old.held self.old.bytes) (take self.new.held self.new.bytes) result }
     {
         if text.len() <= ROOM - self.held {
             self.hold(text);
@@ -125,7 +129,8 @@ impl<W: Target> Lines<W> {
     /// # Errors
     /// [`Why::Write`] if the target fails.
     pub(crate) fn put(&mut self, text: &str) -> Result<(), Why>
-        ensures { Adds W.Target text.now self.old.target self.new.target (take self.old.held self.old.bytes) (take self.new.held self.new.bytes) result }
+        ensures { Adds W.Target text.now self.old.target self.new.target
+            (take self.old.held self.old.bytes) (take self.new.held self.new.bytes) result }
     {
         self.put_bytes(text.as_bytes())
     }
@@ -135,7 +140,8 @@ impl<W: Target> Lines<W> {
     /// # Errors
     /// [`Why::Write`] if the target fails.
     fn put_both(&mut self, first: &str, second: &str) -> Result<(), Why>
-        ensures { Adds W.Target (first.now ++ second.now) self.old.target self.new.target (take self.old.held self.old.bytes) (take self.new.held self.new.bytes) result }
+        ensures { Adds W.Target (first.now ++ second.now) self.old.target self.new.target
+            (take self.old.held self.old.bytes) (take self.new.held self.new.bytes) result }
     {
         self.put(first)?;
         self.put(second)
@@ -146,7 +152,8 @@ impl<W: Target> Lines<W> {
     /// # Errors
     /// [`Why::Write`] if the target fails.
     pub(crate) fn put_number(&mut self, number: u64) -> Result<(), Why>
-        ensures { Adds W.Target (decimal number) self.old.target self.new.target (take self.old.held self.old.bytes) (take self.new.held self.new.bytes) result }
+        ensures { Adds W.Target (decimal number) self.old.target self.new.target
+            (take self.old.held self.old.bytes) (take self.new.held self.new.bytes) result }
     {
         let mut buffer = Buffer::new();
         self.put(buffer.format(number))
@@ -157,7 +164,8 @@ impl<W: Target> Lines<W> {
     /// # Errors
     /// [`Why::Write`] if the target fails.
     pub(crate) fn put_counted(&mut self, name: &str, number: u64) -> Result<(), Why>
-        ensures { Adds W.Target (name.now ++ decimal number) self.old.target self.new.target (take self.old.held self.old.bytes) (take self.new.held self.new.bytes) result }
+        ensures { Adds W.Target (name.now ++ decimal number) self.old.target self.new.target
+            (take self.old.held self.old.bytes) (take self.new.held self.new.bytes) result }
     {
         self.put(name)?;
         self.put_number(number)
@@ -168,7 +176,8 @@ impl<W: Target> Lines<W> {
     /// # Errors
     /// [`Why::Write`] if the target fails.
     fn put_place(&mut self, place: Place) -> Result<(), Why>
-        ensures { Adds W.Target (place_text place) self.old.target self.new.target (take self.old.held self.old.bytes) (take self.new.held self.new.bytes) result }
+        ensures { Adds W.Target (place_text place) self.old.target self.new.target
+            (take self.old.held self.old.bytes) (take self.new.held self.new.bytes) result }
     {
         self.put(place.kind_name())?;
         match place {
@@ -185,7 +194,8 @@ impl<W: Target> Lines<W> {
     /// # Errors
     /// [`Why::Write`] if the target fails.
     fn put_reason(&mut self, at: At, text: &str) -> Result<(), Why>
-        ensures { Adds W.Target (text_at at text.now) self.old.target self.new.target (take self.old.held self.old.bytes) (take self.new.held self.new.bytes) result }
+        ensures { Adds W.Target (text_at at text.now) self.old.target self.new.target
+            (take self.old.held self.old.bytes) (take self.new.held self.new.bytes) result }
     {
         match at {
             At::Whole => self.put(text),
@@ -222,9 +232,94 @@ fn put_line<W: Target>(lines: &mut Lines<W>, path: &str, at: At, text: &str) -> 
 /// # Errors
 /// [`Why::Write`] if the target fails.
 pub(crate) fn write_line<E: Target>(err: &mut E, path: &str, at: At, text: &str) -> Result<(), Why>
-    ensures sent { OnOk result (E.known err.old ≡ true → E.sent err.new ≡ E.sent err.old ++ fault_line path.now (text_at at text.now)) }
+    ensures sent { HasSent E.Target err.old err.new (fault_line path.now (text_at at text.now)) result }
     ensures failed { OnErr result (E.known err.old ≡ true → E.errors err.old < E.errors err.new) }
 {
     let mut lines = Lines::new(err);
     put_line(&mut lines, path, at, text)
+}
+
+/// A part of a line: a text, mostly with a value after it.
+#[derive(Clone, Copy)]
+pub(crate) enum Part<'a> {
+    /// A text alone.
+    Text(&'a str),
+    /// With a number, in decimal digits.
+    Number(&'a str, u64),
+    /// With bytes as a text: those from 20 to 7E (hexadecimal) except the backslash as themselves, all others as `\x`
+    /// and two digits.
+    Escaped(&'a str, &'a [u8]),
+    /// With bytes as hexadecimal digits, two lower-case ones for each byte.
+    Hex(&'a str, &'a [u8]),
+}
+
+/// A byte as two hexadecimal digits.
+fn digits_of(byte: u8) -> [u8; 2] {
+    let mut digits = [0; 2];
+    let Ok(()) = encode_to_slice([byte], &mut digits) else {
+        unreachable!()
+    };
+    digits
+}
+
+impl<W: Target> Lines<W> {
+    /// Adds a byte of a text.
+    fn put_byte(&mut self, byte: u8) -> Result<(), Why>
+        ensures { Prints W.Target self.old.target self.new.target result }
+    {
+        match byte {
+            b' '..=b'[' | b']'..=b'~' => self.put_bytes(&[byte]),
+            byte => {
+                let [high, low] = digits_of(byte);
+                self.put_bytes(&[b'\\', b'x', high, low])
+            }
+        }
+    }
+
+    /// Adds a text, and bytes as one.
+    fn put_escaped(&mut self, name: &str, bytes: &[u8]) -> Result<(), Why>
+        ensures { Prints W.Target self.old.target self.new.target result }
+    {
+        self.put(name)?;
+        for byte in bytes {
+            self.put_byte(*byte)?;
+        }
+        Ok(())
+    }
+
+    /// Adds a text, and bytes as hexadecimal digits.
+    fn put_hex(&mut self, name: &str, bytes: &[u8]) -> Result<(), Why>
+        ensures { Prints W.Target self.old.target self.new.target result }
+    {
+        self.put(name)?;
+        for byte in bytes {
+            self.put_bytes(&digits_of(*byte))?;
+        }
+        Ok(())
+    }
+
+    /// Adds a part of a line.
+    fn put_part(&mut self, part: Part<'_>) -> Result<(), Why>
+        ensures { Prints W.Target self.old.target self.new.target result }
+    {
+        match part {
+            Part::Text(text) => self.put(text),
+            Part::Number(name, number) => self.put_counted(name, number),
+            Part::Escaped(name, bytes) => self.put_escaped(name, bytes),
+            Part::Hex(name, bytes) => self.put_hex(name, bytes),
+        }
+    }
+
+    /// Adds a line of these parts.
+    ///
+    /// # Errors
+    /// [`Why::Write`] if the target fails.
+    pub(crate) fn put_parts(&mut self, parts: &[Part<'_>]) -> Result<(), Why>
+        ensures { Prints W.Target self.old.target self.new.target result }
+    {
+        for part in parts {
+            self.put_part(*part)?;
+        }
+        self.put("\n")
+    }
 }

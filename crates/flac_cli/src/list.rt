@@ -1,11 +1,23 @@
-//! The lines of `flac list`: each metadata block, and its fields.
+//! `flac list`: the lines of each metadata block, and of its fields.
 
 ghost use Rattle.flac_cli.specs.inner.Lined.{Prints};
+ghost use Rattle.std.specs.Prelude.{◌≡◌, ◌≤◌, ◌<◌, ◌∷◌, ⊤, nat_lt, true, Some, OnOk};
+ghost use Rattle.flac_bits.specs.Bits.{bit_value};
+ghost use Rattle.flac_bits.specs.Handing.{outcome_of};
+ghost use Rattle.flac_cli.specs.Streams.{Tells, GivesStream};
+ghost use Rattle.flac_cli.specs.Outcomes.{Fits, Reads, IsUnlisted, Reports as ReportsOf};
+ghost use Rattle.flac_cli.specs.inner.Outcomes.{at_place};
+ghost use Rattle.flac_cli.specs.Reports.{Serves};
 
-use crate::lines::Lines;
-use crate::parts::Part;
-use flac_bits::{Target, Why};
+use crate::lines::{Lines, Part};
+use crate::report::refuse;
+use crate::streams::decode_stream;
+use flac_bits::{Source, Target, Why};
+use flac_frame::FrameView;
 use flac_meta::{Block, Comments, CueSheet, CueTrack, Picture, SeekPoint, SeekTable, StreamInfo};
+use flac_native::{Failures, Fault, Profile, Sink, SinkFault};
+use std::alloc::Global;
+use std::snapshot::Snapshot;
 
 /// The name of a block's type, after a space.
 fn name_of(block: &Block) -> Part<'static> {
@@ -178,4 +190,140 @@ fn write_picture<W: Target>(lines: &mut Lines<W>, picture: &Picture) -> Result<(
         Part::Number(" colours ", u64::from(picture.colours)),
         Part::Number(" data ", picture.bytes.as_slice().len() as u64),
     ])
+}
+
+/// Writes the lines of each metadata block, those of one block at once.
+#[derive(Drop)]
+pub(crate) struct Listing<W: Target> {
+    lines: Lines<W>,
+    /// The index of the next block.
+    index: u64,
+    failures: Failures,
+    /// The target as it was given, for clauses only.
+    began: Snapshot<W>,
+    ghost kept: { W.errors began.value ≤ W.errors lines.target },
+    ghost known: { W.known began.value ≡ true → failures.count ≡ 0 → W.known lines.target ≡ true },
+    ghost failed: { W.known began.value ≡ true → 0 < failures.count → W.errors began.value < W.errors lines.target },
+}
+
+impl<W: Target> Listing<W> {
+    /// A listing that begins at block 0.
+    pub(crate) fn new(target: W) -> Listing<W>
+        ensures target { result.lines.target ≡ target }
+        ensures failures { result.failures.count ≡ 0 }
+        ensures began { result.began.value ≡ target }
+    {
+        let began = Snapshot::of(&target);
+        Listing {
+            lines: Lines::new(target),
+            index: 0,
+            failures: Failures::new(),
+            began,
+        }
+    }
+
+    /// How many times the target failed; it stops at 2^64 - 1.
+    pub(crate) fn failures(&self) -> u64
+        ensures count { result ≡ self.now.failures.count }
+        // Each time is an error of the target.
+        ensures failed { W.known self.now.began.value ≡ true → 0 < self.now.failures.count →
+            W.errors self.now.began.value < W.errors self.now.lines.target }
+    {
+        self.failures.count()
+    }
+
+    /// Returns the target.
+    pub(crate) fn into_target(self) -> W
+        ensures { result ≡ self.lines.target }
+    {
+        let Listing {
+            lines,
+            index: _,
+            failures: _,
+            began: _,
+        } = self;
+        lines.into_target()
+    }
+}
+
+impl<W: Target> Sink for Listing<W> {
+    ghost takes = { λ _ _ _. ⊤ };
+
+    ghost known = { λ s. nat_lt s.failures.count 18446744073709551615 };
+
+    ghost errors = { λ s. s.failures.count };
+
+    // The numbers before those of the target are of the target as it was given. They stay, too.
+    ghost names = { λ s. bit_value (W.known s.began.value) ∷ W.errors s.began.value ∷ W.names s.lines.target };
+
+    fn block(&mut self, block: &Block) -> Result<(), SinkFault> {
+        let index = self.index;
+        self.index = index.saturating_add(1);
+        match send_block(&mut self.lines, index, block) {
+            Ok(()) => Ok(()),
+            Err(_) => self.failures.fail(),
+        }
+    }
+
+    fn frame(&mut self, _frame: &FrameView<'_>) -> Result<(), SinkFault> {
+        Ok(())
+    }
+}
+
+/// Decodes a stream into a listing of its metadata.
+fn list_into<R: Source, W: Target>(
+    alloc: Global,
+    source: &mut R,
+    profile: Profile,
+    sink: &mut Listing<W>,
+) -> Result<(), Fault>
+    requires none { sink.old.failures.count ≡ 0 }
+    requires began { sink.old.began.value ≡ sink.old.lines.target }
+    ensures stream { Tells R.Source source.old source.new → OnOk result (GivesStream R.Source profile source.old) }
+    ensures outcome { Tells R.Source source.old source.new →
+        Fits (IsUnlisted (Serves W.Target sink.old.lines.target sink.new.lines.target)) (Reads profile (R.coming source.old) (R.behind source.old)) (outcome_of at_place result) }
+    ensures names { W.names sink.new.lines.target ≡ W.names sink.old.lines.target }
+{
+    let outcome = decode_stream(alloc, source, profile, sink);
+    // Asked only for the proof, which then knows that each failure is an error of the target.
+    let _failures = sink.failures();
+    outcome
+}
+
+/// Decodes a stream, and lists its metadata.
+fn list<R: Source, O: Target>(
+    alloc: Global,
+    source: &mut R,
+    profile: Profile,
+    out: &mut O,
+) -> Result<(), Fault>
+    ensures stream { Tells R.Source source.old source.new → OnOk result (GivesStream R.Source profile source.old) }
+    ensures outcome { Tells R.Source source.old source.new →
+        Fits (IsUnlisted (Serves O.Target out.old out.new)) (Reads profile (R.coming source.old) (R.behind source.old)) (outcome_of at_place result) }
+{
+    let mut sink = Listing::new(out);
+    let outcome = list_into(alloc, source, profile, &mut sink);
+    // Given back only for the proof: the clauses are about the target.
+    let _out = sink.into_target();
+    outcome
+}
+
+/// Lists the metadata of a stream. Returns the status.
+pub(crate) fn run_list<R: Source, O: Target, E: Target>(
+    alloc: Global,
+    input: &str,
+    source: &mut R,
+    profile: Profile,
+    out: &mut O,
+    err: &mut E,
+) -> u8
+    ensures status { result ≤ 1 }
+    ensures stream { result ≡ 0 → Tells R.Source source.old source.new → GivesStream R.Source profile source.old }
+    ensures reported { Tells R.Source source.old source.new → Serves E.Target err.old err.new →
+        ReportsOf (IsUnlisted (Serves O.Target out.old out.new)) (Reads profile (R.coming source.old) (R.behind source.old)) input.now result (E.sent err.old) (E.sent err.new) }
+{
+    match list(alloc, source, profile, out) {
+        Ok(()) => 0,
+        Err(fault) => refuse(err, input, Some(fault.at), fault.why),
+    }
 }

@@ -1,7 +1,7 @@
 //! The text of a list of linear predictors.
 
 ghost use Rattle.std.specs.Prelude.{◌≡◌, ◌==◌, ◌≤◌, ◌<◌, ◌⊎◌, [], map, option_map, IfOk, IfErr, IfSome, MatchOption, Some, None, Ok, Err};
-ghost use Rattle.flac_subframe.specs.Handed.{predictor_of};
+ghost use Rattle.flac_subframe.specs.format.Handed.{predictor_of};
 ghost use Rattle.flac_cli.specs.Predictors.{is_blank, words_of, natural_in, number_in, numbers_after, line_of, line_in, predictors_in, natural};
 ghost use Rattle.flac_cli.specs.inner.Predictors.{found_in, IsWrongLine};
 ghost use Rattle.std.specs.List.{before_first};

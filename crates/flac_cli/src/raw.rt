@@ -21,7 +21,8 @@ const PIECE: usize = 16384;
 pub(crate) fn fill<R: Source>(source: &mut R, places: &mut [u8], most: usize) -> Result<usize, Why>
     requires { most ≤ length places.old }
     ensures few { IfOk result (λ n. n ≤ most) }
-    ensures bytes { IfOk result (λ n. R.known source.old ≡ true → R.coming source.old ≡ take n places.new ++ R.coming source.new) }
+    ensures bytes { IfOk result (λ n. R.known source.old ≡ true →
+        R.coming source.old ≡ take n places.new ++ R.coming source.new) }
     ensures end { IfOk result (λ n. n < most → R.known source.old ≡ true → R.coming source.new ≡ []) }
     ensures known { OnOk result (R.known source.old ≡ true → R.known source.new ≡ true) }
     ensures counted { OnOk result (R.raised source.new ≡ R.raised source.old) }
@@ -109,7 +110,8 @@ fn push_samples_of(
     requires whole { length piece.now ≡ column.count * column.stride }
     requires width { (1 ≤ width) × (width ≤ 4) }
     requires within { column.start + width ≤ column.stride }
-    ensures more { OnOk result (IsMore (IsPart column.stride column.start width) piece.now column.stride column.count samples.old.items samples.new.items) }
+    ensures more { OnOk result (IsMore (IsPart column.stride column.start width)
+        piece.now column.stride column.count samples.old.items samples.new.items) }
     ensures memory { IfErr result (λ e. e ≡ Why.Memory) }
 {
     let front = samples.len();
@@ -129,7 +131,8 @@ fn push_samples(piece: &[u8], column: Column, samples: &mut Vec<i32>) -> Result<
     requires whole { length piece.now ≡ column.count * column.stride }
     requires width { (1 ≤ column.width) × (column.width ≤ 4) }
     requires within { column.start + column.width ≤ column.stride }
-    ensures more { OnOk result (IsMore (IsPart column.stride column.start column.width) piece.now column.stride column.count samples.old.items samples.new.items) }
+    ensures more { OnOk result (IsMore (IsPart column.stride column.start column.width)
+        piece.now column.stride column.count samples.old.items samples.new.items) }
     ensures memory { IfErr result (λ e. e ≡ Why.Memory) }
 {
     match column.width {
@@ -145,7 +148,8 @@ fn push_piece(piece: &[u8], count: usize, width: usize, lists: &mut [Vec<i32>]) 
     requires channels { (1 ≤ length lists.old) × (length lists.old ≤ 8) }
     requires width { (1 ≤ width) × (width ≤ 4) }
     requires whole { length piece.now ≡ count * (length lists.old * width) }
-    ensures more { OnOk result (IsMore (AreParts (length lists.old) width) piece.now (length lists.old * width) count (map (λ c. c.items) lists.old) (map (λ c. c.items) lists.new)) }
+    ensures more { OnOk result (IsMore (AreParts (length lists.old) width) piece.now (length lists.old * width) count
+        (map (λ c. c.items) lists.old) (map (λ c. c.items) lists.new)) }
     ensures memory { IfErr result (λ e. e ≡ Why.Memory) }
 {
     let channels = lists.len();
@@ -190,10 +194,14 @@ pub(crate) fn read_channels<R: Source>(
 ) -> Result<Option<Vec<Vec<i32>>>, Why>
     requires channels { (1 ≤ channels) × (channels ≤ 8) }
     requires width { (1 ≤ width) × (width ≤ 4) }
-    ensures whole { IfOk result (λ o. IfSome o (λ lists. R.known source.old ≡ true → length (R.coming source.old) % (channels * width) ≡ 0)) }
-    ensures channels { IfOk result (λ o. IfSome o (λ lists. R.known source.old ≡ true → AreChannels (R.coming source.old) channels width (map (λ c. c.items) lists.items))) }
-    ensures part { IfOk result (λ o. o ≡ None → R.known source.old ≡ true → length (R.coming source.old) % (channels * width) ≢ 0) }
-    ensures memory { IfErr result (λ e. R.known source.old ≡ true → R.raised source.new ≡ R.raised source.old → e ≡ Why.Memory) }
+    ensures whole { IfOk result (λ o. IfSome o (λ lists. R.known source.old ≡ true →
+        length (R.coming source.old) % (channels * width) ≡ 0)) }
+    ensures channels { IfOk result (λ o. IfSome o (λ lists. R.known source.old ≡ true →
+        AreChannels (R.coming source.old) channels width (map (λ c. c.items) lists.items))) }
+    ensures part { IfOk result (λ o. o ≡ None → R.known source.old ≡ true →
+        length (R.coming source.old) % (channels * width) ≢ 0) }
+    ensures memory { IfErr result (λ e. R.known source.old ≡ true → R.raised source.new ≡ R.raised source.old →
+        e ≡ Why.Memory) }
     ensures names { R.names source.new ≡ R.names source.old }
 {
     let stride = channels * width;

@@ -1,10 +1,12 @@
 -- The format of a file, and what the file's pieces say of it.
-use Rattle.std.proofs.Common.{◌≡◌, ◌≤◌, ◌++◌, ◌∷◌, [], ℕ, Bool, true, false, cond, List, length, take, drop, Option, Some, None, is_some, refl, sym, ap, ◌∙◌, subst, arith}
+use Rattle.std.proofs.Common.{◌≡◌, ◌≤◌, ◌+◌, ◌*◌, ◌-◌, ◌/◌, ◌%◌, ◌++◌, ◌∷◌, [], ℕ, Bool, true, false, cond, List, length, take, drop, Option, Some, None, is_some, refl, sym, ap, ◌∙◌, subst, arith}
 use Rattle.std.specs.Prelude.{◌&&◌, nat_lt, nat_eq}
-use Rattle.std.proofs.lemmas.Bool.{ltb-true, ltb-false, lt-ltb, and_parts}
-use Rattle.std.proofs.lemmas.List.{get_or-take, get_or-drop, length-take-le}
-use Rattle.flac_wave.specs.Chunks.{Leads, seen_first, fault_at, is_data, is_format, after, chunk_len, data_fault, chunk_fault, content_fault}
-use Rattle.flac_wave.specs.Format.{short_at, long_at, is_pcm, fields_fit, format_fault, format_of, IsInRange}
+use Rattle.std.proofs.Math.Nat.{mul_assoc, mul-mod_left}
+use Rattle.std.proofs.lemmas.Bool.{ltb-true, ltb-false, lt-ltb, and_parts, eqb-true}
+use Rattle.std.proofs.lemmas.List.{get_or-take, get_or-drop, length-take-le, length-drop}
+use Rattle.std.proofs.lemmas.Nat.{div-add-mod'}
+use Rattle.flac_wave.specs.Chunks.{Leads, seen_first, fault_at, is_data, is_format, after, chunk_len, data_len, data_fault, samples_fault, chunk_fault, content_fault}
+use Rattle.flac_wave.specs.Format.{short_at, long_at, is_pcm, fields_fit, format_fault, format_of, IsInRange, row_of}
 use Rattle.flac_wave.specs.Kept.{has_head, bits_after, bits_in}
 use Rattle.flac_wave.specs.Wave.{Parts, IsWave, is_head}
 use Rattle.flac_wave.specs.declared.format.WaveFormat.{WaveFormat}
@@ -171,3 +173,34 @@ wave_tells bytes w ps i =
       bits = ap (bits_in 0) (all_pieces bytes w i ps) ∙ (ap (λ b. cond b 0 (bits_in (bits_after 0 first) (i.chunks ++ (head ∷ ps)))) other
           ∙ (ap (λ n. bits_in n (i.chunks ++ (head ∷ ps))) none ∙ (k.stated ∙ (ap (λ b. cond b k.last (bits_in (bits_after k.last head) ps)) ends ∙ known.1))));
     }
+
+-- ---- its samples are whole
+
+data_good : (s : Seen) (bytes : List ℕ) → fault_at s bytes ≡ None → is_data bytes ≡ true → data_fault s bytes ≡ None
+unfolding fault_at
+data_good s bytes good here = ap (λ b. cond b (data_fault s bytes) (chunk_fault s bytes)) (sym here) ∙ (past (nat_lt (length bytes) 8) _ _ good).1
+
+samples_good : (s : Seen) (f : WaveFormat) (bytes : List ℕ) → s.format ≡ Some f → data_fault s bytes ≡ None → samples_fault f (data_len s bytes) (length bytes - 8) ≡ None
+unfolding data_fault
+samples_good s f bytes is good = ap (λ (o : Option WaveFormat). elim o [ None ↦ Some why.NoFormat | Some g ↦ samples_fault g (data_len s bytes) (length bytes - 8) ]) (sym is) ∙ good
+
+all_there : (f : WaveFormat) (size room : ℕ) → samples_fault f size room ≡ None → (size ≤ room) × (size % row_of f ≡ 0)
+unfolding samples_fault
+all_there f size room good =
+    let a = past (nat_lt room size) _ _ good in
+    let b = inside (nat_lt 0 (row_of f) && nat_eq (size % row_of f) 0) _ _ a.1 in
+    (ltb-false room size a.0, eqb-true (size % row_of f) 0 (and_parts (nat_lt 0 (row_of f)) _ b.0).1)
+
+-- each inter-channel sample has whole samples
+each_whole : (n channels wide : ℕ) → n % (channels * wide) ≡ 0 → n % wide ≡ 0
+each_whole n channels wide none =
+    let q = n / (channels * wide) in
+    let e : n ≡ q * (channels * wide) = let d = div-add-mod' n (channels * wide) in omega (arith, d, none) in
+    ap (λ k. k % wide) (e ∙ sym (mul_assoc q channels wide)) ∙ mul-mod_left (q * channels) wide
+
+pub wave_whole : (bytes : List ℕ) (w : Parts) → IsWave bytes w → length w.samples % ((w.format.bits + 7) / 8) ≡ 0
+wave_whole bytes w i =
+    let n = data_len i.seen i.rest in
+    let k = all_there w.format n (length i.rest - 8) (samples_good i.seen w.format i.rest i.format (data_good i.seen i.rest i.good i.begun)) in
+    let long : length w.samples ≡ n = ap length i.samples ∙ length-take-le n (drop 8 i.rest) (omega (arith, k.0, length-drop 8 i.rest)) in
+    ap (λ m. m % ((w.format.bits + 7) / 8)) long ∙ each_whole n w.format.channels ((w.format.bits + 7) / 8) k.1

@@ -1,5 +1,5 @@
 -- Raising and lowering samples.
-use Rattle.std.proofs.Common.{◌≡◌, ◌≤◌, ◌<◌, ◌+◌, ◌-◌, ◌*◌, ◌/◌, ◌%◌, ◌^◌, ◌++◌, ◌∷◌, [], ℕ, zero, suc, List, length, take, drop, refl, sym, ap, ◌∙◌, append_assoc, subst, arith, length-append}
+use Rattle.std.proofs.Common.{◌≡◌, ◌≤◌, ◌<◌, ◌+◌, ◌-◌, ◌*◌, ◌/◌, ◌%◌, ◌^◌, ◌++◌, ◌∷◌, [], ℕ, zero, suc, List, length, take, drop, refl, sym, ap, ◌∙◌, ◌⊎◌, inl, inr, append_assoc, subst, arith, length-append}
 use Rattle.std.proofs.lemmas.Nat.{div-add-mod', pow_pos, pow-add, mod-pow-add, mod_low, one_shl}
 use Rattle.std.proofs.Math.Nat.{mod-lt, pow-suc, suc-mul, mod-eq_of_lt, lt_of_mul-lt-mul_right, add-mul, pow-le-pow_right, add-mul-mod_self_right, div-eq-sub-div, div-eq_of_lt}
 use Rattle.std.proofs.Math.Seq.{take-append_seam, drop-append_seam, take-add}
@@ -7,10 +7,11 @@ use Rattle.std.proofs.lemmas.List.{append-nil, length-take, length-take-le, leng
 use Rattle.byteorder.specs.Endian.{little_bytes, little_number}
 use Rattle.byteorder.specs.Numbers.{length-bytes_low_first, little_number-reads_back, little_from-cons, little_from-take, little_from-append}
 use Rattle.std.specs.Int.{bytes_low_first, byte_at}
-use Rattle.std.proofs.lemmas.Bool.{and_parts, eqb-true, eq-eqb, ne_eqb}
+use Rattle.std.proofs.lemmas.Bool.{and_parts, ltb-true, eqb-true, eq-eqb, ne_eqb}
 use borrow.Rule.Slice.PartMut.{put_mid, mid_of}
-use Rattle.std.specs.Prelude.{◌==◌, ◌&&◌, Bool, true, false, cond, nat_lt, nat_eq}
-use Rattle.flac_wave.specs.Shift.{raised, raised_one, lowered, lowered_number, are_low_zero, AreBytes, SamplesComeBack}
+use Rattle.std.specs.Prelude.{◌==◌, ◌&&◌, ◌||◌, Bool, true, false, cond, nat_lt, nat_eq}
+use Rattle.flac_wave.specs.Shift.{raised, raised_one, lowered, lowered_number, are_low_zero, AreBytes, SamplesComeBack, is_stated_depth, wide_of, depth_in}
+use Rattle.flac_wave.specs.declared.format.WaveFormat.{WaveFormat}
 
 -- some samples were raised, and these are left
 pub record Raising (width wide shift : ℕ) (all rest old out : List ℕ) (done : ℕ) : Type 0 where
@@ -398,3 +399,44 @@ raised_long width wide shift (suc n) a =
     let h = raised_long width wide shift n (drop width a) in
     length-append (raised_one width wide shift a) (raised width wide shift n (drop width a))
     ∙ (let f = length-bytes_low_first 0 wide (little_number width a * 2 ^ shift % 2 ^ (8 * wide)) in omega (arith, e, f, h))
+
+-- and so have those of a stream
+pub lowered_long : (wide width shift n : ℕ) (a : List ℕ) → length (lowered wide width shift n a) ≡ n * width
+lowered_long wide width shift zero a = omega arith
+lowered_long wide width shift (suc n) a =
+    let e : suc n * width ≡ n * width + width = suc-mul n width in
+    let x = lowered_number wide width shift (little_number wide a) in
+    let h = lowered_long wide width shift n (drop wide a) in
+    length-append (little_bytes width x) (lowered wide width shift n (drop wide a)) ∙ (let f = length-bytes_low_first 0 width x in omega (arith, e, f, h))
+
+-- ---- how many bits a stream has
+
+-- all bits of a sample's bytes, or fewer, below which all are zeros
+pub record IsNarrow (f : WaveFormat) (samples : List ℕ) (depth : ℕ) : Type 0 where
+  pub stated : is_stated_depth depth ≡ true
+  pub few : depth < 8 * wide_of f
+  pub zeros : are_low_zero (wide_of f) (8 * wide_of f - depth) (length samples / wide_of f) samples ≡ true
+
+depth_by : (f : WaveFormat) (samples : List ℕ) (b : Bool) → (is_stated_depth f.valid && nat_lt f.valid (8 * wide_of f)) && are_low_zero (wide_of f) (8 * wide_of f - f.valid) (length samples / wide_of f) samples ≡ b
+    → (cond b f.valid (8 * wide_of f) ≡ 8 * wide_of f) ⊎ IsNarrow f samples (cond b f.valid (8 * wide_of f))
+depth_by f samples true is =
+    let a = and_parts (is_stated_depth f.valid && nat_lt f.valid (8 * wide_of f)) _ is in
+    let b = and_parts (is_stated_depth f.valid) _ a.0 in
+    inr (record { stated = b.0; few = ltb-true f.valid (8 * wide_of f) b.1; zeros = a.1 })
+depth_by f samples false is = inl refl
+
+pub depth_cases : (f : WaveFormat) (samples : List ℕ) → (depth_in f samples ≡ 8 * wide_of f) ⊎ IsNarrow f samples (depth_in f samples)
+depth_cases f samples = depth_by f samples _ refl
+
+-- a depth that a frame header states is 8 at least
+pub stated_some : (n : ℕ) → is_stated_depth n ≡ true → 8 ≤ n
+stated_some n is = stated_by n _ _ _ _ _ _ refl refl refl refl refl refl is
+  where
+    stated_by : (n : ℕ) (a b c d e f : Bool) → nat_eq n 8 ≡ a → nat_eq n 12 ≡ b → nat_eq n 16 ≡ c → nat_eq n 20 ≡ d → nat_eq n 24 ≡ e → nat_eq n 32 ≡ f → a || (b || (c || (d || (e || f)))) ≡ true → 8 ≤ n
+    stated_by n true b c d e f p q r s t u is = let h = eqb-true n 8 p in omega (arith, h)
+    stated_by n false true c d e f p q r s t u is = let h = eqb-true n 12 q in omega (arith, h)
+    stated_by n false false true d e f p q r s t u is = let h = eqb-true n 16 r in omega (arith, h)
+    stated_by n false false false true e f p q r s t u is = let h = eqb-true n 20 s in omega (arith, h)
+    stated_by n false false false false true f p q r s t u is = let h = eqb-true n 24 t in omega (arith, h)
+    stated_by n false false false false false true p q r s t u is = let h = eqb-true n 32 u in omega (arith, h)
+    stated_by n false false false false false false p q r s t u is = absurd cc

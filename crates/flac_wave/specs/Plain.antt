@@ -24,6 +24,10 @@ mask_of channels =
     (cond (nat_eq channels 6) 63
     (cond (nat_eq channels 7) 1807 1599))))))
 
+-- which speakers the channels are for, if a file says others than these
+abbrev pub other_mask : WaveFormat → Option ℕ
+other_mask f = elim f.mask [ None ↦ None | Some mask ↦ cond (nat_eq mask (mask_of f.channels)) None (Some mask) ]
+
 -- the format of a plain file: a sample has whole bytes, and `bits` of their bits count
 unfoldable pub plain_format : (rate channels bits : ℕ) → WaveFormat
 plain_format rate channels bits = record {

@@ -3,7 +3,7 @@
 ghost use Rattle.std.specs.Prelude.{◌≡◌, ◌<◌, ◌≤◌, ◌+◌, ◌*◌, ◌%◌, ◌++◌, ◌||◌, [], map, nat_lt, IfOk, OnOk};
 ghost use Rattle.byteorder.specs.Endian.{little_bytes};
 ghost use Rattle.flac_wave.specs.Format.{row_of};
-ghost use Rattle.flac_wave.specs.Plain.{mask_of, plain_format, needs_extensible, format_fields, basic_chunk, extensible_chunk, format_chunk, format_len, file_header, data_header, sizes_chunk, short_pieces, long_pieces, known_pieces, plain_pieces, riff_size, CanBeWritten};
+ghost use Rattle.flac_wave.specs.Plain.{mask_of, plain_format, needs_extensible, format_fields, basic_chunk, extensible_chunk, format_chunk, format_len, other_mask, file_header, data_header, sizes_chunk, short_pieces, long_pieces, known_pieces, plain_pieces, riff_size, CanBeWritten};
 
 use crate::chunks::{DATA, FORMAT, LONG_SIZES, RF64, RIFF, WAVE};
 use crate::format::WaveFormat;
@@ -36,6 +36,19 @@ fn mask_of(channels: u32) -> u32
         return 0x70F;
     }
     0x63F
+}
+
+impl WaveFormat {
+    /// Which speakers the channels are for, if the file says others than RFC 9639, section 9.1.3, has for so many channels.
+    pub fn other_mask(&self) -> Option<u32>
+        ensures { result ≡ other_mask self.now }
+    {
+        let mask = self.mask?;
+        if mask == mask_of(self.channels) {
+            return None;
+        }
+        Some(mask)
+    }
 }
 
 /// Whether a chunk `fmt ` of 16 bytes is too short for a format.

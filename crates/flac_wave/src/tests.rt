@@ -175,3 +175,20 @@ fn samples_are_lowered_and_raised(rt: HostRuntime) -> Result<(), Fail> {
     assert!(rt; wide == 3 && &again[..3] == [0x00, 0x00, 0xfe].as_slice());
     Ok(())
 }
+
+/// The speakers of 6 channels, of which the reference has those at the side, and RFC 9639 those at the back.
+#[test]
+fn speakers_that_are_others(rt: HostRuntime) -> Result<(), Fail> {
+    let six = WaveFormat {
+        channels: 6,
+        mask: Some(0x60F),
+        ..FORMAT
+    };
+    let back = WaveFormat {
+        mask: Some(0x3F),
+        ..six
+    };
+    assert!(rt; six.other_mask() == Some(0x60F));
+    assert!(rt; back.other_mask() == None && FORMAT.other_mask() == None);
+    Ok(())
+}

@@ -64,6 +64,11 @@ With --search quick the encoder also seeks linear predictors for each block, and
 them too; with --search full it seeks more. Files mostly get smaller, and take longer to
 encode. Without --search, WAV files are encoded as with quick, raw samples as with none.
 
+The stream of a WAV file keeps all of it, and flac decode writes the same file again.
+With --no-keep it has the samples alone, and becomes a WAV file without what was before
+and after them. If the file names other speakers than is usual for its channels, they
+are in the comment WAVEFORMATEXTENSIBLE_CHANNEL_MASK.
+
 With --lax streams outside the streamable subset are written: rates up to 1048575 Hz, 4
 to 32 bits, blocks of up to 65535 samples, partition orders up to 15. Other players may
 refuse them.
@@ -314,6 +319,7 @@ fn encode_job<'a>(alloc: Global, given: &ArgMatches<'a>) -> Result<Option<Job<'a
             lax: given.get_flag("lax"),
             predictors: given.get_str("predictors"),
             effort: effort_of(given, SearchEffort::Quick),
+            keep: !given.get_flag("no-keep"),
         }));
     };
     Ok(Some(Job::Encode {
@@ -493,7 +499,7 @@ const RETAG_WORDS: [Word; 4] = [STREAM, STREAM_OUT, COMMENTS, FORCE];
 const EFFORTS: [&str; 3] = ["none", "quick", "full"];
 
 /// The arguments of `encode`.
-const ENCODE_WORDS: [Word; 15] = [
+const ENCODE_WORDS: [Word; 16] = [
     Word {
         name: "IN",
         kind: WordKind::File,
@@ -555,6 +561,11 @@ const ENCODE_WORDS: [Word; 15] = [
         name: "raw",
         kind: WordKind::Flag,
         help: "Takes any bytes as raw samples, also those of a stream or a WAV file",
+    },
+    Word {
+        name: "no-keep",
+        kind: WordKind::Flag,
+        help: "Keeps nothing of a WAV file but its samples and which speakers they are for",
     },
     FORCE,
 ];

@@ -1,7 +1,7 @@
 -- For proofs of reading a list of predictors line by line: what a line and a wrong line are.
 use Rattle.std.specs.Prelude.{ℕ, ◌≡◌, List, [], ◌∷◌, Option, Some, None, Err}
-use Rattle.flac_subframe.specs.Bodies.{Chooses}
-use Rattle.flac_subframe.specs.Handed.{predictor_of}
+use Rattle.flac_subframe.specs.format.Bodies.{Chooses}
+use Rattle.flac_subframe.specs.format.Handed.{predictor_of}
 use Rattle.flac_cli.specs.declared.predictors.Line.{Line}
 use Rattle.flac_cli.specs.declared.predictors.Line.TheVariants as line
 use Rattle.flac_cli.specs.declared.predictors.ListFault.{ListFault}

@@ -2,14 +2,14 @@
 use Rattle.std.specs.Prelude.{◌≡◌, ℕ, true, List, option_map, None}
 use Rattle.flac_meta.specs.declared.block.Block.{Block}
 use Rattle.flac_frame.specs.Audio.{Sound}
-use Rattle.flac_subframe.specs.declared.linear.LinearPredictor.{LinearPredictor}
+use Rattle.flac_subframe.specs.declared.format.linear.LinearPredictor.{LinearPredictor}
 use Rattle.flac_native.specs.Given.{Cut, fits_plan, plan_fault}
 use Rattle.flac_cli.specs.Asked.{Asked}
 use Rattle.flac_cli.specs.Encoded.{cut_as}
 use Rattle.flac_cli.specs.Refusals.{stream_fault}
 use Rattle.flac_cli.specs.WaveRefusals.{file_refusal}
 use Rattle.flac_cli.specs.Waves.{Keeps}
-use Rattle.flac_cli.specs.declared.encoding.Refusal.TheVariants.{Output}
+use Rattle.flac_cli.specs.declared.encode.Refusal.TheVariants.{Output}
 use Rattle.flac_jobs.specs.declared.formats.RawFormat.{RawFormat}
 
 -- These are the samples of a WAV file, how they are divided into frames, and the blocks that keep the file. Only the

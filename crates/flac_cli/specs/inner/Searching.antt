@@ -3,7 +3,7 @@ use Rattle.std.specs.Prelude.{◌≡◌, List, Option, Some, None}
 use Rattle.flac_native.specs.Given.{Cut, with_found}
 use Rattle.flac_predict.specs.declared.search.Search.{Search}
 use Rattle.flac_predict.specs.declared.search.Search.TheVariants.{Quick, Full}
-use Rattle.flac_subframe.specs.declared.linear.LinearPredictor.{LinearPredictor}
+use Rattle.flac_subframe.specs.declared.format.linear.LinearPredictor.{LinearPredictor}
 use Rattle.flac_cli.specs.Encoded.{AreFound}
 use Rattle.flac_jobs.specs.declared.search_effort.SearchEffort.{SearchEffort}
 use Rattle.flac_jobs.specs.declared.search_effort.SearchEffort.TheVariants as efforts

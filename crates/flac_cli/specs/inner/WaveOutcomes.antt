@@ -4,8 +4,8 @@ use Rattle.flac_bits.specs.declared.why.Why.{Why}
 use Rattle.flac_bits.specs.declared.why.Why.TheVariants as why
 use Rattle.flac_native.specs.declared.fault.Fault.{Fault}
 use Rattle.flac_cli.specs.Outcomes.{WaveOutcome, streamed, unkept}
-use Rattle.flac_cli.specs.declared.wave_decoding.WaveFailure.{WaveFailure}
-use Rattle.flac_cli.specs.declared.wave_decoding.WaveFailure.TheVariants as failure
+use Rattle.flac_cli.specs.declared.decode_wave.WaveFailure.{WaveFailure}
+use Rattle.flac_cli.specs.declared.decode_wave.WaveFailure.TheVariants as failure
 
 -- of a sink that failed since an allocation did
 abbrev pub memory_by : Why → Why

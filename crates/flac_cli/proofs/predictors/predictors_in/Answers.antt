@@ -6,7 +6,7 @@ use Rattle.std.proofs.lemmas.List.FromFn.{length-enumerate_from}
 use Rattle.std.proofs.lemmas.Iterator.Consumers.{YieldsList-turn, YieldsList-end, YieldsList-at, YieldsList-from_enumerate}
 use Rattle.std.proofs.lemmas.Iterator.Splits.{YieldsList-from_slice_split}
 use Rattle.std.proofs.lemmas.Result.{err_from_is_err_and}
-use Rattle.flac_subframe.specs.Handed.{predictor_of}
+use Rattle.flac_subframe.specs.format.Handed.{predictor_of}
 use Rattle.flac_cli.specs.inner.Predictors.{found_in}
 use Rattle.flac_cli.proofs.Listed.{numbered, lines-next, lines-wrong, lines-end}
 use Rattle.flac_cli.proofs.predictors.predictors_in.Goals as goal

@@ -1,7 +1,7 @@
 use Rattle.std.proofs.Common.{◌≡◌, ◌+◌, length, drop, map}
 use Rattle.std.specs.List.{slice_split}
 use Rattle.std.specs.Prelude.{◌==◌}
-use Rattle.flac_subframe.specs.Handed.{predictor_of}
+use Rattle.flac_subframe.specs.format.Handed.{predictor_of}
 use Rattle.flac_cli.specs.Predictors.{predictors_in, lines_after}
 use Rattle.flac_cli.proofs.predictors.predictors_in.Given as goal
 

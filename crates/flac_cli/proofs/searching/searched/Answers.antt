@@ -1,7 +1,7 @@
 use Rattle.std.proofs.Common.{List, All, Vec, Global, arith, subst}
 use Rattle.flac_native.proofs.Planned.{planned, block_small}
 use Rattle.flac_predict.specs.Found.{IsPrefixOf}
-use Rattle.flac_subframe.specs.declared.linear.LinearPredictor.{LinearPredictor}
+use Rattle.flac_subframe.specs.declared.format.linear.LinearPredictor.{LinearPredictor}
 use Rattle.flac_cli.proofs.Searched.{sought_lists}
 use Rattle.flac_cli.proofs.searching.searched.Goals as goal
 

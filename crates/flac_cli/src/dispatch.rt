@@ -1,0 +1,197 @@
+//! What the program does for a job: each command is in the file of its name.
+
+ghost use Rattle.std.specs.Prelude.{◌≡◌, ◌≤◌, ◌<◌, ◌++◌, true, List};
+ghost use Rattle.flac_cli.specs.Calls.{HasWritten, IfServed};
+ghost use Rattle.flac_cli.specs.Streams.{Tells, profile_of, GivesStream, GivesStreamOf};
+ghost use Rattle.flac_jobs.specs.Asks.{AsksDecode, AsksDecodeWave, AsksStream, asks_lax};
+ghost use Rattle.flac_cli.specs.Samples.{all_samples};
+ghost use Rattle.flac_cli.specs.Counted.{AsksTest, counts_line};
+ghost use Rattle.flac_cli.specs.Encoded.{asked_by, HasEncoded, HasBegun};
+ghost use Rattle.flac_cli.specs.Outcomes.{ReportsInput, IsReadAs};
+ghost use Rattle.flac_cli.specs.Refusals.{CanBeEncoded};
+ghost use Rattle.flac_cli.specs.Reports.{files_of, Serves, Reports};
+ghost use Rattle.flac_cli.specs.Retagged.{HasRetagged};
+ghost use Rattle.flac_cli.specs.Named.{NamesFault};
+ghost use Rattle.flac_cli.specs.Waves.{wave_in, asked_for_wave, HasEncodedWave, HasBegunWave};
+ghost use Rattle.flac_cli.specs.WaveRefusals.{CanBeKept, ReportsWaveEncoding};
+
+use crate::decode::run_decode;
+use crate::decode_wave::run_decode_wave;
+use crate::encode::{Encoding, encode_raw, refuse_encoding};
+use crate::encode_wave::run_encode_wave;
+use crate::list::run_list;
+use crate::report::Paths;
+use crate::retag::run_retag;
+use crate::streams::profile_of;
+use crate::test::run_test;
+use flac_bits::{Source, Target};
+use flac_jobs::{Job, RawFormat};
+use std::alloc::Global;
+
+/// A job, and what is read for it before it is done.
+#[derive(Clone, Copy)]
+pub struct Task<'a> {
+    /// The job.
+    pub job: &'a Job<'a>,
+    /// The text of its list of predictors, empty if there is none.
+    pub list: &'a [u8],
+}
+
+/// Does a job, and returns the exit status: 0 if it is done, 1 if it failed.
+///
+/// `task` has the job and the text of its list. `source` is the file that the job reads, `target` the one that it
+/// writes, if it writes one; `out` and `err` are standard output and standard error. After status 1 the line of the
+/// error was written to `err`, if that could be written.
+pub fn run<R: Source, W: Target, O: Target, E: Target>(
+    alloc: Global,
+    task: &Task<'_>,
+    source: &mut R,
+    target: &mut W,
+    out: &mut O,
+    err: &mut E,
+) -> u8
+    // Test, decode and list are done only if the input is a stream.
+    ensures stream { AsksStream task.now.job.now → result ≡ 0 → Tells R.Source source.old source.new →
+        GivesStream R.Source (profile_of (asks_lax task.now.job.now)) source.old }
+    // After status 0, a test has added to standard output exactly the line of the stream's counts.
+    ensures tested { AsksTest task.now.job.now → result ≡ 0 → Tells R.Source source.old source.new →
+        O.known out.old ≡ true →
+        GivesStreamOf R.Source (profile_of (asks_lax task.now.job.now)) source.old
+        (λ parts. O.sent out.new ≡ O.sent out.old ++ counts_line parts) }
+    // After status 0, a decoding has added to the file exactly the samples of the stream's frames.
+    ensures decoded { AsksDecode task.now.job.now → result ≡ 0 → Tells R.Source source.old source.new →
+        W.known target.old ≡ true →
+        GivesStreamOf R.Source (profile_of (asks_lax task.now.job.now)) source.old
+        (λ parts. W.sent target.new ≡ W.sent target.old ++ all_samples 0 parts) }
+    // After status 0, an encoding has added to the file a stream of exactly the samples that the input is, in the
+    // profile that is asked for, each frame a shortest one also over the predictors of the list.
+    ensures encoded { result ≡ 0 →
+        HasWritten R.Source W.Target source.old target.old target.new (HasEncoded (asked_by task.now)) }
+    // After status 0 there was no reason to refuse the encoding, and each line of the list is a predictor or has no
+    // word.
+    ensures accepted { result ≡ 0 → R.known source.old ≡ true → CanBeEncoded (asked_by task.now) (R.coming source.old) }
+    // After status 1, an encoding has added nothing, or a prefix of such a stream.
+    ensures begun { result ≡ 1 →
+        HasWritten R.Source W.Target source.old target.old target.new (HasBegun (asked_by task.now)) }
+    // If no device fails: if there is a reason to refuse the encoding, the status is 1, and the line of the first one
+    // was added to standard error; if there is none, the status is 0, and nothing was added. Or memory ran out: then
+    // the status is 1, and the line says that.
+    ensures refused { Tells R.Source source.old source.new → Serves W.Target target.old target.new →
+        Serves E.Target err.old err.new →
+        Reports (asked_by task.now) (R.coming source.old) (files_of task.now.job.now) result (E.sent err.old) (E.sent err.new) }
+    // After status 0, a retagging has added to the file the same STREAMINFO, the comments, the other blocks and the
+    // rest of the input.
+    ensures retagged { result ≡ 0 → HasWritten R.Source W.Target source.old target.old target.new
+        (λ bytes. HasRetagged task.now.job.now bytes (R.behind source.old)) }
+    // After status 0, the encoding of a WAV file has added to the file a stream of its samples. If it is asked to keep all of
+    // it, the WAV file of this stream is the input, byte for byte.
+    ensures wave_encoded { result ≡ 0 →
+        HasWritten R.Source W.Target source.old target.old target.new
+        (HasEncodedWave (asked_for_wave task.now.job.now task.now.list.now)) }
+    // After status 0 the input is a WAV file, and there was no reason to refuse its encoding.
+    ensures wave_accepted { result ≡ 0 → R.known source.old ≡ true →
+        CanBeKept (asked_for_wave task.now.job.now task.now.list.now) (R.coming source.old) }
+    // After status 1, such an encoding has added nothing, or a prefix of such a stream.
+    ensures wave_begun { result ≡ 1 →
+        HasWritten R.Source W.Target source.old target.old target.new
+        (HasBegunWave (asked_for_wave task.now.job.now task.now.list.now)) }
+    // If no device fails: if there is a reason to refuse the encoding of the WAV file, the status is 1, and the line of the
+    // first one was added to standard error; if there is none, the status is 0, and nothing was added. Or memory ran out:
+    // then the status is 1, and the line says that.
+    ensures wave_refused { Tells R.Source source.old source.new → Serves W.Target target.old target.new →
+        Serves E.Target err.old err.new →
+        ReportsWaveEncoding (asked_for_wave task.now.job.now task.now.list.now) (R.coming source.old) (files_of task.now.job.now) result (E.sent err.old) (E.sent err.new) }
+    // After status 0, a decoding to a WAV file has added to the file exactly the WAV file of the stream.
+    ensures wave_decoded { AsksDecodeWave task.now.job.now → result ≡ 0 → Tells R.Source source.old source.new →
+        W.known target.old ≡ true →
+        IsReadAs R.Source (profile_of (asks_lax task.now.job.now)) source.old
+        (λ parts. W.sent target.new ≡ W.sent target.old ++ wave_in parts) }
+    // The status is 0 or 1.
+    ensures status { result ≤ 1 }
+    // If no device that the job uses fails: if the input is a stream, test, decode and list return 0 and add nothing to
+    // standard error; if it is refused, they return 1 and add exactly the line of its place and reason. So does retag
+    // for the marker, the blocks and comments that are too long. So does a decoding to a WAV file, which also refuses a
+    // stream that becomes no WAV file of its samples. Or memory ran out, or standard output failed while blocks were
+    // listed: then the line says that.
+    ensures reported { Tells R.Source source.old source.new → Serves E.Target err.old err.new →
+        ReportsInput task.now.job.now (R.coming source.old) (R.behind source.old) (Serves W.Target target.old target.new) (Serves O.Target out.old out.new) result (E.sent err.old) (E.sent err.new) }
+    // After status 1 of a decoding, an encoding or a retagging, also of WAV files, whatever failed, its line was added to
+    // standard error, if that did not fail. It names the output if that could not be written (30 of a decoding, 39), and
+    // else the file at fault.
+    ensures named { result ≡ 1 → IfServed E.Target err.old err.new (NamesFault task.now.job.now) }
+{
+    match task.job {
+        Job::Test { input, lax } => run_test(alloc, input, source, profile_of(*lax), out, err),
+        Job::Decode { input, output, lax } => {
+            let paths = Paths { input, output };
+            run_decode(alloc, &paths, source, profile_of(*lax), target, err)
+        }
+        Job::List { input, lax } => run_list(alloc, input, source, profile_of(*lax), out, err),
+        Job::Encode {
+            format,
+            container,
+            comments,
+            lax,
+            effort,
+            raw,
+            ..
+        } => {
+            let encoding = Encoding {
+                profile: profile_of(*lax),
+                format: *format,
+                container: *container,
+                comments: comments.as_slice(),
+                list: task.list,
+                effort: *effort,
+                any: *raw,
+                keep: false,
+            };
+            match encode_raw(alloc, &encoding, source, target) {
+                Ok(()) => 0,
+                Err(refusal) => refuse_encoding(err, task.job, refusal),
+            }
+        }
+        Job::DecodeWave { input, output, lax } => {
+            let paths = Paths { input, output };
+            run_decode_wave(alloc, &paths, source, profile_of(*lax), target, err)
+        }
+        Job::EncodeWave {
+            block,
+            seek_every,
+            container,
+            comments,
+            lax,
+            effort,
+            keep,
+            ..
+        } => {
+            let profile = profile_of(*lax);
+            let list = task.list;
+            let encoding = Encoding {
+                profile,
+                format: RawFormat {
+                    rate: 0,
+                    channels: 0,
+                    bits: 0,
+                    block: *block,
+                    seek_every: *seek_every,
+                },
+                container: *container,
+                comments: comments.as_slice(),
+                list,
+                effort: *effort,
+                any: true,
+                keep: *keep,
+            };
+            run_encode_wave(alloc, task.job, &encoding, source, target, err)
+        }
+        Job::Retag {
+            input,
+            output,
+            comments,
+        } => {
+            let paths = Paths { input, output };
+            run_retag(alloc, &paths, comments.as_slice(), source, target, err)
+        }
+    }
+}
