@@ -1,0 +1,9 @@
+//! Laws: what holds of the definitions. Calling them does nothing; a proof may name them.
+
+ghost use Rattle.flac_edit.specs.Streams.{StreamsStay};
+
+/// If a file is a stream, then what an edit in place and a crash leave of it is a stream of the old items, or of the
+/// same STREAMINFO, edited blocks and the same frames (RFC 9639, section 6).
+pub fn streams_stay()
+    ensures { StreamsStay }
+{}

@@ -1,0 +1,29 @@
+//! A write that is stored before the next one begins.
+
+ghost use Rattle.std.specs.Prelude.{◌≡◌, ◌≤◌, ◌<◌, Bool, true, length, OnOk, IsErrOf};
+ghost use Rattle.flac_edit.specs.Device.{Fits, Only, Torn, Whole, IsWord, Holds, LeavesOnly};
+
+use crate::device::{Device, DeviceError};
+
+/// Writes bytes over others, and stores them.
+pub(crate) fn store<D: Device>(device: &mut D, at: usize, bytes: &[u8]) -> Result<(), DeviceError>
+    requires fits { D.known device.old ≡ true → Fits at bytes.now (D.seen device.old) }
+    requires durable { D.known device.old ≡ true → Only (D.seen device.old) (D.time device.old) }
+    ensures known { D.known device.new ≡ D.known device.old }
+    ensures stored { OnOk result (D.known device.old ≡ true
+        → Holds (D.seen device.old) at bytes.now (D.seen device.new)) }
+    // proof only
+    ensures long { OnOk result (D.known device.old ≡ true
+        → length (D.seen device.new) ≡ length (D.seen device.old)) }
+    ensures durable { OnOk result (D.known device.old ≡ true → Only (D.seen device.new) (D.time device.new)) }
+    ensures any_moment { D.known device.old ≡ true
+        → LeavesOnly (D.time device.old) (D.time device.new) (Torn at (length bytes.now) (D.seen device.old)) }
+    ensures whole { D.known device.old ≡ true → IsWord at (length bytes.now)
+        → LeavesOnly (D.time device.old) (D.time device.new) (Whole at bytes.now (D.seen device.old)) }
+    ensures faults { D.known device.old ≡ true → D.faults device.old ≤ D.faults device.new }
+    ensures failed { D.known device.old ≡ true → IsErrOf result DeviceError.Failed
+        → D.faults device.old < D.faults device.new }
+{
+    device.write_at(at, bytes)?;
+    device.sync()
+}
