@@ -1,0 +1,6 @@
+pub mod FramesRead
+pub mod Finals
+pub mod Founds
+pub mod Locals
+pub mod Syncs
+pub mod Finding

@@ -1,0 +1,4 @@
+pub mod Standing
+pub mod Found
+pub mod Kept
+pub mod inner

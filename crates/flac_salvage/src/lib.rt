@@ -1,0 +1,12 @@
+//! Whole frames in what is left of a damaged stream (RFC 9639, section 9).
+#![tactic(auto)]
+
+mod find;
+mod laws;
+mod next;
+#[cfg(test)]
+mod tests;
+
+pub use find::{WholeFrame, WholeFrames, whole_frames};
+pub use laws::{frames_are_local, whole_frames_are_found};
+pub use next::next_whole;
