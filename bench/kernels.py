@@ -26,13 +26,13 @@ DECODING = {
     "restoration": r"restoration::",
     "digest": r"^md5::",
     "joining, range, rows for the digest": r"flac_frame::(stereo|samples)::|digest::",
-    "pulls and checks": r"Held::pull|BitReader::|sums::|divided",
+    "pulls and checks": r"Held::pull|BitReader::|crc_of_bytes::|crc_8_16_division::|crc_32_division::",
 }
 ENCODING = {
     "differences, widths, bounds, totals": r"choice::improve|(narrowed|leaving|folding|pruning|survey|widths|cost)::",
     "costs under a parameter": r"halves::",
     "first guess, range, copies": r"(choice|chosen|wasted)::|memmove|memset",
-    "writing, checks": r"writing::|put_more|unsent::|BitWriter|sums::|divided",
+    "writing, checks": r"writing::|put_more|unsent::|BitWriter|crc_of_bytes::|crc_8_16_division::|crc_32_division::",
     "joining": r"flac_frame::",
     "raw input": r"flac_cli::",
     "digest": r"^md5::",

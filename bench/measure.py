@@ -23,7 +23,7 @@ import time
 import wave
 
 HERE = os.path.dirname(os.path.abspath(__file__))
-sys.path.insert(0, os.path.join(os.path.dirname(HERE), "conformance"))
+sys.path.insert(0, os.path.join(os.path.dirname(HERE), "conformance", "vectors"))
 sys.path += [os.path.join(os.path.dirname(HERE), name) for name in ("predictors", "tools")]
 
 import lists

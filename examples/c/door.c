@@ -1,4 +1,4 @@
-/* Streams and samples through the calls of flac_proved.h, for conformance/c_door.py, which links it with --wrap for malloc, realloc and free.
+/* Streams and samples through the calls of flac_proved.h, for conformance/checks/c_door.py, which links it with --wrap for malloc, realloc and free.
  *
  * usage: door lines FILE..     lines for each file: its path; what verifying it answers; its information, vendor and comments, or why there
  *                              are none; the number and the CRC-32 of its samples as bytes and as numbers, or why they are refused

@@ -1,0 +1,317 @@
+#!/usr/bin/env python3
+"""Compares the calls for C (crates/flac_c) with the program, stream by stream and sound by sound.
+
+usage: conformance/checks/c_door.py [--quick] [--library FILE] [--no-valgrind]
+--library names libflac_c.a, otherwise it is proved and built. --quick takes fewer sounds and damages. The program is that of
+`run` (FLAC), and files are made in a folder that is thrown away. Without the reference encoder only the streams that are made bit
+by bit, and copies of them, are compared. Status 1 if a case failed.
+
+Of each stream: verify is `test`, the information, vendor and comments are `list`, the samples are `decode`; a native stream frame by
+frame, and from some samples on, has the same samples and ends for the same reason. Of each sound: the stream is that of `encode`,
+byte by byte, and has at most the bytes of the bound; wav2flac and flac2wav give the same WAV file again. Some run under valgrind and
+under the sanitizers, and with each allocation refused.
+"""
+import argparse
+import array
+import importlib.util
+import itertools
+import os
+import shutil
+import subprocess
+import sys
+import tempfile
+import zlib
+
+import folders  # noqa: F401  (the path of the modules below)
+import corpus
+import damage
+import program
+import vectors
+
+EXAMPLES = os.path.join(program.ROOT, "examples", "c")
+HEAP = "/opt/rattle/c/liblibc_c.a"
+STRICT = ["-Wall", "-Wextra", "-std=c99", "-pedantic", "-Werror"]
+SANITIZED = ["-g", "-O1", "-fsanitize=address,undefined", "-fno-sanitize-recover=all"]
+VALGRIND = ["valgrind", "-q", "--error-exitcode=77", "--leak-check=full", "--errors-for-leak-kinds=all"]
+COMMENTS = ["TITLE=a", "ARTIST=\u00e9", "EMPTY="]
+WRAPPED = ["-Wl,--wrap=malloc", "-Wl,--wrap=realloc", "-Wl,--wrap=free"]
+
+
+def ran(*words, limit=600):
+    return subprocess.run(words, stdout=subprocess.PIPE, stderr=subprocess.PIPE, timeout=limit, check=False)
+
+
+def must(*words):
+    result = ran(*words)
+    if result.returncode:
+        sys.exit(f"c_door: {' '.join(words[:3])}: {(result.stdout + result.stderr).decode(errors='replace')[-2000:]}")
+    return result.stdout
+
+
+class Door:
+    """The C programs over the library."""
+
+    def __init__(self, library, folder):
+        self.folder, self.failed, self.passed = folder, [], 0
+        self.library = library
+        self.plain, self.checked = (self.built(name, flags, ["door.c"], WRAPPED) for name, flags in (("door", ["-O2"]), ("door_checked", SANITIZED)))
+
+    def built(self, name, flags, sources, more=()):
+        path = os.path.join(self.folder, name)
+        must("cc", *flags, *STRICT, "-o", path, *[os.path.join(EXAMPLES, source) for source in sources], self.library, HEAP, *more)
+        return path
+
+    def expect(self, name, found, due):
+        if found == due:
+            self.passed += 1
+        else:
+            self.failed.append(name)
+            print(f"FAILED {name}: {program.short(found)}; due is {program.short(due)}", flush=True)
+
+    def quiet(self, name, *words, limit=600):
+        """A run without a word to standard error."""
+        result = ran(*words, limit=limit)
+        self.expect(name, (result.returncode, result.stderr), (0, b""))
+        return result.stdout
+
+    def lines(self, paths):
+        """What the calls answer of each file: its lines."""
+        told = []
+        for first in range(0, len(paths), 200):
+            part = paths[first:first + 200]
+            result = ran(self.plain, "lines", *part)
+            lines = result.stdout.decode().splitlines()
+            if result.returncode or result.stderr:
+                sys.exit(f"c_door: status {result.returncode} at {lines[-5:]}: {result.stderr[-500:]!r}")
+            for line in lines:
+                if line.startswith(" "):
+                    told[-1].append(line[1:])
+                else:
+                    told.append([])
+        return told
+
+
+def due_lines(path, folder):
+    """What the program says of a stream: `test`, `list` and `decode`."""
+    answer, raw = program.answer(path), os.path.join(folder, "decoded.raw")
+    yield "verify " + ("ok" if answer.startswith("frames ") else answer)
+    listed = program.call("list", path)[1].decode().splitlines()
+    info = [line[2:] for line in listed if line.startswith(("  blocks ", "  md5 "))]
+    vendor = [line[2:] for line in listed if line.startswith("  vendor ")]
+    yield from info + (vendor or ["vendor "]) if info else ["info " + answer]
+    yield from [line[2:] for line in listed if line.startswith("  comment ")] if info else []
+    # a file that is there would be replaced at the end, and what a refused job has written would stay beside it
+    if os.path.exists(raw):
+        os.remove(raw)
+    status, _, err = program.call("decode", path, raw)
+    if status:
+        yield "decode " + program.fault_of(path, status, err)
+    else:
+        data = program.read(raw)
+        yield f"decode {len(data)} {zlib.crc32(data):08x}"
+
+
+def no_frames(name):
+    """The samples, of 0, 10, 20, 30 and 41, that no frame is found for: the table of `every-block` is made up, and says that sample 32 is at byte 70 behind the first
+    frame, where none begins."""
+    return ["no frame at the seek point before 41"] if name == "every-block" else []
+
+
+def listed(made):
+    """The sounds of a run."""
+    return made.sounds[:12] if made.quick else made.sounds
+
+
+def streams(made):
+    """Files: the streams made bit by bit, sounds by the reference, and damaged copies of small ones."""
+    small, quick = [], made.quick
+    for name, data, _ in vectors.all_vectors():
+        yield name, data
+        if len(data) < 300 and name in ("row-1", "ramp", "left-side", "ogg", "ogg-one-page"):
+            small.append((name, data))
+    if os.path.exists(corpus.REFERENCE):
+        for index, sound in enumerate(listed(made)):
+            for ogg in (False, True):
+                made.reference("C", sound, corpus.LEVELS[index % 9], ogg=ogg)
+        for entry in made.entries:
+            yield os.path.basename(entry.path), program.read(entry.path)
+    for name, data in small:
+        count = 20 if quick else 200
+        for damaged in (damage.cuts(data, count, 7), damage.flips(data, 2 * count, 7), damage.zeroed(data, count, 7), damage.appended(data)):
+            for what, copy in damaged:
+                yield f"{name}, {what}", copy
+
+
+def checked_runs(door, paths, valgrind):
+    """A handful of files under the sanitizers and valgrind, and with each allocation refused."""
+    for words in ([door.checked, "lines"], [door.checked, "refuse"], [door.plain, "refuse"]):
+        out = door.quiet(" ".join([os.path.basename(words[0]), words[1]]), *words, *paths)
+        if words[1] == "refuse":
+            print(out.decode().strip().replace(door.folder + "/", ""), flush=True)
+    if valgrind and shutil.which("valgrind"):
+        door.quiet("valgrind", *VALGRIND, door.plain, "lines", *paths)
+    elif valgrind:
+        door.expect("valgrind", "not installed", "installed")
+
+
+def encodings(door, made, listed):
+    """Each sound as a native and as an Ogg stream: the bytes are the program's."""
+    ours, theirs = (os.path.join(door.folder, name) for name in ("ours.flac", "theirs.flac"))
+    for index, (sound, ogg) in enumerate(itertools.product(listed, (0, 1))):
+        raw, block, seek = made.path(sound.name + ".raw"), (4096, 1152)[index // 2 % 2], (0 if ogg else 1000)
+        door.quiet(f"encode {sound.name}", door.plain, "encode", raw, ours, str(sound.rate), str(sound.channels), str(sound.bits), str(block), str(seek), str(ogg),
+                   "9", "flac profile 1", *COMMENTS)
+        program.succeeds("encode", raw, theirs, *COMMENTS, f"--rate={sound.rate}", f"--channels={sound.channels}", f"--bits={sound.bits}", f"--block={block}",
+                         *(["--ogg", "--serial=9"] if ogg else [f"--seek-every={seek}"]))
+        door.expect(f"stream of {sound.name}, ogg {ogg}", program.read(ours) == program.read(theirs), True)
+
+
+def refusals(door):
+    """Samples that are not encoded: the reason is the program's."""
+    raw, out = (os.path.join(door.folder, name) for name in ("refused.raw", "refused.flac"))
+    with open(raw, "wb") as file:
+        file.write(bytes(range(200, 248)))
+    for rate, channels, bits, block in ((0, 1, 16, 4096), (700000, 1, 16, 4096), (65537, 1, 16, 4096), (44100, 1, 17, 4096), (44100, 9, 8, 4096), (44100, 0, 8, 4096),
+                                        (44100, 1, 12, 4096), (44100, 1, 16, 15), (44100, 1, 16, 4609), (96000, 1, 16, 16385)):
+        found = door.quiet("refused", door.plain, "encode", raw, out, str(rate), str(channels), str(bits), str(block), "0", "0", "1", "x").decode().strip()
+        status, _, err = program.call("encode", raw, out, f"--rate={rate}", f"--channels={channels}", f"--bits={bits}", f"--block={block}")
+        door.expect(f"{rate} {channels} {bits} {block}", found, program.fault_of(raw, status, err))
+
+
+def wav_programs(door, made, listed, valgrind):
+    """Each sound from WAV and back, and a stream of the reference to WAV; two sounds also with sanitizers, valgrind and each allocation refused."""
+    flags = {"": ["-O2"], "_checked": SANITIZED}
+    tools = {name + end: door.built(name + end, flags[end], [name + ".c", "files.c"]) for name in ("wav2flac", "flac2wav") for end in flags}
+    flac, back = (os.path.join(door.folder, name) for name in ("sound.flac", "back.wav"))
+
+    def there_and_back(name, wav, first, second, *words):
+        door.quiet(f"wav2flac {name}", *first, *words, wav, flac, *COMMENTS)
+        door.quiet(f"flac2wav {name}", *second, flac, back)
+        door.expect(f"back {name}", program.read(back) == program.read(wav), True)
+        door.expect(f"program reads {name}", program.answer(flac).startswith("frames "), True)
+
+    for sound in listed:
+        wav = made.path(sound.name + ".wav")
+        for words in ((), ("--ogg",)):
+            there_and_back(f"{sound.name} {words}", wav, [tools["wav2flac"]], [tools["flac2wav"]], *words)
+    for entry in made.entries:
+        answer, result = program.answer(entry.path), ran(tools["flac2wav"], entry.path, back)
+        if answer.startswith("frames "):
+            door.expect(f"flac2wav {entry.path}", (result.returncode, result.stderr), (0, b""))
+            door.expect(f"reference's {entry.path}", program.read(back) == program.read(entry.raw[:-4] + ".wav"), True)
+        else:
+            reason = answer.split(": ")[-1]
+            door.expect(f"flac2wav {entry.path}", (result.returncode, result.stderr.decode()), (1, f"flac2wav: {entry.path}: {reason}\n"))
+    for sound in sorted(listed, key=lambda sound: sound.length * sound.channels)[1:3]:
+        wav = made.path(sound.name + ".wav")
+        there_and_back(sound.name, wav, [tools["wav2flac_checked"]], [tools["flac2wav_checked"]])
+        if valgrind and shutil.which("valgrind"):
+            there_and_back(sound.name, wav, [*VALGRIND, tools["wav2flac"]], [*VALGRIND, tools["flac2wav"]])
+        refuse_each(door, [tools["wav2flac"], wav, flac, *COMMENTS], flac)
+        refuse_each(door, [tools["flac2wav"], flac, back], back)
+
+
+def refuse_each(door, words, out):
+    """Refuses each allocation of a program in turn: it says so and leaves no file, or does what it does without."""
+    preloaded, report = os.path.join(door.folder, "failing.so"), os.path.join(door.folder, "report")
+    if not os.path.exists(preloaded):
+        must("cc", "-O1", "-shared", "-fPIC", "-o", preloaded, os.path.join(os.path.dirname(__file__), "failing.c"), "-ldl")
+    counted = dict(os.environ, LD_PRELOAD=preloaded, FAILING_REPORT=report)
+    must(*words)
+    due = program.read(out)
+    subprocess.run(words, env=counted, check=True)
+    counts = [int(line.rsplit(" memory=", 1)[1].split()[0]) for line in program.read(report).decode().splitlines() if line.startswith(("main ", "exit "))]
+    os.remove(report)
+    for number in range(counts[0] + 1, counts[-1] + 1):
+        if os.path.exists(out):
+            os.remove(out)
+        result = subprocess.run(words, env=dict(counted, FAILING_CALL="memory", FAILING_NUMBER=str(number)), stdout=subprocess.PIPE, stderr=subprocess.PIPE, check=False)
+        refused = result.returncode == 1 and result.stderr.count(b"\n") == 1 and not os.path.exists(out)
+        done = result.returncode == 0 and not result.stderr and program.read(out) == due
+        door.expect(f"{os.path.basename(words[0])}, request {number}", refused or done, True)
+    must(*words)
+    print(f"{os.path.basename(words[0])}: {counts[-1] - counts[0]} requests refused", flush=True)
+
+
+def module(door, made, listed, paths):
+    """The module for Python: what it says of some streams is the program's."""
+    shared = os.path.join(door.folder, "libflac_proved.so")
+    must("cc", "-shared", "-o", shared, "-Wl,--whole-archive", door.library, "-Wl,--no-whole-archive", HEAP)
+    spec = importlib.util.spec_from_file_location("flac_proved", os.path.join(EXAMPLES, "flac_proved.py"))
+    flac_proved = importlib.util.module_from_spec(spec)
+    spec.loader.exec_module(flac_proved)
+    library, raw = flac_proved.load(shared), os.path.join(door.folder, "decoded.raw")
+    for path in paths:
+        answer, stream = program.answer(path), program.read(path)
+        try:
+            library.verify(stream)
+            found = "ok"
+        except flac_proved.Refused as refused:
+            found = str(refused)
+        door.expect(f"module {os.path.basename(path)}", found, "ok" if answer.startswith("frames ") else answer)
+        if found == "ok":
+            program.succeeds("decode", path, raw)
+            door.expect(f"module {os.path.basename(path)}", library.decode(stream), program.read(raw))
+    for sound in listed[:4]:
+        data = program.read(made.path(sound.name + ".wav"))
+        native = library.encode(sounds_of(made, sound), sound.rate, sound.channels, sound.bits, seek_every=1000, comments=COMMENTS)
+        samples, stepped, cursor = library.samples(native), array.array("i"), library.start(native)
+        door.expect(f"module {sound.name}", (samples, len(data) > 0), (sounds_of(made, sound), True))
+        for frame in library.frames(native, cursor):
+            stepped.extend(frame)
+        door.expect(f"module, frames of {sound.name}", (stepped, cursor.offset, cursor.sample), (samples, len(native), sound.length))
+        cursor = library.seek(native, sound.length // 2)
+        first = cursor.sample
+        rest = array.array("i", [sample for frame in library.frames(native, cursor) for sample in frame])
+        door.expect(f"module, sought in {sound.name}", (first <= sound.length // 2, rest), (True, samples[first * sound.channels:]))
+        stream = library.encode(samples, sound.rate, sound.channels, sound.bits, serial=5, vendor="x", comments=COMMENTS)
+        info = library.info(stream)
+        door.expect(f"module, info of {sound.name}", (info.total, info.rate, info.channels, info.bits), (sound.length, sound.rate, sound.channels, sound.bits))
+        door.expect(f"module, comments of {sound.name}", (library.vendor(stream), library.comments(stream)), (b"x", [text.encode() for text in COMMENTS]))
+    try:
+        library.encode([0], 44100, 2, 16)
+        said = "encoded"
+    except flac_proved.NotEncoded as reason:
+        said = str(reason)
+    door.expect("module, reason", said, "43 LengthsDiffer")
+
+
+def sounds_of(made, sound):
+    """The samples of a sound, interleaved."""
+    width, data = (sound.bits + 7) // 8, program.read(made.path(sound.name + ".raw"))
+    return array.array("i", [int.from_bytes(data[at:at + width], "little", signed=True) for at in range(0, len(data), width)])
+
+
+def main():
+    parser = argparse.ArgumentParser(usage=__doc__.split("usage: ")[1].split("\n")[0])
+    parser.add_argument("--quick", action="store_true")
+    parser.add_argument("--no-valgrind", action="store_true")
+    parser.add_argument("--library", default=os.path.join(program.ROOT, "crates", "flac_c", "out", "libflac_c.a"))
+    given, _ = parser.parse_known_args()
+    if given.library == parser.get_default("library"):
+        subprocess.run(["rt", "lib"], cwd=os.path.join(program.ROOT, "crates", "flac_c"), stdout=subprocess.DEVNULL, check=True)
+    with tempfile.TemporaryDirectory(prefix="flac-c-") as folder:
+        door, paths, seen = Door(given.library, folder), [], set()
+        made = corpus.Corpus(os.path.join(folder, "corpus"), given.quick)
+        for name, data in streams(made):
+            if data not in seen:
+                seen.add(data)
+                paths.append(os.path.join(folder, "".join(c if c.isalnum() or c in "-._" else "_" for c in f"{len(paths)}-{name}")))
+                with open(paths[-1], "wb") as file:
+                    file.write(data)
+        for path, told in zip(paths, door.lines(paths)):
+            name = os.path.basename(path)
+            door.expect(name, told, [*due_lines(path, folder), *no_frames(name.partition("-")[2])])
+        few = [path for path in paths if os.path.getsize(path) < 20000]
+        few = few[::max(1, len(few) // 12)]
+        checked_runs(door, few, not given.no_valgrind)
+        encodings(door, made, listed(made))
+        refusals(door)
+        wav_programs(door, made, listed(made), not given.no_valgrind)
+        module(door, made, listed(made), few)
+    print(f"{len(paths)} streams, {door.passed} comparisons passed, {len(door.failed)} failed")
+    return 1 if door.failed else 0
+
+
+if __name__ == "__main__":
+    sys.exit(main())

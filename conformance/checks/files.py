@@ -1,0 +1,365 @@
+#!/usr/bin/env python3
+"""Which files the program replaces and which it keeps, what it takes as raw samples, and how it stores what it writes.
+
+usage: conformance/checks/files.py [--quick] [--only TEXT]
+
+A file of sound is one that begins with `fLaC`, `OggS`, `RIFF`, `RF64`, `BW64`, `FORM` or `ID3`. What has to hold: the status and the
+line, that a file that is kept has its bytes, and that no file is left beside it. `failing.c` is compiled, and loaded before the C
+library. FLAC names the program, JOBS how many runs at once. Status 1 if an answer is not the one that is due.
+"""
+import argparse
+import os
+import shutil
+import struct
+import subprocess
+import sys
+import tempfile
+import time
+from concurrent.futures import ThreadPoolExecutor
+
+import folders  # noqa: F401  (the path of the modules below)
+import devices
+import program
+from devices import BEFORE, ENCODE, NATIVE, OGG, RAW, due_of
+from program import Wrong, expect, read
+
+HERE = os.path.dirname(os.path.abspath(__file__))
+STREAMS, WAVES, OTHERS = (b"fLaC", b"OggS"), (b"RIFF", b"RF64", b"BW64"), (b"FORM", b"ID3")
+KINDS = STREAMS + WAVES + OTHERS
+PLAIN = (b"", b"f", b"fLa", b"fLaD", b"ID", b"RIF", b"riff", b"FORN", b" RIFF", b"\0")
+"""No file of sound begins so, if other bytes follow."""
+WAVE = b"".join([b"RIFF", struct.pack("<I", 36 + len(RAW)), b"WAVEfmt ", struct.pack("<IHHIIHH", 16, 1, 2, 44100, 176400, 4, 16), b"data",
+                 struct.pack("<I", len(RAW)), RAW])
+"""The samples of RAW as a WAV file."""
+DECODE, DECODE_WAVE, RETAG = ["decode", "IN", "OUT"], ["decode", "--wav", "IN", "OUT"], ["retag", "IN", "OUT", "A=b"]
+WRITING = [("decode", DECODE, NATIVE), ("retag", [*RETAG, "--force"], NATIVE), ("encode", ["encode", "IN", "OUT", *ENCODE], RAW),
+           ("encode of a WAV file", ["encode", "IN", "OUT"], WAVE)]
+NAMES = {b"\0": "zeros", b"": "a line of text"}
+
+
+def named(text):
+    return NAMES.get(text, repr(text.decode()))
+
+
+def forced(words):
+    return words if "--force" in words else [*words, "--force"]
+
+
+def source_of(place, words):
+    """What IN is: a stream, one that keeps a WAV file, a WAV file or raw samples."""
+    if words[0] == "retag" or words == DECODE:
+        return NATIVE
+    if words[0] == "encode":
+        return RAW if "--rate" in words else WAVE
+    names = {"IN": place.put("kept.wav", WAVE), "OUT": place.path("kept.flac")}
+    expect(place.call(["encode", "IN", "OUT"], names), (0, b"", ""))
+    return read(names["OUT"])
+
+
+def kept(place, words, old, source=None, name="out", before=(), **more):
+    """OUT is not replaced: it and IN have their bytes, and no other file is there."""
+    names = {"IN": place.put("in", source_of(place, words) if source is None else source), "OUT": place.put(name, old)}
+    given, found = read(names["IN"]), set(os.listdir(place.folder))
+    place.refused(words, names, f"{names['OUT']}: cannot be created", before, **more)
+    expect((read(names["IN"]), read(names["OUT"]), set(os.listdir(place.folder))), (given, old, found))
+
+
+def replaced(place, words, old, source=None, name="out", due=None):
+    """OUT has what the job writes into a new file, and no other file is there."""
+    source = source_of(place, words) if source is None else source
+    due, names = due_of(place, words, source) if due is None else due, {"IN": place.put("in", source), "OUT": place.put(name, old)}
+    found = set(os.listdir(place.folder))
+    expect(place.call(words, names), (0, b"", ""))
+    expect((read(names["OUT"]), set(os.listdir(place.folder))), (due, found))
+
+
+JOBS_OF_KINDS = [("decode", DECODE, ()), ("decode --wav", DECODE_WAVE, WAVES), ("encode", ["encode", "IN", "OUT", *ENCODE], STREAMS),
+                 ("encode --ogg", ["encode", "IN", "OUT", *ENCODE, "--ogg"], STREAMS), ("encode of a WAV file", ["encode", "IN", "OUT"], STREAMS)]
+"""A job, its words, and the files of sound that it may replace."""
+
+
+def kind_cases():
+    """A file of sound is replaced by its own kind alone, any other file by each job."""
+    for name, words, own in JOBS_OF_KINDS:
+        for text in KINDS:
+            old = text + bytes(60)
+            call = replaced if text in own else kept
+            yield f"{name}: OUT begins with {named(text)}", lambda p, c=call, w=words, o=old: c(p, w, o)
+            yield f"{name}: OUT is {named(text)} alone", lambda p, c=call, w=words, o=text: c(p, w, o)
+            yield f"{name} --force: OUT begins with {named(text)}", lambda p, w=words, o=old: replaced(p, [*w, "--force"], o)
+        for text in PLAIN:
+            yield f"{name}: OUT begins with {named(text)}, no file of sound", lambda p, w=words, o=text + BEFORE: replaced(p, w, o)
+        yield f"{name}: OUT is a whole stream", lambda p, w=words, c=replaced if STREAMS == own else kept: c(p, w, NATIVE)
+        yield f"{name}: OUT is a whole Ogg stream", lambda p, w=words, c=replaced if STREAMS == own else kept: c(p, w, OGG)
+        yield f"{name}: OUT is a whole WAV file", lambda p, w=words, c=replaced if WAVES == own else kept: c(p, w, WAVE)
+    yield "decode: OUT is a WAV file by its name", lambda p: replaced(p, DECODE, WAVE + b"\0", source_of(p, DECODE_WAVE), "out.wav", WAVE)
+    yield "decode: OUT is a stream, its name that of a WAV file", lambda p: kept(p, DECODE, NATIVE, source_of(p, DECODE_WAVE), "out.wav")
+    yield "decode: OUT is not to be read", lambda p: not_to_be_read(p)
+    yield "decode *.flac: the second song stays", lambda p: kept(p, DECODE, NATIVE + b"\0", name="second.flac")
+    yield "encode *.wav: the second song stays", lambda p: kept(p, ["encode", "IN", "OUT"], WAVE + b"\0", name="second.wav")
+    yield "standard output is added to, whatever it is", lambda p: added(p)
+
+
+def not_to_be_read(place):
+    """It may be a song: it is not replaced, but with --force."""
+    names = {"IN": place.put("in", NATIVE), "OUT": place.put("out", OGG)}
+    os.chmod(place.folder, 0o777)
+    os.chmod(names["OUT"], 0o222)
+    place.refused(DECODE, names, f"{names['OUT']}: cannot be created", **devices.other_user())
+    expect((read(names["OUT"]), set(os.listdir(place.folder))), (OGG, {"in", "out"}))
+    expect(place.call([*DECODE, "--force"], names, **devices.other_user()), (0, b"", ""))
+    expect(os.stat(names["OUT"]).st_size > 0 and read(names["OUT"]) != OGG, True)
+
+
+def added(place):
+    names, due = {"IN": place.put("in", NATIVE), "OUT": "/dev/stdout"}, due_of(place, DECODE, NATIVE)
+    with open(place.put("all", OGG), "ab") as out:
+        expect(place.call(DECODE, names, stdout=out)[::2], (0, ""))
+    expect(read(place.path("all")), OGG + due)
+
+
+def with_flag(data):
+    """The stream's STREAMINFO with the other flag, after which nothing is right."""
+    return data[:4] + bytes([data[4] ^ 0x80]) + data[5:]
+
+
+def retag_cases():
+    """A retagging replaces a native stream of the same STREAMINFO alone."""
+    other = NATIVE[:30] + bytes([NATIVE[30] ^ 1]) + NATIVE[31:]
+    for name, old in [("a copy of IN", NATIVE), ("IN with another flag of the last block", with_flag(NATIVE)), ("what IN begins with", NATIVE[:42]),
+                      ("IN and more", NATIVE + BEFORE)]:
+        yield f"retag: OUT is {name}", lambda p, o=old: replaced(p, RETAG, o)
+        yield f"retag: OUT is {name}, IN is a pipe", lambda p, o=old: piped(p, RETAG, o)
+    changed = [(f"IN with byte {at} changed", NATIVE[:at] + bytes([NATIVE[at] ^ 0x40]) + NATIVE[at + 1:]) for at in range(42)]
+    for name, old in [("another song", other), ("cut in STREAMINFO", NATIVE[:41]), ("an Ogg stream", OGG), ("a WAV file", WAVE), ("text", BEFORE),
+                      ("one byte", b"f"), *changed, *((named(text), text + bytes(60)) for text in KINDS)]:
+        yield f"retag: OUT is {name}", lambda p, o=old: kept(p, RETAG, o)
+        yield f"retag --force: OUT is {name}", lambda p, o=old: replaced(p, [*RETAG, "--force"], o)
+    yield "retag: OUT is another song, IN is a pipe", lambda p: piped(p, RETAG, other)
+    yield "retag: OUT is new, IN is a pipe", lambda p: piped_into(p, RETAG, None)
+    yield "retag: OUT is empty, IN is a pipe", lambda p: piped_into(p, RETAG, b"")
+    yield "retag --force: OUT is another song, IN is a pipe", lambda p: piped_into(p, [*RETAG, "--force"], other)
+    for name, source, line in [("no stream", b"fLaD" + bytes(60), "marker: 4 BadMarker"), ("cut", NATIVE[:41], "block 0: 3 Truncated"),
+                               ("empty", b"", "marker: 3 Truncated"), ("an Ogg stream", OGG, "marker: 4 BadMarker")]:
+        yield f"retag: IN is {name}, OUT is another song", lambda p, s=source, t=line: input_refused(p, s, other, t)
+
+
+def piped(place, words, old):
+    """IN is a pipe, which cannot be compared: OUT is not replaced."""
+    names = {"IN": "/dev/stdin", "OUT": place.put("out", old)}
+    place.refused(words, names, f"{names['OUT']}: cannot be created", stdin=None, input=NATIVE)
+    expect((read(names["OUT"]), os.listdir(place.folder)), (old, ["out"]))
+
+
+def piped_into(place, words, old):
+    due, names = due_of(place, words, NATIVE), {"IN": "/dev/stdin", "OUT": place.path("out")}
+    if old is not None:
+        place.put("out", old)
+    expect(place.call(words, names, stdin=None, input=NATIVE), (0, b"", ""))
+    expect(read(names["OUT"]), due)
+
+
+def input_refused(place, source, old, line):
+    """IN is refused by its own line, and OUT stays."""
+    names = {"IN": place.put("in", source), "OUT": place.put("out", old)}
+    place.refused(RETAG, names, f"{names['IN']}: {line}")
+    expect((read(names["OUT"]), set(os.listdir(place.folder))), (old, {"in", "out"}))
+
+
+def forced_cases():
+    """Also with --force no file is replaced that the job reads."""
+    for name, words, source in WRITING:
+        for how in ("path", "link", "hard link"):
+            yield f"{name} --force: OUT is IN, by {how}", lambda p, w=forced(words), s=source, h=how: itself(p, w, s, h)
+    yield "encode --force: OUT is LIST", lambda p: list_itself(p)
+
+
+def itself(place, words, source, how):
+    path = place.put("in", source)
+    out = path if how == "path" else place.path("link")
+    if how != "path":
+        (os.symlink if how == "link" else os.link)(path, out)
+    place.refused(words, {"IN": path, "OUT": out}, f"{out}: cannot be created")
+    expect(read(path), source)
+
+
+def list_itself(place):
+    path = place.put("list", devices.LIST)
+    names = {"IN": place.put("in", RAW), "OUT": path, "LIST": path}
+    place.refused(["encode", "IN", "OUT", *devices.LISTED, "--force"], names, f"{path}: cannot be created")
+    expect(read(path), devices.LIST)
+
+
+def raw_cases():
+    """A file of sound is no raw samples, but with --raw."""
+    words = ["encode", "IN", "OUT", *ENCODE]
+    for text in KINDS:
+        source = text + bytes(-len(text) % 4) + RAW
+        for how in ("file", "pipe"):
+            yield f"encode: IN begins with {named(text)}, a {how}", lambda p, s=source, h=how: not_raw(p, words, s, h)
+            yield f"encode --raw: IN begins with {named(text)}, a {how}", lambda p, s=source, h=how: comes_back(p, [*words, "--raw"], s, h)
+        yield f"encode: IN is {named(text)} alone", lambda p, s=text: not_raw(p, words, s, "file")
+    for text in PLAIN:
+        source = text + bytes(-len(text) % 4) + RAW
+        yield f"encode: IN begins with {named(text)}, no file of sound", lambda p, s=source: comes_back(p, words, s, "file")
+    yield "encode: IN is a stream", lambda p: not_raw(p, words, NATIVE, "file")
+    yield "encode: IN is a WAV file", lambda p: not_raw(p, words, WAVE, "pipe")
+    yield "encode: IN is one of part of a sample", lambda p: refused_as(p, words, b"fLa", "48 RawLength")
+    yield "encode --raw: IN is one of part of a sample", lambda p: refused_as(p, [*words, "--raw"], b"ID3", "48 RawLength")
+    yield "encode: the format goes before", lambda p: refused_as(p, ["2000000" if word == "44100" else word for word in words], NATIVE, "40 BadRate")
+    yield "encode: a line of the list goes before", lambda p: bad_line(p)
+
+
+def given(place, source, how):
+    """The name of IN, and the words of a call that gives it."""
+    return ("/dev/stdin", {"stdin": None, "input": source}) if how == "pipe" else (place.put("in", source), {})
+
+
+def not_raw(place, words, source, how):
+    """Refused, and nothing is written: a new OUT is empty, one with bytes stays."""
+    path, more = given(place, source, how)
+    place.refused(words, {"IN": path, "OUT": place.path("out")}, f"{path}: 56 NotRaw", **more)
+    expect(read(place.path("out")), b"")
+    place.refused(words, {"IN": path, "OUT": place.put("out", BEFORE)}, f"{path}: 56 NotRaw", **more)
+    expect((read(place.path("out")), os.path.exists(place.path("out.part"))), (BEFORE, False))
+
+
+def comes_back(place, words, source, how):
+    path, more = given(place, source, how)
+    expect(place.call(words, {"IN": path, "OUT": place.path("out.flac")}, **more), (0, b"", ""))
+    expect(place.call(DECODE, {"IN": place.path("out.flac"), "OUT": place.path("back")}), (0, b"", ""))
+    expect(read(place.path("back")), source)
+
+
+def refused_as(place, words, source, line):
+    path = place.put("in", source)
+    place.refused(words, {"IN": path, "OUT": place.path("out")}, f"{path}: {line}")
+
+
+def bad_line(place):
+    names = {"IN": place.put("in", NATIVE), "OUT": place.path("out"), "LIST": place.put("list", b"x")}
+    place.refused(["encode", "IN", "OUT", *devices.LISTED], names, f"{names['LIST']}: line 1: 53 PredictorLine")
+
+
+def word_cases():
+    """An OUT of `retag` that has the form of a comment is none; some but not all options of raw samples are no command line."""
+    for out in ("TITLE=New", "A=b/c", "=", "=b", "A="):
+        yield f"retag IN {out}", lambda p, o=out: no_path(p, ["retag", "IN", o], o)
+        yield f"retag IN {out} A=b --force", lambda p, o=out: no_path(p, ["retag", "--force", "IN", o, "A=b"], o)
+    for out in ("./TITLE=New", "below/A=b", "./below=/A=b"):
+        yield f"retag IN {out}", lambda p, o=out: taken(p, o)
+    for words in (ENCODE[:2], ENCODE[:4], ENCODE[2:6], ["--raw"], ["--raw", *ENCODE[:4]]):
+        yield f"encode IN OUT {' '.join(words)}", lambda p, w=words: missing(p, w)
+    for words in (["test", "IN", "--force"], ["list", "IN", "--force"], ["decode", "IN", "OUT", "--raw"], ["retag", "IN", "OUT", "--raw"]):
+        yield " ".join(words), lambda p, w=words: expect(p.call(w, {"IN": p.put("in", NATIVE), "OUT": p.path("out")})[0], 2)
+    for command, options in (("decode", ["--force"]), ("encode", ["--force", "--raw"]), ("retag", ["--force"])):
+        for option in options:
+            yield f"{command}: help on {option}", lambda p, c=command, o=option: expect(o in p.call([c, "--help"], {})[1].decode(), True)
+
+
+def no_path(place, words, out):
+    names = {"IN": place.put("in", NATIVE)}
+    line = f"flac: command: OUT has the form of a comment; a file of that name is ./{out}\n"
+    expect(place.call(words, names, cwd=place.folder), (2, b"", line))
+    expect(os.listdir(place.folder), ["in"])
+
+
+def taken(place, out):
+    for folder in ("below", "below="):
+        os.mkdir(place.path(folder))
+    due = due_of(place, RETAG[:3], NATIVE)
+    expect(place.call(["retag", "IN", out], {"IN": place.put("in", NATIVE)}, cwd=place.folder), (0, b"", ""))
+    expect(read(place.path(out)), due)
+
+
+def missing(place, words):
+    names = {"IN": place.put("in", RAW), "OUT": place.path("out")}
+    expect(place.call(["encode", "IN", "OUT", *words], names), (2, b"", "flac: command: raw samples need --rate, --channels and --bits\n"))
+    expect(os.path.exists(names["OUT"]), False)
+
+
+def stored_cases(library):
+    """A regular OUT is stored before status 0, no other; a new file beside OUT never has more permissions than OUT."""
+    for name, words, source in WRITING:
+        for old in (None, b"", BEFORE):
+            what = "new" if old is None else "replaced" if old else "empty"
+            yield f"{name}: OUT is {what}, and stored", lambda p, w=words, s=source, o=old: stored(p, library, w, s, o)
+            yield f"{name}: OUT is {what}, and cannot be stored", lambda p, w=words, s=source, o=old: not_stored(p, library, w, s, o)
+        for out in ("/dev/null", "/dev/stdout", "a pipe"):
+            yield f"{name}: OUT is {out}, which is not stored", lambda p, w=words, s=source, o=out: not_regular(p, library, w, s, o)
+        for mode in (0o600, 0o640, 0o666, 0o200):
+            yield f"{name}: the new file beside OUT is created with mode {mode:o}", lambda p, w=words, s=source, m=mode: created(p, library, w, s, m)
+
+
+def calls(place, library, words, names, failing=None, **more):
+    """What comes of a call in which the first request of this kind fails, and how often each kind was asked for."""
+    report = place.path("report")
+    env = {"LD_PRELOAD": library, "FAILING_REPORT": report, "FAILING_CALL": failing or "", "FAILING_NUMBER": "1", "FAILING_HOW": "5"}
+    found = place.call(words, names, env=env, **more)
+    last = read(report).decode().splitlines()[-1].split()
+    os.remove(report)
+    return found, {name: int(count) for name, count in (pair.split("=") for pair in last[1:])}
+
+
+def names_of(place, source, old):
+    if old is not None:
+        place.put("out", old)
+    return {"IN": place.put("in", source), "OUT": place.path("out")}
+
+
+def stored(place, library, words, source, old):
+    names = names_of(place, source, old)
+    found, count = calls(place, library, words, names)
+    expect((found, count["fsync"]), ((0, b"", ""), 1))
+
+
+def not_stored(place, library, words, source, old):
+    names, due = names_of(place, source, old), due_of(place, words, source)
+    found, _ = calls(place, library, words, names, "fsync")
+    expect(found, (1, b"", f"flac: {names['OUT']}: cannot be {'replaced' if old else 'stored'}\n"))
+    expect((read(names["OUT"]), read(place.path("out.part")) if old else None), (old, due) if old else (due, None))
+
+
+def not_regular(place, library, words, source, out):
+    path = place.path("pipe") if out == "a pipe" else out
+    if out == "a pipe":
+        os.mkfifo(path)
+        reader = subprocess.Popen(["cat", path], stdout=subprocess.PIPE)
+    found, count = calls(place, library, words, {"IN": place.put("in", source), "OUT": path})
+    if out == "a pipe":
+        # a program that did not open the pipe would leave its reader waiting
+        if found[0]:
+            reader.kill()
+        expect(reader.communicate()[0], due_of(place, words, source))
+    expect((found[0], found[2], count["fsync"]), (0, "", 0))
+
+
+def created(place, library, words, source, mode):
+    """The permissions are not set afterwards: the new file has those with which it was created."""
+    names = names_of(place, source, BEFORE)
+    os.chmod(names["OUT"], mode)
+    found, count = calls(place, library, forced(words), names, "fchmod", umask=0)
+    expect((found, count["fchmod"], os.stat(names["OUT"]).st_mode & 0o7777), ((0, b"", ""), 1, mode))
+
+
+def main():
+    parser = argparse.ArgumentParser(description=__doc__, formatter_class=argparse.RawDescriptionHelpFormatter)
+    parser.add_argument("--quick", action="store_true", help="the same: it takes seconds")
+    parser.add_argument("--only", default="", help="only the cases whose name has this text")
+    words, began = parser.parse_args(), time.time()
+    with tempfile.TemporaryDirectory() as folder, ThreadPoolExecutor(devices.JOBS) as pool:
+        os.chmod(folder, 0o755)
+        binary, library = shutil.copy(program.BINARY, os.path.join(folder, "flac")), os.path.join(folder, "failing.so")
+        subprocess.run(["cc", "-O1", "-shared", "-fPIC", "-o", library, os.path.join(HERE, "failing.c")], check=True)
+        groups = (kind_cases(), retag_cases(), forced_cases(), raw_cases(), word_cases(), stored_cases(library))
+        every = [case for group in groups for case in group if words.only in case[0]]
+        found = list(pool.map(lambda case: devices.outcome(case, folder, binary), every))
+    for _, line in found:
+        print(line, end="\n" if line else "")
+    count = {state: sum(1 for one, _ in found if one == state) for state in ("passed", "failed")}
+    print(f"files: {len(every)} cases, {count['passed']} passed, {count['failed']} failed, {time.time() - began:.0f} seconds")
+    return 1 if count["failed"] or not every else 0
+
+
+if __name__ == "__main__":
+    sys.exit(main())
