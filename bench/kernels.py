@@ -29,7 +29,7 @@ DECODING = {
     "pulls and checks": r"Held::pull|BitReader::|crc_of_bytes::|crc_8_16_division::|crc_32_division::",
 }
 ENCODING = {
-    "differences, widths, bounds, totals": r"choice::improve|(narrowed|leaving|folding|pruning|survey|widths|cost)::",
+    "differences, widths, bounds, totals": r"choice::improve|(narrowed|leaving|folding|pruning|least_coding|widths|cost)::",
     "costs under a parameter": r"halves::",
     "first guess, range, copies": r"(choice|chosen|wasted)::|memmove|memset",
     "writing, checks": r"writing::|put_more|unsent::|BitWriter|crc_of_bytes::|crc_8_16_division::|crc_32_division::",

@@ -112,7 +112,7 @@ def due_lines(path, folder):
 
 
 def no_frames(name):
-    """The samples, of 0, 10, 20, 30 and 41, that no frame is found for: the table of `every-block` is made up, and says that sample 32 is at byte 70 behind the first
+    """The samples, of 0, 10, 20, 30 and 41, that no frame is found for: the table of `every-block` is made up, and says that sample 32 is at byte 70 after the first
     frame, where none begins."""
     return ["no frame at the seek point before 41"] if name == "every-block" else []
 

@@ -84,7 +84,7 @@ def frame_cases(entry, bench):
 
 def digest_cases(made, bench):
     first, other = (read(e.path) for e in [e for e in made.entries if e.path.endswith("ref_1.flac") and e.group == "reference, settings"][:2])
-    yield "frames of one file behind the metadata of another", lambda: spliced_case(first, other, bench)
+    yield "frames of one file after the metadata of another", lambda: spliced_case(first, other, bench)
     for name, at, due in (("digest", 30, "end: 29 Md5Mismatch"), ("total", 25, "end: 28 TotalMismatch")):
         copy = bytearray(first)
         copy[at] ^= 1

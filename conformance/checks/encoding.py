@@ -138,7 +138,7 @@ def fault_case(samples, words, due, bench):
 
 
 def retag_case(entry, bench):
-    """New comments stand behind STREAMINFO, the other blocks and every byte of the frames stay."""
+    """New comments stand after STREAMINFO, the other blocks and every byte of the frames stay."""
     out, comments = bench.path(), [b"TITLE=x", b"EMPTY=", "NAME=\u00e9".encode()]
     if program.succeeds("retag", entry.path, out, *[os.fsdecode(comment) for comment in comments]):
         raise Wrong("'retag' prints something")

@@ -2,7 +2,7 @@
 
 The bytes that are due are put together here from the rules of the two formats alone: pages and lacing values (RFC 3533,
 section 6), the packets of FLAC and the positions of their pages (RFC 9639, section 10.1), blocks (section 8) and frames
-(section 9). A page of a header packet has position 0, also where the packet goes on behind it. A page on which a frame ends
+(section 9). A page of a header packet has position 0, also where the packet goes on after it. A page on which a frame ends
 has the number of samples so far; a page on which none ends has all ones.
 """
 import hashlib
@@ -67,7 +67,7 @@ def frame(size, channels, subframes):
 
 
 def stream(raw, size, channels, texts, frame_bytes):
-    """One frame of 16 bits behind STREAMINFO and the comments."""
+    """One frame of 16 bits after STREAMINFO and the comments."""
     bits = size << 16 | size
     bits = bits << 48 | len(frame_bytes) << 24 | len(frame_bytes)
     bits = bits << 64 | 44100 << 44 | channels - 1 << 41 | 15 << 36 | size

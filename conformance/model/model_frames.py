@@ -188,10 +188,10 @@ class Reader(Metadata):
     def read_frames(self):
         self.info = self.blocks[0][2]
         while not self.bits.at_end():
-            self.hand_out(self.at(f"frame {self.frames}", self.frame))
+            self.decode_into(self.at(f"frame {self.frames}", self.frame))
         self.finish()
 
-    def hand_out(self, channels):
+    def decode_into(self, channels):
         """A frame whose bytes are all there and good."""
         width = (self.info["depth"] + 7) // 8
         self.raw.append(b"".join(s.to_bytes(width, "little", signed=True) for column in zip(*channels) for s in column))

@@ -150,6 +150,6 @@ class OggReader(Reader):
         self.info = self.blocks[0][2]
         while self.pages.begin():
             samples = self.at(f"frame {self.frames}", self.item, self.frame)
-            self.hand_out(samples)
+            self.decode_into(samples)
         self.pages.finish()
         self.finish()

@@ -49,7 +49,7 @@ def stream_info(least=4096, greatest=4096, rate=44100, channels=1, depth=16, tot
 
 
 def stream(*parts, info=None, blocks=()):
-    """A stream of frames behind its STREAMINFO and other blocks (kind, content)."""
+    """A stream of frames after its STREAMINFO and other blocks (kind, content)."""
     whole = [(0, info if info is not None else stream_info())] + list(blocks)
     return MARKER + b"".join(block(k, c, i == len(whole) - 1) for i, (k, c) in enumerate(whole)) + b"".join(parts)
 

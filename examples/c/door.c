@@ -56,7 +56,7 @@ static void must(int holds, int status) {
     }
 }
 
-/* Memory just as large as is asked for, so that a byte written or read behind it is found. */
+/* Memory just as large as is asked for, so that a byte written or read after it is found. */
 static void *room_for(size_t count, size_t size) {
     void *block = __real_malloc(count > 0 ? count * size : 1);
     must(block != NULL, 3);
@@ -151,7 +151,7 @@ static void put_info(struct file file) {
         must(flac_proved_comment(file.bytes, file.len, i, nothing, 0, &again, &fault) == 0, 7);
         text = room_for(again, 1);
         must(flac_proved_comment(file.bytes, file.len, i, text, again, &len, &fault) == 0 && len == again, 7);
-        /* behind the last one there is none */
+        /* after the last one there is none */
         i < info.comments ? put_text("comment", text, len) : must(len == 0, 7);
         __real_free(text);
     }
@@ -169,7 +169,7 @@ static struct file decoded(struct file file, uint32_t width, uint32_t due) {
     }
     all.bytes = room_for(len, 1);
     must(flac_proved_decode(file.bytes, file.len, width, all.bytes, len, &all.len, &fault) == 0 && all.len == len, 8);
-    /* half the room: nothing is written behind it, and what is written is the same */
+    /* half the room: nothing is written after it, and what is written is the same */
     half.bytes = room_for(len / 2, 1);
     must(flac_proved_decode(file.bytes, file.len, width, half.bytes, len / 2, &half.len, &fault) == 0 && half.len == len, 8);
     must(memcmp(half.bytes, all.bytes, len / 2) == 0, 8);

@@ -19,7 +19,7 @@
  * flac_proved_bound, flac_proved_strerror and flac_proved_place return a number of bytes.
  *
  * Buffers: a call that fills a buffer of `room` elements stores in *len how many elements there are in all. It writes them to the front of
- * the buffer, as far as there is room, and nothing behind that; the rest of the buffer stays as it is. So *len > room means that the buffer
+ * the buffer, as far as there is room, and nothing after that; the rest of the buffer stays as it is. So *len > room means that the buffer
  * was too small. If the call returns another number than 0, the buffer and *len are as they were.
  */
 #ifndef FLAC_PROVED_H

@@ -1,7 +1,7 @@
 -- A fence round one item, and no fence between items.
 use Rattle.std.proofs.Common.{◌≡◌, ℕ, ◌<◌, ◌≤◌, Bool, true, false, nat_eq, List, ◌++◌, Some, Result, Ok, Err, refl, sym, ap, subst, ◌∙◌}
 use Rattle.std.proofs.lemmas.List.{append-nil}
-use Rattle.flac_bits.specs.State.{State, Mark, Cursor, Behind, fresh, with_short, without_fence, started, short_of}
+use Rattle.flac_bits.specs.State.{State, Mark, Cursor, After, fresh, with_short, without_fence, started, short_of}
 use Rattle.flac_bits.specs.Layout.{Layout, Reason, run, done, ◌>>=◌, and_then}
 use Rattle.flac_bits.specs.Reading.{Reads, Counts}
 use Rattle.flac_bits.specs.Fence.{fenced, unfenced, read_in}
@@ -24,14 +24,14 @@ lifted_open s = record { none = refl; short = refl }
 
 pub open_lifted : (s : State) → IsOpen s → lifted s ≡ s
 open_lifted s opened =
-    ap (λ (b : Behind). record s { behind = b; cursor = record { left = all_left s; mark = with_short (short_of s.behind.fails) s.cursor.mark } }) (ap (λ (f : List Bool). record s.behind { fenced = f }) (sym opened.none))
-    ∙ ap (λ (l : List Bool). record s { cursor = record { left = l; mark = with_short (short_of s.behind.fails) s.cursor.mark } }) (ap (λ (f : List Bool). s.cursor.left ++ f) opened.none ∙ append-nil s.cursor.left)
+    ap (λ (b : After). record s { after = b; cursor = record { left = all_left s; mark = with_short (short_of s.after.fails) s.cursor.mark } }) (ap (λ (f : List Bool). record s.after { fenced = f }) (sym opened.none))
+    ∙ ap (λ (l : List Bool). record s { cursor = record { left = l; mark = with_short (short_of s.after.fails) s.cursor.mark } }) (ap (λ (f : List Bool). s.cursor.left ++ f) opened.none ∙ append-nil s.cursor.left)
     ∙ ap (λ (w : Why). record s { cursor = record { left = s.cursor.left; mark = with_short w s.cursor.mark } }) (sym opened.short)
 
-pub open_on : (s t : State) → IsOpen s → t.behind ≡ s.behind → t.cursor.mark.short ≡ s.cursor.mark.short → IsOpen t
-open_on s t opened behind short = record {
-  none = ap (λ (b : Behind). b.fenced) behind ∙ opened.none;
-  short = short ∙ opened.short ∙ ap (λ (b : Behind). short_of b.fails) (sym behind);
+pub open_on : (s t : State) → IsOpen s → t.after ≡ s.after → t.cursor.mark.short ≡ s.cursor.mark.short → IsOpen t
+open_on s t opened after short = record {
+  none = ap (λ (b : After). b.fenced) after ∙ opened.none;
+  short = short ∙ opened.short ∙ ap (λ (b : After). short_of b.fails) (sym after);
 }
 
 -- ---- the checks begin anew
@@ -50,29 +50,29 @@ fenced_start n s = go (nat_eq s.cursor.mark.unread 0) refl
     go true e = rw e refl
     go false e = rw e refl
 
-unfenced_end : (n : ℕ) (s t : State) → t.behind ≡ (fence_at n s).behind → (lifted t).cursor ≡ unfenced n (started (lifted s)).cursor t.cursor
-unfenced_end n s t behind =
-    ap (λ (b : Behind). record { left = t.cursor.left ++ b.fenced; mark = with_short (short_of b.fails) t.cursor.mark }) behind ∙ go (nat_eq s.cursor.mark.unread 0) refl
+unfenced_end : (n : ℕ) (s t : State) → t.after ≡ (fence_at n s).after → (lifted t).cursor ≡ unfenced n (started (lifted s)).cursor t.cursor
+unfenced_end n s t after =
+    ap (λ (b : After). record { left = t.cursor.left ++ b.fenced; mark = with_short (short_of b.fails) t.cursor.mark }) after ∙ go (nat_eq s.cursor.mark.unread 0) refl
   where
     go : (b : Bool) → nat_eq s.cursor.mark.unread 0 ≡ b
-        → record { left = t.cursor.left ++ (fence_at n s).behind.fenced; mark = with_short (short_of s.behind.fails) t.cursor.mark } ≡ unfenced n (started (lifted s)).cursor t.cursor
+        → record { left = t.cursor.left ++ (fence_at n s).after.fenced; mark = with_short (short_of s.after.fails) t.cursor.mark } ≡ unfenced n (started (lifted s)).cursor t.cursor
     go true e = rw e refl
     go false e = rw e refl
 
--- ---- a call behind a fence, which is lifted then
+-- ---- a call after a fence, which is lifted then
 
 pub counts_fenced : {X : Type 0} (n : ℕ) (s t : State) (result : Result X Why) → Counts (fence_at n s) t result → Counts (lifted s) (lifted t) result
 counts_fenced n s t (Ok x) c = (c.0, c.1, c.2, λ known. ap without_fence (c.3 known), c.4)
 counts_fenced n s t (Err e) c = (c.0, λ known same. ap without_fence (c.1 known same), c.2, c.3, c.4, c.5)
 
-behind_is : {X : Type 0} (s t : State) (result : Result X Why) → Counts s t result → s.known ≡ true → t.errors ≡ s.errors → t.behind ≡ s.behind
-behind_is s t (Ok x) c known same = c.3 known
-behind_is s t (Err e) c known same = c.1 known same
+after_is : {X : Type 0} (s t : State) (result : Result X Why) → Counts s t result → s.known ≡ true → t.errors ≡ s.errors → t.after ≡ s.after
+after_is s t (Ok x) c known same = c.3 known
+after_is s t (Err e) c known same = c.1 known same
 
 pub reads_fenced : {X Y : Type 0} (view : X → Y) (n : ℕ) (l : Layout Y) (s t : State) (result : Result X Why) → Reads view l (started (fence_at n s)) t result → Counts (fence_at n s) t result
     → ReadsWithin (Some n) view l s (lifted t) result
 reads_fenced view n l s t result reads counts known same =
-    answers_in view n l (started (lifted s)).cursor t.cursor (lifted t).cursor result (rw (fenced_start n s) at (reads known same)) (unfenced_end n s t (behind_is (fence_at n s) t result counts known same))
+    answers_in view n l (started (lifted s)).cursor t.cursor (lifted t).cursor result (rw (fenced_start n s) at (reads known same)) (unfenced_end n s t (after_is (fence_at n s) t result counts known same))
 
 -- ---- from one call to the next
 
@@ -87,16 +87,16 @@ counts_on s t u x (Err e) c d = (
   d.5,
 )
 
--- behind an item bits run short for the same reason as before it
+-- after an item bits run short for the same reason as before it
 pub step_short : {S I P : Type 0} (g : Grammar S I P) (s : S) (c d : Cursor) (x : I) → step_at g s c ≡ item x d → d.mark.short ≡ c.mark.short
 step_short g s c d x e =
     let t = step_spelled g s c.mark c.left x d e in
     ap (λ (m : Mark). m.short) t.4 ∙ past-short t.0 (fresh c.mark) ∙ fresh-short c.mark
 
 -- where a fence may stand, nothing is read of what is left before it is lifted
-pub lifted_same : (s t : State) → t.cursor ≡ (lifted s).cursor → t.behind ≡ (lifted s).behind → (lifted t).cursor ≡ (lifted s).cursor
-lifted_same s t cursor behind =
-    let opened = open_on (lifted s) t (lifted_open s) behind (ap (λ (c : Cursor). c.mark.short) cursor) in
+pub lifted_same : (s t : State) → t.cursor ≡ (lifted s).cursor → t.after ≡ (lifted s).after → (lifted t).cursor ≡ (lifted s).cursor
+lifted_same s t cursor after =
+    let opened = open_on (lifted s) t (lifted_open s) after (ap (λ (c : Cursor). c.mark.short) cursor) in
     ap (λ (u : State). u.cursor) (open_lifted t opened) ∙ cursor
 
 pub so_far_lifted : {S I P K : Type 0} (g : Grammar S I P) (takes : K → I → K → Type 0) (errors : K → ℕ) (first state : S) (old now : State) (sink taken : K)
@@ -105,7 +105,7 @@ so_far_lifted g takes errors first state old now sink taken h opened = record {
   known = h.known;
   errors_are = h.errors_are;
   raised = h.raised;
-  behind = λ known. ap (λ (s : State). s.behind) (open_lifted now (opened known)) ∙ h.behind known;
+  after = λ known. ap (λ (s : State). s.after) (open_lifted now (opened known)) ∙ h.after known;
   names = h.names;
   received = h.received;
   far = λ known. subst (λ (s : State). Far g takes first state old.cursor s.cursor sink taken) (sym (open_lifted now (opened known))) (h.far known);

@@ -65,8 +65,8 @@ continued_tie (suc n) high m = tie (continued (suc n) high) m (λ v. v / 64 ^ su
     ))
 
 -- what follows a lead byte of n bytes
-abbrev pub behind_lead : ℕ × ℕ × ℕ → Layout ℕ
-behind_lead form = do
+abbrev pub after_lead : ℕ × ℕ × ℕ → Layout ℕ
+after_lead form = do
   value ← continued form.0 form.1
   choose (nat_lt value form.2) (refuse BadNumber) (done value)
 
@@ -82,11 +82,11 @@ is_less a b h = grind (arith, nat_tests)
 is_not_less : (a b : ℕ) → b ≤ a → nat_lt a b ≡ false
 is_not_less a b h = grind (arith, nat_tests)
 
-each_form : (n high least : ℕ) (m : Mark) (P : List Bool → ℕ → Type 0) → ((x : ℕ) → x / 64 ^ n ≡ high → least ≤ x → P (six_bits n x ++ []) x) → ForEach (behind_lead (n, high, least)) m P
+each_form : (n high least : ℕ) (m : Mark) (P : List Bool → ℕ → Type 0) → ((x : ℕ) → x / 64 ^ n ≡ high → least ≤ x → P (six_bits n x ++ []) x) → ForEach (after_lead (n, high, least)) m P
 each_form n high least m P h = each_tied (continued n high) m (λ v. v / 64 ^ n ≡ high) (six_bits n) _ (continued_tie n high m)
     (λ x e. choose_each (nat_lt x least) (refuse BadNumber) (done x) (past (six_bits n x) m) (λ rest y. P (six_bits n x ++ rest) y) (λ test. tt) (λ test. h x e (not_less x least test)))
 
-some_form : (n high least x : ℕ) (m : Mark) (P : List Bool → ℕ → Type 0) → x / 64 ^ n ≡ high → least ≤ x → P (six_bits n x ++ []) x → ForSome (behind_lead (n, high, least)) m P
+some_form : (n high least x : ℕ) (m : Mark) (P : List Bool → ℕ → Type 0) → x / 64 ^ n ≡ high → least ≤ x → P (six_bits n x ++ []) x → ForSome (after_lead (n, high, least)) m P
 some_form n high least x m P e le h = some_tied (continued n high) m (λ v. v / 64 ^ n ≡ high) (six_bits n) _ x (continued_tie n high m) e
     (choose_false (nat_lt x least) (refuse BadNumber) (done x) (past (six_bits n x) m) (λ rest y. P (six_bits n x ++ rest) y) (is_not_less x least le) h)
 
@@ -170,7 +170,7 @@ unfolding lead_form
 form_6 max_bits e = rw e refl
 
 each_lead : (max_bits lead base n high least : ℕ) (m : Mark) → lead ≡ base + high → ((x : ℕ) → x / 64 ^ n ≡ high → least ≤ x → IsNumber max_bits x × (number_spelling x ≡ in_bytes base n x))
-    → ForEach (behind_lead (n, high, least)) m (λ rest x. IsNumber max_bits x × (unsigned 8 lead ++ rest ≡ number_spelling x))
+    → ForEach (after_lead (n, high, least)) m (λ rest x. IsNumber max_bits x × (unsigned 8 lead ++ rest ≡ number_spelling x))
 each_lead max_bits lead base n high least m l h = each_form n high least m (λ rest x. IsNumber max_bits x × (unsigned 8 lead ++ rest ≡ number_spelling x)) (λ x e le.
     let k = h x e le in
     (k.0, ap (λ t. unsigned 8 lead ++ t) (append-nil (six_bits n x)) ∙ ap (λ b. unsigned 8 b ++ six_bits n x) (l ∙ ap (λ j. base + j) (sym e)) ∙ sym k.1))
@@ -184,8 +184,8 @@ some_lead max_bits base n high least x m big small form e le spelled =
     let P : List Bool → ℕ → Type 0 = λ rest y. (unsigned 8 lead ++ rest ≡ number_spelling x) × (y ≡ x) in (
       lead,
       small,
-      choose_false (nat_lt lead 128) (done lead) (some_or_bad (lead_form max_bits lead) >>= behind_lead) m' P (is_not_less lead 128 big)
-          (subst (λ o. ForSome (some_or_bad o >>= behind_lead) m' P) (sym form)
+      choose_false (nat_lt lead 128) (done lead) (some_or_bad (lead_form max_bits lead) >>= after_lead) m' P (is_not_less lead 128 big)
+          (subst (λ o. ForSome (some_or_bad o >>= after_lead) m' P) (sym form)
           (some_form n high least x m' P e le (ap (λ t. unsigned 8 lead ++ t) (append-nil (six_bits n x)) ∙ ap (λ b. unsigned 8 (base + b) ++ six_bits n x) (sym e) ∙ sym spelled, refl))),
     )
 
@@ -233,8 +233,8 @@ unfolding number lead_form
 number_only max_bits m = λ lead lt.
     let m' = past (unsigned 8 lead) m in
     let P : List Bool → ℕ → Type 0 = λ rest x. IsNumber max_bits x × (unsigned 8 lead ++ rest ≡ number_spelling x) in
-    let Q : Option (ℕ × ℕ × ℕ) → Type 0 = λ o. ForEach (some_or_bad o >>= behind_lead) m' P in
-    choose_each (nat_lt lead 128) (done lead) (some_or_bad (lead_form max_bits lead) >>= behind_lead) m' P
+    let Q : Option (ℕ × ℕ × ℕ) → Type 0 = λ o. ForEach (some_or_bad o >>= after_lead) m' P in
+    choose_each (nat_lt lead 128) (done lead) (some_or_bad (lead_form max_bits lead) >>= after_lead) m' P
     (λ test. (small_number max_bits lead (omega (arith, less lead 128 test)), append-nil (unsigned 8 lead) ∙ sym (spelled_0 lead (less lead 128 test))))
     (λ test. by_test (nat_lt lead 192) None _ Q (λ t. tt) (λ f192.
     by_test (nat_lt lead 224) (Some (1, lead - 192, 128)) _ Q
@@ -274,7 +274,7 @@ number_some max_bits m x v =
     (λ t. let lt = less x 128 t in (
       x,
       omega arith,
-      choose_true (nat_lt x 128) (done x) (some_or_bad (lead_form max_bits x) >>= behind_lead) (past (unsigned 8 x) m)
+      choose_true (nat_lt x 128) (done x) (some_or_bad (lead_form max_bits x) >>= after_lead) (past (unsigned 8 x) m)
           (λ rest y. (unsigned 8 x ++ rest ≡ number_spelling x) × (y ≡ x)) t (append-nil (unsigned 8 x) ∙ sym (spelled_0 x lt), refl),
     ))
     (λ f1. let le1 : 128 ≤ x = not_less x 128 f1 in either (nat_lt x 2048) Q

@@ -5,9 +5,9 @@ use Rattle.std.proofs.lemmas.Bool.{eqb-true, eq-eqb}
 use Rattle.std.proofs.lemmas.Bool.Decides.{nat_tests}
 use Rattle.std.proofs.lemmas.Bool.{cases_lt}
 use Rattle.std.specs.Prelude.{is_some}
-use Rattle.flac_bits.specs.State.{Behind, short_of}
+use Rattle.flac_bits.specs.State.{After, short_of}
 use Rattle.flac_bits.specs.Store.{Fence, allowed, forbidden, reached, reason_of, hides_late}
-use Rattle.flac_bits.specs.inner.Store.{Came, seen, room_behind}
+use Rattle.flac_bits.specs.inner.Store.{Came, seen, room_after}
 use Rattle.flac_bits.specs.declared.why.Why.{Why}
 use Rattle.flac_bits.specs.declared.why.Why.TheVariants.{Read}
 
@@ -56,7 +56,7 @@ drop_twice n r xs le = elim (cases_lt n r) [
 
 -- n bytes came
 pub came_is : (room : Option ℕ) (n : ℕ) (buf ys xs : List ℕ) → n ≤ length buf → xs ≡ take n buf ++ ys
-    → Came (record { room = room; hidden = [] }) xs (take (seen room n) buf) (record { room = room_behind room (seen room n); hidden = drop (seen room n) (take n buf) }) ys
+    → Came (record { room = room; hidden = [] }) xs (take (seen room n) buf) (record { room = room_after room (seen room n); hidden = drop (seen room n) (take n buf) }) ys
 came_is None n buf ys xs le is = record {
   left = is;
   fenced = sym (ap (λ zs. zs ++ []) (drop_all n (take n buf) (omega (arith, length-take n buf))));
@@ -99,10 +99,10 @@ none_forbidden None coming e = refl
 none_forbidden (Some zero) coming e = e
 none_forbidden (Some (suc n)) coming e = rw e refl
 
-pub ends_short : (room : Option ℕ) (coming : List ℕ) (behind : Behind) → (room ≡ Some 0 → ⊥) → coming ≡ [] → reason_of (reached room coming) behind ≡ short_of behind.fails
-ends_short None coming behind more e = refl
-ends_short (Some zero) coming behind more e = absurd (more refl)
-ends_short (Some (suc n)) coming behind more e = let late : nat_le (suc n) 0 ≡ false = grind (arith, nat_tests) in rw (e, late) refl
+pub ends_short : (room : Option ℕ) (coming : List ℕ) (after : After) → (room ≡ Some 0 → ⊥) → coming ≡ [] → reason_of (reached room coming) after ≡ short_of after.fails
+ends_short None coming after more e = refl
+ends_short (Some zero) coming after more e = absurd (more refl)
+ends_short (Some (suc n)) coming after more e = let late : nat_le (suc n) 0 ≡ false = grind (arith, nat_tests) in rw (e, late) refl
 
 pub foretold : (o : Option (ℕ × Why)) → is_some o ≡ true → short_of o ≡ Read
 foretold None e = absurd cc
@@ -119,9 +119,9 @@ lifted_list (Some zero) end filled bytes coming late le = refl
 lifted_list (Some (suc n)) end filled bytes coming late le = let none = hidden_none (Some (suc n)) end filled bytes (λ e. absurd cc) late le in rw none (take-append-drop (suc n) coming)
 
 -- n bytes that came leave this room after them
-pub late_behind : (room : Option ℕ) (n : ℕ) → hides_late (room_behind room (seen room n)) (seen room n) n ≡ true
-late_behind None n = eq-eqb n n refl
-late_behind (Some room) n = elim (cases_lt room n) [
+pub late_after : (room : Option ℕ) (n : ℕ) → hides_late (room_after room (seen room n)) (seen room n) n ≡ true
+late_after None n = eq-eqb n n refl
+late_after (Some room) n = elim (cases_lt room n) [
   | inl lt ↦ let m : min n room ≡ room = omega (arith, lt) in let z : room - room ≡ 0 = omega arith in rw (m, z) refl
   | inr le ↦ let m : min n room ≡ n = omega (arith, le) in rw m (same (room - n))
 ]

@@ -39,7 +39,7 @@ failed_then old mid new a b =
 
 -- a loop that went so far
 pub gone : {Y : Type 0} {old now : State} {rest whole : Result Y Reason} → Goes old now rest whole → Answered old now
-gone h = (h.known, h.errors, h.raised, h.behind, h.names)
+gone h = (h.known, h.errors, h.raised, h.after, h.names)
 
 -- the reasons of an error of a source, or of the output
 abbrev pub is_device : Why → Bool

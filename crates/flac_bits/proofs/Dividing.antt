@@ -145,11 +145,11 @@ Within d (e ∷ es) = (e ≤ d) × Within d es
 -- the sum of what stands these distances after each place
 mixed_check : (w g d h : ℕ) (es : List ℕ) (f : ℕ → ℕ) → Within d es → ((k : ℕ) → k < d → f k ≡ 0) → ((k : ℕ) → d + h ≤ k → f k ≡ 0) → check_to w g (λ p. mixed_at es f p) (d + h) ≡ multiple w g es (check_to w g f (d + h))
 unfolding multiple
-mixed_check w g d h [] f small before behind = check_to-zeros w g (λ p. 0) (d + h) (λ p lt. refl)
-mixed_check w g d h (e ∷ es) f small before behind =
+mixed_check w g d h [] f small before after = check_to-zeros w g (λ p. 0) (d + h) (λ p lt. refl)
+mixed_check w g d h (e ∷ es) f small before after =
     check_to-xor w g (λ p. f (p + e)) (λ p. mixed_at es f p) (d + h)
-    ∙ ap (λ k. bit_xor k (check_to w g (λ p. mixed_at es f p) (d + h))) (sym (check_to-front w g f e (d + h) (λ p lt. before p (omega (arith, lt, small.0)))) ∙ check_to-back w g f (d + h) e behind)
-    ∙ ap (bit_xor (times w g (8 * e) (check_to w g f (d + h)))) (mixed_check w g d h es f small.1 before behind)
+    ∙ ap (λ k. bit_xor k (check_to w g (λ p. mixed_at es f p) (d + h))) (sym (check_to-front w g f e (d + h) (λ p lt. before p (omega (arith, lt, small.0)))) ∙ check_to-back w g f (d + h) e after)
+    ∙ ap (bit_xor (times w g (8 * e) (check_to w g f (d + h)))) (mixed_check w g d h es f small.1 before after)
 
 -- an exclusive or that is taken back
 taken_back : (a b : ℕ) → bit_xor (bit_xor a b) b ≡ a
@@ -157,14 +157,14 @@ taken_back a b = xor_assoc a b b ∙ ap (bit_xor a) (xor_self b) ∙ xor_zero_r 
 
 pub divided : (w g d h : ℕ) (es : List ℕ) (x f t : ℕ → ℕ) → multiple w g (d ∷ es) g ≡ 0 → Within d es → ((k : ℕ) → k < d → f k ≡ 0) → ((k : ℕ) → d + h ≤ k → f k ≡ 0)
     → ((p : ℕ) → p < h → bit_xor (f (p + d)) (mixed_at es f p) ≡ x p) → ((j : ℕ) → j < d → t j ≡ bit_xor (x (j + h)) (mixed_at es f (j + h))) → check_to w g x (d + h) ≡ check_to w g t d
-divided w g d h es x f t z small before behind each rest =
+divided w g d h es x f t z small before after each rest =
     let n = d + h in
     let m : ℕ → ℕ = λ p. mixed_at (d ∷ es) f p in
     let r : ℕ → ℕ = λ p. bit_xor (x p) (m p) in
-    let none : check_to w g m n ≡ 0 = mixed_check w g d h (d ∷ es) f (omega arith, small) before behind ∙ multiple-check w g (d ∷ es) z f n in
+    let none : check_to w g m n ≡ 0 = mixed_check w g d h (d ∷ es) f (omega arith, small) before after ∙ multiple-check w g (d ∷ es) z f n in
     let low : (p : ℕ) → p < h → r p ≡ 0 = λ p lt. ap (bit_xor (x p)) (each p lt) ∙ xor_self (x p) in
     let high : (j : ℕ) → j < d → r (j + h) ≡ t j = λ j lt.
-    ap (λ k. bit_xor (x (j + h)) (bit_xor k (mixed_at es f (j + h)))) (behind (j + h + d) (omega arith)) ∙ ap (bit_xor (x (j + h))) (xor_zero_l (mixed_at es f (j + h))) ∙ sym (rest j lt) in
+    ap (λ k. bit_xor (x (j + h)) (bit_xor k (mixed_at es f (j + h)))) (after (j + h + d) (omega arith)) ∙ ap (bit_xor (x (j + h))) (xor_zero_l (mixed_at es f (j + h))) ∙ sym (rest j lt) in
     sym (xor_zero_r (check_to w g x n)) ∙ ap (bit_xor (check_to w g x n)) (sym none) ∙ sym (check_to-xor w g x m n)
     ∙ check_to-front w g r h d low ∙ check_to-same w g (λ p. r (p + h)) t d high
 
@@ -203,7 +203,7 @@ divided_more d b i v es x q lower small room so is =
     let mixed : (p : ℕ) → p ≤ i → mixed_at es (value_at new) p ≡ mixed_at es (value_at q) p = λ p le. mixed_same b p es (value_at new) (value_at q) small (λ k kle. other k (λ e. omega (arith, e, kle, le, lower))) in
     record {
       before = λ k lt. other k (λ e. omega (arith, e, lt)) ∙ so.before k lt;
-      behind = λ k le. other k (λ e. omega (arith, e, le)) ∙ so.behind k (omega (arith, le));
+      after = λ k le. other k (λ e. omega (arith, e, le)) ∙ so.after k (omega (arith, le));
       each = below_more _ i
           (λ p lt. ap (λ k. bit_xor k (mixed_at es (value_at new) p)) (other (p + d) (λ e. omega (arith, e, lt))) ∙ ap (bit_xor (value_at q (p + d))) (mixed p (omega (arith, lt))) ∙ so.each p lt)
           (ap (λ k. bit_xor k (mixed_at es (value_at new) i)) (get_or-set_same q (i + d) v 0 room ∙ is) ∙ ap (bit_xor (bit_xor (x i) (mixed_at es (value_at q) i))) (mixed i (omega arith)) ∙ taken_back (x i) (mixed_at es (value_at q) i));
@@ -213,14 +213,14 @@ divided_more d b i v es x q lower small room so is =
 pub untouched : (d : ℕ) (es : List ℕ) (x : ℕ → ℕ) (q : List ℕ) → ((k : ℕ) → value_at q k ≡ 0) → Divided d es x q 0
 untouched d es x q z = record {
   before = λ k lt. z k;
-  behind = λ k le. z k;
+  after = λ k le. z k;
   each = λ p lt. absurd (omega (arith, lt));
 }
 
 -- ---- the remainder
 
-pub behind_list : (cs xs : List ℕ) (p : ℕ) → length cs ≤ p → bit_xor (value_at cs p) (value_at xs p) ≡ value_at xs p
-behind_list cs xs p le = ap (λ k. bit_xor k (value_at xs p)) (get_or_past cs p 0 le) ∙ xor_zero_l (value_at xs p)
+pub after_list : (cs xs : List ℕ) (p : ℕ) → length cs ≤ p → bit_xor (value_at cs p) (value_at xs p) ≡ value_at xs p
+after_list cs xs p le = ap (λ k. bit_xor k (value_at xs p)) (get_or_past cs p 0 le) ∙ xor_zero_l (value_at xs p)
 
 rest_of : (w g d : ℕ) (es cs xs q rest : List ℕ) → multiple w g (d ∷ es) g ≡ 0 → Within d es → length cs + d ≤ length xs → Divided d es (λ p. bit_xor (value_at cs p) (value_at xs p)) q (length xs - d) → length rest ≡ d
     → ((j : ℕ) → j < d → value_at rest j ≡ bit_xor (value_at xs (j + (length xs - d))) (mixed_at es (value_at q) (j + (length xs - d)))) → check_to w g (λ p. bit_xor (value_at cs p) (value_at xs p)) (length xs) ≡ fed w g 0 (bits_of rest)
@@ -229,8 +229,8 @@ rest_of w g d es cs xs q rest z small many so long is =
     let x : ℕ → ℕ = λ p. bit_xor (value_at cs p) (value_at xs p) in
     let n : length xs ≡ d + h = omega (arith, many) in
     ap (check_to w g x) n
-    ∙ divided w g d h es x (value_at q) (value_at rest) z small so.before so.behind so.each
-    (λ j lt. is j lt ∙ ap (λ k. bit_xor k (mixed_at es (value_at q) (j + h))) (sym (behind_list cs xs (j + h) (omega (arith, many)))))
+    ∙ divided w g d h es x (value_at q) (value_at rest) z small so.before so.after so.each
+    (λ j lt. is j lt ∙ ap (λ k. bit_xor k (mixed_at es (value_at q) (j + h))) (sym (after_list cs xs (j + h) (omega (arith, many)))))
     ∙ check_to-list w g d rest long
 
 -- ---- the CRC-32
@@ -243,8 +243,8 @@ first_of_four c xs (suc (suc zero)) lt = refl
 first_of_four c xs (suc (suc (suc zero))) lt = refl
 first_of_four c xs (suc (suc (suc (suc p)))) lt = absurd (omega (arith, lt))
 
-pub behind_register : (c : ℕ) (xs : List ℕ) (p : ℕ) → 4 ≤ p → bit_xor (value_at (register_32 c) p) (value_at xs p) ≡ value_at xs p
-behind_register c xs p le = behind_list (register_32 c) xs p le
+pub after_register : (c : ℕ) (xs : List ℕ) (p : ℕ) → 4 ≤ p → bit_xor (value_at (register_32 c) p) (value_at xs p) ≡ value_at xs p
+after_register c xs p le = after_list (register_32 c) xs p le
 
 multiple_32 : multiple 32 79764919 (300 ∷ lower_32) 79764919 ≡ 0
 unfolding multiple times

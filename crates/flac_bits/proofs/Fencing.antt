@@ -5,7 +5,7 @@ use Rattle.std.specs.Borrow.{GName}
 use Rattle.std.proofs.lemmas.List.{length-append, length-take, length-drop}
 use Rattle.std.proofs.Math.Seq.{take-append-add, drop-append-add}
 use Rattle.flac_bits.specs.Bits.{unsigned, bits_of}
-use Rattle.flac_bits.specs.State.{State, Behind, short_of}
+use Rattle.flac_bits.specs.State.{State, After, short_of}
 use Rattle.flac_bits.specs.Fencing.{lifted, fence_at}
 use Rattle.flac_bits.specs.Store.{Store, allowed, forbidden, left_of, fenced_of, most_of, reason_of, state_of}
 use Rattle.flac_bits.specs.declared.why.Why.TheVariants.{FrameTooLong}
@@ -23,11 +23,11 @@ drop_bits zero xs = refl
 drop_bits (suc n) [] = let e : 8 * suc n ≡ suc (8 * n + 7) = omega arith in rw e refl
 drop_bits (suc n) (x ∷ xs) = let e : 8 * suc n ≡ length (unsigned 8 x) + 8 * n = omega arith in rw e (drop-append-add (unsigned 8 x) (bits_of xs) (8 * n) ∙ drop_bits n xs)
 
-reason_is : (b : Bool) (behind : Behind) → reason_of b behind ≡ cond b FrameTooLong (short_of behind.fails)
-reason_is true behind = refl
-reason_is false behind = refl
+reason_is : (b : Bool) (after : After) → reason_of b after ≡ cond b FrameTooLong (short_of after.fails)
+reason_is true after = refl
+reason_is false after = refl
 
-module _ (known : Bool) (errors raised most : ℕ) (behind : Behind) (names : List GName) (coming : List ℕ) (old new : Store) (s : State) (is : state_of known errors raised most behind names coming old ≡ s) where
+module _ (known : Bool) (errors raised most : ℕ) (after : After) (names : List GName) (coming : List ℕ) (old new : Store) (s : State) (is : state_of known errors raised most after names coming old ≡ s) where
   -- all bits to come, whatever fence is set
   all_is : allowed old.fence.room coming ++ (old.fence.hidden ++ forbidden old.fence.room coming) ≡ old.fence.hidden ++ coming
       → left_of old coming ++ fenced_of old coming ≡ (old.word ++ bits_of (old.bytes ++ old.fence.hidden)) ++ bits_of coming
@@ -43,7 +43,7 @@ module _ (known : Bool) (errors raised most : ℕ) (behind : Behind) (names : Li
   all_long = omega (arith, length-append old.word (bits_of (old.bytes ++ old.fence.hidden)), length-bits_of (old.bytes ++ old.fence.hidden), length-append old.bytes old.fence.hidden, length-append old.word (bits_of old.bytes), length-bits_of old.bytes)
 
   pub lift_is : new.word ≡ old.word → new.bytes ≡ old.bytes ++ old.fence.hidden → new.mark ≡ old.mark → new.fence ≡ record { room = None; hidden = [] }
-      → allowed old.fence.room coming ++ (old.fence.hidden ++ forbidden old.fence.room coming) ≡ old.fence.hidden ++ coming → state_of known errors raised most behind names coming new ≡ lifted s
+      → allowed old.fence.room coming ++ (old.fence.hidden ++ forbidden old.fence.room coming) ≡ old.fence.hidden ++ coming → state_of known errors raised most after names coming new ≡ lifted s
   lift_is word bytes mark fence law =
       let long = all_long in
       let none : 8 * 0 ≡ 0 = omega arith in
@@ -52,7 +52,7 @@ module _ (known : Bool) (errors raised most : ℕ) (behind : Behind) (names : Li
 
   pub fence_is : (n : ℕ) (held : List ℕ) → new.mark ≡ old.mark → length new.word ≡ old.mark.unread → new.word ++ bits_of held ≡ old.word ++ bits_of (old.bytes ++ old.fence.hidden)
       → new.bytes ≡ take n held → new.fence ≡ record { room = Some (n - length held); hidden = drop n held }
-      → allowed old.fence.room coming ++ (old.fence.hidden ++ forbidden old.fence.room coming) ≡ old.fence.hidden ++ coming → state_of known errors raised most behind names coming new ≡ fence_at n s
+      → allowed old.fence.room coming ++ (old.fence.hidden ++ forbidden old.fence.room coming) ≡ old.fence.hidden ++ coming → state_of known errors raised most after names coming new ≡ fence_at n s
   fence_is n held mark part same bytes fence law =
       let ys = held ++ coming in
       let k = old.mark.unread + 8 * n in
@@ -69,4 +69,4 @@ module _ (known : Bool) (errors raised most : ℕ) (behind : Behind) (names : Li
       same_test (n - length held) (length coming) k (length (new.word ++ bits_of ys)) (λ le. omega (arith, le, many)) (λ le. omega (arith, le, many)) in
       let sum : length (new.word ++ bits_of (take n held)) + 8 * length (drop n held) ≡ most_of old =
       omega (arith, sym all_long, ap (λ (bs : List Bool). length bs) same, length-append new.word (bits_of held), length-bits_of held, length-append new.word (bits_of (take n held)), length-bits_of (take n held), length-take n held, length-drop n held) in
-      rw (← is, bytes, mark, fence, all, front, rest, sum, test, reason_is (nat_le k (length (new.word ++ bits_of ys))) behind) refl
+      rw (← is, bytes, mark, fence, all, front, rest, sum, test, reason_is (nat_le k (length (new.word ++ bits_of ys))) after) refl

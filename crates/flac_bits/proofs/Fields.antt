@@ -58,8 +58,8 @@ pub rice_read : (k limit q low v : ℕ) (why : Why) (old new : Store) (rest : Li
     → run (rice k limit) (cursor_of why old rest) ≡ Ok (v, cursor_of why new rest)
 unfolding rice
 rice_read k limit q low v why old new rest le lt e takes =
-    let behind = (new.word ++ bits_of new.bytes) ++ rest in
-    let left = left_is (unary_bits q ++ unsigned k low) old new rest takes ∙ append_assoc (unary_bits q) (unsigned k low) behind in
+    let after = (new.word ++ bits_of new.bytes) ++ rest in
+    let left = left_is (unary_bits q ++ unsigned k low) old new rest takes ∙ append_assoc (unary_bits q) (unsigned k low) after in
     let marked : with_short why new.mark ≡ past (unsigned k low) (past (unary_bits q) (with_short why old.mark)) =
     ap (with_short why) takes.2 ∙ sym (past-with_short (unary_bits q ++ unsigned k low) why old.mark) ∙ past-append (unary_bits q) (unsigned k low) (with_short why old.mark) in
-    rw (left, zeros_again limit (Some q) (unary_bits q ++ (unsigned k low ++ behind)) (unsigned k low ++ behind) (with_short why old.mark) (le, refl), number_again k low behind (past (unary_bits q) (with_short why old.mark)) lt, marked, e) refl
+    rw (left, zeros_again limit (Some q) (unary_bits q ++ (unsigned k low ++ after)) (unsigned k low ++ after) (with_short why old.mark) (le, refl), number_again k low after (past (unary_bits q) (with_short why old.mark)) lt, marked, e) refl

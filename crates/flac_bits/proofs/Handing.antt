@@ -4,9 +4,9 @@ use Rattle.std.proofs.lemmas.List.{append-nil, length-append}
 use Rattle.flac_bits.specs.State.{Mark, Cursor, State, past, fresh}
 use Rattle.flac_bits.specs.Meaning.{Spells}
 use Rattle.flac_bits.specs.Fence.{InRoom}
-use Rattle.flac_bits.specs.Items.{Grammar, after, Joined, mark_behind, StopsAt, Refused, Step, item, over, refused}
+use Rattle.flac_bits.specs.Items.{Grammar, state_after, Joined, mark_after, StopsAt, Refused, Step, item, over, refused}
 use Rattle.flac_bits.specs.inner.Items.{step_at, NeedsBits}
-use Rattle.flac_bits.specs.Handing.{TakesAll, Reading, Hands, by_grammar, IsRead, OneReading, SomeReading}
+use Rattle.flac_bits.specs.Handing.{TakesAll, InputReading, Hands, by_grammar, IsRead, OneReading, SomeReading}
 use Rattle.flac_bits.specs.inner.Handing.{IsCalm}
 use Rattle.flac_bits.specs.declared.why.Why.{Why}
 use Rattle.flac_bits.specs.declared.why.Why.TheVariants.{Memory}
@@ -15,13 +15,13 @@ use Rattle.flac_bits.proofs.Items.{step_spelled, step_over, step_stops, one_way,
 
 -- ---- one item more
 
-pub after-append : {S I P : Type 0} (g : Grammar S I P) (s : S) (xs : List I) (x : I) → after g s (xs ++ x ∷ []) ≡ g.next (after g s xs) x
-after-append g s [] x = refl
-after-append g s (y ∷ xs) x = after-append g (g.next s y) xs x
+pub state_after-append : {S I P : Type 0} (g : Grammar S I P) (s : S) (xs : List I) (x : I) → state_after g s (xs ++ x ∷ []) ≡ g.next (state_after g s xs) x
+state_after-append g s [] x = refl
+state_after-append g s (y ∷ xs) x = state_after-append g (g.next s y) xs x
 
 pub Joined-append : {S I P : Type 0} (g : Grammar S I P) (s : S) (m : Mark) (xs : List I) (x : I) (text more : List Bool) (j : Joined g s m xs text)
-    → Spells (g.layout (after g s xs)) (fresh (mark_behind g s m xs text j)) more x → InRoom (g.room (after g s xs)) (fresh (mark_behind g s m xs text j)) more
-    → (k : Joined g s m (xs ++ x ∷ []) (text ++ more)) × (mark_behind g s m (xs ++ x ∷ []) (text ++ more) k ≡ past more (fresh (mark_behind g s m xs text j)))
+    → Spells (g.layout (state_after g s xs)) (fresh (mark_after g s m xs text j)) more x → InRoom (g.room (state_after g s xs)) (fresh (mark_after g s m xs text j)) more
+    → (k : Joined g s m (xs ++ x ∷ []) (text ++ more)) × (mark_after g s m (xs ++ x ∷ []) (text ++ more) k ≡ past more (fresh (mark_after g s m xs text j)))
 Joined-append g s m [] x text more j spelled fits = ((more, [], ap (λ t. t ++ more) j ∙ sym (append-nil more), spelled, fits, refl), refl)
 Joined-append g s m (y ∷ xs) x text more (front, rest, split, first, room, others) spelled fits =
     let k = Joined-append g (g.next s y) (past front (fresh m)) xs x rest more others spelled fits in
@@ -39,8 +39,8 @@ pub record Far {S I P K : Type 0} (g : Grammar S I P) (takes : K → I → K →
   pub text : List Bool
   pub stands : old.left ≡ text ++ now.left
   pub spelled : Joined g first old.mark items text
-  pub state_is : state ≡ after g first items
-  pub mark_is : now.mark ≡ mark_behind g first old.mark items text spelled
+  pub state_is : state ≡ state_after g first items
+  pub mark_is : now.mark ≡ mark_after g first old.mark items text spelled
   pub took : TakesAll takes sink items taken
 
 -- so far neither the source nor the receiver failed
@@ -48,7 +48,7 @@ pub record SoFar {S I P K : Type 0} (g : Grammar S I P) (takes : K → I → K �
   pub known : old.known ≡ true → now.known ≡ true
   pub errors_are : now.errors ≡ old.errors
   pub raised : now.raised ≡ old.raised
-  pub behind : old.known ≡ true → now.behind ≡ old.behind
+  pub after : old.known ≡ true → now.after ≡ old.after
   pub names : now.names ≡ old.names
   pub received : errors taken ≡ errors sink
   pub far : old.known ≡ true → Far g takes first state old.cursor now.cursor sink taken
@@ -58,7 +58,7 @@ starts g takes errors first old sink = record {
   known = λ known. known;
   errors_are = refl;
   raised = refl;
-  behind = λ known. refl;
+  after = λ known. refl;
   names = refl;
   received = refl;
   far = λ known. record { items = []; text = []; stands = refl; spelled = refl; state_is = refl; mark_is = refl; took = refl };
@@ -67,23 +67,23 @@ starts g takes errors first old sink = record {
 far_more : {S I P K : Type 0} (g : Grammar S I P) (takes : K → I → K → Type 0) (first state : S) (old now d : Cursor) (sink mid new : K) (x : I)
     → Far g takes first state old now sink mid → step_at g state now ≡ item x d → takes mid x new → Far g takes first (g.next state x) old d sink new
 far_more g takes first state old now d sink mid new x far step took =
-    let e : step_at g (after g first far.items) (at_ now.left (mark_behind g first old.mark far.items far.text far.spelled)) ≡ item x d =
-    subst (λ k. step_at g (after g first far.items) (at_ now.left k) ≡ item x d) far.mark_is (subst (λ s. step_at g s now ≡ item x d) far.state_is step) in
-    let t = step_spelled g (after g first far.items) (mark_behind g first old.mark far.items far.text far.spelled) now.left x d e in
+    let e : step_at g (state_after g first far.items) (at_ now.left (mark_after g first old.mark far.items far.text far.spelled)) ≡ item x d =
+    subst (λ k. step_at g (state_after g first far.items) (at_ now.left k) ≡ item x d) far.mark_is (subst (λ s. step_at g s now ≡ item x d) far.state_is step) in
+    let t = step_spelled g (state_after g first far.items) (mark_after g first old.mark far.items far.text far.spelled) now.left x d e in
     let k = Joined-append g first old.mark far.items x far.text t.0 far.spelled t.2 t.3 in
     record {
       items = far.items ++ x ∷ [];
       text = far.text ++ t.0;
       stands = far.stands ∙ ap (λ k. far.text ++ k) t.1 ∙ sym (append_assoc far.text t.0 d.left);
       spelled = k.0;
-      state_is = ap (λ s. g.next s x) far.state_is ∙ sym (after-append g first far.items x);
+      state_is = ap (λ s. g.next s x) far.state_is ∙ sym (state_after-append g first far.items x);
       mark_is = t.4 ∙ sym k.1;
       took = TakesAll-append takes sink far.items mid x new far.took took;
     }
 
 -- what a call that returned a value left of the source: the clause Counts at Ok
 abbrev pub Went : State → State → Type 0
-Went old new = (old.known ≡ true → new.known ≡ true) × (new.errors ≡ old.errors) × (new.raised ≡ old.raised) × (old.known ≡ true → new.behind ≡ old.behind) × (new.names ≡ old.names)
+Went old new = (old.known ≡ true → new.known ≡ true) × (new.errors ≡ old.errors) × (new.raised ≡ old.raised) × (old.known ≡ true → new.after ≡ old.after) × (new.names ≡ old.names)
 
 -- an item was read and taken
 pub one_more : {S I P K : Type 0} (g : Grammar S I P) (takes : K → I → K → Type 0) (errors : K → ℕ) (first state next : S) (old now d : State) (sink mid new : K) (x : I)
@@ -93,7 +93,7 @@ one_more g takes errors first state next old now d sink mid new x so_far went st
   known = λ k. went.0 (so_far.known k);
   errors_are = went.1 ∙ so_far.errors_are;
   raised = went.2 ∙ so_far.raised;
-  behind = λ k. went.3 (so_far.known k) ∙ so_far.behind k;
+  after = λ k. went.3 (so_far.known k) ∙ so_far.after k;
   names = went.4 ∙ so_far.names;
   received = received ∙ so_far.received;
   far = λ k. subst (λ s. Far g takes first s old.cursor d.cursor sink new) (sym noted) (far_more g takes first state old.cursor now.cursor d.cursor sink mid new x (so_far.far k) (step (so_far.known k)) took);
@@ -126,14 +126,14 @@ step_refused g takes errors first state old now end sink taken at why so_far ste
         left = now.cursor.left;
         stands = far.stands;
         spelled = far.spelled;
-        stops = subst (λ (k : Mark). StopsAt g (after g first far.items) k now.cursor.left at why) far.mark_is
+        stops = subst (λ (k : Mark). StopsAt g (state_after g first far.items) k now.cursor.left at why) far.mark_is
             (subst (λ s. StopsAt g s now.cursor.mark now.cursor.left at why) far.state_is (step_stops g state now.cursor.mark now.cursor.left at why stop));
       },
       far.took,
     )
 
 -- what holds if the source returned no error holds if a stronger condition says so
-pub calmer : {I P K : Type 0} {r : Reading I P} {takes : K → I → K → Type 0} {errors : K → ℕ} (calm quiet : Type 0) {old new : K} {outcome : Option (P × Why)}
+pub calmer : {I P K : Type 0} {r : InputReading I P} {takes : K → I → K → Type 0} {errors : K → ℕ} (calm quiet : Type 0) {old new : K} {outcome : Option (P × Why)}
     → (quiet → calm) → Hands r takes errors calm old new outcome → Hands r takes errors quiet old new outcome
 calmer calm quiet f h = record { done = λ q. h.done (f q); refused = λ q. h.refused (f q); begun = h.begun; broken = h.broken; failed = h.failed }
 

@@ -51,8 +51,8 @@ fits_room None m text z fits = tt
 fits_room (Some n) m text z fits = omega (arith, z, fits)
 
 -- whole bytes end at a whole byte
-pub behind_whole : (text : List Bool) (m : Mark) → m.unread ≡ 0 → length text % 8 ≡ 0 → (past text m).unread ≡ 0
-behind_whole text m z whole = omega (arith, past-unread text 0 m z (omega arith), whole)
+pub after_whole : (text : List Bool) (m : Mark) → m.unread ≡ 0 → length text % 8 ≡ 0 → (past text m).unread ≡ 0
+after_whole text m z whole = omega (arith, past-unread text 0 m z (omega arith), whole)
 
 joined_only : {S I P : Type 0} (g : Grammar S I P) (valid : S → I → Type 0) (spelling : S → I → List Bool) → TiesItems g valid spelling
     → (s : S) (m : Mark) (items : List I) (text : List Bool) → m.unread ≡ 0 → Joined g s m items text → AllValid g valid spelling s items × (text ≡ all_spelled g spelling s items)
@@ -61,7 +61,7 @@ joined_only g valid spelling t s m (x ∷ xs) text z (front, rest, split, spelle
     let u = fresh_unread m z in
     let one = (t.ties s (fresh m) u (fresh_check8 m z) (fresh_check16 m z)).only front x spelled in
     let whole : length front % 8 ≡ 0 = rw one.1 (t.whole s x one.0) in
-    let more = joined_only g valid spelling t (g.next s x) (past front (fresh m)) xs rest (behind_whole front (fresh m) u whole) others in
+    let more = joined_only g valid spelling t (g.next s x) (past front (fresh m)) xs rest (after_whole front (fresh m) u whole) others in
     let fits' : FitsRoom (g.room s) (spelling s x) = subst (λ f. FitsRoom (g.room s) f) one.1 (fits_room (g.room s) (fresh m) front u fits) in
     ((one.0, fits', more.0), split ∙ ap (λ f. f ++ rest) one.1 ∙ ap (λ r. spelling s x ++ r) more.1)
 
@@ -75,7 +75,7 @@ joined_each g valid spelling t s m (x ∷ xs) z (v, fits, others) =
       refl,
       (t.ties s (fresh m) u (fresh_check8 m z) (fresh_check16 m z)).each x v,
       in_room (g.room s) (fresh m) (spelling s x) u fits,
-      joined_each g valid spelling t (g.next s x) (past (spelling s x) (fresh m)) xs (behind_whole (spelling s x) (fresh m) u (t.whole s x v)) others,
+      joined_each g valid spelling t (g.next s x) (past (spelling s x) (fresh m)) xs (after_whole (spelling s x) (fresh m) u (t.whole s x v)) others,
     )
 
 pub joins_spellings : {S I P : Type 0} (g : Grammar S I P) (valid : S → I → Type 0) (spelling : S → I → List Bool) → TiesItems g valid spelling → JoinsSpellings g valid spelling

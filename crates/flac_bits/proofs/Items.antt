@@ -6,7 +6,7 @@ use Rattle.flac_bits.specs.State.{Mark, Cursor, past, fresh}
 use Rattle.flac_bits.specs.Layout.{Layout, Rule, Reason, because}
 use Rattle.flac_bits.specs.Meaning.{Spells, IsCut, AllKept, BreaksFirst}
 use Rattle.flac_bits.specs.Fence.{InRoom, read_in}
-use Rattle.flac_bits.specs.Items.{Grammar, after, Joined, mark_behind, Stream, StopsAt, Refused, Step, item, over, refused}
+use Rattle.flac_bits.specs.Items.{Grammar, state_after, Joined, mark_after, Stream, StopsAt, Refused, Step, item, over, refused}
 use Rattle.flac_bits.specs.inner.Items.{stepped, judged, step_at, NeedsBits}
 use Rattle.flac_bits.specs.declared.why.Why.{Why}
 use Rattle.flac_bits.proofs.Laws.{at_}
@@ -196,7 +196,7 @@ one_way {S = S} {P = P} g s c (x ∷ xs) (y ∷ ys) e f p q =
 
 -- items that are spelled, and then the end, are steps
 joined_steps : {S I P : Type 0} (g : Grammar S I P) (needs : NeedsBits g) (s : S) (m : Mark) (xs : List I) (front left : List Bool) (e : Option (P × Why)) (j : Joined g s m xs front)
-    → step_at g (after g s xs) (at_ left (mark_behind g s m xs front j)) ≡ final e → Steps g s (at_ (front ++ left) m) xs e
+    → step_at g (state_after g s xs) (at_ left (mark_after g s m xs front j)) ≡ final e → Steps g s (at_ (front ++ left) m) xs e
 joined_steps g needs s m [] front left e j h = rw j h
 joined_steps g needs s m (x ∷ xs) front left e (part, rest, split, spelled, fits, others) h =
     let whole : front ++ left ≡ part ++ (rest ++ left) = ap (λ t. t ++ left) split ∙ append_assoc part rest left in (
@@ -207,8 +207,8 @@ joined_steps g needs s m (x ∷ xs) front left e (part, rest, split, spelled, fi
 
 pub stream_steps : {S I P : Type 0} (g : Grammar S I P) (needs : NeedsBits g) (s : S) (m : Mark) (xs : List I) (text : List Bool) → Stream g s m xs text → Steps g s (at_ text m) xs None
 stream_steps g needs s m xs text w =
-    subst (λ t. Steps g s (at_ t m) xs None) (append-nil text) (joined_steps g needs s m xs text [] None w.spelled (over_step g (after g s xs) (mark_behind g s m xs text w.spelled) w.ends w.kept))
+    subst (λ t. Steps g s (at_ t m) xs None) (append-nil text) (joined_steps g needs s m xs text [] None w.spelled (over_step g (state_after g s xs) (mark_after g s m xs text w.spelled) w.ends w.kept))
 
 pub refused_steps : {S I P : Type 0} (g : Grammar S I P) (needs : NeedsBits g) (s : S) (m : Mark) (xs : List I) (text : List Bool) (at : P) (why : Why) → Refused g s m xs text at why → Steps g s (at_ text m) xs (Some (at, why))
 refused_steps g needs s m xs text at why r = subst (λ t. Steps g s (at_ t m) xs (Some (at, why))) (sym r.stands)
-    (joined_steps g needs s m xs r.front r.left (Some (at, why)) r.spelled (stops_step g (after g s xs) (mark_behind g s m xs r.front r.spelled) r.left at why r.stops))
+    (joined_steps g needs s m xs r.front r.left (Some (at, why)) r.spelled (stops_step g (state_after g s xs) (mark_after g s m xs r.front r.spelled) r.left at why r.stops))

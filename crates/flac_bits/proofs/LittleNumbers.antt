@@ -10,8 +10,8 @@ use Rattle.flac_bits.specs.Bits.{bits_of}
 abbrev number_of : List ℕ → Cursor → Result (ℕ × Cursor) Reason
 number_of xs d = Ok (little_number 4 xs, d)
 
-abbrev behind_byte : ℕ → List ℕ → Cursor → Result (List ℕ × Cursor) Reason
-behind_byte a xs d = Ok (a ∷ xs, d)
+abbrev after_byte : ℕ → List ℕ → Cursor → Result (List ℕ × Cursor) Reason
+after_byte a xs d = Ok (a ∷ xs, d)
 
 abbrev number_of_bytes : ℕ → ℕ → ℕ → ℕ → Cursor → Result (ℕ × Cursor) Reason
 number_of_bytes a b e f d = Ok (a + 256 * b + 65536 * e + 16777216 * f, d)
@@ -21,7 +21,7 @@ same_number a b e f = omega arith
 
 fourth : (a b e : ℕ) (r : Result (ℕ × Cursor) Reason)
     → and_then r (number_of_bytes a b e)
-    ≡ and_then (and_then (and_then (and_then (and_then r (λ f d. and_then (run (list_of 0 (bits 8)) d) (behind_byte f))) (behind_byte e)) (behind_byte b)) (behind_byte a)) number_of
+    ≡ and_then (and_then (and_then (and_then (and_then r (λ f d. and_then (run (list_of 0 (bits 8)) d) (after_byte f))) (after_byte e)) (after_byte b)) (after_byte a)) number_of
 unfolding list_of
 fourth a b e (Ok x) = ap (λ (n : ℕ). okay (n, x.1)) (same_number a b e x.0)
   where
@@ -31,21 +31,21 @@ fourth a b e (Err why) = refl
 
 third : (a b : ℕ) (r : Result (ℕ × Cursor) Reason)
     → and_then r (λ e d. and_then (number_at 8 d) (number_of_bytes a b e))
-    ≡ and_then (and_then (and_then (and_then r (λ e d. and_then (run (list_of 1 (bits 8)) d) (behind_byte e))) (behind_byte b)) (behind_byte a)) number_of
+    ≡ and_then (and_then (and_then (and_then r (λ e d. and_then (run (list_of 1 (bits 8)) d) (after_byte e))) (after_byte b)) (after_byte a)) number_of
 unfolding list_of
 third a b (Ok x) = fourth a b x.0 (number_at 8 x.1)
 third a b (Err why) = refl
 
 second : (a : ℕ) (r : Result (ℕ × Cursor) Reason)
     → and_then r (λ b d. and_then (number_at 8 d) (λ e d'. and_then (number_at 8 d') (number_of_bytes a b e)))
-    ≡ and_then (and_then (and_then r (λ b d. and_then (run (list_of 2 (bits 8)) d) (behind_byte b))) (behind_byte a)) number_of
+    ≡ and_then (and_then (and_then r (λ b d. and_then (run (list_of 2 (bits 8)) d) (after_byte b))) (after_byte a)) number_of
 unfolding list_of
 second a (Ok x) = third a x.0 (number_at 8 x.1)
 second a (Err why) = refl
 
 first : (r : Result (ℕ × Cursor) Reason)
     → and_then r (λ a d. and_then (number_at 8 d) (λ b d'. and_then (number_at 8 d') (λ e d''. and_then (number_at 8 d'') (number_of_bytes a b e))))
-    ≡ and_then (and_then r (λ a d. and_then (run (list_of 3 (bits 8)) d) (behind_byte a))) number_of
+    ≡ and_then (and_then r (λ a d. and_then (run (list_of 3 (bits 8)) d) (after_byte a))) number_of
 unfolding list_of
 first (Ok x) = second x.0 (number_at 8 x.1)
 first (Err why) = refl

@@ -18,13 +18,13 @@ abbrev read : ℕ × Cursor → Result (ℕ × Cursor) Reason
 read x = Ok x
 
 -- what precedes a number counts by its place
-behind_number : (b value : ℕ) (left : List Bool) (m : Mark) → number_from b value (at_ left m) ≡ and_then (number_from b 0 (at_ left m)) (λ low e. read (value * 2 ^ b + low, e))
+after_number : (b value : ℕ) (left : List Bool) (m : Mark) → number_from b value (at_ left m) ≡ and_then (number_from b 0 (at_ left m)) (λ low e. read (value * 2 ^ b + low, e))
 unfolding number_from next_bit
-behind_number zero value left m = ap (λ k. read (k, at_ left m)) (omega arith)
-behind_number (suc b) value [] m = refl
-behind_number (suc b) value (x ∷ left) m =
-    behind_number b (2 * value + bit_value x) left (step x m) ∙ twice (number_from b 0 (at_ left (step x m)))
-    ∙ sym (ap (λ r. and_then r (λ low e. read (value * 2 ^ suc b + low, e))) (behind_number b (2 * 0 + bit_value x) left (step x m)))
+after_number zero value left m = ap (λ k. read (k, at_ left m)) (omega arith)
+after_number (suc b) value [] m = refl
+after_number (suc b) value (x ∷ left) m =
+    after_number b (2 * value + bit_value x) left (step x m) ∙ twice (number_from b 0 (at_ left (step x m)))
+    ∙ sym (ap (λ r. and_then r (λ low e. read (value * 2 ^ suc b + low, e))) (after_number b (2 * 0 + bit_value x) left (step x m)))
   where
     place : (low : ℕ) → (2 * value + bit_value x) * 2 ^ b + low ≡ value * 2 ^ suc b + ((2 * 0 + bit_value x) * 2 ^ b + low)
     place low = rw pow-suc (grind arith)
@@ -35,7 +35,7 @@ behind_number (suc b) value (x ∷ left) m =
 
 halves : (a b value : ℕ) (left : List Bool) (m : Mark) → number_from (a + b) value (at_ left m) ≡ and_then (number_from a value (at_ left m)) (λ high d. and_then (number_from b 0 d) (λ low e. read (high * 2 ^ b + low, e)))
 unfolding number_from next_bit
-halves zero b value left m = let k : 0 + b ≡ b = omega arith in rw k (behind_number b value left m)
+halves zero b value left m = let k : 0 + b ≡ b = omega arith in rw k (after_number b value left m)
 halves (suc a) b value [] m = let k : suc a + b ≡ suc (a + b) = omega arith in rw k refl
 halves (suc a) b value (x ∷ left) m = let k : suc a + b ≡ suc (a + b) = omega arith in rw k (halves a b (2 * value + bit_value x) left (step x m))
 
@@ -67,27 +67,27 @@ zeros_last n i count c le =
     rw k refl
 
 -- one more turn of a loop that did not fail
-pub goes_on : {X Y : Type 0} (old now next : State) (part : Result (X × Cursor) Reason) (x : X) (more : X → Cursor → Result (Y × Cursor) Reason) (rest after whole : Result (Y × Cursor) Reason)
-    → Goes old now rest whole → rest ≡ and_then part more → more x next.cursor ≡ after
-    → (now.known ≡ true → next.known ≡ true) × (next.errors ≡ now.errors) × (next.raised ≡ now.raised) × (now.known ≡ true → next.behind ≡ now.behind) × (next.names ≡ now.names) → (now.known ≡ true → next.errors ≡ now.errors → part ≡ Ok (x, next.cursor))
-    → Goes old next after whole
-goes_on old now next part x more rest after whole goes begins then_is counts reads = record {
+pub goes_on : {X Y : Type 0} (old now next : State) (part : Result (X × Cursor) Reason) (x : X) (more : X → Cursor → Result (Y × Cursor) Reason) (rest later whole : Result (Y × Cursor) Reason)
+    → Goes old now rest whole → rest ≡ and_then part more → more x next.cursor ≡ later
+    → (now.known ≡ true → next.known ≡ true) × (next.errors ≡ now.errors) × (next.raised ≡ now.raised) × (now.known ≡ true → next.after ≡ now.after) × (next.names ≡ now.names) → (now.known ≡ true → next.errors ≡ now.errors → part ≡ Ok (x, next.cursor))
+    → Goes old next later whole
+goes_on old now next part x more rest later whole goes begins then_is counts reads = record {
   known = λ known. counts.0 (goes.known known);
   errors = counts.1 ∙ goes.errors;
   raised = counts.2 ∙ goes.raised;
-  behind = λ known. counts.3 (goes.known known) ∙ goes.behind known;
+  after = λ known. counts.3 (goes.known known) ∙ goes.after known;
   names = counts.4 ∙ goes.names;
   reads = λ known. sym then_is ∙ sym (ap (λ r. and_then r more) (reads (goes.known known) counts.1)) ∙ sym begins ∙ goes.reads known;
 }
 
 -- a turn that read what it read by equations
-pub goes_same : {Y : Type 0} (old now next : State) (rest after whole : Result Y Reason) → Goes old now rest whole
-    → next.known ≡ now.known → next.errors ≡ now.errors → next.raised ≡ now.raised → next.behind ≡ now.behind → next.names ≡ now.names → rest ≡ after → Goes old next after whole
-goes_same old now next rest after whole goes known errors raised behind names same = record {
+pub goes_same : {Y : Type 0} (old now next : State) (rest later whole : Result Y Reason) → Goes old now rest whole
+    → next.known ≡ now.known → next.errors ≡ now.errors → next.raised ≡ now.raised → next.after ≡ now.after → next.names ≡ now.names → rest ≡ later → Goes old next later whole
+goes_same old now next rest later whole goes known errors raised after names same = record {
   known = λ k. known ∙ goes.known k;
   errors = errors ∙ goes.errors;
   raised = raised ∙ goes.raised;
-  behind = λ k. behind ∙ goes.behind k;
+  after = λ k. after ∙ goes.after k;
   names = names ∙ goes.names;
   reads = λ k. sym same ∙ goes.reads k;
 }

@@ -47,8 +47,8 @@ unless_first (rule ∷ rules) r why (inl (e, is)) = rw (e, is) refl
 unless_first (rule ∷ rules) r why (inr (e, first)) = rw e (unless_first rules r why first)
 
 -- what follows a valid part
-behind : (part text after rest left : List Bool) → left ≡ part ++ rest → rest ≡ text ++ after → left ≡ (part ++ text) ++ after
-behind part text after rest left p q = p ∙ ap (λ r. part ++ r) q ∙ sym (append_assoc part text after)
+after : (part text later rest left : List Bool) → left ≡ part ++ rest → rest ≡ text ++ later → left ≡ (part ++ text) ++ later
+after part text later rest left p q = p ∙ ap (λ r. part ++ r) q ∙ sym (append_assoc part text later)
 
 zeros_good : (limit : ℕ) (o : Option ℕ) (left rest : List Bool) → IsZeros limit left o rest → IsWithin limit o × (left ≡ zeros_bits limit o ++ rest)
 zeros_good limit None left rest good = (tt, good)
@@ -63,17 +63,17 @@ reading (done x) left m = inl (x, [], left, refl, (refl, refl), refl)
 reading (bind l f) left m = elim (reading l left m) [
   | inl (x, part, rest, split, spelled, ran) ↦
       elim (reading (f x) rest (past part m)) [
-        | inl (y, text, after, split', spelled', ran') ↦
+        | inl (y, text, later, split', spelled', ran') ↦
             inl (
               y,
               part ++ text,
-              after,
-              behind part text after rest left split split',
+              later,
+              after part text later rest left split split',
               (x, part, text, refl, spelled, spelled'),
-              rw ran (ran' ∙ ap (λ p. read (y, at_ after p)) (sym (past-append part text m))),
+              rw ran (ran' ∙ ap (λ p. read (y, at_ later p)) (sym (past-append part text m))),
             )
-        | inr (inl (why, front, after, split', shows, ran')) ↦
-            inr (inl (why, part ++ front, after, behind part front after rest left split split', inr (x, part, front, refl, spelled, shows), rw ran ran'))
+        | inr (inl (why, front, later, split', shows, ran')) ↦
+            inr (inl (why, part ++ front, later, after part front later rest left split split', inr (x, part, front, refl, spelled, shows), rw ran ran'))
         | inr (inr (cut, ran')) ↦ inr (inr (inr (x, part, rest, split, spelled, cut), rw ran (ran' ∙ ap (λ w. failed_by (because w)) (past-short part m))))
       ]
   | inr (inl (why, front, rest, split, shows, ran)) ↦ inr (inl (why, front, rest, split, inl shows, rw ran refl))

@@ -1,7 +1,7 @@
 -- What a call that pulls bytes does, with what changes nothing of the bits held before it or after it.
 use Rattle.std.proofs.Common.{◌≡◌, Bool, true, false, List, ℕ, Result, Ok, Err, refl, sym, ap, ◌∙◌, arith}
 use Rattle.flac_bits.specs.Store.{Store, Fence, reached, reason_of, state_of}
-use Rattle.flac_bits.specs.State.{State, Behind}
+use Rattle.flac_bits.specs.State.{State, After}
 use Rattle.flac_bits.specs.inner.Store.{HoldsSame}
 use Rattle.flac_bits.specs.inner.Pulling.{Pulls}
 use Rattle.flac_bits.specs.declared.source.Source as source
@@ -9,10 +9,10 @@ use Rattle.flac_bits.specs.declared.why.Why.{Why}
 use Rattle.flac_bits.specs.declared.why.Why.TheVariants.{Read}
 use Rattle.flac_bits.specs.Reasons.{of_output}
 use Rattle.flac_bits.proofs.Counting.{Answered, Failed}
-use Rattle.flac_bits.proofs.Standing.{same_bits, then_same, same_most, same_behind, fenced_same}
+use Rattle.flac_bits.proofs.Standing.{same_bits, then_same, same_most, same_after, fenced_same}
 
-reason_same : (old new : Store) (coming : List ℕ) (behind : Behind) → HoldsSame old new → reason_of (reached new.fence.room coming) behind ≡ reason_of (reached old.fence.room coming) behind
-reason_same old new coming behind same = ap (λ (f : Fence). reason_of (reached f.room coming) behind) same.2
+reason_same : (old new : Store) (coming : List ℕ) (after : After) → HoldsSame old new → reason_of (reached new.fence.room coming) after ≡ reason_of (reached old.fence.room coming) after
+reason_same old new coming after same = ap (λ (f : Fence). reason_of (reached f.room coming) after) same.2
 
 module _ {S : Type 0} (g : source.Ghosts S) where
   -- bits are held, and none was pulled
@@ -102,7 +102,7 @@ module _ {S : Type 0} (g : source.Ghosts S) where
   -- ---- what the reader counts, by its state
 
   abbrev pub state : S → Store → State
-  state s held = state_of (g.known s) (g.errors s) (g.raised s) (g.most s) (g.behind s) (g.names s) (g.coming s) held
+  state s held = state_of (g.known s) (g.errors s) (g.raised s) (g.most s) (g.after s) (g.names s) (g.coming s) held
 
   -- bytes came, and then some were taken off those held
   pub pulled_counts : (old mid new : Store) (before after : S) (more : Bool) (s : State) → state before old ≡ s → Pulls g old mid before after (Ok more) → new.fence ≡ mid.fence → Answered s (state after new)
@@ -112,7 +112,7 @@ module _ {S : Type 0} (g : source.Ghosts S) where
         moved.known,
         moved.errors,
         moved.raised,
-        λ known. same_behind _ _ _ _ (p.foretold known moved.errors) (fenced_same new.fence mid.fence (g.coming after) same ∙ (moved.same known).fenced),
+        λ known. same_after _ _ _ _ (p.foretold known moved.errors) (fenced_same new.fence mid.fence (g.coming after) same ∙ (moved.same known).fenced),
         p.names,
       )
 
@@ -124,7 +124,7 @@ module _ {S : Type 0} (g : source.Ghosts S) where
   cut_counts old new before after e s is p =
       rw (← is) (
         p.kept,
-        λ known errors. same_behind _ _ _ _ (p.foretold known errors) (p.ended known errors).fenced,
+        λ known errors. same_after _ _ _ _ (p.foretold known errors) (p.ended known errors).fenced,
         λ known q. p.rises known,
         p.names,
         λ q. p.risen,

@@ -6,9 +6,9 @@ use Rattle.std.proofs.lemmas.Bool.Decides.{nat_tests}
 use Rattle.std.specs.Prelude.{nat_le}
 use Rattle.std.proofs.lemmas.List.{length-append}
 use Rattle.flac_bits.specs.Bits.{unsigned, bits_of}
-use Rattle.flac_bits.specs.State.{State, Behind, short_of}
+use Rattle.flac_bits.specs.State.{State, After, short_of}
 use Rattle.flac_bits.specs.Layout.{number_at, zeros_at, run, and_then}
-use Rattle.flac_bits.specs.Lists.{list_of, behind as put_behind}
+use Rattle.flac_bits.specs.Lists.{list_of, after as put_after}
 use Rattle.flac_bits.specs.inner.Stretches.{IsRead}
 use Rattle.flac_bits.specs.Reading.{HeldEnds}
 use Rattle.flac_bits.specs.inner.Reading.{Draws, SameSource}
@@ -23,9 +23,9 @@ use Rattle.flac_bits.proofs.Words.{length-unsigned}
 use Rattle.flac_bits.proofs.Holding.{length-bits_of, bits_of-append}
 use Rattle.flac_bits.proofs.Fields.{taken_read, taken_spends, unary_read, rice_read}
 
-module _ (known : Bool) (errors raised most : ℕ) (behind : Behind) (names : List GName) (coming : List ℕ) (old new : Store) (s : State) (is : state_of known errors raised most behind names coming old ≡ s) where
+module _ (known : Bool) (errors raised most : ℕ) (after : After) (names : List GName) (coming : List ℕ) (old new : Store) (s : State) (is : state_of known errors raised most after names coming old ≡ s) where
   abbrev t : State
-  t = state_of known errors raised most behind names coming new
+  t = state_of known errors raised most after names coming new
 
   pub number_took : (n v : ℕ) → Takes (unsigned n v) old new → v < 2 ^ n
       → (v < 2 ^ n) × (t.most + n ≡ s.most) × SameSource s t × (number_at n s.cursor ≡ Ok (v, t.cursor))
@@ -49,7 +49,7 @@ module _ (known : Bool) (errors raised most : ℕ) (behind : Behind) (names : Li
 
   pub values_took : (k : ℕ) (text : List Bool) (us vs : List ℤ) (i j : ℕ) → Passes text old new → IsRead k text us i vs j
       → ((t.most ≤ s.most) × SameSource s t)
-      × (and_then (run (list_of (length us - i) (rice_value k)) s.cursor) (put_behind (take i us)) ≡ and_then (run (list_of (length us - j) (rice_value k)) t.cursor) (put_behind (take j vs)))
+      × (and_then (run (list_of (length us - i) (rice_value k)) s.cursor) (put_after (take i us)) ≡ and_then (run (list_of (length us - j) (rice_value k)) t.cursor) (put_after (take j vs)))
   values_took k text us vs i j passes read =
       let spent = ap (λ (bs : List Bool). length bs) passes.0 ∙ length-append text (new.word ++ bits_of new.bytes) in
       rw (← is, passes.2) ((omega (arith, spent), (refl, refl, refl, refl, refl)), stretch_read k text us vs i j _ old new _ passes read)
@@ -108,34 +108,34 @@ pub came_most : (old new : Store) (m n : ℕ) → old.word ≡ [] → old.bytes 
 came_most old new m n empty out none le = rw (empty, out, none) (omega (arith, le, length-bits_of new.bytes))
 
 -- the reason if no bit is left
-pub short_is : (room : Option ℕ) (coming : List ℕ) (behind : Behind) (why : Why) → (room ≡ Some 0 → why ≡ FrameTooLong) → ((room ≡ Some 0 → ⊥) → why ≡ Truncated) → allowed room coming ≡ []
-    → (reason_of (reached room coming) behind ≡ Read → ⊥) → why ≡ reason_of (reached room coming) behind
-short_is None coming behind why fence end none other = end (λ e. absurd cc) ∙ ended behind.fails other
+pub short_is : (room : Option ℕ) (coming : List ℕ) (after : After) (why : Why) → (room ≡ Some 0 → why ≡ FrameTooLong) → ((room ≡ Some 0 → ⊥) → why ≡ Truncated) → allowed room coming ≡ []
+    → (reason_of (reached room coming) after ≡ Read → ⊥) → why ≡ reason_of (reached room coming) after
+short_is None coming after why fence end none other = end (λ e. absurd cc) ∙ ended after.fails other
   where
     ended : (o : Option (ℕ × Why)) → (short_of o ≡ Read → ⊥) → Truncated ≡ short_of o
     ended None other = refl
     ended (Some f) other = absurd (other refl)
-short_is (Some zero) coming behind why fence end none other = fence refl ∙ rw (leb-zero (length coming)) refl
-short_is (Some (suc n)) [] behind why fence end none other =
+short_is (Some zero) coming after why fence end none other = fence refl ∙ rw (leb-zero (length coming)) refl
+short_is (Some (suc n)) [] after why fence end none other =
     let z : nat_le (suc n) 0 ≡ false = grind (arith, nat_tests) in
-    rw z (end (λ e. absurd cc) ∙ ended behind.fails (rw z at other))
+    rw z (end (λ e. absurd cc) ∙ ended after.fails (rw z at other))
   where
     ended : (o : Option (ℕ × Why)) → (short_of o ≡ Read → ⊥) → Truncated ≡ short_of o
     ended None other = refl
     ended (Some f) other = absurd (other refl)
-short_is (Some (suc n)) (x ∷ coming) behind why fence end none other = absurd cc
+short_is (Some (suc n)) (x ∷ coming) after why fence end none other = absurd cc
 
 pub no_bytes : (xs : List ℕ) (bs : List Bool) → bs ++ bits_of xs ≡ [] → xs ≡ []
 no_bytes [] bs e = refl
 no_bytes (x ∷ xs) bs e = absurd (omega (arith, ap (λ (b : List Bool). length b) e, length-append bs (bits_of (x ∷ xs)), length-bits_of (x ∷ xs)))
 
-pub same_behind : (a b : Behind) (f h : List Bool) → a ≡ b → f ≡ h → record a { fenced = f } ≡ record b { fenced = h }
-same_behind a b f h e i = rw (e, i) refl
+pub same_after : (a b : After) (f h : List Bool) → a ≡ b → f ≡ h → record a { fenced = f } ≡ record b { fenced = h }
+same_after a b f h e i = rw (e, i) refl
 
 pub fenced_same : (a b : Fence) (coming : List ℕ) → a ≡ b → bits_of (a.hidden ++ forbidden a.room coming) ≡ bits_of (b.hidden ++ forbidden b.room coming)
 fenced_same a b coming e = rw e refl
 
-pub same_reason : (old new : Store) (xs ys : List ℕ) (b b' : Behind) → SameBits old xs new ys → b' ≡ b → reason_of (reached new.fence.room ys) b' ≡ reason_of (reached old.fence.room xs) b
+pub same_reason : (old new : Store) (xs ys : List ℕ) (b b' : After) → SameBits old xs new ys → b' ≡ b → reason_of (reached new.fence.room ys) b' ≡ reason_of (reached old.fence.room xs) b
 same_reason old new xs ys b b' same e = rw (same.reached, e) refl
 
 -- nothing is held, and nothing may come

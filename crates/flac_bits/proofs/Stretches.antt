@@ -9,7 +9,7 @@ use Rattle.flac_bits.specs.State.{Mark, Cursor, past, with_short}
 use Rattle.flac_bits.specs.declared.why.Why.{Why}
 use Rattle.std.specs.List.{slice_range}
 use Rattle.flac_bits.specs.Layout.{run, and_then}
-use Rattle.flac_bits.specs.Lists.{list_of, behind}
+use Rattle.flac_bits.specs.Lists.{list_of, after}
 use Rattle.flac_bits.specs.Meaning.{unary_bits, Spells, IsCut}
 use Rattle.flac_bits.specs.Rice.{rice, rice_value, unfolded}
 use Rattle.flac_bits.specs.Store.{Store, passed}
@@ -31,10 +31,10 @@ none_read k vs i = record { reads = λ rest m. refl; ends = λ rest m s. s }
 
 pub then_read : (k : ℕ) (a b : List Bool) (us vs ws : List ℤ) (i j l : ℕ) → length vs ≡ length us → IsRead k a us i vs j → IsRead k b vs j ws l → IsRead k (a ++ b) us i ws l
 then_read k a b us vs ws i j l long p q = record {
-  reads = λ rest m. ap (λ bs. and_then (run (list_of (length us - i) (rice_value k)) (at_ bs m)) (behind (take i us))) (append_assoc a b rest) ∙ p.reads (b ++ rest) m
-      ∙ ap (λ n. and_then (run (list_of (n - j) (rice_value k)) (at_ (b ++ rest) (past a m))) (behind (take j vs))) (sym long) ∙ q.reads rest (past a m)
-      ∙ ap (λ n. and_then (run (list_of (n - l) (rice_value k)) (at_ rest (past b (past a m)))) (behind (take l ws))) long
-      ∙ ap (λ t. and_then (run (list_of (length us - l) (rice_value k)) (at_ rest t)) (behind (take l ws))) (sym (past-append a b m));
+  reads = λ rest m. ap (λ bs. and_then (run (list_of (length us - i) (rice_value k)) (at_ bs m)) (after (take i us))) (append_assoc a b rest) ∙ p.reads (b ++ rest) m
+      ∙ ap (λ n. and_then (run (list_of (n - j) (rice_value k)) (at_ (b ++ rest) (past a m))) (after (take j vs))) (sym long) ∙ q.reads rest (past a m)
+      ∙ ap (λ n. and_then (run (list_of (n - l) (rice_value k)) (at_ rest (past b (past a m)))) (after (take l ws))) long
+      ∙ ap (λ t. and_then (run (list_of (length us - l) (rice_value k)) (at_ rest t)) (after (take l ws))) (sym (past-append a b m));
   ends = λ rest m s.
       let field = rice_value k in
       let inner : IsCut (list_of (length vs - l) field) (past b (past a m)) rest = subst (λ t. IsCut (list_of (length vs - l) field) t rest) (past-append a b m) (subst (λ n. IsCut (list_of (n - l) field) (past (a ++ b) m) rest) (sym long) s) in
@@ -63,11 +63,11 @@ one_read k q low v z vs i le lt few is value within = record {
       let field = rice_value k in
       let text = unary_bits q ++ unsigned k low in
       let most = (2 ^ 32 - 2) / 2 ^ k in
-      let more : ℤ → Cursor → _ = λ x d. and_then (run (list_of (n - (i + 1)) field) d) (behind (take i vs ++ x ∷ [])) in
+      let more : ℤ → Cursor → _ = λ x d. and_then (run (list_of (n - (i + 1)) field) d) (after (take i vs ++ x ∷ [])) in
       let small = folded_small q low 62 k v le lt is (ready_limit k few) in
       let read : run (rice k most) (at_ (text ++ rest) m) ≡ Ok (v, at_ rest (past text m)) = rw is (code_read k most q low rest m (below_greatest q 62 k le (ready_limit k few)) lt) in
       list_more n i field (at_ (text ++ rest) m) (take i vs) within ∙ ap (λ r. and_then r more) (value_read k v z (at_ (text ++ rest) m) (at_ rest (past text m)) read small value)
-      ∙ ap (λ front. and_then (run (list_of (n - (i + 1)) field) (at_ rest (past text m))) (behind front)) (sym (take-set_at vs i (i + 1) z refl within));
+      ∙ ap (λ front. and_then (run (list_of (n - (i + 1)) field) (at_ rest (past text m))) (after front)) (sym (take-set_at vs i (i + 1) z refl within));
   ends = λ rest m s.
       let n = length vs in
       let text = unary_bits q ++ unsigned k low in
@@ -152,7 +152,7 @@ module _ (bytes : List ℕ) (from place end used : ℕ) (word text new : List Bo
 
 -- what a store and the bits after it are read as
 pub stretch_read : (k : ℕ) (text : List Bool) (us vs : List ℤ) (i j : ℕ) (why : Why) (old new : Store) (rest : List Bool) → Passes text old new → IsRead k text us i vs j
-    → and_then (run (list_of (length us - i) (rice_value k)) (cursor_of why old rest)) (behind (take i us)) ≡ and_then (run (list_of (length us - j) (rice_value k)) (cursor_of why new rest)) (behind (take j vs))
+    → and_then (run (list_of (length us - i) (rice_value k)) (cursor_of why old rest)) (after (take i us)) ≡ and_then (run (list_of (length us - j) (rice_value k)) (cursor_of why new rest)) (after (take j vs))
 stretch_read k text us vs i j why old new rest passes read =
     let left : (old.word ++ bits_of old.bytes) ++ rest ≡ text ++ ((new.word ++ bits_of new.bytes) ++ rest) = ap (λ bs. bs ++ rest) passes.0 ∙ append_assoc text (new.word ++ bits_of new.bytes) rest in
     let marked : with_short why new.mark ≡ past text (with_short why old.mark) = ap (with_short why) passes.1 ∙ sym (past-with_short text why old.mark) in

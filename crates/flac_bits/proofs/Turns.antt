@@ -24,7 +24,7 @@ number_start n old =
       known = λ h. h;
       errors = refl;
       raised = refl;
-      behind = λ _. refl;
+      after = λ _. refl;
       names = refl;
       reads = λ _. ap (λ k. number_from k 0 old.cursor) e;
     }
@@ -70,27 +70,27 @@ zeros_start limit old =
       known = λ h. h;
       errors = refl;
       raised = refl;
-      behind = λ _. refl;
+      after = λ _. refl;
       names = refl;
       reads = λ _. ap (λ k. zeros_from k 0 old.cursor) e;
     }
 
-abbrev behind_zeros : ℕ → ℕ → Bool → Cursor → Result (Option ℕ × Cursor) Reason
-behind_zeros limit i b d = cond b (Ok (Some i, d)) (zeros_from (limit - (i + 1)) (i + 1) d)
+abbrev after_zeros : ℕ → ℕ → Bool → Cursor → Result (Option ℕ × Cursor) Reason
+after_zeros limit i b d = cond b (Ok (Some i, d)) (zeros_from (limit - (i + 1)) (i + 1) d)
 
 pub zeros_turn : (limit i : ℕ) (b : Bool) (old now next : State) → i < limit → b ≡ false
     → Goes old now (zeros_from (limit - i) i now.cursor) (zeros_from limit 0 old.cursor) → Answered now next
     → (now.known ≡ true → next.errors ≡ now.errors → next_bit now.cursor ≡ Ok (b, next.cursor))
     → Goes old next (zeros_from (limit - (i + 1)) (i + 1) next.cursor) (zeros_from limit 0 old.cursor)
 zeros_turn limit i b old now next lt is goes counts reads =
-    goes_on old now next (next_bit now.cursor) b (behind_zeros limit i) _ _ _
-    goes (zeros_more limit i i now.cursor lt) (ap (λ x. behind_zeros limit i x next.cursor) is) counts reads
+    goes_on old now next (next_bit now.cursor) b (after_zeros limit i) _ _ _
+    goes (zeros_more limit i i now.cursor lt) (ap (λ x. after_zeros limit i x next.cursor) is) counts reads
 
 pub zeros_cut : (limit i : ℕ) (e : Reason) (old now : State) → i < limit
     → Goes old now (zeros_from (limit - i) i now.cursor) (zeros_from limit 0 old.cursor) → old.known ≡ true
     → next_bit now.cursor ≡ Err e → zeros_from limit 0 old.cursor ≡ Err e
 zeros_cut limit i e old now lt goes known cut =
-    sym (goes.reads known) ∙ zeros_more limit i i now.cursor lt ∙ ap (λ r. and_then r (behind_zeros limit i)) cut
+    sym (goes.reads known) ∙ zeros_more limit i i now.cursor lt ∙ ap (λ r. and_then r (after_zeros limit i)) cut
 
 pub zeros_cut_last : (limit i : ℕ) (e : Reason) (old now : State) → limit ≤ i
     → Goes old now (zeros_from (limit - i) i now.cursor) (zeros_from limit 0 old.cursor) → old.known ≡ true
@@ -104,16 +104,16 @@ zeros_cut_last limit i e old now le goes known cut =
 abbrev both_parts : ℕ → ℕ → Cursor → Result (ℕ × Cursor) Reason
 both_parts high low e = Ok (high * 2 ^ 32 + low, e)
 
-abbrev behind_high : ℕ → Cursor → Result (ℕ × Cursor) Reason
-behind_high high d = and_then (number_at 32 d) (both_parts high)
+abbrev after_high : ℕ → Cursor → Result (ℕ × Cursor) Reason
+after_high high d = and_then (number_at 32 d) (both_parts high)
 
 pub high_cut : (n : ℕ) (why : Reason) (c : Cursor) → 32 < n → number_at (n - 32) c ≡ Err why → number_at n c ≡ Err why
-high_cut n why c lt cut = number_halves n c lt ∙ ap (λ r. and_then r behind_high) cut
+high_cut n why c lt cut = number_halves n c lt ∙ ap (λ r. and_then r after_high) cut
 
 pub low_cut : (n high : ℕ) (why : Reason) (c d : Cursor) → 32 < n → number_at (n - 32) c ≡ Ok (high, d)
     → number_at 32 d ≡ Err why → number_at n c ≡ Err why
 low_cut n high why c d lt read cut =
-    number_halves n c lt ∙ ap (λ r. and_then r behind_high) read
+    number_halves n c lt ∙ ap (λ r. and_then r after_high) read
     ∙ ap (λ r. and_then r (both_parts high)) cut
 
 pub halves_room : (n high low : ℕ) → n ≤ 64 → high < 2 ^ (n - 32) → low < 4294967296

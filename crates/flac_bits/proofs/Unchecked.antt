@@ -40,20 +40,20 @@ pub fresh_same : (m k : Mark) → strip m ≡ strip k → m.unread ≡ 0 → fre
 fresh_same m k e z = let z' : k.unread ≡ 0 = sym (ap (λ (n : Mark). n.unread) e) ∙ z in fresh_strip m z ∙ e ∙ sym (fresh_strip k z')
 
 -- the position after such bytes, as if their checks were computed
-pub behind_bytes : List ℕ → Cursor → Cursor → Cursor
-behind_bytes xs old new = at_ new.left (past (bits_of xs) old.mark)
+pub after_bytes : List ℕ → Cursor → Cursor → Cursor
+after_bytes xs old new = at_ new.left (past (bits_of xs) old.mark)
 
-passed_left : (xs : List ℕ) (old new : Cursor) → Passes (bits_of xs) old new → Consumes (bits_of xs) old (behind_bytes xs old new)
-unfolding behind_bytes
+passed_left : (xs : List ℕ) (old new : Cursor) → Passes (bits_of xs) old new → Consumes (bits_of xs) old (after_bytes xs old new)
+unfolding after_bytes
 passed_left xs old new p = (p.0, refl)
 
 -- more of them, and the checks begin anew
 passes_more : (xs ys zs : List ℕ) (old now mid new : Cursor) → zs ≡ xs ++ ys → Passes (bits_of xs) old now → Consumes (bits_of ys) now mid → mid.mark.unread ≡ 0 → new.left ≡ mid.left → new.mark ≡ fresh mid.mark
     → Passes (bits_of zs) old new
-unfolding behind_bytes
+unfolding after_bytes
 passes_more xs ys zs old now mid new e a b z left mark =
     let k = past (bits_of xs) old.mark in
-    let all = consumes_more xs ys zs old (behind_bytes xs old now) (at_ mid.left (past (bits_of ys) k)) e (passed_left xs old now a) (b.0, refl) in
+    let all = consumes_more xs ys zs old (after_bytes xs old now) (at_ mid.left (past (bits_of ys) k)) e (passed_left xs old now a) (b.0, refl) in
     let same : strip mid.mark ≡ strip (past (bits_of ys) k) = ap strip (b.1) ∙ strip_past (bits_of ys) now.mark k (ap strip (a.1) ∙ strip_fresh k) in (
       all.0 ∙ ap (λ bs. bits_of zs ++ bs) (sym left),
       mark ∙ fresh_same mid.mark (past (bits_of ys) k) same z ∙ ap fresh (all.1),
@@ -64,16 +64,16 @@ okay x = Ok x
 
 -- as many bytes as are wanted
 pub exact_anew : (xs : List ℕ) (n : ℕ) (old new : Cursor) → length xs ≡ n → ((k : ℕ) → k < length xs → get_or xs k 0 < 2 ^ 8) → Passes (bits_of xs) old new → begun_anew (run (list_of n (bits 8)) old) ≡ Ok (xs, new)
-unfolding behind_bytes okay
-exact_anew xs n old new e small p = ap begun_anew (exact xs n old (behind_bytes xs old new) e small (passed_left xs old new p)) ∙ ap (λ m. okay (xs, at_ new.left m)) (sym (p.1))
+unfolding after_bytes okay
+exact_anew xs n old new e small p = ap begun_anew (exact xs n old (after_bytes xs old new) e small (passed_left xs old new p)) ∙ ap (λ m. okay (xs, at_ new.left m)) (sym (p.1))
 
 -- fewer of them
 pub missing_anew : (xs : List ℕ) (n : ℕ) (why : Why) (old new : Cursor) → length xs < n → new.left ≡ [] → why ≡ new.mark.short → Passes (bits_of xs) old new → begun_anew (run (list_of n (bits 8)) old) ≡ Err (because why)
-unfolding behind_bytes
+unfolding after_bytes
 missing_anew xs n why old new lt none is p =
     let m = past (bits_of xs) old.mark in
     let short : new.mark.short ≡ m.short = ap (λ (k : Mark). k.short) (p.1) ∙ ap (λ (k : Mark). k.short) (strip_fresh m) in
-    ap begun_anew (missing xs n why old (behind_bytes xs old new) lt none (is ∙ short) (passed_left xs old new p))
+    ap begun_anew (missing xs n why old (after_bytes xs old new) lt none (is ∙ short) (passed_left xs old new p))
 
 -- too few of them are left
 pub cut_anew : (n : ℕ) (why : Why) (old : Cursor) → length old.left < 8 * n → why ≡ old.mark.short → begun_anew (run (list_of n (bits 8)) old) ≡ Err (because why)

@@ -5,7 +5,7 @@ use Rattle.flac_bits.specs.Bits.{bits_of}
 use Rattle.flac_bits.specs.Forms.{joined}
 use Rattle.flac_bits.specs.State.{Mark, past}
 use Rattle.flac_bits.specs.Written.{Written, Adds, Writes, Fails, begins}
-use Rattle.flac_bits.specs.inner.Written.{Wrote, WritesParts, behind_parts, past_parts}
+use Rattle.flac_bits.specs.inner.Written.{Wrote, WritesParts, after_parts, past_parts}
 use Rattle.flac_bits.specs.declared.why.Why.{Why}
 use Rattle.flac_bits.proofs.Counting.{rises_then}
 use Rattle.flac_bits.proofs.Laws.{past-append}
@@ -121,9 +121,9 @@ towards_fail {whole = whole} {old = old} {now = now} part rest is t f =
 
 -- ---- a chain of calls
 
-behind_joined : (bits : List Bool) (parts : List (List Bool)) → behind_parts bits parts ≡ bits ++ joined parts
-behind_joined bits [] = sym (append-nil bits)
-behind_joined bits (part ∷ parts) = behind_joined (bits ++ part) parts ∙ append_assoc bits part (joined parts)
+after_joined : (bits : List Bool) (parts : List (List Bool)) → after_parts bits parts ≡ bits ++ joined parts
+after_joined bits [] = sym (append-nil bits)
+after_joined bits (part ∷ parts) = after_joined (bits ++ part) parts ∙ append_assoc bits part (joined parts)
 
 past_joined : (parts : List (List Bool)) (m : Mark) → past_parts parts m ≡ past (joined parts) m
 past_joined [] m = refl
@@ -131,16 +131,16 @@ past_joined (part ∷ parts) m = past_joined parts (past part m) ∙ sym (past-a
 
 -- what is written part by part is written
 pub parts_written : {X : Type 0} (parts : List (List Bool)) (old new : Written) (result : Result X Why) → WritesParts parts old new result → Writes (joined parts) old new result
-parts_written parts old new (Ok x) w = record { known = w.known; errors = w.errors; names = w.names; mark = w.mark ∙ past_joined parts old.mark; bits = λ k. w.bits k ∙ behind_joined old.bits parts }
+parts_written parts old new (Ok x) w = record { known = w.known; errors = w.errors; names = w.names; mark = w.mark ∙ past_joined parts old.mark; bits = λ k. w.bits k ∙ after_joined old.bits parts }
 parts_written parts old new (Err e) f =
-    fails_later (old.bits ++ joined parts) (λ k. k) refl refl [] (λ _. sym (behind_joined old.bits parts) ∙ sym (append-nil (behind_parts old.bits parts))) f
+    fails_later (old.bits ++ joined parts) (λ k. k) refl refl [] (λ _. sym (after_joined old.bits parts) ∙ sym (append-nil (after_parts old.bits parts))) f
 
 pub wrote_none : (w : Written) → Wrote [] w w
 wrote_none w = record { known = λ known. known; errors = refl; names = refl; mark = refl; bits = λ known. refl }
 
-behind_more : (bits : List Bool) (parts : List (List Bool)) (part : List Bool) (more : List (List Bool)) → behind_parts bits (parts ++ part ∷ more) ≡ behind_parts (behind_parts bits parts ++ part) more
-behind_more bits [] part more = refl
-behind_more bits (p ∷ parts) part more = behind_more (bits ++ p) parts part more
+after_more : (bits : List Bool) (parts : List (List Bool)) (part : List Bool) (more : List (List Bool)) → after_parts bits (parts ++ part ∷ more) ≡ after_parts (after_parts bits parts ++ part) more
+after_more bits [] part more = refl
+after_more bits (p ∷ parts) part more = after_more (bits ++ p) parts part more
 
 past_more : (m : Mark) (parts : List (List Bool)) (part : List Bool) → past_parts (parts ++ part ∷ []) m ≡ past part (past_parts parts m)
 past_more m [] part = refl
@@ -152,12 +152,12 @@ wrote_more {parts = parts} {last = last} {old = old} w a = record {
   errors = a.errors ∙ w.errors;
   names = a.names ∙ w.names;
   mark = a.mark ∙ ap (past last) w.mark ∙ sym (past_more old.mark parts last);
-  bits = λ k. a.bits (w.known k) ∙ ap (λ b. b ++ last) (w.bits k) ∙ sym (behind_more old.bits parts last []);
+  bits = λ k. a.bits (w.known k) ∙ ap (λ b. b ++ last) (w.bits k) ∙ sym (after_more old.bits parts last []);
 }
 
 -- the part that was not written, before others
 pub wrote_fails : {parts : List (List Bool)} {old mid new : Written} {e : Why} (last : List Bool) (more : List (List Bool)) → Wrote parts old mid → Fails (mid.bits ++ last) mid new e
-    → Fails (behind_parts old.bits (parts ++ last ∷ more)) old new e
+    → Fails (after_parts old.bits (parts ++ last ∷ more)) old new e
 wrote_fails {parts = parts} {old = old} {mid = mid} last more w f =
-    fails_later (behind_parts old.bits (parts ++ last ∷ more)) w.known w.errors w.names (joined more)
-    (λ k. behind_more old.bits parts last more ∙ ap (λ b. behind_parts (b ++ last) more) (sym (w.bits k)) ∙ behind_joined (mid.bits ++ last) more) f
+    fails_later (after_parts old.bits (parts ++ last ∷ more)) w.known w.errors w.names (joined more)
+    (λ k. after_more old.bits parts last more ∙ ap (λ b. after_parts (b ++ last) more) (sym (w.bits k)) ∙ after_joined (mid.bits ++ last) more) f

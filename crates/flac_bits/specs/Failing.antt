@@ -1,6 +1,6 @@
 -- The failures of calls of which one fails.
 use Rattle.std.specs.Prelude.{◌≡◌, ◌<◌, ◌+◌, ◌-◌, ◌^◌, ℕ, Bool, true, List, [], cond, nat_lt, is_some, Result, IsErr}
-use Rattle.flac_bits.specs.State.{Behind}
+use Rattle.flac_bits.specs.State.{After}
 use Rattle.flac_bits.specs.declared.failing.FailAt.{FailAt}
 
 -- how many failed of the first `calls` calls, of which the one at index `at` fails
@@ -24,9 +24,9 @@ abbrev pub FailsOnce : {D X E : Type 0} → FailAt D → FailAt D → Result X E
 FailsOnce old new result = old.calls ≡ old.at → old.at < 2 ^ 64 - 1 → IsErr result × (new.device ≡ old.device)
 
 -- of a source: an error that is not counted is the one that comes in place of the end, and no byte is to come before it
-abbrev pub IsForeseenBelow : {S : Type 0} → (known : S → Bool) → (errors : S → ℕ) → (coming : S → List ℕ) → (behind : S → Behind) → FailAt S → FailAt S → Type 0
-IsForeseenBelow known errors coming behind old new = known old.device ≡ true → SameCount errors old new → (coming old.device ≡ []) × (is_some ((behind old.device).fails) ≡ true)
+abbrev pub IsForeseenBelow : {S : Type 0} → (known : S → Bool) → (errors : S → ℕ) → (coming : S → List ℕ) → (after : S → After) → FailAt S → FailAt S → Type 0
+IsForeseenBelow known errors coming after old new = known old.device ≡ true → SameCount errors old new → (coming old.device ≡ []) × (is_some ((after old.device).fails) ≡ true)
 
 -- of a source: if no error is counted, what comes after the bytes to come stays
-abbrev pub SameEndBelow : {S : Type 0} → (known : S → Bool) → (errors : S → ℕ) → (behind : S → Behind) → FailAt S → FailAt S → Type 0
-SameEndBelow known errors behind old new = known old.device ≡ true → SameCount errors old new → behind new.device ≡ behind old.device
+abbrev pub SameEndBelow : {S : Type 0} → (known : S → Bool) → (errors : S → ℕ) → (after : S → After) → FailAt S → FailAt S → Type 0
+SameEndBelow known errors after old new = known old.device ≡ true → SameCount errors old new → after new.device ≡ after old.device

@@ -5,12 +5,12 @@ use Rattle.flac_bits.specs.Fence.{fenced}
 
 -- all bits to come, those past a fence too
 abbrev pub all_left : State → List Bool
-all_left s = s.cursor.left ++ s.behind.fenced
+all_left s = s.cursor.left ++ s.after.fenced
 
 -- with no fence: the bits past it are to come again
 abbrev pub lifted : State → State
-lifted s = record s { behind = without_fence s.behind; cursor = record { left = all_left s; mark = with_short (short_of s.behind.fails) s.cursor.mark } }
+lifted s = record s { after = without_fence s.after; cursor = record { left = all_left s; mark = with_short (short_of s.after.fails) s.cursor.mark } }
 
 -- with a fence after the byte that was begun and n more bytes: the bits past it are not read
 abbrev pub fence_at : ℕ → State → State
-fence_at n s = record s { behind = record s.behind { fenced = drop (s.cursor.mark.unread + 8 * n) (all_left s) }; cursor = fenced n (lifted s).cursor }
+fence_at n s = record s { after = record s.after { fenced = drop (s.cursor.mark.unread + 8 * n) (all_left s) }; cursor = fenced n (lifted s).cursor }

@@ -1,7 +1,7 @@
 -- What a call that reads a stream item by item passes to a receiver.
 use Rattle.std.specs.Prelude.{◌≡◌, ◌≢◌, ◌<◌, ℕ, Bool, List, [], ◌∷◌, ◌++◌, Option, Some, None, Result, Ok, Err, ◌⊎◌}
 use Rattle.flac_bits.specs.State.{Mark}
-use Rattle.flac_bits.specs.Items.{Grammar, after, Joined, Stream, Refused}
+use Rattle.flac_bits.specs.Items.{Grammar, state_after, Joined, Stream, Refused}
 use Rattle.flac_bits.specs.declared.why.Why.{Why}
 use Rattle.flac_bits.specs.declared.why.Why.TheVariants.{Memory, Read, Sink}
 
@@ -31,7 +31,7 @@ IsOutside why = (why ≡ Read) ⊎ (why ≡ Memory)
 -- How an input is read. `whole`: these are all its items. `refused`: after these items it is refused, at this place and
 -- for this reason. `begins`: it begins with these items. `place`: the place of the item after these. `breaks`: a call
 -- that ends early after these items, for this reason, may report this place.
-pub record Reading (I P : Type 0) : Type 1 where
+pub record InputReading (I P : Type 0) : Type 1 where
   pub whole : List I → Type 0
   pub refused : List I → P → Why → Type 0
   pub begins : List I → Type 0
@@ -39,18 +39,18 @@ pub record Reading (I P : Type 0) : Type 1 where
   pub breaks : List I → P → Why → Type 0
 
 -- by a grammar, from this state on
-abbrev pub by_grammar : {S I P : Type 0} → Grammar S I P → S → Mark → List Bool → Reading I P
+abbrev pub by_grammar : {S I P : Type 0} → Grammar S I P → S → Mark → List Bool → InputReading I P
 by_grammar g s mark text = record {
   whole = λ items. Stream g s mark items text;
   refused = λ items at why. Refused g s mark items text at why;
   begins = λ items. (front : List Bool) × (left : List Bool) × (text ≡ front ++ left) × Joined g s mark items front;
-  place = λ items. g.place (after g s items);
-  breaks = λ items at why. at ≡ g.place (after g s items);
+  place = λ items. g.place (state_after g s items);
+  breaks = λ items at why. at ≡ g.place (state_after g s items);
 }
 
 -- What was returned, and what the receiver took. `errors` counts the errors that the receiver returned, and `calm` says
 -- that the source returned none.
-pub record Hands {I P K : Type 0} (r : Reading I P) (takes : K → I → K → Type 0) (errors : K → ℕ) (calm : Type 0) (old new : K) (outcome : Option (P × Why)) : Type 0 where
+pub record Hands {I P K : Type 0} (r : InputReading I P) (takes : K → I → K → Type 0) (errors : K → ℕ) (calm : Type 0) (old new : K) (outcome : Option (P × Why)) : Type 0 where
   -- over only if the input is a stream, and the receiver took exactly its items
   pub done : calm → outcome ≡ None → (items : List I) × r.whole items × TakesAll takes old items new
   -- refused only as the input is, after exactly the items that the receiver took
@@ -66,7 +66,7 @@ pub record Hands {I P K : Type 0} (r : Reading I P) (takes : K → I → K → T
   pub failed : errors old < errors new → (at : P) × (outcome ≡ Some (at, Sink)) × ((items : List I) × (mid : K) × r.begins items × (at ≡ r.place items) × TakesAll takes old items mid)
 
 -- which outcome an input has
-pub record Decides {I P : Type 0} (r : Reading I P) (outcome : Option (P × Why)) : Type 0 where
+pub record Decides {I P : Type 0} (r : InputReading I P) (outcome : Option (P × Why)) : Type 0 where
   -- a stream is not refused, unless memory runs out
   pub accepted : (items : List I) → r.whole items → (at : P) (why : Why) → outcome ≡ Some (at, why) → why ≢ Memory → ⊥
   -- an input that is to be refused is refused
@@ -75,13 +75,13 @@ pub record Decides {I P : Type 0} (r : Reading I P) (outcome : Option (P × Why)
   pub shown : (items : List I) (at : P) (why : Why) → r.refused items at why → (to : P) (w : Why) → outcome ≡ Some (to, w) → w ≢ Memory → (to ≡ at) × (w ≡ why)
 
 -- no input has two readings: it is one stream, or is refused in one way
-pub record ReadsOnce {I P : Type 0} (r : Reading I P) : Type 0 where
+pub record ReadsOnce {I P : Type 0} (r : InputReading I P) : Type 0 where
   pub streams : (xs ys : List I) → r.whole xs → r.whole ys → xs ≡ ys
   pub either : (xs ys : List I) (at : P) (why : Why) → r.whole xs → r.refused ys at why → ⊥
   pub refusals : (xs ys : List I) (at to : P) (v w : Why) → r.refused xs at v → r.refused ys to w → (xs ≡ ys) × (at ≡ to) × (v ≡ w)
 
 -- and it has one: it is a stream, or is refused
-abbrev pub IsRead : {I P : Type 0} → Reading I P → Type 0
+abbrev pub IsRead : {I P : Type 0} → InputReading I P → Type 0
 IsRead {I = I} {P = P} r = ((items : List I) × r.whole items) ⊎ ((items : List I) × (at : P) × (why : Why) × r.refused items at why)
 
 abbrev pub OneReading : {S I P : Type 0} → Grammar S I P → Type 0

@@ -19,9 +19,9 @@ pub record Grammar (S I P : Type 0) : Type 1 where
   pub end_place : P
 
 -- the state after these items
-abbrev pub after : {S I P : Type 0} → Grammar S I P → S → List I → S
-after g s [] = s
-after g s (x ∷ xs) = after g (g.next s x) xs
+abbrev pub state_after : {S I P : Type 0} → Grammar S I P → S → List I → S
+state_after g s [] = s
+state_after g s (x ∷ xs) = state_after g (g.next s x) xs
 
 -- the bits are these items, spelled one after another, each within its room; at each the checks begin anew
 abbrev pub Joined : {S I P : Type 0} → Grammar S I P → S → Mark → List I → List Bool → Type 0
@@ -30,15 +30,15 @@ Joined g s m (x ∷ xs) text =
     (front : List Bool) × (rest : List Bool) × (text ≡ front ++ rest) × Spells (g.layout s) (fresh m) front x × InRoom (g.room s) (fresh m) front × Joined g (g.next s x) (past front (fresh m)) xs rest
 
 -- the mark after these items
-abbrev pub mark_behind : {S I P : Type 0} (g : Grammar S I P) (s : S) (m : Mark) (items : List I) (text : List Bool) → Joined g s m items text → Mark
-mark_behind g s m [] text j = m
-mark_behind g s m (x ∷ xs) text j = mark_behind g (g.next s x) (past j.0 (fresh m)) xs j.1 j.5
+abbrev pub mark_after : {S I P : Type 0} (g : Grammar S I P) (s : S) (m : Mark) (items : List I) (text : List Bool) → Joined g s m items text → Mark
+mark_after g s m [] text j = m
+mark_after g s m (x ∷ xs) text j = mark_after g (g.next s x) (past j.0 (fresh m)) xs j.1 j.5
 
 -- the whole input is these items, may end after them, and keeps the rules of the end
 pub record Stream {S I P : Type 0} (g : Grammar S I P) (s : S) (m : Mark) (items : List I) (text : List Bool) : Type 0 where
   pub spelled : Joined g s m items text
-  pub ends : g.may_end (after g s items) ≡ true
-  pub kept : AllKept (g.at_end (after g s items))
+  pub ends : g.may_end (state_after g s items) ≡ true
+  pub kept : AllKept (g.at_end (state_after g s items))
 
 -- there is no next item: it is not spelled within its room; or the input is over, and a rule of the end is broken
 abbrev pub StopsAt : {S I P : Type 0} → Grammar S I P → S → Mark → List Bool → P → Why → Type 0
@@ -52,7 +52,7 @@ pub record Refused {S I P : Type 0} (g : Grammar S I P) (s : S) (m : Mark) (item
   pub left : List Bool
   pub stands : text ≡ front ++ left
   pub spelled : Joined g s m items front
-  pub stops : StopsAt g (after g s items) (mark_behind g s m items front spelled) left at why
+  pub stops : StopsAt g (state_after g s items) (mark_after g s m items front spelled) left at why
 
 -- ---- what one step of a reading gives
 

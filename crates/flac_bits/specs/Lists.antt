@@ -11,5 +11,5 @@ list_of (suc n) l = do
   done (x ∷ xs)
 
 -- the values, after those that were read before
-unfoldable pub behind : {A : Type 0} → List A → List A → Cursor → Result (List A × Cursor) Reason
-behind front xs c = Ok (front ++ xs, c)
+unfoldable pub after : {A : Type 0} → List A → List A → Cursor → Result (List A × Cursor) Reason
+after front xs c = Ok (front ++ xs, c)

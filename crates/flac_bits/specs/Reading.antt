@@ -15,8 +15,8 @@ use Rattle.flac_bits.specs.declared.why.Why.TheVariants.{Memory, Read}
 -- No reading call returns an error of the output. What comes after the bytes still to come stays, and so do the
 -- references that the source goes through.
 abbrev pub Counts : {X : Type 0} → State → State → Result X Why → Type 0
-Counts old new (Ok x) = (old.known ≡ true → new.known ≡ true) × (new.errors ≡ old.errors) × (new.raised ≡ old.raised) × (old.known ≡ true → new.behind ≡ old.behind) × (new.names ≡ old.names)
-Counts old new (Err e) = (old.errors ≤ new.errors) × (old.known ≡ true → new.errors ≡ old.errors → new.behind ≡ old.behind) × (old.known ≡ true → e ≡ Read → old.raised < new.raised) × (new.names ≡ old.names) × (e ≡ Read → Rises old.raised new.raised) × (of_output e ≡ false)
+Counts old new (Ok x) = (old.known ≡ true → new.known ≡ true) × (new.errors ≡ old.errors) × (new.raised ≡ old.raised) × (old.known ≡ true → new.after ≡ old.after) × (new.names ≡ old.names)
+Counts old new (Err e) = (old.errors ≤ new.errors) × (old.known ≡ true → new.errors ≡ old.errors → new.after ≡ old.after) × (old.known ≡ true → e ≡ Read → old.raised < new.raised) × (new.names ≡ old.names) × (e ≡ Read → Rises old.raised new.raised) × (of_output e ≡ false)
 
 -- The source is asked only for bits that are needed: a call that reads n bits returns an error of the source, foretold
 -- or not, only if fewer than n were held; and after a value all that were held are held but these.
@@ -47,8 +47,8 @@ abbrev pub Reads : {X Y : Type 0} → (X → Y) → Layout Y → State → State
 Reads view layout old new result = Gives view (run layout old.cursor) old new result
 
 -- the same unless memory ran out
-abbrev pub ReadsInRoom : {X Y : Type 0} → (X → Y) → Layout Y → State → State → Result X Why → Type 0
-ReadsInRoom view layout old new result = (result ≡ Err Memory → ⊥) → Reads view layout old new result
+abbrev pub ReadsGivenMemory : {X Y : Type 0} → (X → Y) → Layout Y → State → State → Result X Why → Type 0
+ReadsGivenMemory view layout old new result = (result ≡ Err Memory → ⊥) → Reads view layout old new result
 
 -- What each call that reads a layout promises: a value takes at least this number of the bits that can still come,
 -- errors of the source are counted, and the call's own promise holds of the reader before and after it and of the
@@ -79,8 +79,8 @@ abbrev pub Means : {X Y : Type 0} → (X → Y) → Layout Y → State → State
 Means view layout old new result = old.known ≡ true → new.errors ≡ old.errors → Decodes view layout old.cursor new.cursor result
 
 -- the same unless memory ran out
-abbrev pub MeansInRoom : {X Y : Type 0} → (X → Y) → Layout Y → State → State → Result X Why → Type 0
-MeansInRoom view layout old new result = (result ≡ Err Memory → ⊥) → Means view layout old new result
+abbrev pub MeansGivenMemory : {X Y : Type 0} → (X → Y) → Layout Y → State → State → Result X Why → Type 0
+MeansGivenMemory view layout old new result = (result ≡ Err Memory → ⊥) → Means view layout old new result
 
 -- ---- calls that read a slice of values
 

@@ -46,7 +46,7 @@ Consumes text old new = (old.left ≡ text ++ new.left) × (new.mark ≡ past te
 
 -- What follows the bytes to come. A source may be one part of several, as a packet of an Ogg stream is; then the parts
 -- after it come in pieces: `pieces` has the length of each, and `bytes` the bytes of all of them.
-pub record Behind : Type 0 where
+pub record After : Type 0 where
   -- the error that comes in place of the end: a place and a reason of the source's own
   pub fails : Option (ℕ × Why)
   -- the part is not whole
@@ -61,11 +61,11 @@ pub record Behind : Type 0 where
   pub fenced : List Bool
 
 -- after these bytes is the end
-abbrev pub the_end : Behind
+abbrev pub the_end : After
 the_end = record { fails = None; cut = false; pieces = []; bytes = []; fault = None; stop = None; fenced = [] }
 
 -- the same without a fence
-abbrev pub without_fence : Behind → Behind
+abbrev pub without_fence : After → After
 without_fence b = record b { fenced = [] }
 
 -- the reason if a field needs more than is left: the input ends, or the error comes that is foretold
@@ -98,7 +98,7 @@ pub record State : Type 0 where
   -- the number of all errors that it returned
   pub raised : ℕ
   -- what follows the bytes to come
-  pub behind : Behind
+  pub after : After
   -- the most bits that can still come
   pub most : ℕ
   -- how many bits were pulled from the source and not read yet, those past a fence too

@@ -2,7 +2,7 @@
 use Rattle.std.specs.Prelude.{ℕ, zero, suc, ◌-◌, ◌*◌, Bool, true, false, nat_eq, nat_le, List, ◌++◌, length, take, drop, ◌+◌, [], Option, Some, None}
 use Rattle.std.specs.Borrow.{GName}
 use Rattle.flac_bits.specs.Bits.{bits_of}
-use Rattle.flac_bits.specs.State.{Mark, State, Behind, with_short, short_of}
+use Rattle.flac_bits.specs.State.{Mark, State, After, with_short, short_of}
 use Rattle.flac_bits.specs.declared.why.Why.{Why}
 use Rattle.flac_bits.specs.declared.why.Why.TheVariants.{FrameTooLong}
 
@@ -54,22 +54,22 @@ left_of s coming = (s.word ++ bits_of s.bytes) ++ bits_of (allowed s.fence.room 
 abbrev pub fenced_of : Store → List ℕ → List Bool
 fenced_of s coming = bits_of (s.fence.hidden ++ forbidden s.fence.room coming)
 
-abbrev pub reason_of : Bool → Behind → Why
-reason_of true behind = FrameTooLong
-reason_of false behind = short_of behind.fails
+abbrev pub reason_of : Bool → After → Why
+reason_of true after = FrameTooLong
+reason_of false after = short_of after.fails
 
 -- how many bits it has, those past the fence too
 abbrev pub most_of : Store → ℕ
 most_of s = length (s.word ++ bits_of s.bytes) + 8 * length s.fence.hidden
 
-abbrev pub state_of : Bool → ℕ → ℕ → ℕ → Behind → List GName → List ℕ → Store → State
-state_of known errors raised most behind names coming s = record {
+abbrev pub state_of : Bool → ℕ → ℕ → ℕ → After → List GName → List ℕ → Store → State
+state_of known errors raised most after names coming s = record {
   known = known;
   errors = errors;
   raised = raised;
-  behind = record behind { fenced = fenced_of s coming };
+  after = record after { fenced = fenced_of s coming };
   most = 8 * most + most_of s;
   held = most_of s;
   names = names;
-  cursor = record { left = left_of s coming; mark = with_short (reason_of (reached s.fence.room coming) behind) s.mark };
+  cursor = record { left = left_of s coming; mark = with_short (reason_of (reached s.fence.room coming) after) s.mark };
 }

@@ -91,7 +91,7 @@ impl<T: Read> Source for Counted<T> {
 
     ghost coming = { λ s. take s.room (unwrap_or (T.remaining s.device) []) };
 
-    ghost behind = { λ _. the_end };
+    ghost after = { λ _. the_end };
 
     ghost errors = { λ s. s.errors };
 

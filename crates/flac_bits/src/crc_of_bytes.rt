@@ -82,9 +82,9 @@ fn byte_checked(checks: (u8, u16), byte: u8) -> (u8, u16)
     ensures sixteen { result.1 ≡ fed 16 32773 checks.1 (unsigned 8 byte) }
 {
     let (check8, check16) = checks;
-    let narrow = crc_8_16_tables::BEHIND_0[(check8 ^ byte) as usize];
-    let wide = crc_8_16_tables::BEHIND_0[((check16 >> 8) as u8 ^ byte) as usize];
-    (crc8_of(narrow), (check16 << 8) ^ crc16_of(wide))
+    let entry8 = crc_8_16_tables::AFTER_0[(check8 ^ byte) as usize];
+    let entry16 = crc_8_16_tables::AFTER_0[((check16 >> 8) as u8 ^ byte) as usize];
+    (crc8_of(entry8), (check16 << 8) ^ crc16_of(entry16))
 }
 
 /// Both checks after eight more bytes, by a table for each place. Their registers meet the first bytes alone, so one
@@ -96,17 +96,17 @@ fn eight_checked(checks: (u8, u16), bytes: &[u8]) -> (u8, u16)
     ensures sixteen { result.1 ≡ fed 16 32773 checks.1 (bits_of bytes.now) }
 {
     let (check8, check16) = checks;
-    let rest = crc_8_16_tables::BEHIND_5[bytes[2] as usize]
-        ^ (crc_8_16_tables::BEHIND_4[bytes[3] as usize]
-            ^ (crc_8_16_tables::BEHIND_3[bytes[4] as usize]
-                ^ (crc_8_16_tables::BEHIND_2[bytes[5] as usize]
-                    ^ (crc_8_16_tables::BEHIND_1[bytes[6] as usize]
-                        ^ crc_8_16_tables::BEHIND_0[bytes[7] as usize]))));
-    let narrow = crc_8_16_tables::BEHIND_7[(check8 ^ bytes[0]) as usize]
-        ^ (crc_8_16_tables::BEHIND_6[bytes[1] as usize] ^ rest);
-    let wide = crc_8_16_tables::BEHIND_7[((check16 >> 8) as u8 ^ bytes[0]) as usize]
-        ^ (crc_8_16_tables::BEHIND_6[((check16 % 256) as u8 ^ bytes[1]) as usize] ^ rest);
-    (crc8_of(narrow), crc16_of(wide))
+    let rest = crc_8_16_tables::AFTER_5[bytes[2] as usize]
+        ^ (crc_8_16_tables::AFTER_4[bytes[3] as usize]
+            ^ (crc_8_16_tables::AFTER_3[bytes[4] as usize]
+                ^ (crc_8_16_tables::AFTER_2[bytes[5] as usize]
+                    ^ (crc_8_16_tables::AFTER_1[bytes[6] as usize]
+                        ^ crc_8_16_tables::AFTER_0[bytes[7] as usize]))));
+    let entry8 = crc_8_16_tables::AFTER_7[(check8 ^ bytes[0]) as usize]
+        ^ (crc_8_16_tables::AFTER_6[bytes[1] as usize] ^ rest);
+    let entry16 = crc_8_16_tables::AFTER_7[((check16 >> 8) as u8 ^ bytes[0]) as usize]
+        ^ (crc_8_16_tables::AFTER_6[((check16 % 256) as u8 ^ bytes[1]) as usize] ^ rest);
+    (crc8_of(entry8), crc16_of(entry16))
 }
 
 /// Both checks after more bytes, byte by byte.
@@ -185,7 +185,7 @@ pub(crate) fn checked16(check: u16, bytes: &[u8]) -> u16
 fn crc32_after_byte(check: u32, byte: u8) -> u32
     ensures { result ≡ fed 32 79764919 check (unsigned 8 byte) }
 {
-    (check << 8) ^ crc_32_tables::BEHIND_0[((check >> 24) as u8 ^ byte) as usize]
+    (check << 8) ^ crc_32_tables::AFTER_0[((check >> 24) as u8 ^ byte) as usize]
 }
 
 /// The CRC-32 after eight more bytes, by a table for each place.
@@ -194,14 +194,14 @@ fn crc32_after_eight(check: u32, bytes: &[u8]) -> u32
     requires { length bytes.now ≡ 8 }
     ensures { result ≡ fed 32 79764919 check (bits_of bytes.now) }
 {
-    crc_32_tables::BEHIND_7[((check >> 24) as u8 ^ bytes[0]) as usize]
-        ^ (crc_32_tables::BEHIND_6[(((check >> 16) % 256) as u8 ^ bytes[1]) as usize]
-            ^ (crc_32_tables::BEHIND_5[(((check >> 8) % 256) as u8 ^ bytes[2]) as usize]
-                ^ (crc_32_tables::BEHIND_4[((check % 256) as u8 ^ bytes[3]) as usize]
-                    ^ (crc_32_tables::BEHIND_3[bytes[4] as usize]
-                        ^ (crc_32_tables::BEHIND_2[bytes[5] as usize]
-                            ^ (crc_32_tables::BEHIND_1[bytes[6] as usize]
-                                ^ crc_32_tables::BEHIND_0[bytes[7] as usize]))))))
+    crc_32_tables::AFTER_7[((check >> 24) as u8 ^ bytes[0]) as usize]
+        ^ (crc_32_tables::AFTER_6[(((check >> 16) % 256) as u8 ^ bytes[1]) as usize]
+            ^ (crc_32_tables::AFTER_5[(((check >> 8) % 256) as u8 ^ bytes[2]) as usize]
+                ^ (crc_32_tables::AFTER_4[((check % 256) as u8 ^ bytes[3]) as usize]
+                    ^ (crc_32_tables::AFTER_3[bytes[4] as usize]
+                        ^ (crc_32_tables::AFTER_2[bytes[5] as usize]
+                            ^ (crc_32_tables::AFTER_1[bytes[6] as usize]
+                                ^ crc_32_tables::AFTER_0[bytes[7] as usize]))))))
 }
 
 /// The CRC-32 after more bytes, byte by byte.

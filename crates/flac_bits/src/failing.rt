@@ -77,7 +77,7 @@ impl<S: Source> Source for FailAt<S> {
 
     ghost coming = { λ s. S.coming s.device };
 
-    ghost behind = { λ s. S.behind s.device };
+    ghost after = { λ s. S.after s.device };
 
     ghost errors = { λ s. S.errors s.device + failed s.at s.calls };
 
@@ -93,12 +93,12 @@ impl<S: Source> Source for FailAt<S> {
         ensures bound { ReadsAtMost result buf.new }
         ensures known { OnOk result (S.known self.old.device ≡ true → S.known self.new.device ≡ true) }
         ensures bytes { IfOk result (λ n. HasGiven S.known S.coming (take n buf.new) self.old.device self.new.device) }
-        ensures end { IfOk result (λ n. n ≡ 0 → 0 < length buf.new → Ended S.known S.coming S.behind self.old.device) }
+        ensures end { IfOk result (λ n. n ≡ 0 → 0 < length buf.new → Ended S.known S.coming S.after self.old.device) }
         ensures most { IfOk result (λ n. S.most self.new.device + n ≤ S.most self.old.device) }
         ensures counted { OnOk result (SameCount S.errors self.old self.new × SameCount S.raised self.old self.new) }
         ensures kept { with_failure S.errors self.old ≤ with_failure S.errors self.new }
-        ensures foreseen { OnErr result (IsForeseenBelow S.known S.errors S.coming S.behind self.old self.new) }
-        ensures foretold { SameEndBelow S.known S.errors S.behind self.old self.new }
+        ensures foreseen { OnErr result (IsForeseenBelow S.known S.errors S.coming S.after self.old self.new) }
+        ensures foretold { SameEndBelow S.known S.errors S.after self.old self.new }
         ensures rises { OnErr result (HasRisen S.known S.raised self.old self.new) }
         ensures risen { OnErr result (Rises (with_failure S.raised self.old) (with_failure S.raised self.new)) }
         ensures calls { (self.new.at ≡ self.old.at) × (self.new.calls ≡ min (self.old.calls + 1) (2 ^ 64 - 1)) }

@@ -9,7 +9,7 @@ ghost use Rattle.flac_bits.specs.State.{past};
 ghost use Rattle.flac_bits.specs.inner.Reading.{AreResiduals};
 ghost use Rattle.flac_bits.specs.inner.Stretches.{HasRice};
 ghost use Rattle.flac_bits.specs.Store.{Store, passed, hides_late};
-ghost use Rattle.flac_bits.specs.inner.Store.{Takes, Passes, HoldsSame, PassesValues, Lifts, ComesWhole, Fences, ClosesAt, no_fence, empty_store, seen as seen_bytes, room_behind as room_behind_bytes};
+ghost use Rattle.flac_bits.specs.inner.Store.{Takes, Passes, HoldsSame, PassesValues, Lifts, ComesWhole, Fences, ClosesAt, no_fence, empty_store, seen as seen_bytes, room_after as room_after_bytes};
 ghost use Rattle.flac_bits.specs.inner.Pulling.{Pulls};
 
 use crate::PULL;
@@ -68,8 +68,8 @@ fn seen(room: Option<u64>, n: usize) -> usize
 }
 
 /// The room up to the fence after n more bytes.
-fn room_behind(room: Option<u64>, n: usize) -> Option<u64>
-    ensures { result ≡ room_behind_bytes room n }
+fn room_after(room: Option<u64>, n: usize) -> Option<u64>
+    ensures { result ≡ room_after_bytes room n }
 {
     match room {
         None => None,
@@ -270,7 +270,7 @@ impl Held {
             Ok(n) => {
                 self.filled = n;
                 self.end = seen(self.room, n);
-                self.room = room_behind(self.room, self.end);
+                self.room = room_after(self.room, self.end);
                 Ok(true)
             }
             Err(_) => {
@@ -284,7 +284,7 @@ impl Held {
     pub(crate) fn lift(&mut self)
         ensures held { Lifts self.old self.new }
         // proof only
-        ensures behind { ComesWhole self.old.fence }
+        ensures after { ComesWhole self.old.fence }
     {
         self.end = self.filled;
         self.room = None;
@@ -297,7 +297,7 @@ impl Held {
         ensures part { length self.new.word ≡ self.old.mark.unread }
         ensures held { Fences bytes self.old self.new }
         // proof only
-        ensures behind { ComesWhole self.old.fence }
+        ensures after { ComesWhole self.old.fence }
     {
         self.lift();
         self.put_back();

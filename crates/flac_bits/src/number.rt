@@ -65,12 +65,12 @@ pub fn read_number<R: Source>(bits: &mut BitReader<R>, max_bits: u32) -> Result<
     ensures reading { CallInPlace 8 (Means (λ v. v) (number max_bits)) bits.old bits.new result }
     ensures needed { PullsInside (number max_bits) bits.old bits.new result }
 {
-    number_here(bits, max_bits)
+    number_by_layout(bits, max_bits)
 }
 
 /// What [`read_number`] does, proved by the reading of the layout alone.
 #[tactic(auto, unfolding(crate::specs::Number::number))]
-fn number_here<R: Source>(bits: &mut BitReader<R>, max_bits: u32) -> Result<u64, Why>
+fn number_by_layout<R: Source>(bits: &mut BitReader<R>, max_bits: u32) -> Result<u64, Why>
     ensures fits { IfOk result (λ v. IsNumber max_bits v) }
     ensures reading { CallInPlace 8 (Reads (λ v. v) (number max_bits)) bits.old bits.new result }
     ensures needed { PullsInside (number max_bits) bits.old bits.new result }

@@ -38,7 +38,7 @@ pub struct BitReader<R: Source> {
 impl<R: Source> Model for BitReader<R> {
     ghost Value = { State };
 
-    ghost view = { λ r. state_of (R.known r.source) (R.errors r.source) (R.raised r.source) (R.most r.source) (R.behind r.source) (R.names r.source) (R.coming r.source) r.held };
+    ghost view = { λ r. state_of (R.known r.source) (R.errors r.source) (R.raised r.source) (R.most r.source) (R.after r.source) (R.names r.source) (R.coming r.source) r.held };
 }
 
 /// Makes sure that the word has at least one bit; false if none is left.
@@ -91,11 +91,11 @@ impl<R: Source> BitReader<R> {
           known = R.known source;
           errors = R.errors source;
           raised = R.raised source;
-          behind = without_fence (R.behind source);
+          after = without_fence (R.after source);
           most = 8 * R.most source;
           held = 0;
           names = R.names source;
-          cursor = record { left = bits_of (R.coming source); mark = record { unread = 0; bytes = 0; check8 = 0; check16 = 0; short = short_of ((R.behind source).fails) } };
+          cursor = record { left = bits_of (R.coming source); mark = record { unread = 0; bytes = 0; check8 = 0; check16 = 0; short = short_of ((R.after source).fails) } };
         } }
     {
         BitReader {
@@ -547,7 +547,7 @@ impl<R: Source> BitReader<R> {
         ensures told { self.known ≡ true → R.known result ≡ true }
         ensures errors { R.errors result ≡ self.errors }
         ensures raised { R.raised result ≡ self.raised }
-        ensures behind { without_fence (R.behind result) ≡ without_fence self.behind }
+        ensures after { without_fence (R.after result) ≡ without_fence self.after }
         ensures most { 8 * R.most result ≤ self.most }
         ensures names { R.names result ≡ self.names }
     {

@@ -1,7 +1,7 @@
 //! Sources of bytes.
 
 ghost use Rattle.std.specs.Prelude.{◌≡◌, ◌<◌, ◌≤◌, ◌+◌, ℕ, Bool, true, List, [], ◌∷◌, ◌++◌, length, take, IfOk, OnOk, OnErr};
-ghost use Rattle.flac_bits.specs.State.{Behind, Rises, the_end};
+ghost use Rattle.flac_bits.specs.State.{After, Rises, the_end};
 ghost use Rattle.flac_bits.specs.Sources.{Ended, IsForeseen, SameEnd};
 ghost use Rattle.std.specs.Io.{ReadsAtMost};
 ghost use Rattle.std.specs.Borrow.{GName};
@@ -22,9 +22,9 @@ pub trait Source {
     ghost coming: { Self → List ℕ };
 
     /// What comes after these bytes: the end, or an error in its place, and further parts.
-    ghost behind: { Self → Behind };
+    ghost after: { Self → After };
 
-    /// How many errors were returned that `behind` did not announce. If the count can rise no more, the bytes count as
+    /// How many errors were returned that `after` did not announce. If the count can rise no more, the bytes count as
     /// unknown.
     ghost errors: { Self → ℕ };
 
@@ -47,12 +47,12 @@ pub trait Source {
         ensures bound { ReadsAtMost result buf.new }
         ensures known { OnOk result (known self.old ≡ true → known self.new ≡ true) }
         ensures bytes { IfOk result (λ n. known self.old ≡ true → coming self.old ≡ take n buf.new ++ coming self.new) }
-        ensures end { IfOk result (λ n. n ≡ 0 → 0 < length buf.new → Ended known coming behind self.old) }
+        ensures end { IfOk result (λ n. n ≡ 0 → 0 < length buf.new → Ended known coming after self.old) }
         ensures most { IfOk result (λ n. most self.new + n ≤ most self.old) }
         ensures counted { OnOk result ((errors self.new ≡ errors self.old) × (raised self.new ≡ raised self.old)) }
         ensures kept { errors self.old ≤ errors self.new }
-        ensures failed { OnErr result (IsForeseen known errors coming behind self.old self.new) }
-        ensures foretold { SameEnd known errors behind self.old self.new }
+        ensures failed { OnErr result (IsForeseen known errors coming after self.old self.new) }
+        ensures foretold { SameEnd known errors after self.old self.new }
         ensures rises { OnErr result (known self.old ≡ true → raised self.old < raised self.new) }
         ensures risen { OnErr result (Rises (raised self.old) (raised self.new)) };
 }
@@ -62,7 +62,7 @@ impl<S: Source> Source for &mut S {
 
     ghost coming = { λ s. S.coming s.now };
 
-    ghost behind = { λ s. S.behind s.now };
+    ghost after = { λ s. S.after s.now };
 
     ghost errors = { λ s. S.errors s.now };
 
@@ -102,7 +102,7 @@ impl Source for Memory<'_> {
 
     ghost coming = { λ s. s.bytes.now };
 
-    ghost behind = { λ _. the_end };
+    ghost after = { λ _. the_end };
 
     ghost errors = { λ _. 0 };
 
@@ -153,7 +153,7 @@ impl<S: Source> Source for Pieces<S> {
 
     ghost coming = { λ s. S.coming s.source };
 
-    ghost behind = { λ s. S.behind s.source };
+    ghost after = { λ s. S.after s.source };
 
     ghost errors = { λ s. S.errors s.source };
 

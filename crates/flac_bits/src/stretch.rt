@@ -91,10 +91,10 @@ fn values_at_once(word: &mut Ahead, k: u32, values: &mut [i64], from: usize, to:
     let mut rest = word.word;
     let mut taken = 0;
     for i in from..to {
-        let (bits, value, behind) = code_of(rest, k);
+        let (bits, value, after) = code_of(rest, k);
         values[i] = value;
         taken += bits;
-        rest = behind;
+        rest = after;
     }
     if taken <= word.count {
         word.word = rest;

@@ -16,7 +16,7 @@ module _ {S : Type 0} (got : S → List ℤ) where
   abbrev pub Numbers : S → Item → S → Type 0
   Numbers s x t = got t ≡ got s ++ numbers_in x
 
-  -- It has collected the samples of all parts, behind what was there.
+  -- It has collected the samples of all parts, after what was there.
   pub all_numbers : (old : S) (xs : List Piece) (new : S) → TakesAll (taken Numbers) old xs new → got new ≡ got old ++ numbers_from xs
   all_numbers old [] new h = ap got (sym h) ∙ sym (append-nil (got old))
   all_numbers old (marked ∷ xs) new h =
@@ -42,9 +42,9 @@ pub grown : {X T E : Type 0} (old now front rest : List X) (r : Result T E) (x :
 grown old now front rest r x is e same = e ∙ ap (λ k. cond (is_ok k) (front ++ rest) old) is ∙ ap (λ l. l ++ rest) same
 
 -- Its new places were then written.
-pub places_behind : (n front : ℕ) (old rest places items ys : List ℤ) → front ≡ length old → items ≡ old ++ rest → places ≡ items → n ≡ front + length ys → length ys ≡ length places - front
+pub places_after : (n front : ℕ) (old rest places items ys : List ℤ) → front ≡ length old → items ≡ old ++ rest → places ≡ items → n ≡ front + length ys → length ys ≡ length places - front
     → take n (put_mid front (length places - front) places ys ++ drop (length (put_mid front (length places - front) places ys)) items) ≡ old ++ ys
-places_behind n front old rest places items ys many sized same all long =
+places_after n front old rest places items ys many sized same all long =
     let is : places ≡ old ++ rest = same ∙ sized in
     let within : front ≤ length places = omega (arith, ap length is, length-append old rest, many) in
     let k : ℕ = length places - front in

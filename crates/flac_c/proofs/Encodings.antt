@@ -56,7 +56,7 @@ pub never_repeated : (serial : Option ℕ) (p : Cut) (t : FlacProvedTags) → is
 never_repeated None p t = none_of (nat_lt 0 p.seek_every)
 never_repeated (Some n) p t = refl
 
--- It refuses for want of memory, or since these cannot stand in an Ogg stream.
+-- It refuses when out of memory, or since these cannot stand in an Ogg stream.
 pub container_refuses : {A : Type 0} (r : Result A EncodeFault) (b c : Bool) → ((r ≡ Err BadMapping) ↔ (b ≡ true)) → ((r ≡ Err RepeatedBlock) ↔ (c ≡ true)) → c ≡ false → r ≢ Err Write
     → IfErr r (λ e. is_of_whole e ≡ true) → IfErr r (λ e. (fault_number e ≡ 2) ⊎ (cond {A = Option ℕ} b (Some 37) None ≡ Some (fault_number e)))
 container_refuses (Ok a) b c h k none w whole = tt

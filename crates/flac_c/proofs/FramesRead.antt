@@ -35,7 +35,7 @@ use Rattle.flac_c.specs.Cursors.{IsFrameAt, NoFrameAt}
 
 -- a reader at the first of these bytes
 abbrev pub at_bytes : List ℕ → State
-at_bytes bytes = record { known = true; errors = 0; raised = 0; behind = the_end; most = 8 * length bytes; held = 0; names = []; cursor = record { left = bits_of bytes; mark = beginning Truncated } }
+at_bytes bytes = record { known = true; errors = 0; raised = 0; after = the_end; most = 8 * length bytes; held = 0; names = []; cursor = record { left = bits_of bytes; mark = beginning Truncated } }
 
 -- a frame's spelling is whole bytes
 pub frame_whole : (i : Info) (text : List Bool) (f : Frame) → KeepsRules i → Spells (frame Subset i None) (beginning Truncated) text f → length text % 8 ≡ 0
@@ -43,9 +43,9 @@ frame_whole i text f rules h =
     let s = (frames_spelled Subset i None (beginning Truncated) text f rules refl refl refl).0 h in
     ap (λ (t : List Bool). length t % 8) s.spelling ∙ frames_bytes i.depth s.form
 
--- what is left behind the first bytes of a list
-pub left_behind : (bytes : List ℕ) (text left : List Bool) (n : ℕ) → bits_of bytes ≡ text ++ left → length text ≡ 8 * n → left ≡ bits_of (drop n bytes)
-left_behind bytes text left n split long =
+-- what is left after the first bytes of a list
+pub left_after : (bytes : List ℕ) (text left : List Bool) (n : ℕ) → bits_of bytes ≡ text ++ left → length text ≡ 8 * n → left ≡ bits_of (drop n bytes)
+left_after bytes text left n split long =
     sym (drop-append_seam text left)
     ∙ ap (λ k. drop k (text ++ left)) long
     ∙ ap (λ t. drop (8 * n) t) (sym split)
@@ -64,16 +64,16 @@ module _ (i : Info) (bytes : List ℕ) (rules : KeepsRules i) (few : length byte
   here : (started (lifted (at_bytes bytes))).cursor ≡ at_ (bits_of bytes) (beginning Truncated)
   here = ap (λ (l : List Bool). at_ l (beginning Truncated)) (append-nil (bits_of bytes))
 
-  -- the place behind a frame
-  record Behind (held : Frame) (d : Cursor) : Type 0 where
+  -- the place after a frame
+  record After (held : Frame) (d : Cursor) : Type 0 where
     n : ℕ
     text : List Bool
     long : length text ≡ 8 * n
     is : d.mark.bytes ≡ n
     at : IsFrameAt i bytes held n
 
-  behind : (held : Frame) (d : Cursor) → read_in (Some room) (frame Subset i None) (at_ (bits_of bytes) (beginning Truncated)) ≡ Ok (held, d) → Behind held d
-  behind held d e =
+  after : (held : Frame) (d : Cursor) → read_in (Some room) (frame Subset i None) (at_ (bits_of bytes) (beginning Truncated)) ≡ Ok (held, d) → After held d
+  after held d e =
       let t = takes_in (Some room) (frame Subset i None) (bits_of bytes) (beginning Truncated) held d e in
       let text : List Bool = t.0 in
       let whole : length text % 8 ≡ 0 = frame_whole i text held rules t.2 in
@@ -82,7 +82,7 @@ module _ (i : Info) (bytes : List ℕ) (rules : KeepsRules i) (few : length byte
       let all : 8 * length bytes ≡ length text + length d.left = sym (length-bits_of bytes) ∙ ap (λ (l : List Bool). length l) t.1 ∙ length-append text d.left in
       let counted : (past text (beginning Truncated)).bytes ≡ min (0 + (length text + 7 - 0) / 8) (2 ^ 64 - 1) = past-bytes text 0 0 (beginning Truncated) refl (omega arith) refl (omega arith) in
       let bytes_is : d.mark.bytes ≡ (past text (beginning Truncated)).bytes = ap (λ (m : Mark). m.bytes) t.4 in
-      let rest : d.left ≡ bits_of (drop n bytes) = left_behind bytes text d.left n t.1 long in
+      let rest : d.left ≡ bits_of (drop n bytes) = left_after bytes text d.left n t.1 long in
       record {
         n = n;
         text = text;
@@ -105,7 +105,7 @@ module _ (i : Info) (bytes : List ℕ) (rules : KeepsRules i) (few : length byte
   read_answers : (held : Frame) (d : Cursor) (result : Result ⊤ Why) → Answers (λ _. held) (read_in (Some room) (frame Subset i None) (at_ (bits_of bytes) (beginning Truncated))) d result
       → FrameRead i bytes held d.mark.bytes result
   read_answers held d (Ok u) e =
-      let b = behind held d e in
+      let b = after held d e in
       let at : IsFrameAt i bytes held d.mark.bytes = subst (λ k. IsFrameAt i bytes held k) (sym b.is) b.at in
       record { found = at; fault = tt; only = λ f k there. same_count held f d.mark.bytes k at there }
   read_answers held d (Err why) e = record {

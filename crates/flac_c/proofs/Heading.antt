@@ -3,16 +3,16 @@ use Rattle.std.proofs.Common.{◌≡◌, ◌≢◌, ℕ, ◌+◌, ◌<◌, Bool,
 use Rattle.std.specs.Bool.{⊤}
 use Rattle.flac_bits.specs.Bits.{is_nil}
 use Rattle.flac_bits.specs.State.{State, Mark, Cursor, past, fresh, started}
-use Rattle.flac_bits.specs.Reading.{Counts, Reads, ReadsInRoom}
+use Rattle.flac_bits.specs.Reading.{Counts, Reads, ReadsGivenMemory}
 use Rattle.flac_bits.specs.Layout.{Layout, run, because}
 use Rattle.flac_bits.specs.Meaning.{Spells}
 use Rattle.flac_bits.specs.Fence.{InRoom, StopsIn}
-use Rattle.flac_bits.specs.Items.{after, mark_behind}
+use Rattle.flac_bits.specs.Items.{state_after, mark_after}
 use Rattle.flac_bits.specs.declared.why.Why.{Why}
 use Rattle.flac_bits.specs.declared.why.Why.TheVariants.{Memory}
 use Rattle.flac_bits.proofs.Laws.{at_}
 use Rattle.flac_bits.proofs.Meaning.{takes, refuses}
-use Rattle.flac_bits.proofs.Handing.{Joined-append, after-append}
+use Rattle.flac_bits.proofs.Handing.{Joined-append, state_after-append}
 use Rattle.flac_meta.specs.Block.{block as block_layout, seen_after}
 use Rattle.flac_meta.specs.Header.{nothing_seen}
 use Rattle.flac_meta.specs.declared.block.Seen.{Seen}
@@ -20,7 +20,7 @@ use Rattle.flac_meta.specs.declared.block.Block.{Block}
 use Rattle.flac_meta.specs.declared.comments.Comments.{Comments}
 use Rattle.flac_meta.specs.declared.seek_table.SeekPoint.{SeekPoint}
 use Rattle.flac_header.specs.declared.subset.Profile.TheVariants.{Subset}
-use Rattle.flac_native.specs.Stream.{Piece, marked, block, framed, Progress, Stand, grammar, opening, next, layout, layout_in, marker, room_in, may_end_in, place_in, phase_behind, raised, info_after}
+use Rattle.flac_native.specs.Stream.{Piece, marked, block, framed, Progress, Stand, grammar, opening, next, layout, layout_in, marker, room_in, may_end_in, place_in, phase_after, raised, info_after}
 use Rattle.flac_native.specs.declared.fault.Place.TheVariants as place
 use Rattle.flac_native.specs.declared.track.Phase.{Phase}
 use Rattle.flac_native.specs.declared.track.Phase.TheVariants.{Opening, Blocks, Frames}
@@ -29,10 +29,10 @@ use Rattle.flac_c.specs.Starts.{are_metadata, point_after, point_from}
 use Rattle.flac_c.specs.inner.Blocks.{Noted, IsFound, BlockRead, PartsRead, BlocksCome, HeadRead, IsRefusedAt}
 use Rattle.flac_c.specs.declared.metadata.Metadata.{Metadata}
 
--- ---- what blocks tell, behind one more
+-- ---- what blocks tell, after one more
 
-info_more : (parts : List Piece) (last : Bool) (b : Block) → (after grammar (opening Subset) (parts ++ block last b ∷ [])).stand.info ≡ info_after (after grammar (opening Subset) parts).stand.info b
-info_more parts last b = ap (λ (p : Progress). p.stand.info) (after-append grammar (opening Subset) parts (block last b))
+info_more : (parts : List Piece) (last : Bool) (b : Block) → (state_after grammar (opening Subset) (parts ++ block last b ∷ [])).stand.info ≡ info_after (state_after grammar (opening Subset) parts).stand.info b
+info_more parts last b = ap (λ (p : Progress). p.stand.info) (state_after-append grammar (opening Subset) parts (block last b))
 
 comments_more : (i : Option Comments) (xs : List Piece) (last : Bool) (b : Block) → comments_from i (xs ++ block last b ∷ []) ≡ comments_after (comments_from i xs) b
 comments_more i [] last b = refl
@@ -140,18 +140,18 @@ marker_refused start why ran =
 
 module _ (start old : State) (sample : ℕ) (found : Metadata) (seen : Seen) (index : ℕ) (c : BlocksCome start old sample found seen index) where
   abbrev before : Progress
-  before = after grammar (opening Subset) c.read.parts
+  before = state_after grammar (opening Subset) c.read.parts
 
   module _ (new : State) (noted : Metadata) (left : Seen) (last : Bool) (r : BlockRead seen left old new found noted last) where
     abbrev x : Piece
     x = block last r.is
 
-    spelled_here : Spells (layout before.stand) (fresh (mark_behind grammar (opening Subset) start.cursor.mark c.read.parts c.read.text c.read.spelled)) r.text x
-    spelled_here = as_block before.stand seen (fresh (mark_behind grammar (opening Subset) start.cursor.mark c.read.parts c.read.text c.read.spelled)) r.text last r.is c.phase c.seen_is
+    spelled_here : Spells (layout before.stand) (fresh (mark_after grammar (opening Subset) start.cursor.mark c.read.parts c.read.text c.read.spelled)) r.text x
+    spelled_here = as_block before.stand seen (fresh (mark_after grammar (opening Subset) start.cursor.mark c.read.parts c.read.text c.read.spelled)) r.text last r.is c.phase c.seen_is
         (subst (λ (m : Mark). Spells (block_layout seen) (fresh m) r.text (last, r.is)) c.read.mark r.spelled)
 
-    room_here : InRoom (room_in before.stand.phase) (fresh (mark_behind grammar (opening Subset) start.cursor.mark c.read.parts c.read.text c.read.spelled)) r.text
-    room_here = subst (λ k. InRoom (room_in k) (fresh (mark_behind grammar (opening Subset) start.cursor.mark c.read.parts c.read.text c.read.spelled)) r.text) (sym c.phase) tt
+    room_here : InRoom (room_in before.stand.phase) (fresh (mark_after grammar (opening Subset) start.cursor.mark c.read.parts c.read.text c.read.spelled)) r.text
+    room_here = subst (λ k. InRoom (room_in k) (fresh (mark_after grammar (opening Subset) start.cursor.mark c.read.parts c.read.text c.read.spelled)) r.text) (sym c.phase) tt
 
     abbrev parts_more : List Piece
     parts_more = c.read.parts ++ x ∷ []
@@ -171,20 +171,20 @@ module _ (start old : State) (sample : ℕ) (found : Metadata) (seen : Seen) (in
           errors = r.errors ∙ c.read.errors;
         }
 
-    behind_is : after grammar (opening Subset) parts_more ≡ next before x
-    behind_is = after-append grammar (opening Subset) c.read.parts x
+    after_is : state_after grammar (opening Subset) parts_more ≡ next before x
+    after_is = state_after-append grammar (opening Subset) c.read.parts x
 
     pub head_read : last ≡ true → HeadRead start new sample noted
-    head_read is = record { read = parts_read; phase = ap (λ (p : Progress). p.stand.phase) behind_is ∙ ap (λ l. phase_behind l) is }
+    head_read is = record { read = parts_read; phase = ap (λ (p : Progress). p.stand.phase) after_is ∙ ap (λ l. phase_after l) is }
 
     pub blocks_come : last ≡ false → index < 18446744073709551615 → BlocksCome start new sample noted left (index + 1)
     blocks_come is lt =
         let one : raised before.stand.index ≡ index + 1 = ap (λ k. raised k) c.index_is ∙ omega arith in
         record {
           read = parts_read;
-          phase = ap (λ (p : Progress). p.stand.phase) behind_is ∙ ap (λ l. phase_behind l) is;
-          seen_is = ap (λ (p : Progress). p.stand.seen) behind_is ∙ ap (λ s. seen_after s r.is) c.seen_is ∙ sym r.seen_is;
-          index_is = ap (λ (p : Progress). p.stand.index) behind_is ∙ ap (λ l. cond l 0 (raised before.stand.index)) is ∙ one;
+          phase = ap (λ (p : Progress). p.stand.phase) after_is ∙ ap (λ l. phase_after l) is;
+          seen_is = ap (λ (p : Progress). p.stand.seen) after_is ∙ ap (λ s. seen_after s r.is) c.seen_is ∙ sym r.seen_is;
+          index_is = ap (λ (p : Progress). p.stand.index) after_is ∙ ap (λ l. cond l 0 (raised before.stand.index)) is ∙ one;
         }
 
   place_is : place.Block index ≡ place_in before.stand.phase before.stand.index
@@ -193,7 +193,7 @@ module _ (start old : State) (sample : ℕ) (found : Metadata) (seen : Seen) (in
   pub blocks_refused : (why : Why) → StopsIn None (block_layout seen) (fresh old.cursor.mark) old.cursor.left why → IsRefusedAt start (record { at = place.Block index; why = why })
   blocks_refused why h =
       let there = subst (λ (m : Mark). StopsIn None (block_layout seen) (fresh m) old.cursor.left why) c.read.mark h in
-      let stops = block_stops before.stand seen (fresh (mark_behind grammar (opening Subset) start.cursor.mark c.read.parts c.read.text c.read.spelled)) old.cursor.left why c.phase c.seen_is there in (
+      let stops = block_stops before.stand seen (fresh (mark_after grammar (opening Subset) start.cursor.mark c.read.parts c.read.text c.read.spelled)) old.cursor.left why c.phase c.seen_is there in (
         c.read.parts,
         record {
           front = c.read.text;
@@ -216,7 +216,7 @@ other_error : {A : Type 0} (why : Why) → why ≢ Memory → failed {A = A} why
 other_error why other h = let same : why ≡ Memory = cc in other same
 
 pub block_was_read : (seen left : Seen) (old begun new : State) (found noted : Metadata) (last : Bool) (b : Block) → old.known ≡ true → begun ≡ started old
-    → ReadsInRoom (λ x. x) (block_layout seen) begun new (Ok (last, b)) → Counts {X = Bool × Block} begun new (Ok (last, b)) → left ≡ seen_after seen b → Noted found b noted
+    → ReadsGivenMemory (λ x. x) (block_layout seen) begun new (Ok (last, b)) → Counts {X = Bool × Block} begun new (Ok (last, b)) → left ≡ seen_after seen b → Noted found b noted
     → BlockRead seen left old new found noted last
 block_was_read seen left old begun new found noted last b known is reads counts seen_is noted_is =
     let same : begun.errors ≡ old.errors = ap (λ (s : State). s.errors) is in
@@ -236,7 +236,7 @@ block_was_read seen left old begun new found noted last b known is reads counts 
       errors = counts.1 ∙ same;
     }
 
-pub block_was_refused : (seen : Seen) (old begun new : State) (why : Why) → old.known ≡ true → begun ≡ started old → ReadsInRoom {X = Bool × Block} (λ x. x) (block_layout seen) begun new (Err why) → new.errors ≡ old.errors → why ≢ Memory
+pub block_was_refused : (seen : Seen) (old begun new : State) (why : Why) → old.known ≡ true → begun ≡ started old → ReadsGivenMemory {X = Bool × Block} (λ x. x) (block_layout seen) begun new (Err why) → new.errors ≡ old.errors → why ≢ Memory
     → StopsIn None (block_layout seen) (fresh old.cursor.mark) old.cursor.left why
 block_was_refused seen old begun new why known is reads quiet other =
     let same : new.errors ≡ begun.errors = quiet ∙ sym (ap (λ (s : State). s.errors) is) in

@@ -1,4 +1,4 @@
--- A cursor in a stream: the frame there is the stream's next one, and the cursor behind it stands in the same stream.
+-- A cursor in a stream: the frame there is the stream's next one, and the cursor after it stands in the same stream.
 use Rattle.std.proofs.Common.{◌≡◌, ◌⊎◌, inl, inr, ℤ, ℕ, ◌+◌, ◌-◌, ◌*◌, ◌/◌, ◌%◌, ◌≤◌, Bool, true, false, not, ◌&&◌, ◌||◌, nat_eq, nat_lt, List, [], ◌∷◌, ◌++◌, length, take, drop, Option, Some, None, refl, sym, ap, subst, ◌∙◌, append_assoc, length-append, arith}
 use Rattle.std.proofs.lemmas.Bool.Decides.{nat_tests}
 use Rattle.std.proofs.lemmas.List.{take-append-drop, length-drop}
@@ -7,12 +7,12 @@ use Rattle.flac_bits.specs.Bits.{bits_of}
 use Rattle.flac_bits.specs.State.{Mark, past, fresh}
 use Rattle.flac_bits.specs.Meaning.{Spells, AllKept}
 use Rattle.flac_bits.specs.Fence.{InRoom}
-use Rattle.flac_bits.specs.Items.{Joined, Stream, after, mark_behind}
+use Rattle.flac_bits.specs.Items.{Joined, Stream, state_after, mark_after}
 use Rattle.flac_bits.specs.declared.why.Why.TheVariants.{Truncated}
 use Rattle.flac_bits.proofs.Fencing.{take_bits}
-use Rattle.flac_bits.proofs.Handing.{Joined-append, after-append}
+use Rattle.flac_bits.proofs.Handing.{Joined-append, state_after-append}
 use Rattle.flac_bits.proofs.Holding.{length-bits_of, bits_of-append}
-use Rattle.flac_bits.proofs.ItemSpellings.{fresh_unread, fresh_check8, fresh_check16, behind_whole}
+use Rattle.flac_bits.proofs.ItemSpellings.{fresh_unread, fresh_check8, fresh_check16, after_whole}
 use Rattle.flac_info.specs.Info.{Info, KeepsRules, without_totals}
 use Rattle.flac_header.specs.declared.subset.Profile.TheVariants.{Subset}
 use Rattle.flac_frame.specs.Frame.{Frame, frame, header_rules}
@@ -28,7 +28,7 @@ use Rattle.flac_native.proofs.OneHead.{heads}
 use Rattle.flac_native.proofs.Onwards.{Told, nothing_told, step_of, frame_there, same_info, without_totals_rules, after_profile}
 use Rattle.flac_c.specs.Cursors.{info_from_c, passed, IsFrameAt, HandsOver, StandsIn, GoesOn}
 use Rattle.flac_c.specs.declared.cursor.FlacProvedCursor.{FlacProvedCursor}
-use Rattle.flac_c.proofs.FramesRead.{frame_whole, left_behind}
+use Rattle.flac_c.proofs.FramesRead.{frame_whole, left_after}
 
 -- ---- a frame, read as the first
 
@@ -36,7 +36,7 @@ at_most : (v : Bool) (greatest least first size before : ℕ) → (nat_lt greate
 at_most true greatest least first size before e = grind (arith, nat_tests)
 at_most false greatest least first size before e = grind (arith, nat_tests)
 
--- what keeps the rules behind other frames keeps them as the first
+-- what keeps the rules after other frames keeps them as the first
 first_kept : (i : Info) (before : Option Before) (g : FrameForm) → AllKept (header_rules Subset i before g.header) → AllKept (header_rules Subset (without_totals i) None g.header)
 first_kept i None g k = k
 first_kept i (Some b) g k = (k.0, (k.1.0, (refl, (at_most g.header.variable i.greatest_block i.least_block b.first_size g.header.size b.size k.1.1.1.0, tt))))
@@ -62,17 +62,17 @@ record Parted (p : Progress) (m : Mark) (front : List Piece) (x : Piece) (text :
   rest : List Bool
   split : text ≡ head ++ (here ++ rest)
   joined : Joined grammar p m front head
-  spelled : Spells (layout (after grammar p front).stand) (fresh (mark_behind grammar p m front head joined)) here x
-  fits : InRoom (room_in (after grammar p front).stand.phase) (fresh (mark_behind grammar p m front head joined)) here
-  told : Told (after grammar p front).stand.info
-  whole : (mark_behind grammar p m front head joined).unread ≡ 0
+  spelled : Spells (layout (state_after grammar p front).stand) (fresh (mark_after grammar p m front head joined)) here x
+  fits : InRoom (room_in (state_after grammar p front).stand.phase) (fresh (mark_after grammar p m front head joined)) here
+  told : Told (state_after grammar p front).stand.info
+  whole : (mark_after grammar p m front head joined).unread ≡ 0
 
 parted : (p : Progress) (m : Mark) (front : List Piece) (x : Piece) (more : List Piece) (text : List Bool) → Told p.stand.info → m.unread ≡ 0 → Joined grammar p m (front ++ x ∷ more) text → Parted p m front x text
 parted p m [] x more text told u (part, rest, split, spelled, fits, others) =
     record { head = []; here = part; rest = rest; split = split; joined = refl; spelled = spelled; fits = fits; told = told; whole = u }
 parted p m (y ∷ ys) x more text told u (part, rest, split, spelled, fits, others) =
     let s = step_of p.stand m part y told u spelled in
-    let r = parted (next p y) (past part (fresh m)) ys x more rest s.rules (behind_whole part (fresh m) (fresh_unread m u) s.whole) others in
+    let r = parted (next p y) (past part (fresh m)) ys x more rest s.rules (after_whole part (fresh m) (fresh_unread m u) s.whole) others in
     record {
       head = part ++ r.head;
       here = r.here;
@@ -113,14 +113,14 @@ pub record NextIn (bytes : List ℕ) (c : FlacProvedCursor) (front more : List P
   pub n : ℕ
   pub rules : KeepsRules (info_from_c c.info)
   pub at : IsFrameAt (info_from_c c.info) (drop c.offset bytes) f n
-  pub behind : StandsIn bytes (passed c f (c.offset + n)) (front ++ framed f ∷ []) more
+  pub after : StandsIn bytes (passed c f (c.offset + n)) (front ++ framed f ∷ []) more
 
 pub next_in : (bytes : List ℕ) (c : FlacProvedCursor) (front more : List Piece) (f : Frame) → StandsIn bytes c front (framed f ∷ more) → NextIn bytes c front more f
 next_in bytes c front more f h =
     let o : ℕ = c.offset in
     let q = parted (opening Subset) (beginning Truncated) front (framed f) more (bits_of bytes) nothing_told refl h.stream.spelled in
-    let m : Mark = mark_behind grammar (opening Subset) (beginning Truncated) front q.head q.joined in
-    let s : Stand = (after grammar (opening Subset) front).stand in
+    let m : Mark = mark_after grammar (opening Subset) (beginning Truncated) front q.head q.joined in
+    let s : Stand = (state_after grammar (opening Subset) front).stand in
     let all : bits_of bytes ≡ bits_of (take o bytes) ++ bits_of (drop o bytes) = ap (λ (l : List ℕ). bits_of l) (sym (take-append-drop o bytes)) ∙ bits_of-append (take o bytes) (drop o bytes) in
     let left_is : q.here ++ q.rest ≡ bits_of (drop o bytes) = one_place (opening Subset) (beginning Truncated) front q.head (q.here ++ q.rest) (bits_of (take o bytes)) (bits_of (drop o bytes)) (sym q.split ∙ all) q.joined h.spelled in
     let phase : s.phase ≡ Frames = phase_there s (fresh m) q.here f q.spelled in
@@ -135,7 +135,7 @@ next_in bytes c front more f h =
     let whole : length q.here % 8 ≡ 0 = frame_whole (without_totals h.info) q.here f rules' alone in
     let n : ℕ = length q.here / 8 in
     let long : length q.here ≡ 8 * n = omega (arith, whole) in
-    let rest_is : q.rest ≡ bits_of (drop n (drop o bytes)) = left_behind (drop o bytes) q.here q.rest n (sym left_is) long in
+    let rest_is : q.rest ≡ bits_of (drop n (drop o bytes)) = left_after (drop o bytes) q.here q.rest n (sym left_is) long in
     let sum : length q.here + length q.rest ≡ 8 * length (drop o bytes) = sym (length-append q.here q.rest) ∙ ap (λ (l : List Bool). length l) left_is ∙ length-bits_of (drop o bytes) in
     let within : n ≤ length (drop o bytes) = omega (arith, sum, long) in
     let dropped : length (drop o bytes) ≡ length bytes - o = length-drop o bytes in
@@ -151,12 +151,12 @@ next_in bytes c front more f h =
     let text_is : q.head ++ q.here ≡ bits_of (take (o + n) bytes) = front_is bytes (q.head ++ q.here) q.rest (o + n) heads_are both in
     let j = Joined-append grammar (opening Subset) (beginning Truncated) front (framed f) q.head q.here q.joined q.spelled q.fits in
     let parts_are : front ++ framed f ∷ more ≡ (front ++ framed f ∷ []) ++ more = sym (append_assoc front (framed f ∷ []) more) in
-    let after_is : after grammar (opening Subset) (front ++ framed f ∷ []) ≡ next (after grammar (opening Subset) front) (framed f) = after-append grammar (opening Subset) front (framed f) in
+    let after_is : state_after grammar (opening Subset) (front ++ framed f ∷ []) ≡ next (state_after grammar (opening Subset) front) (framed f) = state_after-append grammar (opening Subset) front (framed f) in
     record {
       n = n;
       rules = subst KeepsRules (sym h.same) rules';
       at = subst (λ (i : Info). IsFrameAt i (drop o bytes) f n) (sym h.same) at;
-      behind = record {
+      after = record {
         stream = subst (λ (l : List Piece). Stream grammar (opening Subset) (beginning Truncated) l (bits_of bytes)) parts_are h.stream;
         before = omega (arith, before, within, dropped);
         spelled = subst (λ (l : List Bool). Joined grammar (opening Subset) (beginning Truncated) (front ++ framed f ∷ []) l) text_is j.0;
@@ -172,4 +172,4 @@ pub goes_on : (bytes : List ℕ) (old new : FlacProvedCursor) (out written : Lis
     → (front more : List Piece) (f : Frame) → StandsIn bytes old front (framed f ∷ more) → (result ≡ 2) ⊎ ((result ≡ 0) × GoesOn bytes old new out written len front more f)
 goes_on bytes old new out written len result frames front more f h =
     let x = next_in bytes old front more f h in
-    elim (frames x.rules f x.n x.at) [ inl two ↦ inl two | inr (zero_is, over) ↦ inr (zero_is, (old.offset + x.n, over, x.behind)) ]
+    elim (frames x.rules f x.n x.at) [ inl two ↦ inl two | inr (zero_is, over) ↦ inr (zero_is, (old.offset + x.n, over, x.after)) ]

@@ -11,10 +11,10 @@ use Rattle.flac_bits.specs.Handing.{TakesAll, Hands, outcome_of}
 use Rattle.flac_header.specs.declared.subset.Profile.TheVariants.{Subset}
 use Rattle.flac_ogg.specs.Verifying.{Verifies, bytes_reading}
 use Rattle.flac_native.specs.Stream.{Piece, marked, block, framed}
-use Rattle.flac_native.specs.Item.{Item, told}
+use Rattle.flac_native.specs.Item.{Item, fault_pair}
 use Rattle.flac_native.specs.Decoding.{taken}
 use Rattle.flac_c.specs.Heads.{info_from, comments_from, frames_from}
-use Rattle.flac_c.specs.inner.Heads.{info_behind, comments_behind, frames_behind}
+use Rattle.flac_c.specs.inner.Heads.{info_after_item, comments_after_item, frames_after_item}
 
 -- What holds of a count that is 0.
 pub can_rise : (n : ℕ) → n ≡ 0 → nat_lt n 18446744073709551615 ≡ true
@@ -25,12 +25,12 @@ pub then_ok : {A E : Type 0} (X : Type 0) (r : Result A E) (a : A) → r ≡ Ok 
 then_ok {A} {E} X r a is h = subst (λ (q : Result A E). OnOk q X) is h
 
 -- What holds where nothing was refused holds at Ok.
-pub at_ok : {A X : Type 0} (r : Result A Fault) → (outcome_of told r ≡ None → X) → OnOk r X
+pub at_ok : {A X : Type 0} (r : Result A Fault) → (outcome_of fault_pair r ≡ None → X) → OnOk r X
 at_ok (Ok a) h = h refl
 at_ok (Err e) h = tt
 
--- What holds of each refusal but for want of memory holds at Err.
-pub at_err : {A : Type 0} (X : Place → Why → Type 0) (r : Result A Fault) → ((at : Place) (why : Why) → outcome_of told r ≡ Some (at, why) → why ≢ Memory → X at why) → IfErr r (λ f. f.why ≢ Memory → X f.at f.why)
+-- What holds of each refusal but out of memory holds at Err.
+pub at_err : {A : Type 0} (X : Place → Why → Type 0) (r : Result A Fault) → ((at : Place) (why : Why) → outcome_of fault_pair r ≡ Some (at, why) → why ≢ Memory → X at why) → IfErr r (λ f. f.why ≢ Memory → X f.at f.why)
 at_err X (Ok a) h = tt
 at_err X (Err e) h = λ other. h e.at e.why refl other
 
@@ -40,7 +40,7 @@ why_in (Some p) = p.1
 
 -- Why bytes are refused whose receiver fails only if an allocation fails: that is told as such.
 pub refused_in_memory : {K : Type 0} (bytes : List ℕ) (takes : K → Piece → K → Type 0) (errors : K → ℕ) (calm : Type 0) (old new : K) (f : Fault) (w : Why)
-    → Hands (bytes_reading Subset bytes) takes errors calm old new (Some (told f)) → calm → errors old ≡ 0
+    → Hands (bytes_reading Subset bytes) takes errors calm old new (Some (fault_pair f)) → calm → errors old ≡ 0
     → (f.why ≡ Sink → w ≡ Memory) → (f.why ≢ Sink → w ≡ f.why)
     → Verifies Subset bytes (Some (f.at, w))
 refused_in_memory bytes takes errors calm old new f w h quiet none sink others = λ other.
@@ -62,9 +62,9 @@ module _ {S : Type 0} (info : S → Option Info) (comments : S → Option Commen
   -- what such a sink makes of an item
   abbrev pub Keeps : S → Item → S → Type 0
   Keeps s x t = record {
-    info : info t ≡ info_behind (info s) x;
-    comments : comments t ≡ comments_behind (comments s) x;
-    over : over t ≡ frames_behind (over s) x;
+    info : info t ≡ info_after_item (info s) x;
+    comments : comments t ≡ comments_after_item (comments s) x;
+    over : over t ≡ frames_after_item (over s) x;
   }
 
   -- It has kept what the items have.

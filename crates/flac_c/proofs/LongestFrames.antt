@@ -14,7 +14,7 @@ use Rattle.flac_subframe.specs.declared.format.limits.Limits.{Limits}
 use Rattle.flac_subframe.specs.declared.format.linear.LinearPredictor.{LinearPredictor}
 use Rattle.flac_subframe.proofs.lemmas.search.Family.{none_within}
 use Rattle.flac_frame.specs.Audio.{Sound, IsSound, samples_each}
-use Rattle.flac_frame.specs.Encoding.{block_of, EachStands, IsEncoding, IsOfWidened, IsLeastWith, partition_limit, subframes_cost}
+use Rattle.flac_frame.specs.Encoding.{block_of, EachStands, IsEncoding, IsOfFamilyWith, IsLeastWith, partition_limit, subframes_cost}
 use Rattle.flac_frame.specs.Frame.{limits_at}
 use Rattle.flac_frame.specs.Spelling.{FrameForm, frame_spelling, subframes_spelling, HaveSamples}
 use Rattle.flac_frame.proofs.Encoded.{is_block}
@@ -84,7 +84,7 @@ module _ (predictors : List LinearPredictor) (sound : Sound) (size number : ℕ)
   plain : Plain sound.bits size block
   plain = plain_block sound.bits size deep some block long fits
 
-  plain_cost : (c : ℕ) → c + 1 ≡ length block → (g : FrameForm) → g ≡ record { header = record f.header { channel_code = c }; subframes = plain.forms } → IsOfWidened predictors sound size number block g × (subframes_cost sound.bits g ≤ length block * (8 + sound.bits * size))
+  plain_cost : (c : ℕ) → c + 1 ≡ length block → (g : FrameForm) → g ≡ record { header = record f.header { channel_code = c }; subframes = plain.forms } → IsOfFamilyWith predictors sound size number block g × (subframes_cost sound.bits g ≤ length block * (8 + sound.bits * size))
   plain_cost c each g is =
       let depth : ℕ = sound.bits in
       let low : c ≤ 7 = omega (arith, each, few) in
@@ -146,7 +146,7 @@ module _ (p : Cut) (a : Sound) (good : IsSound a) (some : 16 ≤ p.block_size) w
       let bound' : length (frame_spelling a.bits spells.form) ≤ 151 + length a.channels * (8 + a.bits * size) = subst (λ n. length (frame_spelling a.bits spells.form) ≤ 151 + n * (8 + a.bits * size)) many bound in
       subst (λ (t : List Bool). length t ≤ 151 + length a.channels * (8 + a.bits * size)) (sym spells.spelling) bound'
 
--- the samples of a block and of those behind it
+-- the samples of a block and of those after it
 parts : (b total number : ℕ) → size_of b total number + (total - b * (number + 1)) ≤ total - b * number
 parts b total number =
     let up : b * (number + 1) ≡ b * number + b = omega (arith, mul-suc b number) in

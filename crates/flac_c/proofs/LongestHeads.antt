@@ -104,7 +104,7 @@ module _ (every : ℕ) (some : 1 ≤ every) where
   next : (n : ℕ) → (n + 1) * every ≡ every * n + every
   next n = let e : n + 1 ≡ suc n = omega arith in ap (λ k. k * every) e ∙ mul_comm (suc n) every ∙ mul-suc every n
 
-  -- one part more holds what begins behind those before
+  -- one part more holds what begins after those before
   part_more : (k y : ℕ) → every * blocks_in every k < y → blocks_in every k + 1 ≤ blocks_in every y
   part_more k y lt = le-div (blocks_in every k + 1) (y + (every - 1)) every (omega (arith, some)) (omega (arith, next (blocks_in every k), lt, some))
 
@@ -127,7 +127,7 @@ module _ (every : ℕ) (some : 1 ≤ every) where
         let same : b * n ≡ min total (b * n) = omega (arith, here) in
         let up : every * blocks_in every (b * n) < min total (b * suc n) = omega (arith, lt, here, mul-suc b n) in
         subst (λ k. blocks_in every k + 1 ≤ blocks_in every (min total (b * suc n))) same (part_more (b * n) (min total (b * suc n)) up)
-    | inr behind ↦ absurd (omega (arith, parts_cover (b * n), lt, behind))
+    | inr after ↦ absurd (omega (arith, parts_cover (b * n), lt, after))
   ]
 
   point_here : (b total n : ℕ) → blocks_in every (min total (b * n)) + bit_value (has_point b total every n) ≤ blocks_in every (min total (b * suc n))

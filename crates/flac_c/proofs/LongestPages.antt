@@ -17,7 +17,7 @@ use Rattle.flac_native.proofs.WholeBytes.{length-joined}
 use Rattle.flac_pages.specs.declared.writing.PacketMarks.{PacketMarks}
 use Rattle.flac_pages.specs.Page.{Page, page_spelling}
 use Rattle.flac_pages.specs.Packets.{lacing_of}
-use Rattle.flac_pages.specs.Placed.{Placed, marks_of, sequence_behind, pages_from, stream_spelling}
+use Rattle.flac_pages.specs.Placed.{Placed, marks_of, sequence_after, pages_from, stream_spelling}
 use Rattle.flac_pages.specs.Written.{page_at, pages_of_packet}
 use Rattle.flac_ogg.specs.Listed.{texts_of}
 use Rattle.flac_ogg.specs.Native.{mapping_spelling}
@@ -89,11 +89,11 @@ pages_long : (serial sequence : ℕ) (first : Bool) (ps : List Placed) → 200 *
 pages_long serial sequence first [] = omega arith
 pages_long serial sequence first (p ∷ ps) =
     let m : PacketMarks = marks_of serial sequence first (is_nil ps) p in
-    let rest = pages_long serial (sequence_behind sequence p.packet) false ps in
+    let rest = pages_long serial (sequence_after sequence p.packet) false ps in
     omega (
       arith,
-      ap (λ (t : List Bool). length t) (flat_map-append page_spelling (pages_of_packet m p.packet) (pages_from serial (sequence_behind sequence p.packet) false ps)),
-      length-append (flat_map page_spelling (pages_of_packet m p.packet)) (flat_map page_spelling (pages_from serial (sequence_behind sequence p.packet) false ps)),
+      ap (λ (t : List Bool). length t) (flat_map-append page_spelling (pages_of_packet m p.packet) (pages_from serial (sequence_after sequence p.packet) false ps)),
+      length-append (flat_map page_spelling (pages_of_packet m p.packet)) (flat_map page_spelling (pages_from serial (sequence_after sequence p.packet) false ps)),
       packet_long m p.packet,
       rest,
     )

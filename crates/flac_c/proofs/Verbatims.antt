@@ -72,7 +72,7 @@ none_times_each : (s : List ℤ) → map (times_power zero) s ≡ s
 none_times_each [] = refl
 none_times_each (z ∷ zs) = ap (λ (x : ℤ). x ∷ map (times_power zero) zs) (none_times z) ∙ ap (λ (xs : List ℤ). z ∷ xs) (none_times_each zs)
 
--- so many bits are left out of all samples, and this is what stays of them
+-- n bits are left out of all samples, and this is what stays of them
 pub record Dropped (s : List ℤ) : Type 0 where
   pub wasted : ℕ
   pub rest : List ℤ

@@ -1,7 +1,7 @@
 -- Reading a native stream frame by frame (RFC 9639, sections 8.2, 8.5 and 9).
 use Rattle.std.specs.Prelude.{◌≡◌, ◌⊎◌, ℕ, ◌+◌, ◌<◌, ◌≤◌, min, Bool, true, ℤ, List, [], ◌∷◌, ◌++◌, length, take, drop, replicate, Option, Some, None}
 use Rattle.flac_bits.specs.Bits.{bits_of}
-use Rattle.flac_bits.specs.Items.{Joined, Stream, after}
+use Rattle.flac_bits.specs.Items.{Joined, Stream, state_after}
 use Rattle.flac_bits.specs.Meaning.{Spells}
 use Rattle.flac_bits.specs.Fence.{InRoom, StopsIn}
 use Rattle.flac_bits.specs.declared.why.Why.{Why}
@@ -106,7 +106,7 @@ pub record StandsIn (bytes : List ℕ) (c : FlacProvedCursor) (front more : List
   pub before : c.offset ≤ length bytes
   pub spelled : Joined grammar (opening Subset) (beginning Truncated) front (bits_of (take c.offset bytes))
   pub info : Info
-  pub told : (after grammar (opening Subset) front).stand.info ≡ Some info
+  pub told : (state_after grammar (opening Subset) front).stand.info ≡ Some info
   pub same : info_from_c c.info ≡ without_totals info
 
 -- The bytes are a native stream of these items, and the cursor is at its first frame, right after the metadata.

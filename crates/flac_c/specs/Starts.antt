@@ -3,7 +3,7 @@
 use Rattle.std.specs.Prelude.{◌≡◌, ◌≢◌, ◌⊎◌, ℕ, ◌+◌, ◌≤◌, min, Bool, true, false, List, [], ◌∷◌, length, take, Option, Some, None}
 use Rattle.std.specs.Option.{option_or}
 use Rattle.flac_bits.specs.Bits.{bits_of}
-use Rattle.flac_bits.specs.Items.{Joined, Refused, after}
+use Rattle.flac_bits.specs.Items.{Joined, Refused, state_after}
 use Rattle.flac_bits.specs.declared.why.Why.{Why}
 use Rattle.flac_bits.specs.declared.why.Why.TheVariants.{Memory, Truncated, NotStreamInfoFirst}
 use Rattle.flac_info.specs.Info.{Info}
@@ -35,7 +35,7 @@ pub record IsHead (bytes : List ℕ) (n : ℕ) (parts : List Piece) : Type 0 whe
   pub within : n ≤ length bytes
   pub spelled : Joined grammar (opening Subset) (beginning Truncated) parts (bits_of (take n bytes))
   pub metadata : are_metadata parts ≡ true
-  pub behind : (after grammar (opening Subset) parts).stand.phase ≡ Frames
+  pub after : (state_after grammar (opening Subset) parts).stand.phase ≡ Frames
 
 -- ---- the seek table
 
@@ -64,7 +64,7 @@ at_point (Some p) c = record c { offset = min (c.offset + p.offset) 184467440737
 -- The bytes begin with a marker and all metadata blocks. This holds of these parts, of how many bytes they have, and of
 -- STREAMINFO.
 abbrev pub BeginsByHead : List ℕ → (List Piece → ℕ → Info → Type 0) → Type 0
-BeginsByHead bytes holds = (parts : List Piece) × (n : ℕ) × (i : Info) × IsHead bytes n parts × ((after grammar (opening Subset) parts).stand.info ≡ Some i) × holds parts n i
+BeginsByHead bytes holds = (parts : List Piece) × (n : ℕ) × (i : Info) × IsHead bytes n parts × ((state_after grammar (opening Subset) parts).stand.info ≡ Some i) × holds parts n i
 
 -- the cursor is at the first frame
 abbrev pub StandsFirst : List ℕ → FlacProvedCursor → Type 0
@@ -81,4 +81,4 @@ abbrev pub RefusesHead : List ℕ → Option (Place × Why) → Type 0
 RefusesHead bytes outcome =
     (at : Place) × (why : Why) × (outcome ≡ Some (at, why))
     × (why ≢ Memory → ((parts : List Piece) × Refused grammar (opening Subset) (beginning Truncated) parts (bits_of bytes) at why)
-    ⊎ ((why ≡ NotStreamInfoFirst) × (at ≡ place.Marker) × ((parts : List Piece) × (n : ℕ) × IsHead bytes n parts × ((after grammar (opening Subset) parts).stand.info ≡ None))))
+    ⊎ ((why ≡ NotStreamInfoFirst) × (at ≡ place.Marker) × ((parts : List Piece) × (n : ℕ) × IsHead bytes n parts × ((state_after grammar (opening Subset) parts).stand.info ≡ None))))

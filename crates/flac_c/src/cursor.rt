@@ -2,7 +2,7 @@
 
 ghost use Rattle.std.specs.Prelude.{◌≡◌, ◌≤◌, IfOk, IfErr};
 ghost use Rattle.flac_info.specs.Info.{KeepsRules};
-ghost use Rattle.flac_frame.specs.Lent.{frame_of};
+ghost use Rattle.flac_frame.specs.Viewed.{frame_of};
 ghost use Rattle.flac_c.specs.Cursors.{info_from_c, passed};
 
 use crate::info::FlacProvedInfo;

@@ -1,7 +1,7 @@
 //! Decodes a stream to bytes.
 
 ghost use Rattle.std.specs.Prelude.{◌≡◌, ◌≢◌, min, true, OnOk, IfErr, Some, None};
-ghost use Rattle.flac_native.specs.Item.{told};
+ghost use Rattle.flac_native.specs.Item.{fault_pair};
 ghost use Rattle.flac_native.specs.Samples.{samples_from};
 ghost use Rattle.flac_ogg.specs.Verifying.{Verifies};
 ghost use Rattle.flac_c.specs.Answers.{IsAnswered, in_c};
@@ -31,7 +31,7 @@ pub(crate) fn collect<S: Sink>(alloc: Global, bytes: &[u8], sink: &mut S) -> Res
     requires known { S.known sink.old ≡ true }
     requires none { S.errors sink.old ≡ 0 }
     ensures done { OnOk result (TakesStream S.Sink bytes.now sink.old sink.new) }
-    ensures refused { IfErr result (λ f. Verifies Profile.Subset bytes.now (Some (told f))) }
+    ensures refused { IfErr result (λ f. Verifies Profile.Subset bytes.now (Some (fault_pair f))) }
 {
     let mut source = Memory::new(bytes);
     match decode_any(alloc, &mut source, Profile::Subset, sink) {
@@ -66,8 +66,8 @@ pub extern "C" fn flac_proved_decode(
     ensures clear { result ≡ 0 → fault.new ≡ in_c None }
 {
     let mut sink = SampleWriter::new(Collected::new(alloc), width.min(4) as usize);
-    if let Err(told) = collect(alloc, bytes, &mut sink) {
-        *fault = in_c(Err(told));
+    if let Err(refusal) = collect(alloc, bytes, &mut sink) {
+        *fault = in_c(Err(refusal));
         return fault.number;
     }
     *fault = in_c(Ok(()));

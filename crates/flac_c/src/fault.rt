@@ -2,7 +2,7 @@
 
 ghost use Rattle.std.specs.Prelude.{◌≡◌, ◌≢◌, OnErr};
 ghost use Rattle.flac_bits.specs.Handing.{outcome_of};
-ghost use Rattle.flac_native.specs.Item.{told};
+ghost use Rattle.flac_native.specs.Item.{fault_pair};
 ghost use Rattle.flac_c.specs.Answers.{kind_of, index_of, in_c, place_text};
 
 use flac_native::{Fault, Place};
@@ -69,7 +69,7 @@ fn index_of(place: Place) -> u64
 /// The outcome of a call in numbers.
 #[tactic(auto, using(crate::proofs::Numbered::some_number))]
 pub(crate) fn in_c(outcome: Result<(), Fault>) -> FlacProvedFault
-    ensures value { result ≡ in_c (outcome_of told outcome) }
+    ensures value { result ≡ in_c (outcome_of fault_pair outcome) }
     ensures some { OnErr outcome (result.number ≢ 0) }
 {
     match outcome {

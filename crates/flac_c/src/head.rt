@@ -1,9 +1,9 @@
 //! Reads STREAMINFO and the comments at the start of a stream.
 
 ghost use Rattle.std.specs.Prelude.{◌≡◌, ◌≢◌, [], nat_lt, true, false, is_some, IfErr, OnOk, None, Some};
-ghost use Rattle.flac_native.specs.Item.{told};
+ghost use Rattle.flac_native.specs.Item.{fault_pair};
 ghost use Rattle.flac_c.specs.Heads.{BeginsBy, Begins, Lacks};
-ghost use Rattle.flac_c.specs.inner.Heads.{info_behind, comments_behind, frames_behind, EndsIn, IsRefusedFor, HasInfo};
+ghost use Rattle.flac_c.specs.inner.Heads.{info_after_item, comments_after_item, frames_after_item, EndsIn, IsRefusedFor, HasInfo};
 
 use flac_bits::{Memory, Why};
 use flac_frame::FrameView;
@@ -46,9 +46,9 @@ impl Head {
 
 impl Sink for Head {
     ghost takes = { λ old item new. record {
-      info : new.info ≡ info_behind old.info item;
-      comments : new.comments ≡ comments_behind old.comments item;
-      over : new.is_over ≡ frames_behind old.is_over item;
+      info : new.info ≡ info_after_item old.info item;
+      comments : new.comments ≡ comments_after_item old.comments item;
+      over : new.is_over ≡ frames_after_item old.is_over item;
     } };
 
     ghost known = { λ s. nat_lt s.failures.count 18446744073709551615 };
@@ -116,7 +116,7 @@ fn read_front(alloc: Global, bytes: &[u8], most: usize, head: &mut Head) -> bool
 fn read_all(alloc: Global, bytes: &[u8], head: &mut Head) -> Result<(), Fault>
     ensures begun { OnOk result (Begins bytes.now head.new.info head.new.comments) }
     ensures found { OnOk result (is_some head.new.info ≡ true) }
-    ensures refused { IfErr result (λ f. Lacks bytes.now (Some (told f))) }
+    ensures refused { IfErr result (λ f. Lacks bytes.now (Some (fault_pair f))) }
 {
     *head = Head::new();
     let outcome = decode_head(alloc, bytes, head);
@@ -152,7 +152,7 @@ fn is_memory(why: Why) -> bool
 pub(crate) fn read_head(alloc: Global, bytes: &[u8], head: &mut Head) -> Result<(), Fault>
     ensures begun { OnOk result (Begins bytes.now head.new.info head.new.comments) }
     ensures found { OnOk result (is_some head.new.info ≡ true) }
-    ensures refused { IfErr result (λ f. Lacks bytes.now (Some (told f))) }
+    ensures refused { IfErr result (λ f. Lacks bytes.now (Some (fault_pair f))) }
 {
     if read_front(alloc, bytes, FEW, head) {
         return Ok(());

@@ -111,8 +111,8 @@ pub extern "C" fn flac_proved_info(
     ensures clear { result ≡ 0 → fault.new ≡ in_c None }
 {
     let mut head = Head::new();
-    if let Err(told) = read_head(alloc, bytes, &mut head) {
-        *fault = in_c(Err(told));
+    if let Err(refusal) = read_head(alloc, bytes, &mut head) {
+        *fault = in_c(Err(refusal));
         return fault.number;
     }
     *fault = in_c(Ok(()));
@@ -144,8 +144,8 @@ pub extern "C" fn flac_proved_comment(
     ensures clear { result ≡ 0 → fault.new ≡ in_c None }
 {
     let mut head = Head::new();
-    if let Err(told) = read_head(alloc, bytes, &mut head) {
-        *fault = in_c(Err(told));
+    if let Err(refusal) = read_head(alloc, bytes, &mut head) {
+        *fault = in_c(Err(refusal));
         return fault.number;
     }
     *fault = in_c(Ok(()));
@@ -173,8 +173,8 @@ pub extern "C" fn flac_proved_vendor(
     ensures clear { result ≡ 0 → fault.new ≡ in_c None }
 {
     let mut head = Head::new();
-    if let Err(told) = read_head(alloc, bytes, &mut head) {
-        *fault = in_c(Err(told));
+    if let Err(refusal) = read_head(alloc, bytes, &mut head) {
+        *fault = in_c(Err(refusal));
         return fault.number;
     }
     *fault = in_c(Ok(()));

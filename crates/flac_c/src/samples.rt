@@ -1,7 +1,7 @@
 //! Decodes a stream to numbers.
 
 ghost use Rattle.std.specs.Prelude.{◌≡◌, ◌≢◌, ◌++◌, [], nat_lt, OnOk, None};
-ghost use Rattle.flac_frame.specs.Lent.{frame_of};
+ghost use Rattle.flac_frame.specs.Viewed.{frame_of};
 ghost use Rattle.flac_frame.specs.Interleaved.{interleaved};
 ghost use Rattle.flac_ogg.specs.Verifying.{Verifies};
 ghost use Rattle.flac_c.specs.Answers.{IsAnswered, in_c};
@@ -79,8 +79,8 @@ pub extern "C" fn flac_proved_samples(
         list: Vec::new(alloc),
         failures: Failures::new(),
     };
-    if let Err(told) = collect(alloc, bytes, &mut sink) {
-        *fault = in_c(Err(told));
+    if let Err(refusal) = collect(alloc, bytes, &mut sink) {
+        *fault = in_c(Err(refusal));
         return fault.number;
     }
     *fault = in_c(Ok(()));

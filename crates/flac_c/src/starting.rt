@@ -1,7 +1,7 @@
 //! Makes cursors in a native stream.
 
 ghost use Rattle.std.specs.Prelude.{◌≡◌, ◌≢◌, ◌⊎◌, [], IfOk, IfErr, Some, None};
-ghost use Rattle.flac_native.specs.Item.{told};
+ghost use Rattle.flac_native.specs.Item.{fault_pair};
 ghost use Rattle.flac_c.specs.Cursors.{OfStream, StartsIn};
 ghost use Rattle.flac_c.specs.Answers.{IsAnswered, in_c};
 ghost use Rattle.flac_c.specs.inner.Blocks.{IsFound, FrontRead, IsStart};
@@ -20,7 +20,7 @@ use std::alloc::Global;
 fn read_front(alloc: Global, bytes: &[u8], found: &mut Metadata) -> Result<u64, Fault>
     requires { IsFound found.old.sample [] found.old }
     ensures read { IfOk result (λ n. FrontRead bytes.now n found.old.sample found.new) }
-    ensures refused { IfErr result (λ f. RefusesHead bytes.now (Some (told f))) }
+    ensures refused { IfErr result (λ f. RefusesHead bytes.now (Some (fault_pair f))) }
 {
     // Read only for the proof, which then knows that a slice is shorter than 2^64 bytes.
     let _len = bytes.len();
@@ -39,7 +39,7 @@ fn read_front(alloc: Global, bytes: &[u8], found: &mut Metadata) -> Result<u64, 
 fn read_start(alloc: Global, bytes: &[u8], found: &mut Metadata) -> Result<FlacProvedCursor, Fault>
     requires { IsFound found.old.sample [] found.old }
     ensures read { IfOk result (λ c. IsStart bytes.now found.old.sample c found.new.point) }
-    ensures refused { IfErr result (λ f. RefusesHead bytes.now (Some (told f))) }
+    ensures refused { IfErr result (λ f. RefusesHead bytes.now (Some (fault_pair f))) }
 {
     let offset = match read_front(alloc, bytes, found) {
         Ok(offset) => offset,
@@ -100,8 +100,8 @@ pub extern "C" fn flac_proved_start(
             *fault = in_c(Ok(()));
             0
         }
-        Err(told) => {
-            *fault = in_c(Err(told));
+        Err(refusal) => {
+            *fault = in_c(Err(refusal));
             fault.number
         }
     }
@@ -136,8 +136,8 @@ pub extern "C" fn flac_proved_seek(
             *fault = in_c(Ok(()));
             0
         }
-        Err(told) => {
-            *fault = in_c(Err(told));
+        Err(refusal) => {
+            *fault = in_c(Err(refusal));
             fault.number
         }
     }

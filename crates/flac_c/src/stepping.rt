@@ -3,7 +3,7 @@
 ghost use Rattle.std.specs.Prelude.{◌≡◌, ◌≢◌, ◌≤◌, ◌<◌, ◌+◌, ◌⊎◌, ℕ, IfOk, IfErr, IsOkAnd, None, drop};
 ghost use Rattle.flac_info.specs.Info.{KeepsRules};
 ghost use Rattle.flac_frame.specs.Frame.{Frame};
-ghost use Rattle.flac_frame.specs.Lent.{frame_of};
+ghost use Rattle.flac_frame.specs.Viewed.{frame_of};
 ghost use Rattle.flac_c.specs.Answers.{IsAnswered, in_c};
 ghost use Rattle.flac_c.specs.Cursors.{info_from_c, IsFrameAt, NoFrameAt, NoFrame, OfFrame, HandsOver, HandsNext, HandsFrame, GivesNext, RefusesNext, OfNextFrame, GoesOn};
 

@@ -33,7 +33,7 @@ part_rows width start size (suc n) k channels h =
     let e : start + (k + 1) ≡ start + k + 1 = omega arith in
     ap (λ r. r ++ rows_bytes width (block_of start size channels) n (k + 1)) here ∙ ap (λ r. row_bytes width channels (start + k) ++ r) (more ∙ ap (λ j. rows_bytes width channels n j) e)
 
--- behind a block stand the rows of the next, where there are any
+-- after a block stand the rows of the next, where there are any
 later_place : (width : ℕ) (channels : List (List ℤ)) (block number total left : ℕ) → left ≤ total - block * (number + 1)
     → rows_bytes width channels left (block * (number + 1)) ≡ rows_bytes width channels left (block * number + min block (total - block * number))
 unfolding rows_bytes

@@ -19,7 +19,7 @@ use Rattle.flac_cli.specs.Encoded.{EncodesIn, BeginsIn, parts_in, cut_as}
 use Rattle.flac_cli.specs.Predictors.{AreListed}
 use Rattle.flac_cli.specs.inner.Searching.{IsSearched}
 use Rattle.flac_cli.specs.Speakers.{words_with}
-use Rattle.flac_cli.specs.Waves.{turned, wave_samples, file_samples, low_samples, stream_samples, depth_for, riff_block, pieces_in, depth_of, plain_of, file_pieces, wave_in, kept_list, kept_pieces, no_plain, has_room, piece_fault, kept_fault, wide_by, Keeps, BeginsWave}
+use Rattle.flac_cli.specs.Waves.{turned, wave_samples, file_samples, low_samples, stream_samples, depth_for, riff_block, pieces_in, depth_of, plain_of, file_pieces, wave_in, kept_list, kept_pieces, no_plain, has_room, piece_fault, kept_fault, wave_width_by, Keeps, BeginsWave}
 use Rattle.flac_cli.specs.declared.held_wave.KeptFault.TheVariants as kept
 use Rattle.flac_cli.proofs.Back.{given_back}
 use Rattle.flac_cli.proofs.Waved.{high_same, high_other}
@@ -35,7 +35,7 @@ use Rattle.flac_wave.proofs.Files.{comes_back}
 use Rattle.flac_wave.proofs.Formats.{wave_tells, wave_whole}
 use Rattle.flac_wave.proofs.Shifts.{samples_back, lowered_long, depth_cases, stated_some}
 use Rattle.flac_wave.specs.Format.{IsInRange}
-use Rattle.flac_wave.specs.Shift.{AreBytes, raised, lowered, are_low_zero, wide_of, depth_in}
+use Rattle.flac_wave.specs.Shift.{AreBytes, raised, lowered, are_low_zero, wave_width_of, depth_in}
 use Rattle.flac_wave.specs.declared.format.WaveFormat.{WaveFormat}
 use Rattle.flac_native.specs.Message.{sample_width}
 
@@ -126,8 +126,8 @@ given_wave p a words qs points least greatest head good =
     let plain = (plain_of no_plain (given p (kept_list words qs ++ ts) a least greatest)).made in
     let end = depth_of a.bits (closing (map riff_block qs ++ ts) ++ fs) in
     let text = samples_from 0 a.bits (closing (map riff_block qs ++ ts) ++ fs) in
-    ap (λ l. restored (file_pieces l plain) (file_samples (wide_by (has_head l) (bits_in 0 l) end) end text)) pieces
-    ∙ (ap (λ c. restored (cond c qs plain) (file_samples (wide_by c (bits_in 0 qs) end) end text)) head
+    ap (λ l. restored (file_pieces l plain) (file_samples (wave_width_by (has_head l) (bits_in 0 l) end) end text)) pieces
+    ∙ (ap (λ c. restored (cond c qs plain) (file_samples (wave_width_by c (bits_in 0 qs) end) end text)) head
     ∙ (ap (λ d. restored qs (file_samples ((bits_in 0 qs + 7) / 8) d text)) depth
     ∙ ap (λ l. restored qs (file_samples ((bits_in 0 qs + 7) / 8) a.bits l)) samples))
 
@@ -142,7 +142,7 @@ parts_wave (container.Ogg serial) p a list words qs h head before after e good =
 -- ---- the samples of a file come back
 
 -- how many bits a stream has
-depth_some : (f : WaveFormat) (xs : List ℕ) → IsInRange f → (0 < depth_in f xs) × (depth_in f xs ≤ 8 * wide_of f)
+depth_some : (f : WaveFormat) (xs : List ℕ) → IsInRange f → (0 < depth_in f xs) × (depth_in f xs ≤ 8 * wave_width_of f)
 depth_some f xs r = elim (depth_cases f xs) [
   | inl all ↦ let some = r.bits in (omega (arith, all, some), omega (arith, all))
   | inr n ↦ let some = stated_some (depth_in f xs) n.stated in let few = n.few in (omega (arith, some), omega (arith, few))
@@ -174,10 +174,10 @@ narrow_by wide depth xs small whole some few zeros =
     width_some : (d : ℕ) → 8 ≤ d → 0 < sample_width d
     width_some d some = omega (arith, some)
 
-samples_again : (f : WaveFormat) (xs : List ℕ) → AreBytes xs → length xs % wide_of f ≡ 0 → file_samples (wide_of f) (depth_in f xs) (stream_samples (wide_of f) (depth_in f xs) xs) ≡ xs
+samples_again : (f : WaveFormat) (xs : List ℕ) → AreBytes xs → length xs % wave_width_of f ≡ 0 → file_samples (wave_width_of f) (depth_in f xs) (stream_samples (wave_width_of f) (depth_in f xs) xs) ≡ xs
 samples_again f xs small whole = elim (depth_cases f xs) [
-  | inl all ↦ samples_by (wide_of f) (depth_in f xs) xs all
-  | inr n ↦ narrow_by (wide_of f) (depth_in f xs) xs small whole (stated_some (depth_in f xs) n.stated) n.few n.zeros
+  | inl all ↦ samples_by (wave_width_of f) (depth_in f xs) xs all
+  | inr n ↦ narrow_by (wave_width_of f) (depth_in f xs) xs small whole (stated_some (depth_in f xs) n.stated) n.few n.zeros
 ]
 
 -- the words of a file's comments, and its pieces
@@ -196,8 +196,8 @@ kept_back asked bytes format a list p before after k e keep good =
     let w = wave_tells bytes k.file k.pieces k.wave in
     parts_wave asked.container p a list (words_of asked k.file) qs (all_kept asked format a list bytes k keep) w.head before after e good
     ∙ (ap (λ n. restored qs (file_samples ((n + 7) / 8) a.bits (sound_message a))) w.bits
-    ∙ (ap (λ d. restored qs (file_samples (wide_of k.file.format) d (sound_message a))) raw.bits
-    ∙ (ap (λ l. restored qs (file_samples (wide_of k.file.format) (depth_for k.file) l)) raw.samples
+    ∙ (ap (λ d. restored qs (file_samples (wave_width_of k.file.format) d (sound_message a))) raw.bits
+    ∙ (ap (λ l. restored qs (file_samples (wave_width_of k.file.format) (depth_for k.file) l)) raw.samples
     ∙ (ap (λ l. restored qs l) (samples_again k.file.format k.file.samples k.small (wave_whole bytes k.file k.wave))
     ∙ comes_back bytes k.file k.pieces k.wave k.cut))))
 
@@ -211,7 +211,7 @@ fits_by head bits depth f xs h b d r =
     let deep = depth_some f xs r in
     let narrow = r.narrow in
     ap (λ c. piece_fault c bits depth) h ∙ (ap (λ n. piece_fault true n depth) b ∙ (ap (λ n. piece_fault true f.bits n) d
-    ∙ ap (λ c. cond c None (Some kept.OtherBits)) (room_is (wide_of f) (depth_in f xs) (omega (arith, narrow)) deep.0 deep.1)))
+    ∙ ap (λ c. cond c None (Some kept.OtherBits)) (room_is (wave_width_of f) (depth_in f xs) (omega (arith, narrow)) deep.0 deep.1)))
 
 -- what is kept is a file of the samples
 pub kept_fits : (asked : Asked) (bytes : List ℕ) (format : RawFormat) (a : Sound) (list : List Block) (p : Cut) (before after : List Bool) (k : Keeps asked bytes format a list) (e : EncodesIn asked.container p list a before after)

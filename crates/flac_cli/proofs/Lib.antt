@@ -11,7 +11,7 @@ pub mod Jobs
 -- Raw samples.
 pub mod Fronts
 pub mod Rows
-pub mod Wide
+pub mod TwosComplement
 -- Encoding: lists of predictors, plans, and why an encoding is refused.
 pub mod Back
 pub mod Failed

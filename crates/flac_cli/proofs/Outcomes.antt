@@ -1,7 +1,7 @@
 -- What an answer of a decoding says.
 use Rattle.std.proofs.Common.{Bool, false, List, ◌∷◌, get_or, ◌≡◌, ◌≢◌, ◌⊎◌, ℕ, nat_lt, true, None, Ok, Err, OnOk, OnErr, IfErr, Result, refl, ap, subst, arith, inl, inr}
 use Rattle.std.specs.Result.{is_err}
-use Rattle.flac_native.specs.Item.{told}
+use Rattle.flac_native.specs.Item.{fault_pair}
 use Rattle.flac_native.specs.declared.fault.Fault.{Fault}
 use Rattle.flac_native.specs.Numbers.{fault_number}
 use Rattle.flac_native.specs.declared.fault.EncodeFault.{EncodeFault}
@@ -14,7 +14,7 @@ use Rattle.flac_frame.specs.Audio.{Sound}
 use Rattle.flac_frame.specs.declared.setup.SetupFault.{SetupFault}
 use Rattle.flac_subframe.specs.declared.format.linear.LinearPredictor.{LinearPredictor}
 use Rattle.flac_native.specs.Given.{Cut}
-use Rattle.flac_bits.specs.State.{Behind, short_of}
+use Rattle.flac_bits.specs.State.{After, short_of}
 use Rattle.flac_native.specs.Stream.{Piece}
 use Rattle.flac_native.specs.Decoding.{beginning}
 use Rattle.flac_ogg.specs.Either.{read_either}
@@ -27,7 +27,7 @@ use Rattle.flac_cli.specs.inner.Searching.{IsSearched}
 use Rattle.flac_cli.proofs.Searched.{cut_is, are_found}
 
 -- What holds where nothing was refused holds at Ok.
-pub at_ok : {A X : Type 0} (r : Result A Fault) → (outcome_of told r ≡ None → X) → OnOk r X
+pub at_ok : {A X : Type 0} (r : Result A Fault) → (outcome_of fault_pair r ≡ None → X) → OnOk r X
 at_ok (Ok a) h = h refl
 at_ok (Err e) h = tt
 
@@ -88,6 +88,6 @@ begun_raw asked ps bytes p q l a before after raw listed plan tried list same (i
 })
 
 -- What is read in either container is a stream.
-pub is_stream : (profile : Profile) (is_ogg : Bool) (parts : List Piece) (bytes : List ℕ) (behind : Behind) → (read_either profile is_ogg (beginning (short_of behind.fails)) (bits_of bytes)).whole parts → IsStream profile parts bytes behind
-is_stream profile true parts bytes behind stream = inr stream
-is_stream profile false parts bytes behind stream = inl stream
+pub is_stream : (profile : Profile) (is_ogg : Bool) (parts : List Piece) (bytes : List ℕ) (after : After) → (read_either profile is_ogg (beginning (short_of after.fails)) (bits_of bytes)).whole parts → IsStream profile parts bytes after
+is_stream profile true parts bytes after stream = inr stream
+is_stream profile false parts bytes after stream = inl stream

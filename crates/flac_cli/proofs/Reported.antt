@@ -4,13 +4,13 @@ use Rattle.std.proofs.lemmas.Bool.{cases_lt}
 use Rattle.flac_bits.specs.Bits.{bits_of, bit_value}
 use Rattle.flac_bits.specs.Handing.{Hands, Decides, outcome_of}
 use Rattle.flac_bits.specs.Reasons as reasons
-use Rattle.flac_bits.specs.State.{Behind, Rises, short_of}
+use Rattle.flac_bits.specs.State.{After, Rises, short_of}
 use Rattle.flac_bits.specs.declared.why.Why.{Why}
 use Rattle.flac_bits.specs.declared.why.Why.TheVariants as why
 use Rattle.flac_meta.specs.Spelling.{comments_length}
 use Rattle.flac_meta.specs.declared.comments.Comments.{Comments}
 use Rattle.flac_native.specs.Decoding.{beginning}
-use Rattle.flac_native.specs.Item.{told}
+use Rattle.flac_native.specs.Item.{fault_pair}
 use Rattle.flac_header.specs.declared.subset.Profile.{Profile}
 use Rattle.flac_native.specs.Retag.{HasHead, IsRefused, too_long, not_written}
 use Rattle.flac_native.specs.Stream.{Piece}
@@ -45,10 +45,10 @@ abbrev as_outcome : Option (Place × Why) → Outcome
 as_outcome None = None
 as_outcome (Some p) = Some (Some p.0, p.1)
 
-module _ (profile : Profile) (bytes : List ℕ) (behind : Behind) {K : Type 0} (takes : K → Piece → K → Type 0) (errors : K → ℕ) (calm : Type 0) (old new : K) where
+module _ (profile : Profile) (bytes : List ℕ) (after : After) {K : Type 0} (takes : K → Piece → K → Type 0) (errors : K → ℕ) (calm : Type 0) (old new : K) where
   -- What a call that decodes answers is what the input is, if neither the source nor the sink failed.
-  pub decoded_fits : (r : Result (Unit {0}) Fault) → Hands (input_reading profile bytes behind) takes errors calm old new (outcome_of told r) → Decides (input_reading profile bytes behind) (outcome_of told r)
-      → calm → errors new ≡ errors old → Fits IsOutOfMemory (Reads profile bytes behind) (outcome_of inner_outcomes.at_place r)
+  pub decoded_fits : (r : Result (Unit {0}) Fault) → Hands (input_reading profile bytes after) takes errors calm old new (outcome_of fault_pair r) → Decides (input_reading profile bytes after) (outcome_of fault_pair r)
+      → calm → errors new ≡ errors old → Fits IsOutOfMemory (Reads profile bytes after) (outcome_of inner_outcomes.at_place r)
   decoded_fits (Ok x) h d quiet same =
       let whole = h.done quiet refl in
       record {
@@ -56,7 +56,7 @@ module _ (profile : Profile) (bytes : List ℕ) (behind : Behind) {K : Type 0} (
         each = not_refused;
       }
     where
-      not_refused : (other : Outcome) → Reads profile bytes behind other → IsOutOfMemory None ⊎ (None ≡ other)
+      not_refused : (other : Outcome) → Reads profile bytes after other → IsOutOfMemory None ⊎ (None ≡ other)
       not_refused None w = inr refl
       not_refused (Some f) w = absurd (d.is_refused w.2.0 w.0 f.1 w.2.1 refl)
   decoded_fits (Err e) h d quiet same = elim (memory_or_not e.why) [
@@ -74,7 +74,7 @@ module _ (profile : Profile) (bytes : List ℕ) (behind : Behind) {K : Type 0} (
         }
   ]
     where
-      shown : e.why ≢ why.Memory → (other : Outcome) → Reads profile bytes behind other → IsOutOfMemory (Some (Some e.at, e.why)) ⊎ (Some (Some e.at, e.why) ≡ other)
+      shown : e.why ≢ why.Memory → (other : Outcome) → Reads profile bytes after other → IsOutOfMemory (Some (Some e.at, e.why)) ⊎ (Some (Some e.at, e.why) ≡ other)
       shown n None w = absurd (d.accepted w.0 w.1 e.at e.why refl n)
       shown n (Some f) w =
           let s = d.shown w.2.0 w.0 f.1 w.2.1 e.at e.why refl n in
@@ -82,18 +82,18 @@ module _ (profile : Profile) (bytes : List ℕ) (behind : Behind) {K : Type 0} (
           inr (ap (λ a. Some (a, e.why)) at ∙ ap (λ y. Some (f.0, y)) s.1)
 
   -- If the sink failed, that is what it answers.
-  pub sink_failed : (r : Result (Unit {0}) Fault) → Hands (input_reading profile bytes behind) takes errors calm old new (outcome_of told r) → errors old < errors new
+  pub sink_failed : (r : Result (Unit {0}) Fault) → Hands (input_reading profile bytes after) takes errors calm old new (outcome_of fault_pair r) → errors old < errors new
       → (at : Place) × (outcome_of inner_outcomes.at_place r ≡ Some (Some at, why.Sink))
   sink_failed r h rose = let f = h.failed rose in (f.0, as_placed r f.0 why.Sink f.1)
     where
-      as_placed : (r : Result (Unit {0}) Fault) (at : Place) (w : Why) → outcome_of told r ≡ Some (at, w) → outcome_of inner_outcomes.at_place r ≡ Some (Some at, w)
+      as_placed : (r : Result (Unit {0}) Fault) (at : Place) (w : Why) → outcome_of fault_pair r ≡ Some (at, w) → outcome_of inner_outcomes.at_place r ≡ Some (Some at, w)
       as_placed (Ok x) at w e = ap as_outcome e
       as_placed (Err f) at w e = ap as_outcome e
 
 -- What an answer is that may not have been listed.
-pub listed_fits : (printed : Type 0) (profile : Profile) (bytes : List ℕ) (behind : Behind) (errors : ℕ) (outcome : Outcome) → (errors ≡ 0 → Fits IsOutOfMemory (Reads profile bytes behind) outcome)
-    → (0 < errors → (at : Place) × (outcome ≡ Some (Some at, why.Sink))) → (printed → errors ≡ 0) → Fits (IsUnlisted printed) (Reads profile bytes behind) outcome
-listed_fits printed profile bytes behind errors outcome fits failed calm = elim (cases_lt 0 errors) [
+pub listed_fits : (printed : Type 0) (profile : Profile) (bytes : List ℕ) (after : After) (errors : ℕ) (outcome : Outcome) → (errors ≡ 0 → Fits IsOutOfMemory (Reads profile bytes after) outcome)
+    → (0 < errors → (at : Place) × (outcome ≡ Some (Some at, why.Sink))) → (printed → errors ≡ 0) → Fits (IsUnlisted printed) (Reads profile bytes after) outcome
+listed_fits printed profile bytes after errors outcome fits failed calm = elim (cases_lt 0 errors) [
   | inl rose ↦
       let out : IsUnlisted printed outcome = inr (λ p. absurd (omega (arith, rose, calm p)), failed rose) in
       record {
@@ -118,7 +118,7 @@ pub served_written : {X : Type 0} (V : Type 0) (r : Result X RetagFault) (m n : 
 served_written V (Ok x) m n rises = tt
 served_written V (Err f) m n rises = λ served is. absurd (omega (arith, rises is served.0, served.1))
 
-module _ (words : List (List ℕ)) (bytes : List ℕ) (behind : Behind) (comments : Comments) (are : comments ≡ comments_of words) {K A B V : Type 0} (k : K) (a : A) (b : B) (v : V) where
+module _ (words : List (List ℕ)) (bytes : List ℕ) (after : After) (comments : Comments) (are : comments ≡ comments_of words) {K A B V : Type 0} (k : K) (a : A) (b : B) (v : V) where
   abbrev Long : Type 0
   Long = 16777215 < comments_length comments
 
@@ -126,10 +126,10 @@ module _ (words : List (List ℕ)) (bytes : List ℕ) (behind : Behind) (comment
   Short = comments_length comments ≤ 16777215
 
   abbrev Head : Type 0
-  Head = HasHead (beginning (short_of behind.fails)) (bits_of bytes)
+  Head = HasHead (beginning (short_of after.fails)) (bits_of bytes)
 
   abbrev Bad : Place → Why → Type 0
-  Bad at w = IsRefused (beginning (short_of behind.fails)) (bits_of bytes) at w
+  Bad at w = IsRefused (beginning (short_of after.fails)) (bits_of bytes) at w
 
   as_long : comments_length comments ≡ comments_length (comments_of words)
   as_long = ap comments_length are
@@ -141,13 +141,13 @@ module _ (words : List (List ℕ)) (bytes : List ℕ) (behind : Behind) (comment
       → IfErr r (λ f. f ≢ too_long → K → A → B → f.why ≢ why.Memory → Head → f ≡ not_written)
       → (Short → (at : Place) (w : Why) → Bad at w → K → A → B → IsErrAnd r (λ f. f.why ≢ why.Memory → f ≡ record { at = Some at; why = w }))
       → IfErr r (λ f. f.at ≡ None → (f ≡ too_long) ⊎ (f ≡ not_written)) → IfErr r (λ f. V → f ≢ not_written)
-      → Fits IsRetagOutOfMemory (IsRetagged words bytes behind) (outcome_of at_some_place r)
+      → Fits IsRetagOutOfMemory (IsRetagged words bytes after) (outcome_of at_some_place r)
   retagged_fits (Ok x) long short head refused accepted shown placeless served = record {
     right = inr (elim (cases_lt 16777215 (comments_length comments)) [ inl h ↦ absurd (let e = long h in cc) | inr h ↦ (omega (arith, h, as_long), head) ]);
     each = not_refused;
   }
     where
-      not_refused : (other : Outcome) → IsRetagged words bytes behind other → IsRetagOutOfMemory None ⊎ (None ≡ other)
+      not_refused : (other : Outcome) → IsRetagged words bytes after other → IsRetagOutOfMemory None ⊎ (None ≡ other)
       not_refused None w = inr refl
       not_refused (Some f) (inl w) = absurd (let e = long (omega (arith, w.0, as_long)) in cc)
       not_refused (Some f) (inr w) = absurd (shown (omega (arith, w.0, as_long)) w.1.0 f.1 w.1.2 k a b)
@@ -164,7 +164,7 @@ module _ (words : List (List ℕ)) (bytes : List ℕ) (behind : Behind) (comment
     }
   ]
     where
-      by_place : e.why ≢ why.Memory → (at : Option Place) → e.at ≡ at → IsRetagged words bytes behind (Some (e.at, e.why))
+      by_place : e.why ≢ why.Memory → (at : Option Place) → e.at ≡ at → IsRetagged words bytes after (Some (e.at, e.why))
       by_place n None is = elim (placeless is) [
         | inl l ↦ let far = short (ap Err l) in inl (omega (arith, far, as_long), is, ap (λ (f : RetagFault). f.why) l)
         | inr o ↦ absurd (served v o)
@@ -178,7 +178,7 @@ module _ (words : List (List ℕ)) (bytes : List ℕ) (behind : Behind) (comment
             | inr h ↦ inr (omega (arith, h, as_long), (at, is, bad k a b n))
           ]
 
-      shows : e.why ≢ why.Memory → (other : Outcome) → IsRetagged words bytes behind other → IsRetagOutOfMemory (Some (e.at, e.why)) ⊎ (Some (e.at, e.why) ≡ other)
+      shows : e.why ≢ why.Memory → (other : Outcome) → IsRetagged words bytes after other → IsRetagOutOfMemory (Some (e.at, e.why)) ⊎ (Some (e.at, e.why) ≡ other)
       shows n None w = absurd (served v (accepted (λ l. let far = short (ap Err l) in omega (arith, far, w.0, as_long)) k a b n w.1))
       shows n (Some f) (inl w) =
           let l : e ≡ too_long = let r = long (omega (arith, w.0, as_long)) in cc in

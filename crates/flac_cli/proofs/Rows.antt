@@ -17,7 +17,7 @@ use Rattle.flac_jobs.specs.declared.formats.RawFormat.{RawFormat}
 use Rattle.flac_cli.specs.Raw.{number_of, samples_at, channels_at, IsRaw}
 use Rattle.flac_cli.specs.inner.Raw.{IsChannel, IsPart, AreParts, IsMore, AreChannels}
 
--- the first so many channels
+-- the first n channels
 pub record AreFirst (bytes : List ℕ) (rows row width count : ℕ) (channels : List (List ℤ)) : Type 0 where
   pub many : length channels ≡ count
   pub each : (c : ℕ) → c < count → IsChannel bytes rows row (c * width) width (get_or channels c [])
@@ -128,7 +128,7 @@ samples_front bytes piece row start width (suc n) within few =
     ap (λ l. l ++ number_of (take width (drop at (bytes ++ piece))) ∷ []) (samples_front bytes piece row start width n within (omega arith))
     ∙ ap (λ t. samples_at bytes row start width n ++ number_of t ∷ []) (take_front bytes piece at width (omega arith))
 
--- the samples of whole rows are so too where more bytes stand behind them
+-- the samples of whole rows are so too where more bytes stand after them
 pub channel_front : (bytes piece : List ℕ) (rows row start width : ℕ) (samples : List ℤ) → length bytes ≡ rows * row → start + width ≤ row → IsChannel bytes rows row start width samples
     → IsChannel (bytes ++ piece) rows row start width samples
 channel_front bytes piece rows row start width samples whole within is = record {
@@ -140,23 +140,23 @@ channel_front bytes piece rows row start width samples whole within is = record 
   numbers = is.numbers ∙ sym (samples_front bytes piece row start width rows within (omega arith));
 }
 
-samples_behind : (bytes piece : List ℕ) (before row start width n : ℕ) → length bytes ≡ before * row
+samples_after_rows : (bytes piece : List ℕ) (before row start width n : ℕ) → length bytes ≡ before * row
     → samples_at (bytes ++ piece) row start width (before + n) ≡ samples_at (bytes ++ piece) row start width before ++ samples_at piece row start width n
 unfolding samples_at
-samples_behind bytes piece before row start width zero long =
+samples_after_rows bytes piece before row start width zero long =
     let none : before + zero ≡ before = omega arith in
     ap (samples_at (bytes ++ piece) row start width) none ∙ sym (append-nil (samples_at (bytes ++ piece) row start width before))
-samples_behind bytes piece before row start width (suc n) long =
+samples_after_rows bytes piece before row start width (suc n) long =
     let next : before + suc n ≡ suc (before + n) = omega arith in
     let at : (before + n) * row + start ≡ length bytes + (n * row + start) = omega (arith, long) in
     let here : drop ((before + n) * row + start) (bytes ++ piece) ≡ drop (n * row + start) piece = ap (λ k. drop k (bytes ++ piece)) at ∙ drop-append-add bytes piece (n * row + start) in
     let first = samples_at (bytes ++ piece) row start width before in
     ap (samples_at (bytes ++ piece) row start width) next
-    ∙ ap (λ l. l ++ number_of (take width (drop ((before + n) * row + start) (bytes ++ piece))) ∷ []) (samples_behind bytes piece before row start width n long)
+    ∙ ap (λ l. l ++ number_of (take width (drop ((before + n) * row + start) (bytes ++ piece))) ∷ []) (samples_after_rows bytes piece before row start width n long)
     ∙ ap (λ t. (first ++ samples_at piece row start width n) ++ number_of (take width t) ∷ []) here
     ∙ append_assoc first (samples_at piece row start width n) (number_of (take width (drop (n * row + start) piece)) ∷ [])
 
--- the samples of a piece behind those of whole rows
+-- the samples of a piece after those of whole rows
 pub channel_more : (bytes piece : List ℕ) (before rows row start width : ℕ) (old new : List ℤ) → length bytes ≡ before * row → start + width ≤ row → IsChannel bytes before row start width old → IsChannel piece rows row start width new
     → IsChannel (bytes ++ piece) (before + rows) row start width (old ++ new)
 channel_more bytes piece before rows row start width old new long within was is =
@@ -173,17 +173,17 @@ channel_more bytes piece before rows row start width old new long within was is 
             ∙ ap (take width) (sym (ap (λ k. drop k (bytes ++ piece)) place ∙ drop-append-add bytes piece (j * row + start)))
       ];
       fits = All-append (FitsBits (8 * width)) old new was.fits is.fits;
-      numbers = ap (λ l. l ++ new) front.numbers ∙ ap (λ l. samples_at (bytes ++ piece) row start width before ++ l) is.numbers ∙ sym (samples_behind bytes piece before row start width rows long);
+      numbers = ap (λ l. l ++ new) front.numbers ∙ ap (λ l. samples_at (bytes ++ piece) row start width before ++ l) is.numbers ∙ sym (samples_after_rows bytes piece before row start width rows long);
     }
 
 -- a vector that was made longer
 pub grown : {X T E : Type 0} (old now front rest : List X) (r : Result T E) (x : T) → r ≡ Ok x → now ≡ cond (is_ok r) (front ++ rest) old → front ≡ old → now ≡ old ++ rest
 grown old now front rest r x is e same = e ∙ ap (λ k. cond (is_ok k) (front ++ rest) old) is ∙ ap (λ l. l ++ rest) same
 
--- the places behind its old elements were then written
-pub places_behind : (n front : ℕ) (old rest places items ys : List ℤ) → front ≡ length old → items ≡ old ++ rest → places ≡ items → n ≡ front + length ys → length ys ≡ length places - front
+-- the places after its old elements were then written
+pub places_after : (n front : ℕ) (old rest places items ys : List ℤ) → front ≡ length old → items ≡ old ++ rest → places ≡ items → n ≡ front + length ys → length ys ≡ length places - front
     → take n (put_mid front (length places - front) places ys ++ drop (length (put_mid front (length places - front) places ys)) items) ≡ old ++ ys
-places_behind n front old rest places items ys many sized same all long =
+places_after n front old rest places items ys many sized same all long =
     let is : places ≡ old ++ rest = same ∙ sized in
     let within : front ≤ length places = omega (arith, ap length is, length-append old rest, many) in
     let k : ℕ = length places - front in
@@ -195,7 +195,7 @@ places_behind n front old rest places items ys many sized same all long =
 
 -- ---- more rows of each channel
 
--- the first so many channels have the rows of a piece too
+-- the first n channels have the rows of a piece too
 pub record HalfMore (bytes piece : List ℕ) (before rows count width channel : ℕ) (lists : List (List ℤ)) : Type 0 where
   pub many : length lists ≡ count
   pub done : (c : ℕ) → c < channel → IsChannel (bytes ++ piece) (before + rows) (count * width) (c * width) width (get_or lists c [])

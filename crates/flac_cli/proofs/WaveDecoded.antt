@@ -2,7 +2,7 @@
 use Rattle.std.proofs.Common.{◌≡◌, ◌⊎◌, ℕ, Bool, true, false, List, Option, Some, None, Result, Ok, Err, refl, ap, sym, ◌∙◌, subst, arith, inl, inr}
 use Rattle.std.proofs.lemmas.Bool.{cases_lt}
 use Rattle.flac_bits.specs.Handing.{Hands, Decides}
-use Rattle.flac_bits.specs.State.{Mark, Behind, Rises}
+use Rattle.flac_bits.specs.State.{Mark, After, Rises}
 use Rattle.flac_bits.specs.declared.why.Why.{Why}
 use Rattle.flac_bits.specs.declared.why.Why.TheVariants as why
 use Rattle.flac_header.specs.declared.subset.Profile.{Profile}
@@ -54,34 +54,34 @@ abbrev pub judged_as : Option KeptFault → WaveOutcome
 judged_as None = streamed None
 judged_as (Some k) = unkept k
 
-module _ (profile : Profile) (bytes : List ℕ) (behind : Behind) where
+module _ (profile : Profile) (bytes : List ℕ) (after : After) where
   -- A refusal of the stream is one of the decoding.
-  pub refused_fits : (f : Option Place × Why) → Fits IsOutOfMemory (Reads profile bytes behind) (Some f) → Fits IsWaveOutOfMemory (ReadsWave profile bytes behind) (streamed (Some f))
+  pub refused_fits : (f : Option Place × Why) → Fits IsOutOfMemory (Reads profile bytes after) (Some f) → Fits IsWaveOutOfMemory (ReadsWave profile bytes after) (streamed (Some f))
   refused_fits f h = record {
     right = elim h.right [ inl out ↦ inl (out.0, ap streamed out.1) | inr is ↦ inr is ];
     each = each_one;
   }
     where
-      each_one : (other : WaveOutcome) → ReadsWave profile bytes behind other → IsWaveOutOfMemory (streamed (Some f)) ⊎ (streamed (Some f) ≡ other)
+      each_one : (other : WaveOutcome) → ReadsWave profile bytes after other → IsWaveOutOfMemory (streamed (Some f)) ⊎ (streamed (Some f) ≡ other)
       each_one (streamed None) w = elim (h.each None (w.0, w.1)) [ inl out ↦ inl (out.0, ap streamed out.1) | inr same ↦ some_none f same ]
       each_one (streamed (Some g)) w = elim (h.each (Some g) w) [ inl out ↦ inl (out.0, ap streamed out.1) | inr same ↦ inr (ap streamed same) ]
       each_one (unkept k) w = elim (h.each None (w.0, w.1)) [ inl out ↦ inl (out.0, ap streamed out.1) | inr same ↦ some_none f same ]
 
-  same_kept : (xs ys : List Piece) (o p : Option KeptFault) → (input_reading profile bytes behind).whole xs → (input_reading profile bytes behind).whole ys → kept_fault xs ≡ o → kept_fault ys ≡ p → o ≡ p
+  same_kept : (xs ys : List Piece) (o p : Option KeptFault) → (input_reading profile bytes after).whole xs → (input_reading profile bytes after).whole ys → kept_fault xs ≡ o → kept_fault ys ≡ p → o ≡ p
   same_kept xs ys o p a b e f = sym e ∙ (ap kept_fault (one_by profile _ _ _ xs ys a b) ∙ f)
 
-  not_refused : {X : Type 0} (f : Option Place × Why) → Fits IsOutOfMemory (Reads profile bytes behind) None → Reads profile bytes behind (Some f) → X
+  not_refused : {X : Type 0} (f : Option Place × Why) → Fits IsOutOfMemory (Reads profile bytes after) None → Reads profile bytes after (Some f) → X
   not_refused f h w = elim (h.each (Some f) w) [ inl out ↦ none_some _ out.1 | inr same ↦ none_some f same ]
 
   -- A stream is judged by its blocks.
-  pub done_fits : (items : List Piece) (o : Option KeptFault) → (input_reading profile bytes behind).whole items → kept_fault items ≡ o → Fits IsOutOfMemory (Reads profile bytes behind) None
-      → Fits IsWaveOutOfMemory (ReadsWave profile bytes behind) (judged_as o)
+  pub done_fits : (items : List Piece) (o : Option KeptFault) → (input_reading profile bytes after).whole items → kept_fault items ≡ o → Fits IsOutOfMemory (Reads profile bytes after) None
+      → Fits IsWaveOutOfMemory (ReadsWave profile bytes after) (judged_as o)
   done_fits items None whole e h = record {
     right = inr (items, whole, e);
     each = each_one;
   }
     where
-      each_one : (other : WaveOutcome) → ReadsWave profile bytes behind other → IsWaveOutOfMemory (streamed None) ⊎ (streamed None ≡ other)
+      each_one : (other : WaveOutcome) → ReadsWave profile bytes after other → IsWaveOutOfMemory (streamed None) ⊎ (streamed None ≡ other)
       each_one (streamed None) w = inr refl
       each_one (streamed (Some f)) w = not_refused f h w
       each_one (unkept k) w = none_some k (same_kept items w.0 None (Some k) whole w.1 e w.2)
@@ -90,17 +90,17 @@ module _ (profile : Profile) (bytes : List ℕ) (behind : Behind) where
     each = each_one;
   }
     where
-      each_one : (other : WaveOutcome) → ReadsWave profile bytes behind other → IsWaveOutOfMemory (unkept k) ⊎ (unkept k ≡ other)
+      each_one : (other : WaveOutcome) → ReadsWave profile bytes after other → IsWaveOutOfMemory (unkept k) ⊎ (unkept k ≡ other)
       each_one (streamed None) w = some_none k (same_kept items w.0 (Some k) None whole w.1 e w.2)
       each_one (streamed (Some f)) w = not_refused f h w
       each_one (unkept l) w = inr (ap unkept (same_some k l (same_kept items w.0 (Some k) (Some l) whole w.1 e w.2)))
 
   module _ {K : Type 0} (takes : K → Piece → K → Type 0) (errors : K → ℕ) (calm : Type 0) (old new : K) where
     abbrev Handed : Option (Place × Why) → Type 0
-    Handed o = Hands (input_reading profile bytes behind) takes errors calm old new o
+    Handed o = Hands (input_reading profile bytes after) takes errors calm old new o
 
     abbrev Decided : Option (Place × Why) → Type 0
-    Decided o = errors new ≡ errors old → Decides (input_reading profile bytes behind) o
+    Decided o = errors new ≡ errors old → Decides (input_reading profile bytes after) o
 
     -- If it is read to its end, the sink did not fail.
     unfailed_ok : Handed None → errors old ≡ 0 → errors new ≡ errors old
@@ -112,20 +112,20 @@ module _ (profile : Profile) (bytes : List ℕ) (behind : Behind) where
       | inr few ↦ omega (arith, few, none)
     ]
 
-    pub ok_fits : Handed None → calm → errors old ≡ 0 → Decided None → Fits IsOutOfMemory (Reads profile bytes behind) None
+    pub ok_fits : Handed None → calm → errors old ≡ 0 → Decided None → Fits IsOutOfMemory (Reads profile bytes after) None
     ok_fits h quiet none d =
         let r : Result (Unit {0}) Fault = Ok tt in
         let same = unfailed_ok h none in
-        decoded_fits profile bytes behind takes errors calm old new r h (d same) quiet same
+        decoded_fits profile bytes after takes errors calm old new r h (d same) quiet same
 
-    err_fits : (e : Fault) → Handed (Some (e.at, e.why)) → calm → Decided (Some (e.at, e.why)) → errors new ≡ errors old → Fits IsWaveOutOfMemory (ReadsWave profile bytes behind) (streamed (Some (Some e.at, e.why)))
+    err_fits : (e : Fault) → Handed (Some (e.at, e.why)) → calm → Decided (Some (e.at, e.why)) → errors new ≡ errors old → Fits IsWaveOutOfMemory (ReadsWave profile bytes after) (streamed (Some (Some e.at, e.why)))
     err_fits e h quiet d same =
         let r : Result (Unit {0}) Fault = Err e in
-        refused_fits (Some e.at, e.why) (decoded_fits profile bytes behind takes errors calm old new r h (d same) quiet same)
+        refused_fits (Some e.at, e.why) (decoded_fits profile bytes after takes errors calm old new r h (d same) quiet same)
 
     -- If the sink failed, this is since an allocation did.
     pub fault_fits : (e : Fault) (short : Bool) → Handed (Some (e.at, e.why)) → calm → errors old ≡ 0 → Decided (Some (e.at, e.why)) → (short ≡ false → errors new ≡ 0)
-        → Fits IsWaveOutOfMemory (ReadsWave profile bytes behind) (streamed (Some (Some (fault_by short e).at, (fault_by short e).why)))
+        → Fits IsWaveOutOfMemory (ReadsWave profile bytes after) (streamed (Some (Some (fault_by short e).at, (fault_by short e).why)))
     fault_fits e false h quiet none d never = err_fits e h quiet d (never refl ∙ sym none)
     fault_fits e true h quiet none d never = elim (sink_or_not e.why) [
       | inl sink ↦
@@ -134,7 +134,7 @@ module _ (profile : Profile) (bytes : List ℕ) (behind : Behind) where
             right = inl out;
             each = λ other w. inl out;
           }
-      | inr o ↦ subst (λ w. Fits IsWaveOutOfMemory (ReadsWave profile bytes behind) (streamed (Some (Some e.at, w)))) (sym o.1) (err_fits e h quiet d (unfailed_err e h none o.0))
+      | inr o ↦ subst (λ w. Fits IsWaveOutOfMemory (ReadsWave profile bytes after) (streamed (Some (Some e.at, w)))) (sym o.1) (err_fits e h quiet d (unfailed_err e h none o.0))
     ]
 
 -- It is never reported as one of the sink.

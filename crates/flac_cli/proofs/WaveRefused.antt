@@ -11,7 +11,7 @@ use Rattle.flac_subframe.specs.declared.format.linear.LinearPredictor.{LinearPre
 use Rattle.flac_native.specs.Given.{Cut, plan_fault}
 use Rattle.flac_native.specs.declared.fault.EncodeFault.{EncodeFault}
 use Rattle.flac_native.specs.declared.fault.EncodeFault.TheVariants as encode
-use Rattle.flac_wave.specs.Shift.{AreBytes, wide_of}
+use Rattle.flac_wave.specs.Shift.{AreBytes, wave_width_of}
 use Rattle.flac_wave.specs.Wave.{Parts, IsWave, ArePiecesAfter, IsErrorOf}
 use Rattle.flac_wave.specs.declared.waves.WaveError.{WaveError}
 use Rattle.flac_wave.specs.declared.waves.WaveError.TheVariants as error
@@ -81,11 +81,11 @@ module _ (asked : Asked) (ps : List LinearPredictor) (bytes : List ℕ) (file : 
   blocks = blocks_for asked file.format (file.pieces ++ after)
 
   abbrev samples : List ℕ
-  samples = stream_samples (wide_of file.format) format.bits file.samples
+  samples = stream_samples (wave_width_of file.format) format.bits file.samples
 
   -- the reason of its samples and blocks
   of_file : (o : Option Refusal) → samples_refusal (record asked { format = format }) ps blocks samples ≡ o → file_refusal asked ps file after ≡ o
-  of_file o h = subst (λ f. samples_refusal (record asked { format = f }) ps blocks (stream_samples (wide_of file.format) f.bits file.samples) ≡ o) form h
+  of_file o h = subst (λ f. samples_refusal (record asked { format = f }) ps blocks (stream_samples (wave_width_of file.format) f.bits file.samples) ≡ o) form h
 
   pub as_reason : (r : Refusal) → IsOutsideOf r ⊎ (samples_refusal (record asked { format = format }) ps blocks samples ≡ Some r) → IsOutside (Refused r) ⊎ IsFileReason asked ps bytes (Some (Refused r))
   as_reason r (inl out) = inl (r, refl, out)
@@ -99,7 +99,7 @@ module _ (asked : Asked) (ps : List LinearPredictor) (bytes : List ℕ) (file : 
     cut = cut;
     small = small;
     form = form;
-    raw = subst (λ f. IsRaw asked.profile f (stream_samples (wide_of file.format) f.bits file.samples) a) form raw;
+    raw = subst (λ f. IsRaw asked.profile f (stream_samples (wave_width_of file.format) f.bits file.samples) a) form raw;
     blocks = same;
   }
 

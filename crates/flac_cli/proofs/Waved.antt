@@ -81,7 +81,7 @@ wave_none depth xs none = ap (λ l. wave_samples depth l) none ∙ none_by (nat_
 
 -- ---- as the highest bits
 
--- whole samples of so many bytes
+-- whole samples of n bytes
 abbrev pub Whole : (width : ℕ) → List ℕ → Type 0
 Whole width xs = (n : ℕ) × (length xs ≡ n * width)
 
@@ -113,7 +113,7 @@ some_width wide depth h e = elim (cases_lt 0 depth) [
   | inr none ↦ elim (cases_lt 0 wide) [ inl wider ↦ let some = h.some wider in omega (arith, some, none) | inr thin ↦ absurd (eqb-false depth (8 * wide) e (omega (arith, none, thin))) ]
 ]
 
--- so many samples
+-- n samples
 count_of : (w n : ℕ) (xs : List ℕ) → 0 < w → length xs ≡ n * w → length xs / w ≡ n
 count_of w n xs some long = ap (λ k. k / w) long ∙ mul-div_cancel n some
 

@@ -18,10 +18,10 @@ use Rattle.flac_wave.specs.Plain.{plain_format, plain_front, plain_back, plain_p
 use Rattle.flac_wave.specs.Wave.{is_head, front_of, pieces_after, all_of, restored}
 use Rattle.flac_wave.specs.declared.format.WaveFormat.{WaveFormat}
 use Rattle.flac_wave.proofs.PlainFiles.{plain_made}
-use Rattle.flac_cli.specs.Waves.{is_riff, file_samples, piece_of, pieces_in, depth_of, plain_after, plain_of, no_plain, Plain, plain_for, piece_fault, kept_fault, wide_by, wide_in, file_pieces, wave_in}
+use Rattle.flac_cli.specs.Waves.{is_riff, file_samples, piece_of, pieces_in, depth_of, plain_after, plain_of, no_plain, Plain, plain_for, piece_fault, kept_fault, wave_width_by, wave_width_in, file_pieces, wave_in}
 use Rattle.flac_cli.specs.declared.held_wave.KeptFault.TheVariants as kept
 use Rattle.flac_cli.specs.Speakers.{mask_in}
-use Rattle.flac_cli.specs.inner.Waving.{Held, Holds, nothing_held, with_piece, with_plain, with_block, with_speakers, with_samples, with_frame, held_after, held_fault, held_wide, frame_text, writes, front_pieces, back_pieces, front_left, adds, end_pad, ending}
+use Rattle.flac_cli.specs.inner.Waving.{Held, Holds, nothing_held, with_piece, with_plain, with_block, with_speakers, with_samples, with_frame, held_after, held_fault, held_wave_width, frame_text, writes, front_pieces, back_pieces, front_left, adds, end_pad, ending}
 use Rattle.flac_cli.proofs.Waved.{joined_push, Whole, whole_append, rows_whole, room_holds, file_append, file_none}
 
 -- ---- runs
@@ -93,13 +93,13 @@ split_at (x ∷ xs) ys zero is = absurd (omega (arith, is))
 split_at (x ∷ xs) ys (suc n) is = let k = split_at xs ys n (omega (arith, is)) in (ap (λ l. x ∷ l) k.0, k.1)
 
 -- the last piece of a file of unknown length has no byte
-none_behind : (b : Bool) → all_of (cond b ([] ∷ []) []) ≡ []
-none_behind true = refl
-none_behind false = refl
+none_after_samples : (b : Bool) → all_of (cond b ([] ∷ []) []) ≡ []
+none_after_samples true = refl
+none_after_samples false = refl
 
-one_behind : (b : Bool) → length {A = List ℕ} (cond b ([] ∷ []) []) ≡ cond b 1 0
-one_behind true = refl
-one_behind false = refl
+one_after : (b : Bool) → length {A = List ℕ} (cond b ([] ∷ []) []) ≡ cond b 1 0
+one_after true = refl
+one_after false = refl
 
 plain_cut : (n m k : ℕ) → m ≡ k → n + m - k ≡ n
 plain_cut n m k e = omega (arith, e)
@@ -109,11 +109,11 @@ plain_makes f total samples odd is =
     let front = plain_front f total in
     let back = plain_back total in
     let n = length (front ++ back) - cond (nat_eq total 0) 1 0 in
-    let e : n ≡ length front = ap (λ l. l - cond (nat_eq total 0) 1 0) (length-append front back) ∙ plain_cut (length front) (length back) (cond (nat_eq total 0) 1 0) (one_behind (nat_eq total 0)) in
+    let e : n ≡ length front = ap (λ l. l - cond (nat_eq total 0) 1 0) (length-append front back) ∙ plain_cut (length front) (length back) (cond (nat_eq total 0) 1 0) (one_after (nat_eq total 0)) in
     let k = split_at front back n e in
     ap (λ qs. all_of qs ++ (samples ++ (end_pad odd (drop n (front ++ back)) ++ all_of (drop n (front ++ back))))) k.0
     ∙ (ap (λ qs. all_of front ++ (samples ++ (end_pad odd qs ++ all_of qs))) k.1
-    ∙ (ap (λ l. all_of front ++ (samples ++ (end_pad odd back ++ l))) (none_behind (nat_eq total 0))
+    ∙ (ap (λ l. all_of front ++ (samples ++ (end_pad odd back ++ l))) (none_after_samples (nat_eq total 0))
     ∙ (ap (λ l. all_of front ++ (samples ++ l)) (append-nil (end_pad odd back))
     ∙ (ap (λ o. all_of front ++ (samples ++ end_pad o back)) is ∙ sym (plain_made f total samples)))))
 
@@ -270,11 +270,11 @@ record Framed (t u : Held) (xs : List Piece) (text : List ℕ) : Type 0 where
   same : (d : ℕ) → depth_of d xs ≡ d
   made : (m : Plain) → plain_of m xs ≡ m
   whole : Whole (sample_width t.depth) (samples_from 0 t.depth xs)
-  sent : text ≡ file_samples (held_wide t) t.depth (samples_from 0 t.depth xs)
+  sent : text ≡ file_samples (held_wave_width t) t.depth (samples_from 0 t.depth xs)
   front : front_pieces u ≡ front_pieces t
   back : back_pieces u ≡ back_pieces t
   begun : u.begun ≡ true
-  odd : u.odd ≡ (t.odd + length (file_samples (held_wide t) t.depth (samples_from 0 t.depth xs))) % 2
+  odd : u.odd ≡ (t.odd + length (file_samples (held_wave_width t) t.depth (samples_from 0 t.depth xs))) % 2
 
 odd_same : (o : ℕ) → o < 2 → o ≡ (o + 0) % 2
 odd_same o few = omega (arith, few)
@@ -316,7 +316,7 @@ same_header says t u xs q =
     ap (λ k. says (nat_lt 0 k) u.bits u.depth) q.head ∙ (ap (λ k. says (nat_lt 0 t.head) k u.depth) q.bits ∙ ap (λ k. says (nat_lt 0 t.head) t.bits k) q.depth)
 
 -- samples have room in the file, if there is no fault
-holds_by : (head : Bool) (bits depth : ℕ) → depth ≤ 32 → piece_fault head bits depth ≡ None → Holds (wide_by head bits depth) depth
+holds_by : (head : Bool) (bits depth : ℕ) → depth ≤ 32 → piece_fault head bits depth ≡ None → Holds (wave_width_by head bits depth) depth
 holds_by true bits depth deep good = room_holds ((bits + 7) / 8) depth (room_by _ good)
   where
     room_by : (b : Bool) → cond b None (Some kept.OtherBits) ≡ None → b ≡ true
@@ -324,12 +324,12 @@ holds_by true bits depth deep good = room_holds ((bits + 7) / 8) depth (room_by 
     room_by false e = absurd cc
 holds_by false bits depth deep good = record { few = omega (arith, deep); room = omega arith; some = λ wider. omega (arith, wider) }
 
-pub held_holds : (s : Held) → s.depth ≤ 32 → held_fault s ≡ None → Holds (held_wide s) s.depth
+pub held_holds : (s : Held) → s.depth ≤ 32 → held_fault s ≡ None → Holds (held_wave_width s) s.depth
 held_holds s deep good = holds_by (nat_lt 0 s.head) s.bits s.depth deep good
 
-framed_only : (t : Held) (xs : List Piece) → t.depth ≤ 32 → Holds (held_wide t) t.depth → t.begun ≡ true → t.odd < 2 → writes t ≡ true → Ordered true xs → Framed t (after_parts t xs) xs (added t xs)
+framed_only : (t : Held) (xs : List Piece) → t.depth ≤ 32 → Holds (held_wave_width t) t.depth → t.begun ≡ true → t.odd < 2 → writes t ≡ true → Ordered true xs → Framed t (after_parts t xs) xs (added t xs)
 framed_only t [] deep h b few w o =
-    let none = file_none (held_wide t) t.depth [] h refl in
+    let none = file_none (held_wave_width t) t.depth [] h refl in
     record {
       none = refl;
       same = λ d. refl;
@@ -350,7 +350,7 @@ framed_only t (framed f ∷ xs) deep h b few w o =
     let n = length (frame_text t f) in
     let text = front_left t ++ frame_text t f in
     let rest = samples_from 0 t.depth xs in
-    let grown = file_append (held_wide t) t.depth (frame_bytes 0 t.depth f) rest h here in
+    let grown = file_append (held_wave_width t) t.depth (frame_bytes 0 t.depth f) rest h here in
     let k = framed_only (with_samples t n) xs deep h refl (mod-lt (t.odd + n) {m = 2} (omega arith)) w o in
     let all : Framed t (after_parts (with_samples t n) xs) (framed f ∷ xs) (text ++ added (with_samples t n) xs) = record {
       none = k.none;
@@ -361,8 +361,8 @@ framed_only t (framed f ∷ xs) deep h b few w o =
       front = k.front;
       back = k.back;
       begun = k.begun;
-      odd = k.odd ∙ (odd_twice t.odd n (length (file_samples (held_wide t) t.depth rest))
-          ∙ ap (λ m. (t.odd + m) % 2) (sym (length-append (frame_text t f) (file_samples (held_wide t) t.depth rest)) ∙ ap length (sym grown)));
+      odd = k.odd ∙ (odd_twice t.odd n (length (file_samples (held_wave_width t) t.depth rest))
+          ∙ ap (λ m. (t.odd + m) % 2) (sym (length-append (frame_text t f) (file_samples (held_wave_width t) t.depth rest)) ∙ ap length (sym grown)));
     } in
     subst (λ c. Framed t (after_parts (with_frame c t n) xs) (framed f ∷ xs) (cond c text [] ++ added (with_frame c t n) xs)) (sym w) all
 
@@ -393,15 +393,15 @@ closed : (s : Held) (h : Headed s) (samples : List ℕ) (odd : ℕ) → odd ≡ 
 closed s h samples odd is = closed_by s _ refl h samples odd is
 
 pub whole_wave : (s : Held) (xs : List Piece) → (after_parts s xs).depth ≤ 32 → s.begun ≡ false → s.odd ≡ 0 → Headed s → Ordered false xs → held_fault (after_parts s xs) ≡ None
-    → added s xs ++ ending (after_parts s xs) ≡ restored (file_pieces (s.pieces ++ pieces_in xs) (plain_of s.plain xs).made) (file_samples (held_wide (after_parts s xs)) (depth_of s.depth xs) (samples_from 0 s.depth xs))
+    → added s xs ++ ending (after_parts s xs) ≡ restored (file_pieces (s.pieces ++ pieces_in xs) (plain_of s.plain xs).made) (file_samples (held_wave_width (after_parts s xs)) (depth_of s.depth xs) (samples_from 0 s.depth xs))
 whole_wave s [] deep b o h order good =
     ap (λ c. cond c [] (all_of (front_pieces s)) ++ (end_pad s.odd (back_pieces s) ++ all_of (back_pieces s))) b
-    ∙ (closed s h [] s.odd o ∙ ap (λ l. restored (file_pieces (s.pieces ++ []) s.plain.made) l) (sym (file_none (held_wide s) s.depth [] (held_holds s deep good) refl)))
+    ∙ (closed s h [] s.odd o ∙ ap (λ l. restored (file_pieces (s.pieces ++ []) s.plain.made) l) (sym (file_none (held_wave_width s) s.depth [] (held_holds s deep good) refl)))
 whole_wave s (marked ∷ xs) deep b o h order good = whole_wave s xs deep b o h order good
 whole_wave s (block last x ∷ xs) deep b o h order good =
     let low : (after_parts (with_block s x) xs).depth ≤ 32 = subst (λ c. (after_parts (cond c s (with_block s x)) xs).depth ≤ 32) b deep in
     let k = blocked s x in
-    let wide = held_wide (after_parts (with_block s x) xs) in
+    let wide = held_wave_width (after_parts (with_block s x) xs) in
     let pieces = file_pieces (s.pieces ++ (piece_of x ++ pieces_in xs)) (plain_of (plain_after s.plain x) xs).made in
     let end = restored pieces (file_samples wide (depth_of (depth_after s.depth x) xs) (samples_from 0 (depth_after s.depth x) xs)) in
     let fine : held_fault (after_parts (with_block s x) xs) ≡ None = subst (λ c. held_fault (after_parts (cond c s (with_block s x)) xs) ≡ None) b good in
@@ -412,7 +412,7 @@ whole_wave s (block last x ∷ xs) deep b o h order good =
     ∙ (ap (λ m. restored (file_pieces (s.pieces ++ (piece_of x ++ pieces_in xs)) (plain_of m xs).made) (file_samples wide (depth_of (with_block s x).depth xs) (samples_from 0 (with_block s x).depth xs))) k.plain
     ∙ ap (λ d. restored pieces (file_samples wide (depth_of d xs) (samples_from 0 d xs))) k.depth))) in
     subst (λ c. added (cond c s (with_block s x)) xs ++ ending (after_parts (cond c s (with_block s x)) xs)
-    ≡ restored pieces (file_samples (held_wide (after_parts (cond c s (with_block s x)) xs)) (depth_of (depth_after s.depth x) xs) (samples_from 0 (depth_after s.depth x) xs))) (sym b) all
+    ≡ restored pieces (file_samples (held_wave_width (after_parts (cond c s (with_block s x)) xs)) (depth_of (depth_after s.depth x) xs) (samples_from 0 (depth_after s.depth x) xs))) (sym b) all
 whole_wave s (framed f ∷ xs) deep b o h order good =
     let fb = frame_bytes 0 s.depth f in
     let n = length (frame_text s f) in
@@ -426,7 +426,7 @@ whole_wave s (framed f ∷ xs) deep b o h order good =
     let holds = held_holds s low fine in
     let k = framed_only t xs low holds refl (mod-lt (s.odd + n) {m = 2} (omega arith)) w order in
     let u = after_parts t xs in
-    let wide = held_wide s in
+    let wide = held_wave_width s in
     let rest = samples_from 0 s.depth xs in
     let all = fb ++ rest in
     let grown = file_append wide s.depth fb rest holds here in
@@ -442,14 +442,14 @@ whole_wave s (framed f ∷ xs) deep b o h order good =
     ap (λ c. (cond c [] front ++ frame_text s f) ++ added t xs) b ∙ (append_assoc front (frame_text s f) (added t xs)
     ∙ ap (λ l. front ++ l) (ap (λ l. frame_text s f ++ l) k.sent ∙ sym grown)) in
     let pieces = file_pieces (s.pieces ++ pieces_in xs) (plain_of s.plain xs).made in
-    let whole : (text ++ added t xs) ++ ending u ≡ restored pieces (file_samples (held_wide u) (depth_of s.depth xs) all) =
+    let whole : (text ++ added t xs) ++ ending u ≡ restored pieces (file_samples (held_wave_width u) (depth_of s.depth xs) all) =
     ap (λ l. l ++ ending u) sent ∙ (append_assoc front (file_samples wide s.depth all) (ending u) ∙ (ap (λ l. front ++ (file_samples wide s.depth all ++ l)) last
     ∙ (closed s h (file_samples wide s.depth all) u.odd odd
     ∙ (ap (λ ps. restored (file_pieces (s.pieces ++ ps) s.plain.made) (file_samples wide s.depth all)) (sym k.none)
     ∙ (ap (λ (m : Plain). restored (file_pieces (s.pieces ++ pieces_in xs) m.made) (file_samples wide s.depth all)) (sym (k.made s.plain))
     ∙ (ap (λ d. restored pieces (file_samples wide d all)) (sym (k.same s.depth))
-    ∙ ap (λ v. restored pieces (file_samples v (depth_of s.depth xs) all)) (sym (same_header wide_by t u xs (quiet t xs order))))))))) in
-    subst (λ c. (cond c text [] ++ added (with_frame c s n) xs) ++ ending (after_parts (with_frame c s n) xs) ≡ restored pieces (file_samples (held_wide (after_parts (with_frame c s n) xs)) (depth_of s.depth xs) all)) (sym w) whole
+    ∙ ap (λ v. restored pieces (file_samples v (depth_of s.depth xs) all)) (sym (same_header wave_width_by t u xs (quiet t xs order))))))))) in
+    subst (λ c. (cond c text [] ++ added (with_frame c s n) xs) ++ ending (after_parts (with_frame c s n) xs) ≡ restored pieces (file_samples (held_wave_width (after_parts (with_frame c s n) xs)) (depth_of s.depth xs) all)) (sym w) whole
 
 -- ---- what the header of the samples says at the end
 
@@ -486,12 +486,12 @@ judged says free s (framed f ∷ xs) b h order =
 pub wave_judged : (xs : List Piece) → Ordered false xs → held_fault (after_parts nothing_held xs) ≡ kept_fault xs
 wave_judged xs order = judged piece_fault (λ b c d. refl) nothing_held xs refl headed_nothing order
 
-wave_wide : (xs : List Piece) → Ordered false xs → held_wide (after_parts nothing_held xs) ≡ wide_in xs
-wave_wide xs order = judged wide_by (λ b c d. refl) nothing_held xs refl headed_nothing order
+wave_width_is : (xs : List Piece) → Ordered false xs → held_wave_width (after_parts nothing_held xs) ≡ wave_width_in xs
+wave_width_is xs order = judged wave_width_by (λ b c d. refl) nothing_held xs refl headed_nothing order
 
 -- ---- from nothing
 
 pub wave_written : (xs : List Piece) → (after_parts nothing_held xs).depth ≤ 32 → Ordered false xs → held_fault (after_parts nothing_held xs) ≡ None → added nothing_held xs ++ ending (after_parts nothing_held xs) ≡ wave_in xs
 wave_written xs deep order good =
     whole_wave nothing_held xs deep refl refl headed_nothing order good
-    ∙ ap (λ w. restored (file_pieces (pieces_in xs) (plain_of no_plain xs).made) (file_samples w (depth_of 0 xs) (samples_from 0 0 xs))) (wave_wide xs order)
+    ∙ ap (λ w. restored (file_pieces (pieces_in xs) (plain_of no_plain xs).made) (file_samples w (depth_of 0 xs) (samples_from 0 0 xs))) (wave_width_is xs order)

@@ -1,10 +1,10 @@
 -- What the program reports of a job that reads a stream, native or Ogg.
 use Rattle.std.specs.Prelude.{◌≡◌, ◌⊎◌, ◌≤◌, ◌<◌, true, ℕ, List, [], ◌++◌, map, codes, Option, Some, None}
 use Rattle.flac_bits.specs.Bits.{bits_of}
-use Rattle.flac_bits.specs.Handing.{Reading}
+use Rattle.flac_bits.specs.Handing.{InputReading}
 use Rattle.flac_bits.specs.Reasons as reasons
 use Rattle.flac_bits.specs.Forms.{AreBytes}
-use Rattle.flac_bits.specs.State.{Behind, short_of, the_end}
+use Rattle.flac_bits.specs.State.{After, short_of, the_end}
 use Rattle.flac_bits.specs.declared.source.Source as source
 use Rattle.flac_bits.specs.declared.why.Why.{Why}
 use Rattle.flac_bits.specs.declared.why.Why.TheVariants as why
@@ -45,25 +45,25 @@ IsAnswer (Some f) path status before after = (status ≡ 1) × (after ≡ before
 -- ---- what an input is
 
 -- how an input is read: as an Ogg stream if its first byte is that of a page, else as a native one
-abbrev pub input_reading : Profile → List ℕ → Behind → Reading Piece Place
-input_reading profile bytes behind = read_any profile (begins_page bytes) (beginning (short_of behind.fails)) (bits_of bytes)
+abbrev pub input_reading : Profile → List ℕ → After → InputReading Piece Place
+input_reading profile bytes after = read_any profile (begins_page bytes) (beginning (short_of after.fails)) (bits_of bytes)
 
 -- the bytes that the source has to give are read as parts of which this holds
 abbrev pub IsReadAs : {S : Type 0} (g : source.Ghosts S) → Profile → S → (List Piece → Type 0) → Type 0
-IsReadAs g profile s Says = (parts : List Piece) × (input_reading profile (g.coming s) (g.behind s)).whole parts × Says parts
+IsReadAs g profile s Says = (parts : List Piece) × (input_reading profile (g.coming s) (g.after s)).whole parts × Says parts
 
 -- it is a stream, or is refused at this place and for this reason
-abbrev pub Reads : Profile → List ℕ → Behind → Outcome → Type 0
-Reads profile bytes behind None = (items : List Piece) × (input_reading profile bytes behind).whole items
-Reads profile bytes behind (Some f) = (at : Place) × (f.0 ≡ Some at) × ((items : List Piece) × (input_reading profile bytes behind).refused items at f.1)
+abbrev pub Reads : Profile → List ℕ → After → Outcome → Type 0
+Reads profile bytes after None = (items : List Piece) × (input_reading profile bytes after).whole items
+Reads profile bytes after (Some f) = (at : Place) × (f.0 ≡ Some at) × ((items : List Piece) × (input_reading profile bytes after).refused items at f.1)
 
 -- These words are too long for a block of comments, or else the input begins with a marker and blocks, or its marker or
 -- a block is refused at this place and for this reason.
-abbrev pub IsRetagged : (words : List (List ℕ)) → List ℕ → Behind → Outcome → Type 0
-IsRetagged words bytes behind None = (comments_length (comments_of words) ≤ 16777215) × HasHead (beginning (short_of behind.fails)) (bits_of bytes)
-IsRetagged words bytes behind (Some f) =
+abbrev pub IsRetagged : (words : List (List ℕ)) → List ℕ → After → Outcome → Type 0
+IsRetagged words bytes after None = (comments_length (comments_of words) ≤ 16777215) × HasHead (beginning (short_of after.fails)) (bits_of bytes)
+IsRetagged words bytes after (Some f) =
     ((16777215 < comments_length (comments_of words)) × (f.0 ≡ None) × (f.1 ≡ why.BlockLength))
-    ⊎ ((comments_length (comments_of words) ≤ 16777215) × ((at : Place) × (f.0 ≡ Some at) × IsRefused (beginning (short_of behind.fails)) (bits_of bytes) at f.1))
+    ⊎ ((comments_length (comments_of words) ≤ 16777215) × ((at : Place) × (f.0 ≡ Some at) × IsRefused (beginning (short_of after.fails)) (bits_of bytes) at f.1))
 
 -- ---- what no input shows
 
@@ -103,10 +103,10 @@ pub data WaveOutcome : Type 0 where
 
 -- The input is a stream that becomes a WAV file; or a stream that becomes none, for this reason; or it is refused at
 -- this place and for this reason.
-abbrev pub ReadsWave : Profile → List ℕ → Behind → WaveOutcome → Type 0
-ReadsWave profile bytes behind (streamed None) = (items : List Piece) × (input_reading profile bytes behind).whole items × (kept_fault items ≡ None)
-ReadsWave profile bytes behind (streamed (Some f)) = Reads profile bytes behind (Some f)
-ReadsWave profile bytes behind (unkept fault) = (items : List Piece) × (input_reading profile bytes behind).whole items × (kept_fault items ≡ Some fault)
+abbrev pub ReadsWave : Profile → List ℕ → After → WaveOutcome → Type 0
+ReadsWave profile bytes after (streamed None) = (items : List Piece) × (input_reading profile bytes after).whole items × (kept_fault items ≡ None)
+ReadsWave profile bytes after (streamed (Some f)) = Reads profile bytes after (Some f)
+ReadsWave profile bytes after (unkept fault) = (items : List Piece) × (input_reading profile bytes after).whole items × (kept_fault items ≡ Some fault)
 
 -- memory ran out at some place
 abbrev pub IsWaveOutOfMemory : WaveOutcome → Type 0
@@ -121,10 +121,10 @@ IsWaveAnswer (streamed outcome) path status before after = IsAnswer outcome path
 IsWaveAnswer (unkept fault) path status before after = (status ≡ 1) × (after ≡ before ++ fault_line path (text_of_kept fault))
 
 -- The status and the line are those of what the input is; or memory ran out: then the line says that.
-pub record ReportsWaveDecoding (profile : Profile) (bytes : List ℕ) (behind : Behind) (path : List ℕ) (status : ℕ) (before after : List ℕ) : Type 0 where
+pub record ReportsWaveDecoding (profile : Profile) (bytes : List ℕ) (after : After) (path : List ℕ) (status : ℕ) (before later : List ℕ) : Type 0 where
   pub outcome : WaveOutcome
-  pub answer : IsWaveAnswer outcome path status before after
-  pub fits : Fits IsWaveOutOfMemory (ReadsWave profile bytes behind) outcome
+  pub answer : IsWaveAnswer outcome path status before later
+  pub fits : Fits IsWaveOutOfMemory (ReadsWave profile bytes after) outcome
 
 -- The bytes of a stream that was encoded of a WAV file and keeps it are a stream that becomes a WAV file.
 abbrev pub KeptFilesAreRead : Type 0
@@ -143,12 +143,12 @@ KeptFilesAreDecoded =
 -- This holds for each job that reads a stream. Decoding and retagging write to the target, of which `served` says that
 -- it did not fail, and a test prints to standard output, of which `printed` says so. Listing prints too, and of its
 -- text nothing is claimed.
-abbrev pub ReportsInput : Job → (bytes : List ℕ) → Behind → (served printed : Type 0) → (status : ℕ) → (before after : List ℕ) → Type 0
-ReportsInput (job.Test input lax) bytes behind served printed status before after = printed → Reports IsOutOfMemory (Reads (profile_of lax) bytes behind) input.now status before after
-ReportsInput (job.Decode input output lax) bytes behind served printed status before after = served → Reports IsOutOfMemory (Reads (profile_of lax) bytes behind) input.now status before after
-ReportsInput (job.List input lax) bytes behind served printed status before after = Reports (IsUnlisted printed) (Reads (profile_of lax) bytes behind) input.now status before after
-ReportsInput (job.Encode input output format c comments lax predictors effort raw) bytes behind served printed status before after = Unit {0}
-ReportsInput (job.DecodeWave input output lax) bytes behind served printed status before after = served → ReportsWaveDecoding (profile_of lax) bytes behind input.now status before after
-ReportsInput (job.EncodeWave input output block seek_every c comments lax predictors effort keep) bytes behind served printed status before after = Unit {0}
-ReportsInput (job.Retag input output comments) bytes behind served printed status before after =
-    served → Reports IsRetagOutOfMemory (IsRetagged (map (λ c. c.now) comments.items) bytes behind) input.now status before after
+abbrev pub ReportsInput : Job → (bytes : List ℕ) → After → (served printed : Type 0) → (status : ℕ) → (before later : List ℕ) → Type 0
+ReportsInput (job.Test input lax) bytes after served printed status before later = printed → Reports IsOutOfMemory (Reads (profile_of lax) bytes after) input.now status before later
+ReportsInput (job.Decode input output lax) bytes after served printed status before later = served → Reports IsOutOfMemory (Reads (profile_of lax) bytes after) input.now status before later
+ReportsInput (job.List input lax) bytes after served printed status before later = Reports (IsUnlisted printed) (Reads (profile_of lax) bytes after) input.now status before later
+ReportsInput (job.Encode input output format c comments lax predictors effort raw) bytes after served printed status before later = Unit {0}
+ReportsInput (job.DecodeWave input output lax) bytes after served printed status before later = served → ReportsWaveDecoding (profile_of lax) bytes after input.now status before later
+ReportsInput (job.EncodeWave input output block seek_every c comments lax predictors effort keep) bytes after served printed status before later = Unit {0}
+ReportsInput (job.Retag input output comments) bytes after served printed status before later =
+    served → Reports IsRetagOutOfMemory (IsRetagged (map (λ c. c.now) comments.items) bytes after) input.now status before later

@@ -1,7 +1,7 @@
 -- What a job that gives a stream other comments has written.
 use Rattle.std.specs.Prelude.{ℕ, Bool, List, map}
 use Rattle.flac_bits.specs.Bits.{bits_of}
-use Rattle.flac_bits.specs.State.{Behind, short_of}
+use Rattle.flac_bits.specs.State.{After, short_of}
 use Rattle.flac_native.specs.Decoding.{beginning}
 use Rattle.flac_native.specs.Retag.{Retags}
 use Rattle.flac_cli.specs.Encoded.{comments_of}
@@ -10,10 +10,10 @@ use Rattle.flac_jobs.specs.declared.jobs.Job.TheVariants as job
 
 -- After the bits that were there, the stream was written with the program's name and these words in place of its
 -- comments.
-abbrev pub RetagsWith : (words : List (List ℕ)) → (bytes : List ℕ) → Behind → (before after : List Bool) → Type 0
-RetagsWith words bytes behind before after = Retags (beginning (short_of behind.fails)) (bits_of bytes) (comments_of words) before after
+abbrev pub RetagsWith : (words : List (List ℕ)) → (bytes : List ℕ) → After → (before later : List Bool) → Type 0
+RetagsWith words bytes after before later = Retags (beginning (short_of after.fails)) (bits_of bytes) (comments_of words) before later
 
 -- this holds if the job asks for other comments
-abbrev pub HasRetagged : Job → (bytes : List ℕ) → Behind → (before after : List Bool) → Type 0
-HasRetagged (job.Retag input output comments) bytes behind before after = RetagsWith (map (λ c. c.now) comments.items) bytes behind before after
-HasRetagged other bytes behind before after = Unit {0}
+abbrev pub HasRetagged : Job → (bytes : List ℕ) → After → (before later : List Bool) → Type 0
+HasRetagged (job.Retag input output comments) bytes after before later = RetagsWith (map (λ c. c.now) comments.items) bytes after before later
+HasRetagged other bytes after before later = Unit {0}

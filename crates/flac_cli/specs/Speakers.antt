@@ -10,7 +10,7 @@ use Rattle.flac_meta.specs.Named.{values_of}
 abbrev pub mask_name : List ℕ
 mask_name = codes "WAVEFORMATEXTENSIBLE_CHANNEL_MASK"
 
--- The comment of speakers that are others than those of so many channels (RFC 9639, section 8.6.2): their number in eight
+-- The comment of speakers that are others than those of n channels (RFC 9639, section 8.6.2): their number in eight
 -- hexadecimal digits.
 abbrev pub mask_comment : (mask : ℕ) → List ℕ
 mask_comment mask = mask_name ++ (codes "=0x" ++ encode_lower (to_be_bytes w32 mask))

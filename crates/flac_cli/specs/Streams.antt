@@ -1,7 +1,7 @@
 -- Bytes that are a stream, native (RFC 9639, section 6) or Ogg (section 10.1).
 use Rattle.std.specs.Prelude.{◌≡◌, ℕ, Bool, true, cond, List, ◌⊎◌}
 use Rattle.flac_bits.specs.Bits.{bits_of}
-use Rattle.flac_bits.specs.State.{Behind, short_of}
+use Rattle.flac_bits.specs.State.{After, short_of}
 use Rattle.flac_bits.specs.Items.{Stream}
 use Rattle.flac_bits.specs.declared.source.Source as source
 use Rattle.flac_native.specs.Stream.{Piece, grammar, opening}
@@ -15,8 +15,8 @@ abbrev pub profile_of : (lax : Bool) → Profile
 profile_of lax = cond lax Lax Subset
 
 -- the bytes that a source gives, and what comes after them, are a stream of these parts
-abbrev pub IsStream : Profile → List Piece → List ℕ → Behind → Type 0
-IsStream profile parts bytes behind = Stream grammar (opening profile) (beginning (short_of behind.fails)) parts (bits_of bytes) ⊎ OggStream profile (beginning (short_of behind.fails)) parts (bits_of bytes)
+abbrev pub IsStream : Profile → List Piece → List ℕ → After → Type 0
+IsStream profile parts bytes after = Stream grammar (opening profile) (beginning (short_of after.fails)) parts (bits_of bytes) ⊎ OggStream profile (beginning (short_of after.fails)) parts (bits_of bytes)
 
 -- the bytes of the source are known, and it returned no error in the call
 abbrev pub Tells : {S : Type 0} (g : source.Ghosts S) (old new : S) → Type 0
@@ -24,8 +24,8 @@ Tells g old new = (g.known old ≡ true) × (g.errors new ≡ g.errors old) × (
 
 -- the bytes that the source has to give, and what comes after them, are a stream
 abbrev pub GivesStream : {S : Type 0} (g : source.Ghosts S) → Profile → S → Type 0
-GivesStream g profile s = (parts : List Piece) × IsStream profile parts (g.coming s) (g.behind s)
+GivesStream g profile s = (parts : List Piece) × IsStream profile parts (g.coming s) (g.after s)
 
 -- they are a stream of parts of which this holds
 abbrev pub GivesStreamOf : {S : Type 0} (g : source.Ghosts S) → Profile → S → (List Piece → Type 0) → Type 0
-GivesStreamOf g profile s Says = (parts : List Piece) × IsStream profile parts (g.coming s) (g.behind s) × Says parts
+GivesStreamOf g profile s Says = (parts : List Piece) × IsStream profile parts (g.coming s) (g.after s) × Says parts

@@ -14,7 +14,7 @@ use Rattle.flac_native.specs.Stream.{Piece, marked, block, framed}
 use Rattle.flac_ogg.specs.Verifying.{bytes_reading}
 use Rattle.flac_wave.specs.Kept.{has_head, bits_in}
 use Rattle.flac_wave.specs.Plain.{plain_format, plain_pieces, other_mask}
-use Rattle.flac_wave.specs.Shift.{raised, lowered, wide_of, depth_in, AreBytes as AreSmall}
+use Rattle.flac_wave.specs.Shift.{raised, lowered, wave_width_of, depth_in, AreBytes as AreSmall}
 use Rattle.flac_wave.specs.Wave.{Parts, IsWave, ArePiecesAfter, restored}
 use Rattle.flac_wave.specs.declared.format.WaveFormat.{WaveFormat}
 use Rattle.flac_cli.specs.Asked.{Asked}
@@ -66,7 +66,7 @@ depth_for file = depth_in file.format file.samples
 
 -- the samples of a file as those of a stream of this depth
 abbrev pub samples_for : Parts → List ℕ
-samples_for file = stream_samples (wide_of file.format) (depth_for file) file.samples
+samples_for file = stream_samples (wave_width_of file.format) (depth_for file) file.samples
 
 -- ---- the file that a stream keeps
 
@@ -127,7 +127,7 @@ plain_of p (marked ∷ xs) = plain_of p xs
 plain_of p (block last b ∷ xs) = plain_of (plain_after p b) xs
 plain_of p (framed f ∷ xs) = plain_of p xs
 
--- a sample of this depth, of 1 bit at least, has room in so many bytes, of which there are 4 at most
+-- a sample of this depth, of 1 bit at least, has room in n bytes, of which there are 4 at most
 abbrev pub has_room : (wide depth : ℕ) → Bool
 has_room wide depth = nat_lt wide 5 && (nat_lt 0 depth && not (nat_lt (8 * wide) depth))
 
@@ -137,8 +137,8 @@ abbrev pub piece_fault : (head : Bool) (bits depth : ℕ) → Option KeptFault
 piece_fault head bits depth = cond head (cond (has_room ((bits + 7) / 8) depth) None (Some kept.OtherBits)) None
 
 -- how many bytes a sample of the file has: those of the kept file's bits, or in a plain file those of the stream's depth
-abbrev pub wide_by : (head : Bool) (bits depth : ℕ) → ℕ
-wide_by head bits depth = cond head ((bits + 7) / 8) (sample_width depth)
+abbrev pub wave_width_by : (head : Bool) (bits depth : ℕ) → ℕ
+wave_width_by head bits depth = cond head ((bits + 7) / 8) (sample_width depth)
 
 -- why a stream becomes no WAV file of its samples
 abbrev pub kept_fault : List Piece → Option KeptFault
@@ -149,12 +149,12 @@ abbrev pub file_pieces : (kept plain : List (List ℕ)) → List (List ℕ)
 file_pieces kept plain = cond (has_head kept) kept plain
 
 -- how many bytes a sample of the WAV file of a stream has
-abbrev pub wide_in : List Piece → ℕ
-wide_in parts = wide_by (has_head (pieces_in parts)) (bits_in 0 (pieces_in parts)) (depth_of 0 parts)
+abbrev pub wave_width_in : List Piece → ℕ
+wave_width_in parts = wave_width_by (has_head (pieces_in parts)) (bits_in 0 (pieces_in parts)) (depth_of 0 parts)
 
 -- the WAV file of a stream: these pieces, and its samples
 abbrev pub wave_in : List Piece → List ℕ
-wave_in parts = restored (file_pieces (pieces_in parts) (plain_of no_plain parts).made) (file_samples (wide_in parts) (depth_of 0 parts) (all_samples 0 parts))
+wave_in parts = restored (file_pieces (pieces_in parts) (plain_of no_plain parts).made) (file_samples (wave_width_in parts) (depth_of 0 parts) (all_samples 0 parts))
 
 -- ---- encoding
 

@@ -18,7 +18,7 @@ use flac_native::{Fault, Profile, SampleWriter};
 use std::alloc::Global;
 
 /// Decodes a stream into a writer of samples.
-fn decode_into<R: Source, W: Target>(
+fn decode_wave_into<R: Source, W: Target>(
     alloc: Global,
     source: &mut R,
     profile: Profile,
@@ -31,7 +31,7 @@ fn decode_into<R: Source, W: Target>(
         OnOk result (GivesStreamOf R.Source profile source.old
         (λ parts. W.sent sink.new.target ≡ W.sent sink.old.target ++ samples_from sink.old.asked sink.old.depth parts)) }
     ensures outcome { Tells R.Source source.old source.new → Serves W.Target sink.old.target sink.new.target →
-        Fits IsOutOfMemory (Reads profile (R.coming source.old) (R.behind source.old)) (outcome_of at_place result) }
+        Fits IsOutOfMemory (Reads profile (R.coming source.old) (R.after source.old)) (outcome_of at_place result) }
     ensures served { Serves W.Target sink.old.target sink.new.target → IfErr result (λ f. f.why ≢ Why.Sink) }
     ensures names { W.names sink.new.target ≡ W.names sink.old.target }
 {
@@ -53,11 +53,11 @@ fn decode_samples<R: Source, W: Target>(
         OnOk result (GivesStreamOf R.Source profile source.old
         (λ parts. W.sent target.new ≡ W.sent target.old ++ all_samples 0 parts)) }
     ensures outcome { Tells R.Source source.old source.new → Serves W.Target target.old target.new →
-        Fits IsOutOfMemory (Reads profile (R.coming source.old) (R.behind source.old)) (outcome_of at_place result) }
+        Fits IsOutOfMemory (Reads profile (R.coming source.old) (R.after source.old)) (outcome_of at_place result) }
     ensures served { Serves W.Target target.old target.new → IfErr result (λ f. f.why ≢ Why.Sink) }
 {
     let mut sink = SampleWriter::new(target, 0);
-    let outcome = decode_into(alloc, source, profile, &mut sink);
+    let outcome = decode_wave_into(alloc, source, profile, &mut sink);
     // Given back only for the proof: the clauses are about the target.
     let _target = sink.into_target();
     outcome
@@ -79,7 +79,7 @@ pub(crate) fn run_decode<R: Source, W: Target, E: Target>(
         (λ parts. W.sent target.new ≡ W.sent target.old ++ all_samples 0 parts) }
     ensures reported { Tells R.Source source.old source.new → Serves W.Target target.old target.new →
         Serves E.Target err.old err.new →
-        ReportsOf IsOutOfMemory (Reads profile (R.coming source.old) (R.behind source.old)) paths.now.input.now result (E.sent err.old) (E.sent err.new) }
+        ReportsOf IsOutOfMemory (Reads profile (R.coming source.old) (R.after source.old)) paths.now.input.now result (E.sent err.old) (E.sent err.new) }
     ensures named { result ≡ 1 →
         IfServed E.Target err.old err.new (NamesDecoding paths.now.input.now paths.now.output.now) }
 {

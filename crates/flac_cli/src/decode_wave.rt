@@ -2,7 +2,7 @@
 
 ghost use Rattle.std.specs.Prelude.{◌≡◌, ◌<◌, ◌≤◌, ◌+◌, ◌*◌, ◌⊎◌, ◌++◌, ◌∷◌, ◌%◌, true, false, nat_lt, length, map, IfOk, IfErr, OnOk, OnErr, Some};
 ghost use Rattle.flac_bits.specs.Bits.{bit_value};
-ghost use Rattle.flac_frame.specs.Lent.{frame_of};
+ghost use Rattle.flac_frame.specs.Viewed.{frame_of};
 ghost use Rattle.flac_native.specs.Item.{frame as frame_item};
 ghost use Rattle.flac_native.specs.Message.{sample_width};
 ghost use Rattle.flac_native.specs.Samples.{frame_bytes};
@@ -372,7 +372,7 @@ pub(crate) enum WaveFailure {
 }
 
 /// Decodes a stream into a writer of its WAV file, and ends this.
-fn decode_into<R: Source, W: Target>(
+fn decode_wave_into<R: Source, W: Target>(
     alloc: Global,
     source: &mut R,
     profile: Profile,
@@ -385,7 +385,7 @@ fn decode_into<R: Source, W: Target>(
         OnOk result (IsReadAs R.Source profile source.old
         (λ parts. W.sent sink.new.target ≡ W.sent sink.old.target ++ wave_in parts)) }
     ensures outcome { Tells R.Source source.old source.new → Serves W.Target sink.old.target sink.new.target →
-        Fits IsWaveOutOfMemory (ReadsWave profile (R.coming source.old) (R.behind source.old)) (wave_outcome result) }
+        Fits IsWaveOutOfMemory (ReadsWave profile (R.coming source.old) (R.after source.old)) (wave_outcome result) }
     ensures served { Tells R.Source source.old source.new → Serves W.Target sink.old.target sink.new.target →
         IfErr result IsOfInput }
     ensures names { W.names sink.new.target ≡ W.names sink.old.target }
@@ -421,12 +421,12 @@ pub(crate) fn decode_wave<R: Source, W: Target>(
         OnOk result (IsReadAs R.Source profile source.old
         (λ parts. W.sent target.new ≡ W.sent target.old ++ wave_in parts)) }
     ensures outcome { Tells R.Source source.old source.new → Serves W.Target target.old target.new →
-        Fits IsWaveOutOfMemory (ReadsWave profile (R.coming source.old) (R.behind source.old)) (wave_outcome result) }
+        Fits IsWaveOutOfMemory (ReadsWave profile (R.coming source.old) (R.after source.old)) (wave_outcome result) }
     ensures served { Tells R.Source source.old source.new → Serves W.Target target.old target.new →
         IfErr result IsOfInput }
 {
     let mut sink = WaveWriter::new(alloc, target);
-    let outcome = decode_into(alloc, source, profile, &mut sink);
+    let outcome = decode_wave_into(alloc, source, profile, &mut sink);
     // Given back only for the proof: the clauses are about the target.
     let _target = sink.into_target();
     outcome
@@ -457,7 +457,7 @@ pub(crate) fn run_decode_wave<R: Source, W: Target, E: Target>(
         IsReadAs R.Source profile source.old (λ parts. W.sent target.new ≡ W.sent target.old ++ wave_in parts) }
     ensures reported { Tells R.Source source.old source.new → Serves W.Target target.old target.new →
         Serves E.Target err.old err.new →
-        ReportsWaveDecoding profile (R.coming source.old) (R.behind source.old) paths.now.input.now result (E.sent err.old) (E.sent err.new) }
+        ReportsWaveDecoding profile (R.coming source.old) (R.after source.old) paths.now.input.now result (E.sent err.old) (E.sent err.new) }
     ensures named { result ≡ 1 →
         IfServed E.Target err.old err.new (NamesWaveDecoding paths.now.input.now paths.now.output.now) }
 {

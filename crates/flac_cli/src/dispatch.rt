@@ -82,7 +82,7 @@ pub fn run<R: Source, W: Target, O: Target, E: Target>(
     // After status 0, a retagging has added to the file the same STREAMINFO, the comments, the other blocks and the
     // rest of the input.
     ensures retagged { result ≡ 0 → HasWritten R.Source W.Target source.old target.old target.new
-        (λ bytes. HasRetagged task.now.job.now bytes (R.behind source.old)) }
+        (λ bytes. HasRetagged task.now.job.now bytes (R.after source.old)) }
     // After status 0, the encoding of a WAV file has added to the file a stream of its samples. If it is asked to keep all of
     // it, the WAV file of this stream is the input, byte for byte.
     ensures wave_encoded { result ≡ 0 →
@@ -114,7 +114,7 @@ pub fn run<R: Source, W: Target, O: Target, E: Target>(
     // stream that becomes no WAV file of its samples. Or memory ran out, or standard output failed while blocks were
     // listed: then the line says that.
     ensures reported { Tells R.Source source.old source.new → Serves E.Target err.old err.new →
-        ReportsInput task.now.job.now (R.coming source.old) (R.behind source.old) (Serves W.Target target.old target.new) (Serves O.Target out.old out.new) result (E.sent err.old) (E.sent err.new) }
+        ReportsInput task.now.job.now (R.coming source.old) (R.after source.old) (Serves W.Target target.old target.new) (Serves O.Target out.old out.new) result (E.sent err.old) (E.sent err.new) }
     // After status 1 of a decoding, an encoding or a retagging, also of WAV files, whatever failed, its line was added to
     // standard error, if that did not fail. It names the output if that could not be written (30 of a decoding, 39), and
     // else the file at fault.

@@ -53,7 +53,7 @@ impl<'a, S: Source> Source for Fronted<'a, S> {
 
     ghost coming = { λ s. s.front.now ++ S.coming s.source };
 
-    ghost behind = { λ s. S.behind s.source };
+    ghost after = { λ s. S.after s.source };
 
     ghost errors = { λ s. S.errors s.source };
 

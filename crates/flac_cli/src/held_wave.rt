@@ -6,7 +6,7 @@ ghost use Rattle.flac_wave.specs.Plain.{CanBeWritten};
 ghost use Rattle.flac_wave.specs.Wave.{is_head};
 ghost use Rattle.flac_cli.specs.Outcomes.{text_of_kept};
 ghost use Rattle.flac_cli.specs.Waves.{is_riff, has_room, plain_with};
-ghost use Rattle.flac_cli.specs.inner.Waving.{Held, nothing_held, with_piece, with_plain, with_info, with_speakers, with_block, with_samples, with_begun, held_fault, held_wide, front_pieces, back_pieces};
+ghost use Rattle.flac_cli.specs.inner.Waving.{Held, nothing_held, with_piece, with_plain, with_info, with_speakers, with_block, with_samples, with_begun, held_fault, held_wave_width, front_pieces, back_pieces};
 
 use crate::speakers::mask_in;
 use byteorder::{ByteOrder, LittleEndian};
@@ -91,7 +91,7 @@ fn bits_after(bits: u16, piece: &[u8]) -> u16
     bits
 }
 
-/// Whether a sample of this depth, of 1 bit at least, has room in so many bytes, of which there are 4 at most.
+/// Whether a sample of this depth, of 1 bit at least, has room in n bytes, of which there are 4 at most.
 fn has_room(wide: u32, depth: u32) -> bool
     ensures { result ≡ has_room wide depth }
 {
@@ -232,7 +232,7 @@ impl HeldWave {
 
     /// How many bytes a sample of the file has.
     pub(crate) fn wide(&self) -> usize
-        ensures { result ≡ held_wide self.now }
+        ensures { result ≡ held_wave_width self.now }
     {
         if self.head == 0 {
             return sample_width(u32::from(self.depth));

@@ -281,7 +281,7 @@ fn list_into<R: Source, W: Target>(
     requires began { sink.old.began.value ≡ sink.old.lines.target }
     ensures stream { Tells R.Source source.old source.new → OnOk result (GivesStream R.Source profile source.old) }
     ensures outcome { Tells R.Source source.old source.new →
-        Fits (IsUnlisted (Serves W.Target sink.old.lines.target sink.new.lines.target)) (Reads profile (R.coming source.old) (R.behind source.old)) (outcome_of at_place result) }
+        Fits (IsUnlisted (Serves W.Target sink.old.lines.target sink.new.lines.target)) (Reads profile (R.coming source.old) (R.after source.old)) (outcome_of at_place result) }
     ensures names { W.names sink.new.lines.target ≡ W.names sink.old.lines.target }
 {
     let outcome = decode_stream(alloc, source, profile, sink);
@@ -299,7 +299,7 @@ fn list<R: Source, O: Target>(
 ) -> Result<(), Fault>
     ensures stream { Tells R.Source source.old source.new → OnOk result (GivesStream R.Source profile source.old) }
     ensures outcome { Tells R.Source source.old source.new →
-        Fits (IsUnlisted (Serves O.Target out.old out.new)) (Reads profile (R.coming source.old) (R.behind source.old)) (outcome_of at_place result) }
+        Fits (IsUnlisted (Serves O.Target out.old out.new)) (Reads profile (R.coming source.old) (R.after source.old)) (outcome_of at_place result) }
 {
     let mut sink = Listing::new(out);
     let outcome = list_into(alloc, source, profile, &mut sink);
@@ -320,7 +320,7 @@ pub(crate) fn run_list<R: Source, O: Target, E: Target>(
     ensures status { result ≤ 1 }
     ensures stream { result ≡ 0 → Tells R.Source source.old source.new → GivesStream R.Source profile source.old }
     ensures reported { Tells R.Source source.old source.new → Serves E.Target err.old err.new →
-        ReportsOf (IsUnlisted (Serves O.Target out.old out.new)) (Reads profile (R.coming source.old) (R.behind source.old)) input.now result (E.sent err.old) (E.sent err.new) }
+        ReportsOf (IsUnlisted (Serves O.Target out.old out.new)) (Reads profile (R.coming source.old) (R.after source.old)) input.now result (E.sent err.old) (E.sent err.new) }
 {
     match list(alloc, source, profile, out) {
         Ok(()) => 0,

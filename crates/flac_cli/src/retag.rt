@@ -25,11 +25,11 @@ pub(crate) fn retag_with<R: Source, W: Target>(
     target: &mut W,
 ) -> Result<(), RetagFault>
     ensures written { OnOk result (HasWritten R.Source W.Target source.old target.old target.new
-        (λ bytes. RetagsWith (map (λ word. word.now) words.now) bytes (R.behind source.old))) }
+        (λ bytes. RetagsWith (map (λ word. word.now) words.now) bytes (R.after source.old))) }
     // If no device failed, the outcome is what the input is.
     ensures outcome { Tells R.Source source.old source.new → Serves W.Target target.old target.new →
         Fits IsRetagOutOfMemory
-        (IsRetagged (map (λ word. word.now) words.now) (R.coming source.old) (R.behind source.old))
+        (IsRetagged (map (λ word. word.now) words.now) (R.coming source.old) (R.after source.old))
         (outcome_of at_some_place result) }
     ensures served { IfErr result (λ f. Serves W.Target target.old target.new → f ≢ not_written) }
 {
@@ -60,11 +60,11 @@ pub(crate) fn run_retag<R: Source, W: Target, E: Target>(
 ) -> u8
     ensures status { result ≤ 1 }
     ensures retagged { result ≡ 0 → HasWritten R.Source W.Target source.old target.old target.new
-        (λ bytes. RetagsWith (map (λ word. word.now) words.now) bytes (R.behind source.old)) }
+        (λ bytes. RetagsWith (map (λ word. word.now) words.now) bytes (R.after source.old)) }
     ensures reported { Tells R.Source source.old source.new → Serves W.Target target.old target.new →
         Serves E.Target err.old err.new →
         ReportsOf IsRetagOutOfMemory
-        (IsRetagged (map (λ word. word.now) words.now) (R.coming source.old) (R.behind source.old))
+        (IsRetagged (map (λ word. word.now) words.now) (R.coming source.old) (R.after source.old))
         paths.now.input.now result (E.sent err.old) (E.sent err.new) }
     ensures named { result ≡ 1 →
         IfServed E.Target err.old err.new (NamesRetagging paths.now.input.now paths.now.output.now) }

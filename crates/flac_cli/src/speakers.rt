@@ -10,7 +10,7 @@ use std::alloc::{AllocError, Global};
 /// The name of the comment.
 const MASK_NAME: &[u8] = b"WAVEFORMATEXTENSIBLE_CHANNEL_MASK";
 
-/// The comment of speakers that are others than those of so many channels (RFC 9639, section 8.6.2).
+/// The comment of speakers that are others than those of n channels (RFC 9639, section 8.6.2).
 fn mask_comment(alloc: Global, mask: u32) -> Result<Vec<u8>, AllocError>
     ensures { IfOk result (λ text. text.items ≡ mask_comment mask) }
 {

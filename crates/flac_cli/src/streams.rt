@@ -34,7 +34,7 @@ pub(crate) fn decode_stream<R: Source, S: Sink>(
     // If the sink did not fail, the outcome is what the input is; if it did, it is that.
     ensures outcome { Tells R.Source source.old source.new → S.known sink.old ≡ true →
         S.errors sink.new ≡ S.errors sink.old →
-        Fits IsOutOfMemory (Reads profile (R.coming source.old) (R.behind source.old)) (outcome_of at_place result) }
+        Fits IsOutOfMemory (Reads profile (R.coming source.old) (R.after source.old)) (outcome_of at_place result) }
     ensures failed { Tells R.Source source.old source.new → S.known sink.old ≡ true →
         S.errors sink.old < S.errors sink.new →
         (at : Place) × (outcome_of at_place result ≡ Some (Some at, Why.Sink)) }

@@ -56,7 +56,7 @@ fn count<R: Source>(alloc: Global, source: &mut R, profile: Profile) -> Result<C
         IfOk result (λ c. GivesStreamOf R.Source profile source.old
         (λ parts. (c.frames ≡ printed (frames_in parts)) × (c.samples ≡ printed (samples_in_all parts)))) }
     ensures outcome { Tells R.Source source.old source.new →
-        Fits IsOutOfMemory (Reads profile (R.coming source.old) (R.behind source.old)) (outcome_of at_place result) }
+        Fits IsOutOfMemory (Reads profile (R.coming source.old) (R.after source.old)) (outcome_of at_place result) }
 {
     let mut counts = Counts {
         frames: 0,
@@ -104,7 +104,7 @@ pub(crate) fn run_test<R: Source, O: Target, E: Target>(
         GivesStreamOf R.Source profile source.old (λ parts. O.sent out.new ≡ O.sent out.old ++ counts_line parts) }
     ensures reported { Tells R.Source source.old source.new → Serves O.Target out.old out.new →
         Serves E.Target err.old err.new →
-        ReportsOf IsOutOfMemory (Reads profile (R.coming source.old) (R.behind source.old)) input.now result (E.sent err.old) (E.sent err.new) }
+        ReportsOf IsOutOfMemory (Reads profile (R.coming source.old) (R.after source.old)) input.now result (E.sent err.old) (E.sent err.new) }
 {
     match count(alloc, source, profile) {
         Ok(counts) => match write_counts(out, &counts) {

@@ -5,7 +5,7 @@ use Rattle.flac_bits.specs.Bits.{bits_of}
 use Rattle.flac_bits.specs.State.{Mark}
 use Rattle.flac_bits.specs.Written.{Written, Adds}
 use Rattle.flac_bits.specs.declared.why.Why.{Why}
-use Rattle.flac_bits.proofs.ItemSpellings.{behind_whole}
+use Rattle.flac_bits.proofs.ItemSpellings.{after_whole}
 use Rattle.flac_bits.proofs.Holding.{length-bits_of}
 use Rattle.flac_meta.specs.Spelling.{comments_length}
 use Rattle.flac_meta.specs.Listed.{block_fault}
@@ -23,7 +23,7 @@ pub collected : (old new : Written) (text : List Bool) (n : ℕ) (r : Result (Ve
     → IfOk r (λ v. new.known ≡ true → new.mark.unread ≡ 0 → bits_of v.items ≡ new.bits) → IfOk r (λ v. bits_of v.items ≡ text)
 collected old new text n (Err e) s whole adds h = tt
 collected old new text n (Ok v) s whole adds h =
-    h (adds.known s.known) (ap (λ (m : Mark). m.unread) adds.mark ∙ behind_whole text old.mark s.unread (omega (arith, whole))) ∙ adds.bits s.known ∙ ap (λ k. k ++ text) s.bits
+    h (adds.known s.known) (ap (λ (m : Mark). m.unread) adds.mark ∙ after_whole text old.mark s.unread (omega (arith, whole))) ∙ adds.bits s.known ∙ ap (λ k. k ++ text) s.bits
 
 pub many : (text : List Bool) (n : ℕ) (bytes : List ℕ) → length text ≡ 8 * n → bits_of bytes ≡ text → length bytes ≡ n
 many text n bytes whole is = omega (arith, length-bits_of bytes, ap (λ (l : List Bool). length l) is, whole)

@@ -6,7 +6,7 @@ use Rattle.std.proofs.lemmas.List.Elements.{All-head, All-tail}
 use Rattle.flac_bits.specs.Bits.{bits_of, unsigned}
 use Rattle.flac_bits.specs.State.{Mark, past, fresh}
 use Rattle.flac_bits.specs.Meaning.{Spells}
-use Rattle.flac_bits.specs.Items.{Joined, after}
+use Rattle.flac_bits.specs.Items.{Joined, state_after}
 use Rattle.flac_bits.proofs.Holding.{bits_of-append}
 use Rattle.flac_bits.proofs.Words.{length-unsigned}
 use Rattle.flac_info.specs.Info.{Info}
@@ -113,7 +113,7 @@ headed m text info list rest b = go b.head b.stands b.spelled
         let bits = marker_is (fresh m) front marked spelled in
         let c = closed first list in
         let joined = subst (λ ys. Joined grammar (next (opening Subset) marked) (past front (fresh m)) ys after_marker) c.parts others in
-        let over = subst (λ (ys : List Piece). (after grammar (next (opening Subset) marked) ys).stand.phase ≡ Frames) c.parts (closing_ends (next (opening Subset) marked) first list) in
+        let over = subst (λ (ys : List Piece). (state_after grammar (next (opening Subset) marked) ys).stand.phase ≡ Frames) c.parts (closing_ends (next (opening Subset) marked) first list) in
         record {
           blocks = c.list;
           head = after_marker;

@@ -7,7 +7,7 @@ use Rattle.std.proofs.lemmas.List.Elements.{All-append}
 use Rattle.flac_bits.specs.Bits.{unsigned, bits_of, is_nil}
 use Rattle.flac_bits.specs.Forms.{AreBytes, IsBytes, joined}
 use Rattle.flac_bits.specs.Meaning.{Spells, AllKept}
-use Rattle.flac_bits.specs.Items.{after}
+use Rattle.flac_bits.specs.Items.{state_after}
 use Rattle.flac_bits.specs.Fence.{InRoom}
 use Rattle.flac_bits.specs.declared.target.Target as target
 use Rattle.flac_bits.specs.declared.why.Why.TheVariants.{Truncated}
@@ -30,13 +30,13 @@ use Rattle.flac_native.specs.Stream.{Piece, marked, framed, Progress, grammar, n
 use Rattle.flac_native.specs.declared.track.Phase.{Phase}
 use Rattle.flac_native.specs.declared.track.Phase.TheVariants.{Opening, Blocks, Frames}
 use Rattle.flac_native.specs.Given.{closing}
-use Rattle.flac_encoder.specs.Pushing.{Shape, shape_fault, open_info, Pushed, unpushed, behind_block, due, StandsFor, sound_of, frame_with}
+use Rattle.flac_encoder.specs.Pushing.{Shape, shape_fault, open_info, Pushed, unpushed, after_block, due, StandsFor, sound_of, frame_with}
 use Rattle.flac_native.specs.Writing.{blocks_spelling, head_spelling, SpellsFrame, SpellsLeast}
 use Rattle.flac_native.proofs.EachFrame.{same_three, follows_on, sized, full_before}
 use Rattle.flac_native.proofs.Onwards.{as_part, after_profile}
 use Rattle.flac_encoder.proofs.Pushing.{Shaped, shaped, keeps_open, opened, Accepted, stands_on}
 use Rattle.flac_pages.specs.declared.writing.PacketKind.TheVariants as kind_of
-use Rattle.flac_pages.specs.Placed.{Placed, IsPlaced, marks_of, sequence_behind}
+use Rattle.flac_pages.specs.Placed.{Placed, IsPlaced, marks_of, sequence_after}
 use Rattle.flac_pages.specs.Written.{packet_spelling}
 use Rattle.flac_pages.specs.Items.{IsItem}
 use Rattle.flac_ogg.specs.Headers.{AreHeaders}
@@ -50,7 +50,7 @@ use Rattle.flac_ogg.specs.Writing.{header_count}
 use Rattle.flac_ogg.specs.declared.headers.Headers.{Headers}
 use Rattle.flac_ogg.proofs.Headed.{alone}
 use Rattle.flac_ogg.proofs.NativeBlocks.{ArePacked, are_items, packed_later, head_packed}
-use Rattle.flac_ogg.proofs.NativeItems.{behind_mapping}
+use Rattle.flac_ogg.proofs.NativeItems.{after_mapping}
 use Rattle.flac_ogg.proofs.OpenPages.{pages_more}
 use Rattle.flac_ogg.proofs.Packing.{mapping_long, count_blocks}
 use Rattle.flac_ogg.proofs.Whole.{block_long, count_small, ogg_stream}
@@ -111,7 +111,7 @@ module _ (info : Info) (list : List Block) (digest : IsBytes 16 info.digest) whe
   same_native q qs is =
       let first : bits_of q.packet ≡ mapping ++ block = ap (λ (t : List (List Bool)). get_or t 0 []) is in
       let others : texts_of qs ≡ block_spellings list = ap (λ (t : List (List Bool)). drop 1 t) is ∙ append-nil (block_spellings list) in
-      let here : bits_of (drop 13 q.packet) ≡ block = sym (behind_mapping q.packet mapping block first (mapping_long (header_count (length list)))) in
+      let here : bits_of (drop 13 q.packet) ≡ block = sym (after_mapping q.packet mapping block first (mapping_long (header_count (length list)))) in
       ap (λ t. unsigned 32 0x664C6143 ++ (t ++ joined (texts_of qs))) here ∙ ap (λ t. unsigned 32 0x664C6143 ++ (block ++ t)) (ap joined others ∙ joined_blocks list)
 
 pub opened_head : {S : Type 0} (s : Shape) (list : List Block) (h : Headers) (e : PushedOgg S) → shape_fault s ≡ None → list_fault info_seen list ≡ None → AllAre FitsFields list → e.serial < 2 ^ 32 → h.serial ≡ e.serial
@@ -175,7 +175,7 @@ opened_ogg g s list old h e shape good fits small serial are pushed sequence mid
 -- ---- one more frame
 
 items_more : (p : Progress) (packets : List (List ℕ)) (items : List Piece) (packet : List ℕ) (x : Piece) → AreItems p packets items
-    → IsItem (room_in (after grammar p items).stand.phase) (packet_layout (after grammar p items).stand) (packet_start None) (closed_packet packet) x → AreItems p (packets ++ packet ∷ []) (items ++ x ∷ [])
+    → IsItem (room_in (state_after grammar p items).stand.phase) (packet_layout (state_after grammar p items).stand) (packet_start None) (closed_packet packet) x → AreItems p (packets ++ packet ∷ []) (items ++ x ∷ [])
 items_more p [] [] packet x are is = (is, tt)
 items_more p [] (y ∷ ys) packet x are is = absurd are
 items_more p (first ∷ packets) [] packet x are is = absurd are
@@ -209,7 +209,7 @@ frame_due s q number channels before t many small left k =
     let f = frame_with number channels in
     let h = k.form.header in
     let size = samples_each channels in
-    let behind = is_due s.block_size number before left in
+    let after = is_due s.block_size number before left in
     let r = encodings_are_frames (sound_of s channels) size number channels k.form info refl refl (sym many) k.encoding in
     let in_rate : size ≤ greatest_in s.profile info.rate = omega (arith, small, q.greatest) in
     let at_most : h.size ≤ s.block_size = omega (arith, r.sized, small) in
@@ -217,7 +217,7 @@ frame_due s q number channels before t many small left k =
       ap not (r.allowed in_rate),
       (
         same_three (rate_in s.profile info h) info.rate (channels_of h.channel_code) info.channels (depth_in s.profile info h) info.depth r.format.rate r.format.channels r.format.depth,
-        (follows_on s.block_size number before h r.fixed r.numbered behind, (sized info s.block_size number before h refl refl at_most behind, tt)),
+        (follows_on s.block_size number before h r.fixed r.numbered after, (sized info s.block_size number before h refl refl at_most after, tt)),
       ),
     ) in
     let w = r.frame before follows in
@@ -249,17 +249,17 @@ module _ {S : Type 0} (old new : PushedOgg S) (t : S) (block : List (List ℤ)) 
   q = record { packet = packet; kind = kind_of.Frame (old.pushed.samples + samples_each block) }
 
   frame_item : (items : List Piece) (plain : List Bool) → StandsFor old.pushed (marked ∷ items) plain
-      → IsItem (room_in (after grammar (start old.pushed.shape.profile) items).stand.phase) (packet_layout (after grammar (start old.pushed.shape.profile) items).stand) (packet_start None) (closed_packet packet) (framed f)
+      → IsItem (room_in (state_after grammar (start old.pushed.shape.profile) items).stand.phase) (packet_layout (state_after grammar (start old.pushed.shape.profile) items).stand) (packet_start None) (closed_packet packet) (framed f)
   frame_item items plain h =
       let s = old.pushed.shape in
-      let p = after grammar (start s.profile) items in
+      let p = state_after grammar (start s.profile) items in
       let phase : p.stand.phase ≡ Frames = frames_now p.stand.phase p.stand.info h.stream.ends in
       let here = frame_due s (shaped s shape) old.pushed.number block p.stand.before (bits_of packet) accept.many accept.most (h.before accept.going) text_is in
       let judged = subst (λ k. Spells (frame k (open_info s) p.stand.before) (packet_start None) (bits_of packet) f) (sym (after_profile (start s.profile) items)) here in
       packed_later p (bits_of packet) (framed f) (not_first p.stand.phase p.stand.index phase) (as_part p.stand (open_info s) (packet_start None) (bits_of packet) f phase h.info judged)
       (in_room p.stand.phase (bits_of packet) phase text_is.short)
 
-  pub stands_next : AreBytes packet → new.pushed ≡ behind_block old.pushed (samples_each block) t → new.serial ≡ old.serial → new.sequence ≡ sequence_behind old.sequence packet
+  pub stands_next : AreBytes packet → new.pushed ≡ after_block old.pushed (samples_each block) t → new.serial ≡ old.serial → new.sequence ≡ sequence_after old.sequence packet
       → bits_of new.middle ≡ packet_spelling (marks_of old.serial old.sequence false false q) packet → bits_of new.last ≡ packet_spelling (marks_of old.serial old.sequence false true q) packet
       → (items : List Piece) (packets : List Placed) (written : List Bool) → StandsForOgg old items packets written → StandsForOgg new (items ++ framed f ∷ []) (packets ++ q ∷ []) (written ++ bits_of old.middle)
   stands_next small pushed serial sequence middle last items packets written h = subst (λ l. StandsForOgg new (items ++ framed f ∷ []) (l ++ q ∷ []) (written ++ bits_of old.middle)) (sym h.first.2) whole
@@ -309,17 +309,17 @@ module _ {S : Type 0} (old new : PushedOgg S) (t : S) (block : List (List ℤ)) 
       whole = stands_for new (items ++ framed f ∷ []) p (ps ++ q ∷ []) (written ++ bits_of old.middle) pages more (record { spelled = spelled_now; ends = more.stream.ends; kept = more.stream.kept }) good
           (omega (arith, serial, h.small)) h.first.3
 
-  pub next_packet : SpellsLeast old.pushed.predictors (sound_of old.pushed.shape block) f (bits_of packet) → AreBytes packet → new.pushed ≡ behind_block old.pushed (samples_each block) t → new.serial ≡ old.serial → new.sequence ≡ sequence_behind old.sequence packet
+  pub next_packet : SpellsLeast old.pushed.predictors (sound_of old.pushed.shape block) f (bits_of packet) → AreBytes packet → new.pushed ≡ after_block old.pushed (samples_each block) t → new.serial ≡ old.serial → new.sequence ≡ sequence_after old.sequence packet
       → bits_of new.middle ≡ packet_spelling (marks_of old.serial old.sequence false false q) packet → bits_of new.last ≡ packet_spelling (marks_of old.serial old.sequence false true q) packet → IsNextPacket old new block q
   next_packet least small pushed serial sequence middle last = record { kind = refl; spells = text_is; least = least; stands = stands_next small pushed serial sequence middle last }
 
-  pub pushes_ogg : (g : target.Ghosts S) → SpellsLeast old.pushed.predictors (sound_of old.pushed.shape block) f (bits_of packet) → AreBytes packet → new.pushed ≡ behind_block old.pushed (samples_each block) t → new.serial ≡ old.serial
-      → new.sequence ≡ sequence_behind old.sequence packet → bits_of new.middle ≡ packet_spelling (marks_of old.serial old.sequence false false q) packet
+  pub pushes_ogg : (g : target.Ghosts S) → SpellsLeast old.pushed.predictors (sound_of old.pushed.shape block) f (bits_of packet) → AreBytes packet → new.pushed ≡ after_block old.pushed (samples_each block) t → new.serial ≡ old.serial
+      → new.sequence ≡ sequence_after old.sequence packet → bits_of new.middle ≡ packet_spelling (marks_of old.serial old.sequence false false q) packet
       → bits_of new.last ≡ packet_spelling (marks_of old.serial old.sequence false true q) packet → g.sent new.pushed.target ≡ g.sent old.pushed.target ++ old.middle → PushesOgg g block old new
   pushes_ogg g least small pushed serial sequence middle last sent = record { packet = q; next = next_packet least small pushed serial sequence middle last; sent = ap bits_of sent ∙ bits_of-append (g.sent old.pushed.target) old.middle }
 
-  pub begins_ogg : (g : target.Ghosts S) (now : PushedOgg S) → SpellsLeast old.pushed.predictors (sound_of old.pushed.shape block) f (bits_of packet) → AreBytes packet → new.pushed ≡ behind_block old.pushed (samples_each block) t → new.serial ≡ old.serial
-      → new.sequence ≡ sequence_behind old.sequence packet → bits_of new.middle ≡ packet_spelling (marks_of old.serial old.sequence false false q) packet
+  pub begins_ogg : (g : target.Ghosts S) (now : PushedOgg S) → SpellsLeast old.pushed.predictors (sound_of old.pushed.shape block) f (bits_of packet) → AreBytes packet → new.pushed ≡ after_block old.pushed (samples_each block) t → new.serial ≡ old.serial
+      → new.sequence ≡ sequence_after old.sequence packet → bits_of new.middle ≡ packet_spelling (marks_of old.serial old.sequence false false q) packet
       → bits_of new.last ≡ packet_spelling (marks_of old.serial old.sequence false true q) packet → (front rest : List ℕ) → old.middle ≡ front ++ rest → g.sent now.pushed.target ≡ g.sent old.pushed.target ++ front → BeginsPushOgg g block old now
   begins_ogg g now least small pushed serial sequence middle last front rest cut sent = record {
     packet = q;

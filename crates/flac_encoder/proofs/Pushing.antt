@@ -11,10 +11,10 @@ use Rattle.flac_bits.specs.State.{Mark, past, fresh}
 use Rattle.flac_bits.specs.Forms.{IsBytes, AreBytes}
 use Rattle.flac_bits.specs.Meaning.{Spells, AllKept}
 use Rattle.flac_bits.specs.Fence.{InRoom}
-use Rattle.flac_bits.specs.Items.{Joined, after, mark_behind}
+use Rattle.flac_bits.specs.Items.{Joined, state_after, mark_after}
 use Rattle.flac_bits.specs.declared.why.Why.TheVariants.{Truncated}
-use Rattle.flac_bits.proofs.Handing.{after-append, Joined-append}
-use Rattle.flac_bits.proofs.ItemSpellings.{fresh_unread, fresh_check8, fresh_check16, behind_whole}
+use Rattle.flac_bits.proofs.Handing.{state_after-append, Joined-append}
+use Rattle.flac_bits.proofs.ItemSpellings.{fresh_unread, fresh_check8, fresh_check16, after_whole}
 use Rattle.flac_info.specs.Info.{Info, KeepsRules}
 use Rattle.flac_meta.specs.Listed.{list_fault, info_seen}
 use Rattle.flac_meta.specs.Valid.{AllAre, FitsFields, IsInfo}
@@ -45,7 +45,7 @@ use Rattle.flac_native.specs.declared.track.Phase.TheVariants.{Opening, Blocks, 
 use Rattle.flac_native.specs.Given.{closing}
 use Rattle.flac_native.specs.Whole.{head_parts}
 use Rattle.flac_native.specs.Writing.{blocks_spelling, head_spelling, SpellsFrame, SpellsLeast}
-use Rattle.flac_encoder.specs.Pushing.{Shape, shape_fault, open_info, Pushed, unpushed, behind_block, with_target, frames_in, due, StandsFor, sound_of, frame_with, block_fault, size_fault, push_fault, IsNext, Pushes, BeginsPush}
+use Rattle.flac_encoder.specs.Pushing.{Shape, shape_fault, open_info, Pushed, unpushed, after_block, with_target, frames_in, due, StandsFor, sound_of, frame_with, block_fault, size_fault, push_fault, IsNext, Pushes, BeginsPush}
 use Rattle.flac_native.specs.declared.fault.EncodeFault.{EncodeFault}
 use Rattle.flac_native.specs.declared.fault.EncodeFault.TheVariants.{BlockSize, Spent, Write, Setup}
 use Rattle.flac_native.proofs.EachFrame.{same_three, follows_on, sized, full_before}
@@ -54,7 +54,7 @@ use Rattle.flac_native.proofs.NewHead.{valid_after}
 use Rattle.flac_native.proofs.Onwards.{as_part, nothing_told, after_profile}
 use Rattle.flac_native.proofs.Ordered.{ends_whole}
 use Rattle.flac_native.proofs.Planned.{first_none, both_none, either_false, not_zero, not_less, allowed_sizes, rate_range, depth_range, greatest_small}
-use Rattle.flac_native.proofs.Streams.{behind, info_run, marker_here}
+use Rattle.flac_native.proofs.Streams.{after, info_run, marker_here}
 use Rattle.flac_native.proofs.Whole.{head_leaves}
 
 -- ---- a format
@@ -148,11 +148,11 @@ head_run : (s : Shape) (list : List Block) → Shaped s → list_fault info_seen
 head_run s list q good fits =
     let i = open_info s in
     let is : IsInfo i = record { rules = keeps_open s q; digest = zero_bytes } in
-    let there : (seen : Seen) (m : Mark) → m.unread ≡ 0 → Runs i [] (behind s.profile i true 0 seen) m [] [] = λ seen m z. (refl, record { phase = refl; info = refl; samples = refl; message = refl }) in
+    let there : (seen : Seen) (m : Mark) → m.unread ≡ 0 → Runs i [] (after s.profile i true 0 seen) m [] [] = λ seen m z. (refl, record { phase = refl; info = refl; samples = refl; message = refl }) in
     let start = beginning Truncated in
     let marker = unsigned 32 0x664C6143 in
     let m = past marker (fresh start) in
-    let z : m.unread ≡ 0 = behind_whole marker (fresh start) refl refl in
+    let z : m.unread ≡ 0 = after_whole marker (fresh start) refl refl in
     let blocks = blocks_spelling (block_of.StreamInfo i ∷ list) in
     let parts = closing (block_of.StreamInfo i ∷ list) in
     let r = one_more i [] (opening s.profile) start marked (parts ++ []) marker (blocks ++ []) (marker_here s.profile (fresh start)) tt (info_run s.profile i [] [] [] there list m z is good fits) in
@@ -165,7 +165,7 @@ opened s t list fault good fits =
     let j = head_run s list (shaped s fault) good fits in
     let all = valid_after s.profile (beginning Truncated) i list (head_spelling i list) j in
     let at = head_leaves s.profile i list all.1 in
-    let q = after grammar (opening s.profile) (head_parts i list) in
+    let q = state_after grammar (opening s.profile) (head_parts i list) in
     record {
       stream = record { spelled = j; ends = may_end q i at.phase at.info; kept = kept_at q s at.info };
       info = at.info;
@@ -195,7 +195,7 @@ whole_block n (c ∷ cs) h =
     let here : length c ≡ n = All-head (λ c. length c ≡ n) c cs h in
     ap (λ x. x ∷ part_of 0 n cs) (take_all n c (omega (arith, here))) ∙ ap (λ xs. c ∷ xs) (whole_block n cs (All-tail (λ c. length c ≡ n) c cs h))
 
--- the frame may stand behind frames of the block size
+-- the frame may stand after frames of the block size
 module _ (s : Shape) (q : Shaped s) (number : ℕ) (channels : List (List ℤ)) (many : length channels ≡ s.channels) (small : samples_each channels ≤ s.block_size) where
   abbrev info : Info
   info = open_info s
@@ -207,7 +207,7 @@ module _ (s : Shape) (q : Shaped s) (number : ℕ) (channels : List (List ℤ)) 
   frame_due before m t z left k =
       let h = k.form.header in
       let size = samples_each channels in
-      let behind = is_due s.block_size number before left in
+      let after = is_due s.block_size number before left in
       let r = encodings_are_frames (sound_of s channels) size number channels k.form info refl refl (sym many) k.encoding in
       let in_rate : size ≤ greatest_in s.profile info.rate = omega (arith, small, q.greatest) in
       let at_most : h.size ≤ s.block_size = omega (arith, r.sized, small) in
@@ -215,7 +215,7 @@ module _ (s : Shape) (q : Shaped s) (number : ℕ) (channels : List (List ℤ)) 
         ap not (r.allowed in_rate),
         (
           same_three (rate_in s.profile info h) info.rate (channels_of h.channel_code) info.channels (depth_in s.profile info h) info.depth r.format.rate r.format.channels r.format.depth,
-          (follows_on s.block_size number before h r.fixed r.numbered behind, (sized info s.block_size number before h refl refl at_most behind, tt)),
+          (follows_on s.block_size number before h r.fixed r.numbered after, (sized info s.block_size number before h refl refl at_most after, tt)),
         ),
       ) in
       let w = r.frame before follows in
@@ -237,15 +237,15 @@ in_room phase m t e z short = subst (λ p. InRoom (room_in p) m t) (sym e) (omeg
 
 pub stands_on : {S : Type 0} (e : Pushed S) (t : S) (channels : List (List ℤ)) (text : List Bool) → shape_fault e.shape ≡ None → length channels ≡ e.shape.channels → samples_each channels ≤ e.shape.block_size → e.ended ≡ false
     → SpellsFrame (sound_of e.shape channels) (frame_with e.number channels) text → (items : List Piece) (before : List Bool) → StandsFor e items before
-    → StandsFor (behind_block e (samples_each channels) t) (items ++ framed (frame_with e.number channels) ∷ []) (before ++ text)
+    → StandsFor (after_block e (samples_each channels) t) (items ++ framed (frame_with e.number channels) ∷ []) (before ++ text)
 stands_on e t channels text fault many small going k items before h =
     let s = e.shape in
     let q = shaped s fault in
     let f = frame_with e.number channels in
-    let p = after grammar (opening e.shape.profile) items in
+    let p = state_after grammar (opening e.shape.profile) items in
     let start = beginning Truncated in
     let j = h.stream.spelled in
-    let m = mark_behind grammar (opening e.shape.profile) start items before j in
+    let m = mark_after grammar (opening e.shape.profile) start items before j in
     let z : m.unread ≡ 0 = ends_whole (opening e.shape.profile) start items before j nothing_told refl in
     let phase : p.stand.phase ≡ Frames = frames_now p.stand.phase p.stand.info h.stream.ends in
     let due_is = h.before going in
@@ -254,7 +254,7 @@ stands_on e t channels text fault many small going k items before h =
     let spelled = as_part p.stand (open_info s) (fresh m) text f phase h.info judged in
     let room = in_room p.stand.phase (fresh m) text phase (fresh_unread m z) k.short in
     let more = Joined-append grammar (opening e.shape.profile) start items (framed f) before text j spelled room in
-    let then : after grammar (opening e.shape.profile) (items ++ framed f ∷ []) ≡ next p (framed f) = after-append grammar (opening e.shape.profile) items (framed f) in
+    let then : state_after grammar (opening e.shape.profile) (items ++ framed f ∷ []) ≡ next p (framed f) = state_after-append grammar (opening e.shape.profile) items (framed f) in
     let r = next p (framed f) in
     let ends : may_end_in r.stand.phase r.stand.info ≡ true = may_end r (open_info s) phase h.info in
     let kept : AllKept (end_rules r.stand.info r.samples r.message) = kept_at r s h.info in
@@ -385,7 +385,7 @@ module _ {X : Type 0} (f : X → List ℤ) (xs : List X) (channels bits : ℕ) w
 -- ---- the next frame
 
 pub is_next : {S : Type 0} (old to : Pushed S) (block : List (List ℤ)) (text : List Bool) → shape_fault old.shape ≡ None → Accepted old block → SpellsFrame (sound_of old.shape block) (frame_with old.number block) text
-    → SpellsLeast old.predictors (sound_of old.shape block) (frame_with old.number block) text → to ≡ behind_block old (samples_each block) to.target → IsNext old to block text
+    → SpellsLeast old.predictors (sound_of old.shape block) (frame_with old.number block) text → to ≡ after_block old (samples_each block) to.target → IsNext old to block text
 is_next old to block text shape accept frame_is least_is is = record {
   spells = frame_is;
   least = least_is;
@@ -409,15 +409,15 @@ module _ {R S : Type 0} (e : Pushed R) (t : S) where
   pub stands_without : (items : List Piece) (text : List Bool) → StandsFor (with_target e t) items text → StandsFor e items text
   stands_without items text h = record { stream = h.stream; info = h.info; frames = h.frames; samples = h.samples; before = h.before }
 
-module _ {R S : Type 0} (g : target.Ghosts S) (old : Pushed R) (u : R) (s t : S) (block : List (List ℤ)) (bytes : List ℕ) (is : IsNext old (behind_block old (samples_each block) u) block (bits_of bytes)) where
-  next_with : IsNext (with_target old s) (behind_block (with_target old s) (samples_each block) t) block (bits_of bytes)
+module _ {R S : Type 0} (g : target.Ghosts S) (old : Pushed R) (u : R) (s t : S) (block : List (List ℤ)) (bytes : List ℕ) (is : IsNext old (after_block old (samples_each block) u) block (bits_of bytes)) where
+  next_with : IsNext (with_target old s) (after_block (with_target old s) (samples_each block) t) block (bits_of bytes)
   next_with = record {
     spells = is.spells;
     least = is.least;
-    stands = λ items before h. stands_with (behind_block old (samples_each block) u) t (items ++ framed (frame_with old.number block) ∷ []) (before ++ bits_of bytes) (is.stands items before (stands_without old s items before h));
+    stands = λ items before h. stands_with (after_block old (samples_each block) u) t (items ++ framed (frame_with old.number block) ∷ []) (before ++ bits_of bytes) (is.stands items before (stands_without old s items before h));
   }
 
-  pub pushes : (new : Pushed S) → new ≡ behind_block (with_target old s) (samples_each block) t → g.sent t ≡ g.sent s ++ bytes → Pushes g block (with_target old s) new
+  pub pushes : (new : Pushed S) → new ≡ after_block (with_target old s) (samples_each block) t → g.sent t ≡ g.sent s ++ bytes → Pushes g block (with_target old s) new
   pushes new same sent = record {
     text = bits_of bytes;
     next = subst (λ (p : Pushed S). IsNext (with_target old s) p block (bits_of bytes)) (sym same) next_with;
@@ -428,8 +428,8 @@ module _ {R S : Type 0} (g : target.Ghosts S) (old : Pushed R) (u : R) (s t : S)
   begins_push new front rest same cut sent = record {
     front = bits_of front;
     rest = bits_of rest;
-    next = subst (λ x. IsNext (with_target old s) (behind_block (with_target old s) (samples_each block) x) block (bits_of front ++ bits_of rest)) (sym same)
-        (subst (λ x. IsNext (with_target old s) (behind_block (with_target old s) (samples_each block) t) block x) (ap bits_of cut ∙ bits_of-append front rest) next_with);
+    next = subst (λ x. IsNext (with_target old s) (after_block (with_target old s) (samples_each block) x) block (bits_of front ++ bits_of rest)) (sym same)
+        (subst (λ x. IsNext (with_target old s) (after_block (with_target old s) (samples_each block) t) block x) (ap bits_of cut ∙ bits_of-append front rest) next_with);
     sent = ap (λ x. bits_of (g.sent x)) same ∙ ap bits_of sent ∙ bits_of-append (g.sent s) front;
   }
 

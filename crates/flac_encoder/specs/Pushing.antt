@@ -4,7 +4,7 @@ use Rattle.std.specs.Borrow.{Bor}
 use Rattle.std.specs.Option.{option_or}
 use Rattle.flac_bits.specs.Bits.{bits_of}
 use Rattle.flac_bits.specs.State.{Rises}
-use Rattle.flac_bits.specs.Items.{Stream, after}
+use Rattle.flac_bits.specs.Items.{Stream, state_after}
 use Rattle.flac_bits.specs.declared.target.Target as target
 use Rattle.flac_bits.specs.declared.why.Why.TheVariants.{Truncated}
 use Rattle.flac_header.specs.declared.subset.Profile.{Profile}
@@ -87,12 +87,12 @@ abbrev pub IsUnpushed : {S : Type 0} → Shape → Pushed S → Type 0
 IsUnpushed shape e = e ≡ unpushed shape e.target
 
 -- one more block, of n samples, was pushed
-abbrev pub behind_block : {S : Type 0} → Pushed S → ℕ → S → Pushed S
-behind_block e n t =
+abbrev pub after_block : {S : Type 0} → Pushed S → ℕ → S → Pushed S
+after_block e n t =
     record { shape = e.shape; predictors = e.predictors; number = e.number + 1; samples = e.samples + n; ended = nat_lt n e.shape.block_size; spent = e.spent; target = t }
 
 abbrev pub IsAfterBlock : {S : Type 0} → (old : Pushed S) → List (List ℤ) → (new : Pushed S) → Type 0
-IsAfterBlock old block new = new ≡ behind_block old (samples_each block) new.target
+IsAfterBlock old block new = new ≡ after_block old (samples_each block) new.target
 
 -- the target has failed
 abbrev pub spent_with : {S : Type 0} → Pushed S → S → Pushed S
@@ -176,10 +176,10 @@ due block_size number = cond (nat_eq number 0) None (Some (record { first_size =
 -- samples that were pushed, and as long as no block was short the next frame is still due.
 pub record StandsFor {S : Type 0} (e : Pushed S) (items : List Piece) (text : List Bool) : Type 0 where
   pub stream : Stream grammar (opening e.shape.profile) (beginning Truncated) items text
-  pub info : (after grammar (opening e.shape.profile) items).stand.info ≡ Some (open_info e.shape)
+  pub info : (state_after grammar (opening e.shape.profile) items).stand.info ≡ Some (open_info e.shape)
   pub frames : frames_in items ≡ e.number
-  pub samples : (after grammar (opening e.shape.profile) items).samples ≡ e.samples
-  pub before : e.ended ≡ false → (after grammar (opening e.shape.profile) items).stand.before ≡ due e.shape.block_size e.number
+  pub samples : (state_after grammar (opening e.shape.profile) items).samples ≡ e.samples
+  pub before : e.ended ≡ false → (state_after grammar (opening e.shape.profile) items).stand.before ≡ due e.shape.block_size e.number
 
 -- the stream is the same
 abbrev pub KeepsStream : {S : Type 0} → (old new : Pushed S) → Type 0
@@ -232,7 +232,7 @@ pub record IsNext {S : Type 0} (old new : Pushed S) (block : List (List ℤ)) (t
 
 -- the bits are the next frame, which is then counted
 abbrev pub IsNextFrame : Pushed ⊤ → List (List ℤ) → List Bool → Type 0
-IsNextFrame e block text = IsNext e (behind_block e (samples_each block) tt) block text
+IsNextFrame e block text = IsNext e (after_block e (samples_each block) tt) block text
 
 -- the target was sent the next frame, after what it had
 pub record Pushes {S : Type 0} (g : target.Ghosts S) (block : List (List ℤ)) (old new : Pushed S) : Type 0 where
@@ -244,7 +244,7 @@ pub record Pushes {S : Type 0} (g : target.Ghosts S) (block : List (List ℤ)) (
 pub record BeginsPush {S : Type 0} (g : target.Ghosts S) (block : List (List ℤ)) (old new : Pushed S) : Type 0 where
   pub front : List Bool
   pub rest : List Bool
-  pub next : IsNext old (behind_block old (samples_each block) new.target) block (front ++ rest)
+  pub next : IsNext old (after_block old (samples_each block) new.target) block (front ++ rest)
   pub sent : bits_of (g.sent new.target) ≡ bits_of (g.sent old.target) ++ front
 
 -- if the target is known, it was sent the next frame

@@ -4,7 +4,7 @@ ghost use Rattle.std.specs.Prelude.{◌≡◌, ◌≢◌, ◌<◌, ◌^◌, None
 ghost use Rattle.flac_bits.specs.Bits.{bits_of};
 ghost use Rattle.flac_frame.specs.Audio.{samples_each};
 ghost use Rattle.flac_native.specs.Given.{predictors_fault};
-ghost use Rattle.flac_encoder.specs.Pushing.{shape_of, shape_fault, setup_fault, unpushed, behind_block, spent_with, trying, trying_fault, block_channels, size_fault, push_fault, IsFirst, IsNextFrame};
+ghost use Rattle.flac_encoder.specs.Pushing.{shape_of, shape_fault, setup_fault, unpushed, after_block, spent_with, trying, trying_fault, block_channels, size_fault, push_fault, IsFirst, IsNextFrame};
 
 use crate::stream_format::{StreamFormat, block_len};
 use flac_frame::{EncodeBuffers, SetupFault};
@@ -197,10 +197,10 @@ impl BlockEncoder {
     }
 
     /// Counts the frame of a block, which was put into the container: from now on a block is encoded as the frame
-    /// behind it. The block must be one that [`BlockEncoder::encode`] does not refuse.
+    /// after it. The block must be one that [`BlockEncoder::encode`] does not refuse.
     pub fn sent(&mut self, block: &[&[i32]])
         requires { push_fault self.old (block_channels block.now) ≡ None }
-        ensures { self.new ≡ behind_block self.old (samples_each (block_channels block.now)) tt }
+        ensures { self.new ≡ after_block self.old (samples_each (block_channels block.now)) tt }
     {
         let len = block_len(block) as u64;
         self.number += 1;

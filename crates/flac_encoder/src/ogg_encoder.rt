@@ -5,7 +5,7 @@ ghost use Rattle.flac_bits.specs.Bits.{bits_of};
 ghost use Rattle.flac_bits.specs.Forms.{AreBytes};
 ghost use Rattle.flac_encoder.specs.Pushing.{shape_of, shape_fault, setup_fault, subset_shape, open_info, IsUnpushed, trying_fault, block_channels, push_fault, IsAfterBlock, IsFirst, IsNativeHead, IsSpent, FailsIn, StaysKnown};
 ghost use Rattle.flac_native.specs.declared.fault.EncodeFault.TheVariants.{Spent};
-ghost use Rattle.flac_pages.specs.Placed.{sequence_behind};
+ghost use Rattle.flac_pages.specs.Placed.{sequence_after};
 ghost use Rattle.flac_ogg.specs.Headers.{AreHeadersOf};
 ghost use Rattle.flac_ogg.specs.Writing.{HasWriteError, CountsWriteError};
 ghost use Rattle.flac_encoder.specs.PushingOgg.{open_fault, listed_fault, trying_ogg, frame_pages, IsOpenFault, Opens, FailsOpen, KeepsOggStream, SentPacket, BegunPacket, SentEnd, FailsEnd};
@@ -172,7 +172,7 @@ fn hold_frame(
 ) -> Result<HeldPacket, Why>
     ensures middle { IfOk result (λ h. bits_of h.middle.items ≡ frame_pages serial sequence end false packet.now) }
     ensures last { IfOk result (λ h. bits_of h.last.items ≡ frame_pages serial sequence end true packet.now) }
-    ensures next { IfOk result (λ h. h.next ≡ sequence_behind sequence packet.now) }
+    ensures next { IfOk result (λ h. h.next ≡ sequence_after sequence packet.now) }
     ensures bytes { AreBytes packet.now }
     ensures memory { IfErr result (λ e. e ≡ Why.Memory) }
 {

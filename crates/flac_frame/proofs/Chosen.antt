@@ -5,7 +5,7 @@ use Rattle.std.proofs.lemmas.Grind.{flat_map-append}
 use Rattle.flac_subframe.specs.declared.format.linear.LinearPredictor.{LinearPredictor}
 use Rattle.flac_subframe.specs.format.Handed.{AreWithin}
 use Rattle.flac_bits.specs.Signed.{FitsBits}
-use Rattle.flac_subframe.specs.declared.search.wide.WideChoice.{WideChoice}
+use Rattle.flac_subframe.specs.declared.search.wide_choice.WideChoice.{WideChoice}
 use Rattle.flac_subframe.specs.declared.format.limits.Limits.{Limits}
 use Rattle.flac_subframe.specs.search.Choices.{IsMadeIn, form_in}
 use Rattle.flac_subframe.specs.format.Spelling.{subframe_spelling, IsSubframe}
@@ -135,22 +135,22 @@ drop_none (x ∷ xs) (suc n) h = drop_none xs n (omega (arith, h))
 
 -- the subframes of the channels from one on
 module _ (lists : Lists) (depth start size : ℕ) (cs : List WideChoice) (xs : List (List ℤ)) where
-  abbrev pub text_behind : ℕ → List Bool
-  text_behind i = flat_map (subframe_spelling depth) (forms_by_plane (from_plane i lists) (drop i cs) (block_of start size (drop i xs)))
+  abbrev pub text_after : ℕ → List Bool
+  text_after i = flat_map (subframe_spelling depth) (forms_by_plane (from_plane i lists) (drop i cs) (block_of start size (drop i xs)))
 
-  abbrev pub MadeBehind : ℕ → Type 0
-  MadeBehind i = AreMadeByPlane (from_plane i lists) (drop i cs) (block_of start size (drop i xs))
+  abbrev pub MadeAfter : ℕ → Type 0
+  MadeAfter i = AreMadeByPlane (from_plane i lists) (drop i cs) (block_of start size (drop i xs))
 
   module _ (i : ℕ) (c : WideChoice) (few : i < length cs) (lt : i < length xs) (is_c : c ≡ get_or cs i c) where
     first_channel : drop i xs ≡ get_or xs i [] ∷ drop (i + 1) xs
     first_channel = drop_is xs i (get_or xs i []) lt (get_or_default xs i [] (get_or xs i []) lt)
 
-    pub made_next : MadeBehind i → IsMadeIn (lists i) c (take size (drop start (get_or xs i []))) × MadeBehind (i + 1)
+    pub made_next : MadeAfter i → IsMadeIn (lists i) c (take size (drop start (get_or xs i []))) × MadeAfter (i + 1)
     made_next h =
         let here = subst (λ ds. AreMadeByPlane (from_plane i lists) ds (block_of start size (get_or xs i [] ∷ drop (i + 1) xs))) (drop_is cs i c few is_c) (subst (λ ys. AreMadeByPlane (from_plane i lists) (drop i cs) (block_of start size ys)) first_channel h) in
         (subst (λ ps. IsMadeIn ps c (take size (drop start (get_or xs i [])))) (first_from i lists) here.0, subst (λ ls. AreMadeByPlane ls (drop (i + 1) cs) (block_of start size (drop (i + 1) xs))) (later_from i lists) here.1)
 
-    pub text_next : text_behind i ≡ subframe_spelling depth (form_in (lists i) c (take size (drop start (get_or xs i [])))) ++ text_behind (i + 1)
+    pub text_next : text_after i ≡ subframe_spelling depth (form_in (lists i) c (take size (drop start (get_or xs i [])))) ++ text_after (i + 1)
     text_next =
         let s : List ℤ = take size (drop start (get_or xs i [])) in
         let text = subframe_spelling depth in
@@ -159,7 +159,7 @@ module _ (lists : Lists) (depth start size : ℕ) (cs : List WideChoice) (xs : L
         ∙ ap (λ ps. text (form_in ps c s) ++ flat_map text (forms_by_plane (later (from_plane i lists)) (drop (i + 1) cs) (block_of start size (drop (i + 1) xs)))) (first_from i lists)
         ∙ ap (λ ls. text (form_in (lists i) c s) ++ flat_map text (forms_by_plane ls (drop (i + 1) cs) (block_of start size (drop (i + 1) xs)))) (later_from i lists)
 
-  pub text_last : (i : ℕ) → length xs ≤ i → text_behind i ≡ []
+  pub text_last : (i : ℕ) → length xs ≤ i → text_after i ≡ []
   text_last i h = ap (λ ys. flat_map (subframe_spelling depth) (forms_by_plane (from_plane i lists) (drop i cs) (block_of start size ys))) (drop_none xs i h)
 
 -- the texts of all, whose choices are the same, at a depth that is the same

@@ -10,7 +10,7 @@ use Rattle.flac_bits.specs.Items.{Joined}
 use Rattle.flac_info.specs.Info.{Info}
 use Rattle.flac_header.specs.Header.{Header, header, allowed, channels_of}
 use Rattle.flac_header.specs.declared.subset.Profile.{Profile}
-use Rattle.flac_frame.specs.Frame.{Frame, frame, frame_body, stream_header, header_rules, left_by, after, rate_in, depth_in, differs}
+use Rattle.flac_frame.specs.Frame.{Frame, frame, frame_body, stream_header, header_rules, left_by, after_frame, rate_in, depth_in, differs}
 use Rattle.flac_frame.specs.Follows.{EachTwo, ButLast, NumberFollows, HasFormat, Follows, AreAccepted, AcceptedFollow, AreFrames, frames, FramesFollow}
 use Rattle.flac_frame.specs.declared.before.Before.{Before}
 
@@ -72,11 +72,11 @@ sized false greatest least first size before a b c d =
     let less = d refl in
     grind (arith, nat_tests)
 
--- ---- the headers behind a first and a last one
+-- ---- the headers after a first and a last one
 
--- what is kept behind a header, where the first block had so many samples
-abbrev behind : ℕ → Header → Before
-behind first last = record { first_size = first; variable = last.variable; next = last.number + cond last.variable last.size 1; size = last.size }
+-- what is kept after a header, where the first block had n samples
+abbrev after : ℕ → Header → Before
+after first last = record { first_size = first; variable = last.variable; next = last.number + cond last.variable last.size 1; size = last.size }
 
 abbrev Allowed : Profile → Header → Type 0
 Allowed profile h = allowed profile h ≡ true
@@ -87,7 +87,7 @@ Has variable h = h.variable ≡ variable
 abbrev AtMost : ℕ → Header → Type 0
 AtMost size h = h.size ≤ size
 
--- the headers behind the last so far
+-- the headers after the last so far
 record Rest (profile : Profile) (info : Info) (first : ℕ) (last : Header) (hs : List Header) : Type 0 where
   allowed : All (λ h. allowed profile h ≡ true) hs
   format : All (HasFormat profile info) hs
@@ -98,7 +98,7 @@ record Rest (profile : Profile) (info : Info) (first : ℕ) (last : Header) (hs 
   same : last.variable ≡ false → ButLast (λ h. h.size ≡ first) (last ∷ hs)
   no_larger : last.variable ≡ false → All (λ h. h.size ≤ first) hs
 
-rest_of : (profile : Profile) (info : Info) (first : ℕ) (last : Header) (hs : List Header) → AreAccepted profile info (Some (behind first last)) hs → Rest profile info first last hs
+rest_of : (profile : Profile) (info : Info) (first : ℕ) (last : Header) (hs : List Header) → AreAccepted profile info (Some (after first last)) hs → Rest profile info first last hs
 rest_of profile info first last [] a = record {
   allowed = All-nil (Allowed profile);
   format = All-nil (HasFormat profile info);
@@ -125,7 +125,7 @@ rest_of profile info first last (h ∷ hs) (rules, a) =
       no_larger = λ fixed. All-cons (AtMost first) h hs (s.3 (strategy ∙ fixed)) (r.no_larger (strategy ∙ fixed));
     }
 
-accepted_rest : (profile : Profile) (info : Info) (first : ℕ) (last : Header) (hs : List Header) → Rest profile info first last hs → AreAccepted profile info (Some (behind first last)) hs
+accepted_rest : (profile : Profile) (info : Info) (first : ℕ) (last : Header) (hs : List Header) → Rest profile info first last hs → AreAccepted profile info (Some (after first last)) hs
 accepted_rest profile info first last [] r = tt
 accepted_rest profile info first last (h ∷ hs) r =
     let strategy : h.variable ≡ last.variable = All-head (Has last.variable) h hs r.strategy in
@@ -239,7 +239,7 @@ unfolding frame_body
 body_keeps profile info h m text f (_, _, _, _, _, (_, _, _, _, _, (channels, _, _, _, _, is))) =
     let same = sym is.1 in (ap (λ (g : Frame). g.variable) same, ap (λ (g : Frame). g.number) same, ap (λ (g : Frame). g.size) same)
 
-leaves : (profile : Profile) (info : Info) (before : Option Before) (h : Header) (m : Mark) (text : List Bool) (f : Frame) → Spells (frame_body profile info h) m text f → after before f ≡ left_by before h.variable h.number h.size
+leaves : (profile : Profile) (info : Info) (before : Option Before) (h : Header) (m : Mark) (text : List Bool) (f : Frame) → Spells (frame_body profile info h) m text f → after_frame before f ≡ left_by before h.variable h.number h.size
 leaves profile info before h m text f s = let k = body_keeps profile info h m text f s in rw (k.0, k.1, k.2) refl
 
 -- with the headers that were accepted
@@ -252,7 +252,7 @@ taken profile info room before m [] text j = ([], j, tt)
 taken profile info room before m (f ∷ fs) text (front, rest, split, (h, first, body, parted, s, b), fits, more) =
     let j = judged_header profile info before (fresh m) first h s in
     let left = leaves profile info before h _ body f b in
-    let t = taken profile info room (Some (after before f)) (past front (fresh m)) fs rest more in (
+    let t = taken profile info room (Some (after_frame before f)) (past front (fresh m)) fs rest more in (
       h ∷ t.0,
       (first, body, rest, split ∙ ap (λ k. k ++ rest) parted, j.0, b, subst (λ k. InRoom room (fresh m) k) parted fits, subst (λ k. AreFrames profile info room (past k (fresh m)) t.0 fs rest) parted t.1),
       (j.1, subst (λ k. AreAccepted profile info (Some k) t.0) left t.2),
@@ -270,7 +270,7 @@ joins profile info room before m (f ∷ fs) text (h ∷ hs) (first, body, rest, 
       split,
       (h, first, body, refl, header_judged profile info before (fresh m) first h s kept, b),
       fits,
-      joins profile info room (Some (after before f)) (past (first ++ body) (fresh m)) fs rest hs more (subst (λ x. AreAccepted profile info (Some x) hs) (sym left) k),
+      joins profile info room (Some (after_frame before f)) (past (first ++ body) (fresh m)) fs rest hs more (subst (λ x. AreAccepted profile info (Some x) hs) (sym left) k),
     )
 
 pub frames_follow : FramesFollow

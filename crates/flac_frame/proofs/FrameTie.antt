@@ -77,19 +77,19 @@ end_tie k small = tie frame_end k (λ u. ⊤) (λ u. end_spelling k)
     let is : check ≡ (past (zeros k ++ []) k).check16 = ap (λ t. (past t k).check16) (sym (append-nil (zeros k))) in
     (0, pow_pos k.unread, ((refl, tt), (check, small, ((no_other check _ is, tt), (end_text k 0 check refl is, refl))))))
 
--- what stands behind a body is the zeros and its check
+-- what stands after a body is the zeros and its check
 module _ (body : List Bool) (m : Mark) (whole : m.unread ≡ 0) (begun : m.check16 ≡ 0) where
-  behind_body : zeros (past body m) ≡ unsigned ((8 - length body % 8) % 8) 0
-  behind_body =
+  after_body : zeros (past body m) ≡ unsigned ((8 - length body % 8) % 8) 0
+  after_body =
       let e : (past body m).unread ≡ (8 - length body % 8) % 8 = omega (arith, past-unread body 0 m whole (omega arith)) in
       ap (λ n. unsigned n 0) e
 
   body_check : (past (zeros (past body m)) (past body m)).check16 ≡ remainder 16 32773 (filled body)
   body_check =
-      ap (λ (k : Mark). k.check16) (sym (past-append body (zeros (past body m)) m)) ∙ check16_is (body ++ zeros (past body m)) m begun ∙ ap (λ t. remainder 16 32773 (body ++ t)) behind_body
+      ap (λ (k : Mark). k.check16) (sym (past-append body (zeros (past body m)) m)) ∙ check16_is (body ++ zeros (past body m)) m begun ∙ ap (λ t. remainder 16 32773 (body ++ t)) after_body
 
   pub end_is : body ++ end_spelling (past body m) ≡ checked (filled body)
-  end_is = sym (append_assoc body (zeros (past body m)) _) ∙ ap (λ t. (body ++ t) ++ unsigned 16 (past (zeros (past body m)) (past body m)).check16) behind_body ∙ ap (λ n. filled body ++ unsigned 16 n) body_check
+  end_is = sym (append_assoc body (zeros (past body m)) _) ∙ ap (λ t. (body ++ t) ++ unsigned 16 (past (zeros (past body m)) (past body m)).check16) after_body ∙ ap (λ n. filled body ++ unsigned 16 n) body_check
 
   end_small : (past (zeros (past body m)) (past body m)).check16 < 2 ^ 16
   end_small = rw body_check (check_small (filled body))

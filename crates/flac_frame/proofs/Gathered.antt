@@ -27,7 +27,7 @@ module _ (depth block : ℕ) (limits : Limits) (deep : 1 ≤ depth) (some : 1 �
 
 -- ---- all of them
 
--- the samples of channels one after another, behind those before
+-- the samples of channels one after another, after those before
 abbrev pub gather : (depth code block : ℕ) → Option (List (List ℤ)) → ℕ → List Form → Option (List (List ℤ))
 gather depth code block got channel [] = got
 gather depth code block got channel (f ∷ fs) = gather depth code block (with_channel got (samples_of (depth + side_bit code channel) block f)) (channel + 1) fs

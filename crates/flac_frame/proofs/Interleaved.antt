@@ -30,7 +30,7 @@ rows_more channels (suc n) i =
     let s : suc n + 1 ≡ suc (n + 1) = omega arith in
     rw s (ap (λ r. row channels i ++ r) (more ∙ ap (λ k. rows channels n (i + 1) ++ row channels k) e) ∙ sym (append_assoc (row channels i) (rows channels n (i + 1)) (row channels (i + suc n))))
 
--- what lies behind n more places
+-- what lies after n more places
 pub drop_further : {A : Type 0} (xs ys : List A) (i n : ℕ) → drop i xs ≡ drop i ys → drop (i + n) xs ≡ drop (i + n) ys
 drop_further xs ys i n e = sym (drop-drop n i xs) ∙ ap (drop n) e ∙ drop-drop n i ys
 

@@ -9,7 +9,7 @@ pub mod Interleaved
 -- ---- what a frame means, and how it is spelled
 pub mod Gathered
 pub mod FrameTie
-pub mod Wider
+pub mod LaxProfile
 -- ---- what is encoded: samples, channel assignments, and predictors for each plane
 pub mod Sounds
 pub mod Subjects
@@ -23,7 +23,7 @@ pub mod Encodings
 pub mod Pairs
 pub mod PairLeast
 -- ---- a frame that was chosen: its size, and how it is written
-pub mod Rooms
+pub mod Capacities
 pub mod Chosen
 pub mod Copies
 pub mod Short

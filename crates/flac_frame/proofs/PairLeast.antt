@@ -7,7 +7,7 @@ use Rattle.flac_bits.specs.Signed.{FitsBits}
 use Rattle.flac_header.specs.Header.{Header, IsHeader, channels_of}
 use Rattle.flac_header.specs.Choice.{chosen_header}
 use Rattle.flac_header.specs.declared.subset.Profile.{Profile}
-use Rattle.flac_subframe.specs.declared.search.wide.WideChoice.{WideChoice}
+use Rattle.flac_subframe.specs.declared.search.wide_choice.WideChoice.{WideChoice}
 use Rattle.flac_subframe.specs.search.Choices.{form_in}
 use Rattle.flac_subframe.specs.format.Spelling.{subframe_spelling, IsSubframe}
 use Rattle.flac_subframe.specs.format.Subframe.{Form, samples_of}

@@ -6,12 +6,12 @@ use Rattle.std.proofs.lemmas.Bool.Decides.{nat_tests}
 use Rattle.std.proofs.lemmas.List.{ext_get_or}
 use Rattle.flac_header.specs.Header.{channels_of}
 use Rattle.flac_subframe.specs.declared.format.limits.Limits.{Limits}
-use Rattle.flac_subframe.specs.search.FamilyLaws.{InFamily, InWidened}
+use Rattle.flac_subframe.specs.search.FamilyLaws.{InFamily, InFamilyWith}
 use Rattle.flac_subframe.specs.format.Subframe.{Form}
-use Rattle.flac_subframe.proofs.lemmas.search.Complete.{widened_whole, none_linear}
-use Rattle.flac_subframe.proofs.lemmas.search.Family.{in_widened, no_linear}
+use Rattle.flac_subframe.proofs.lemmas.search.Complete.{family_with_whole, none_linear}
+use Rattle.flac_subframe.proofs.lemmas.search.Family.{in_family_with, no_linear}
 use Rattle.flac_frame.specs.Audio.{Sound}
-use Rattle.flac_frame.specs.Encoding.{partition_limit, IsEncoding, EachStandsByPlane, EachInFamily, EachInPlanes, EachInWidened, FrameFamilyIsPlain, FramePlanesIsPlain, FrameWidenedIsPlain}
+use Rattle.flac_frame.specs.Encoding.{partition_limit, IsEncoding, EachStandsByPlane, EachInFamily, EachInPlanes, EachInFamilyWith, FrameFamilyIsPlain, FramePlanesIsPlain, FrameFamilyWithIsPlain}
 use Rattle.flac_frame.specs.PlaneLists.{Lists, same_list, later, lists_kept}
 use Rattle.flac_frame.specs.Frame.{limits_at}
 use Rattle.flac_frame.specs.Spelling.{FrameForm, AreSubframes, HaveSamples}
@@ -79,16 +79,16 @@ module _ (depth code size : ℕ) (limits : Limits) where
   each_stands lists channel [] (s ∷ ss) valid have family = absurd have
   each_stands lists channel (f ∷ fs) [] valid have family = absurd have
   each_stands lists channel (f ∷ fs) (s ∷ ss) valid have family =
-      (widened_whole limits.partition _ size limits (lists 0) f s (omega arith) valid.0 have.0 family.0, each_stands (later lists) (channel + 1) fs ss valid.1 have.1 family.1)
+      (family_with_whole limits.partition _ size limits (lists 0) f s (omega arith) valid.0 have.0 family.0, each_stands (later lists) (channel + 1) fs ss valid.1 have.1 family.1)
 
 each_plain : (most : ℕ) (lists : Lists) (fs : List Form) (ss : List (List ℤ)) → EachStandsByPlane most lists fs ss → EachInPlanes lists fs ss
 each_plain most lists [] [] stand = tt
 each_plain most lists [] (s ∷ ss) stand = absurd stand
 each_plain most lists (f ∷ fs) [] stand = absurd stand
-each_plain most lists (f ∷ fs) (s ∷ ss) stand = (in_widened most (lists 0) f s stand.0, each_plain most (later lists) fs ss stand.1)
+each_plain most lists (f ∷ fs) (s ∷ ss) stand = (in_family_with most (lists 0) f s stand.0, each_plain most (later lists) fs ss stand.1)
 
 -- where no linear predictor is handed in
-each_family : (fs : List Form) (ss : List (List ℤ)) → EachInWidened [] fs ss → EachInFamily fs ss
+each_family : (fs : List Form) (ss : List (List ℤ)) → EachInFamilyWith [] fs ss → EachInFamily fs ss
 each_family [] [] h = tt
 each_family [] (s ∷ ss) h = absurd h
 each_family (f ∷ fs) [] h = absurd h
@@ -96,12 +96,12 @@ each_family (f ∷ fs) (s ∷ ss) h =
     let one : InFamily f s = record { plain = no_linear f.content h.0.plain; wasted = h.0.wasted } in
     (one, each_family fs ss h.1)
 
-each_none : (fs : List Form) (ss : List (List ℤ)) → EachInFamily fs ss → EachInWidened [] fs ss
+each_none : (fs : List Form) (ss : List (List ℤ)) → EachInFamily fs ss → EachInFamilyWith [] fs ss
 each_none [] [] h = tt
 each_none [] (s ∷ ss) h = absurd h
 each_none (f ∷ fs) [] h = absurd h
 each_none (f ∷ fs) (s ∷ ss) h =
-    let one : InWidened [] f s = record { plain = none_linear f.content h.0.plain; wasted = h.0.wasted } in
+    let one : InFamilyWith [] f s = record { plain = none_linear f.content h.0.plain; wasted = h.0.wasted } in
     (one, each_none fs ss h.1)
 
 pair_back : (code size : ℕ) (kept block : List (List ℤ)) → 7 < code → code < 11 → length kept ≡ 2 → length block ≡ 2 → EachLong size kept → joined code kept ≡ block → kept_as code block ≡ kept
@@ -156,12 +156,12 @@ frame_planes_plain lists sound size number block f =
       λ p. record { encoding = p.0; stand = subst (EachStandsByPlane (partition_limit sound) own f.subframes) (sym (kept_is lists sound size number block f p.0)) (stand lists sound size number block f p.0 p.1) },
     )
 
-pub frame_widened_plain : FrameWidenedIsPlain
-frame_widened_plain ps sound size number block f = frame_planes_plain (same_list ps) sound size number block f
+pub frame_family_with_plain : FrameFamilyWithIsPlain
+frame_family_with_plain ps sound size number block f = frame_planes_plain (same_list ps) sound size number block f
 
 pub frame_family_plain : FrameFamilyIsPlain
 frame_family_plain sound size number block f =
-    let both = frame_widened_plain [] sound size number block f in (
+    let both = frame_family_with_plain [] sound size number block f in (
       λ o. let w = both.0 o in (w.0, each_family f.subframes w.0.samples.kept w.1),
       λ p. both.1 (p.0, each_none f.subframes p.0.samples.kept p.1),
     )

@@ -18,7 +18,7 @@ use Rattle.flac_subframe.specs.format.Family.{Stands}
 use Rattle.flac_subframe.specs.format.Spelling.{content_spelling, subframe_spelling}
 use Rattle.flac_subframe.specs.format.Subframe.{Form, Verbatim}
 use Rattle.flac_subframe.specs.format.Wasted.{times_power}
-use Rattle.flac_subframe.proofs.lemmas.search.Family.{widened_stand}
+use Rattle.flac_subframe.proofs.lemmas.search.Family.{family_with_stand}
 use Rattle.flac_subframe.proofs.lemmas.format.Made.{all_within}
 use Rattle.flac_subframe.proofs.lemmas.search.Lengths.{length-samples}
 use Rattle.flac_subframe.proofs.lemmas.search.WholeLeast.{length-subframe}
@@ -42,7 +42,7 @@ module _ (most : ℕ) (wide : most ≤ 15) (ps : List LinearPredictor) (depth : 
       let so : s ≡ map (times_power k) t = least.member.body.3 in
       let stands : Stands most (offered ps) (record { wasted = k; content = Verbatim t }) s = record { wasted = least.member.wasted; body = (verbatim t, t, refl, so, refl) } in
       let limits : Limits = record { partition = most; linear = 32 } in
-      let left : k < depth = (widened_stand most depth limits ps f s deep some (omega arith) wide (all_within ps) fits least.member).0.left in
+      let left : k < depth = (family_with_stand most depth limits ps f s deep some (omega arith) wide (all_within ps) fits least.member).0.left in
       let long : length t ≡ length s = sym (length-map t (times_power k)) ∙ ap (λ (l : List ℤ). length l) (sym so) in
       let le = least.least (record { wasted = k; content = Verbatim t }) stands in
       let few : (depth - k) * length t ≤ depth * length s = subst (λ n. (depth - k) * length t ≤ depth * n) long (mul-le-mul_right (length t) (omega arith)) in

@@ -9,7 +9,7 @@ use Rattle.flac_header.specs.Spelling.{restarted}
 pub fresh_bytes : (m : Mark) → m.unread ≡ 0 → (fresh m).bytes ≡ m.bytes
 fresh_bytes m z = rw z refl
 
--- the count behind bits that begin at a whole byte
+-- the count after bits that begin at a whole byte
 pub bytes_after : (t : List Bool) (w v : Written) → w.mark.unread ≡ 0 → w.mark.bytes < 2 ^ 64 → Adds t (restarted w) v → v.mark.bytes ≡ min (w.mark.bytes + (length t + 7 - 0) / 8) (2 ^ 64 - 1)
 bytes_after t w v z small adds =
     ap (λ (m : Mark). m.bytes) adds.mark ∙ past-bytes t 0 w.mark.bytes (fresh w.mark) (fresh_unread w.mark z) (omega arith) (fresh_bytes w.mark z) (omega (arith, small))
@@ -20,7 +20,7 @@ bytes_grow t w v z small adds = omega (arith, bytes_after t w v z small adds, sm
 whole_bytes : (n long after bytes : ℕ) → long % 8 ≡ 0 → after ≡ min (n + (long + 7 - 0) / 8) (2 ^ 64 - 1) → after < 2 ^ 64 - 1 → after ≡ n + bytes → long ≡ 8 * bytes
 whole_bytes n long after bytes whole e few is = omega (arith, whole, e, few, is)
 
--- the bits of so many bytes more, where the count is exact
+-- the bits of n bytes more, where the count is exact
 pub bits_more : (t : List Bool) (w v : Written) (bytes : ℕ) → w.mark.unread ≡ 0 → w.mark.bytes < 2 ^ 64 → length t % 8 ≡ 0 → Adds t (restarted w) v → v.mark.bytes ≡ w.mark.bytes + bytes
     → w.known ≡ true → v.mark.bytes < 2 ^ 64 - 1 → length v.bits ≡ length w.bits + 8 * bytes
 bits_more t w v bytes z small whole adds is known few =

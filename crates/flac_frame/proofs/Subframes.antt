@@ -24,7 +24,7 @@ part_ends i c n h =
     let le : suc i ≤ c = omega arith in
     omega (arith, mul-le-mul_right n le)
 
--- what lies behind the parts does not matter
+-- what lies after the parts does not matter
 pub chunks-take : {A : Type 0} (c n : ℕ) (xs : List A) → chunks c n (take (c * n) xs) ≡ chunks c n xs
 chunks-take zero n xs = refl
 chunks-take (suc c) n xs =
@@ -77,7 +77,7 @@ what depth code block limits fits c n xs at = run (subframes depth code block li
 
 pub turn : (old now next : State) (depth code block : ℕ) (limits : Limits) (fits ok fits_now : Bool) (c n : ℕ) (xs own : List ℤ) (whole : Result (Option (List (List ℤ)) × Cursor) Reason)
     → Goes old now (what depth code block limits fits c n xs now.cursor) whole → c < n → length xs ≡ n * block → length own ≡ block → fits_now ≡ (fits && ok)
-    → (now.known ≡ true → next.known ≡ true) × (next.errors ≡ now.errors) × (next.raised ≡ now.raised) × (now.known ≡ true → next.behind ≡ now.behind) × (next.names ≡ now.names)
+    → (now.known ≡ true → next.known ≡ true) × (next.errors ≡ now.errors) × (next.raised ≡ now.raised) × (now.known ≡ true → next.after ≡ now.after) × (next.names ≡ now.names)
     → (now.known ≡ true → next.errors ≡ now.errors → run (subframe_samples (depth + side_bit code c) block limits) now.cursor ≡ Ok (cond ok (Some own) None, next.cursor))
     → Goes old next (what depth code block limits fits_now (c + 1) n (put_mid (c * block) (c * block + block - c * block) xs own) next.cursor) whole
 turn old now next depth code block limits fits ok fits_now c n xs own whole goes lt long is both counts reads =

@@ -34,7 +34,7 @@ use Rattle.flac_frame.proofs.Encoded.{failed}
 abbrev pub frame_parts : Header → List Bool → Mark → List Bool
 frame_parts h parts m = header_spelling h ++ (parts ++ end_spelling (past parts (past (header_spelling h) (fresh m))))
 
--- what stands behind the header was written, and then the end
+-- what stands after the header was written, and then the end
 pub ends : {X : Type 0} (h : Header) (parts : List Bool) (old mid end new : Written) (result : Result X Why) → Adds (header_spelling h) (restarted old) mid → Adds parts mid end → Writes (end_spelling end.mark) end new result
     → Writes (frame_parts h parts old.mark) (restarted old) new result
 ends h parts old mid end new result adds more last =
@@ -45,7 +45,7 @@ ends h parts old mid end new result adds more last =
 pub header_stops : (h : Header) (parts : List Bool) (old new : Written) (e : Why) → Fails ((restarted old).bits ++ header_spelling h) (restarted old) new e → Writes (frame_parts h parts old.mark) (restarted old) new (failed e)
 header_stops h parts old new e fails = fails_first (header_spelling h) (parts ++ end_spelling (past parts (past (header_spelling h) (fresh old.mark)))) fails
 
--- what stands behind it was not written
+-- what stands after it was not written
 pub parts_stop : (h : Header) (parts : List Bool) (old mid new : Written) (e : Why) → Adds (header_spelling h) (restarted old) mid → Fails (mid.bits ++ parts) mid new e → Writes (frame_parts h parts old.mark) (restarted old) new (failed e)
 parts_stop h parts old mid new e adds fails = fails_then _ adds (fails_first parts _ fails)
 

@@ -1,7 +1,7 @@
 -- How a block is written as a frame, chosen before anything of it is written.
 use Rattle.std.specs.Prelude.{◌≡◌, ◌≤◌, ◌-◌, ◌*◌, ◌^◌, ℕ, ℤ, List, [], ◌∷◌, length, Some, All, vec_len, ⊤}
 use Rattle.flac_header.specs.Choice.{chosen_header}
-use Rattle.flac_subframe.specs.declared.search.wide.WideChoice.{WideChoice}
+use Rattle.flac_subframe.specs.declared.search.wide_choice.WideChoice.{WideChoice}
 use Rattle.flac_subframe.specs.declared.format.linear.LinearPredictor.{LinearPredictor}
 use Rattle.flac_subframe.specs.search.Choices.{IsMadeIn, form_in}
 use Rattle.flac_subframe.specs.format.Subframe.{Form}
@@ -43,13 +43,13 @@ abbrev pub IsChoiceWith : List LinearPredictor → Sound → (size number : ℕ)
 IsChoiceWith ps = IsChoiceByPlane (same_list ps)
 
 -- each array is long enough for partition orders up to `most`
-abbrev pub AllWide : (most : ℕ) → List WideChoice → Type 0
-AllWide most choices = All (λ c. 2 ^ most ≤ vec_len c.codings) choices
+abbrev pub AllHaveCodings : (most : ℕ) → List WideChoice → Type 0
+AllHaveCodings most choices = All (λ c. 2 ^ most ≤ vec_len c.codings) choices
 
 -- there is a choice for the subframe of each channel, with arrays for partition orders up to `most`
 pub record HasPlaces (channels most : ℕ) (c : FrameChoice) : Type 0 where
   pub many : channels ≤ length c.subframes.items
-  pub wide : AllWide most c.subframes.items
+  pub codings : AllHaveCodings most c.subframes.items
 
 -- what was chosen for the samples from an index on up to another
 abbrev pub IsRangeByPlane : Lists → Sound → (start end number : ℕ) → FrameChoice → Type 0

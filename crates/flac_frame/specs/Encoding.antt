@@ -13,7 +13,7 @@ use Rattle.flac_subframe.specs.declared.format.limits.Limits.{Limits}
 use Rattle.flac_subframe.specs.declared.format.linear.LinearPredictor.{LinearPredictor}
 use Rattle.flac_subframe.specs.format.Chosen.{fixed_below, offered}
 use Rattle.flac_subframe.specs.format.Family.{Stands}
-use Rattle.flac_subframe.specs.search.FamilyLaws.{InFamily, InWidened}
+use Rattle.flac_subframe.specs.search.FamilyLaws.{InFamily, InFamilyWith}
 use Rattle.flac_subframe.specs.format.Least.{IsLeast}
 use Rattle.flac_subframe.specs.format.Spelling.{IsSubframe}
 use Rattle.flac_subframe.specs.format.Subframe.{Form, samples_of}
@@ -87,11 +87,11 @@ pub record IsOfPlanes (lists : Lists) (sound : Sound) (size number : ℕ) (block
 abbrev pub EachStands : (most : ℕ) → List LinearPredictor → List Form → List (List ℤ) → Type 0
 EachStands most ps = EachStandsByPlane most (same_list ps)
 
-abbrev pub IsOfWidened : List LinearPredictor → Sound → (size number : ℕ) → List (List ℤ) → FrameForm → Type 0
-IsOfWidened ps = IsOfPlanes (same_list ps)
+abbrev pub IsOfFamilyWith : List LinearPredictor → Sound → (size number : ℕ) → List (List ℤ) → FrameForm → Type 0
+IsOfFamilyWith ps = IsOfPlanes (same_list ps)
 
 abbrev pub IsOfFamily : Sound → (size number : ℕ) → List (List ℤ) → FrameForm → Type 0
-IsOfFamily sound size number block f = IsOfWidened [] sound size number block f
+IsOfFamily sound size number block f = IsOfFamilyWith [] sound size number block f
 
 -- the subframes are of the family, each for its samples: constant, verbatim or by a fixed predictor, with all wasted
 -- bits left out
@@ -106,10 +106,10 @@ abbrev pub EachInPlanes : Lists → List Form → List (List ℤ) → Type 0
 EachInPlanes lists [] [] = ⊤
 EachInPlanes lists [] (s ∷ ss) = ⊥
 EachInPlanes lists (f ∷ fs) [] = ⊥
-EachInPlanes lists (f ∷ fs) (s ∷ ss) = InWidened (lists 0) f s × EachInPlanes (later lists) fs ss
+EachInPlanes lists (f ∷ fs) (s ∷ ss) = InFamilyWith (lists 0) f s × EachInPlanes (later lists) fs ss
 
-abbrev pub EachInWidened : List LinearPredictor → List Form → List (List ℤ) → Type 0
-EachInWidened ps = EachInPlanes (same_list ps)
+abbrev pub EachInFamilyWith : List LinearPredictor → List Form → List (List ℤ) → Type 0
+EachInFamilyWith ps = EachInPlanes (same_list ps)
 
 -- these frames are exactly the encodings of a block, under any channel code, whose subframes are of the family, each
 -- for its samples
@@ -121,9 +121,9 @@ abbrev pub FramePlanesIsPlain : Type 0
 FramePlanesIsPlain = (lists : Lists) (sound : Sound) (size number : ℕ) (block : List (List ℤ)) (f : FrameForm)
     → IsOfPlanes lists sound size number block f ↔ ((e : IsEncoding sound size number block f) × EachInPlanes (lists_kept f.header.channel_code lists) f.subframes e.samples.kept)
 
-abbrev pub FrameWidenedIsPlain : Type 0
-FrameWidenedIsPlain = (ps : List LinearPredictor) (sound : Sound) (size number : ℕ) (block : List (List ℤ)) (f : FrameForm)
-    → IsOfWidened ps sound size number block f ↔ ((e : IsEncoding sound size number block f) × EachInWidened ps f.subframes e.samples.kept)
+abbrev pub FrameFamilyWithIsPlain : Type 0
+FrameFamilyWithIsPlain = (ps : List LinearPredictor) (sound : Sound) (size number : ℕ) (block : List (List ℤ)) (f : FrameForm)
+    → IsOfFamilyWith ps sound size number block f ↔ ((e : IsEncoding sound size number block f) × EachInFamilyWith ps f.subframes e.samples.kept)
 
 -- the bits of the subframes
 abbrev pub subframes_cost : ℕ → FrameForm → ℕ

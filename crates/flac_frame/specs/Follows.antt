@@ -7,7 +7,7 @@ use Rattle.flac_bits.specs.Items.{Grammar, Joined}
 use Rattle.flac_info.specs.Info.{Info}
 use Rattle.flac_header.specs.Header.{Header, header, allowed, channels_of}
 use Rattle.flac_header.specs.declared.subset.Profile.{Profile}
-use Rattle.flac_frame.specs.Frame.{Frame, frame, frame_body, header_rules, rate_in, depth_in, left_by, after}
+use Rattle.flac_frame.specs.Frame.{Frame, frame, frame_body, header_rules, rate_in, depth_in, left_by, after_frame}
 use Rattle.flac_frame.specs.declared.before.Before.{Before}
 
 -- of every two headers, one after the other
@@ -67,7 +67,7 @@ abbrev pub frames : Profile → Info → Option ℕ → Grammar (Option Before) 
 frames profile info room = record {
   layout = frame profile info;
   room = λ before. room;
-  next = λ before f. Some (after before f);
+  next = λ before f. Some (after_frame before f);
   may_end = λ before. true;
   at_end = λ before. [];
   place = λ before. tt;

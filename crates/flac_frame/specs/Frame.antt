@@ -30,8 +30,8 @@ abbrev pub left_by : Option Before → (variable : Bool) → (number size : ℕ)
 left_by None variable number size = record { first_size = size; variable = variable; next = number + cond variable size 1; size = size }
 left_by (Some b) variable number size = record { first_size = b.first_size; variable = variable; next = number + cond variable size 1; size = size }
 
-abbrev pub after : Option Before → Frame → Before
-after before f = left_by before f.variable f.number f.size
+abbrev pub after_frame : Option Before → Frame → Before
+after_frame before f = left_by before f.variable f.number f.size
 
 -- the longest block of a stream, by STREAMINFO and by its profile (sections 7 and 8.2)
 abbrev pub longest_block : Profile → Info → ℕ

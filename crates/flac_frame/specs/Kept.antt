@@ -8,7 +8,7 @@ use Rattle.flac_bits.specs.declared.why.Why.{Why}
 use Rattle.flac_header.specs.declared.subset.Profile.{Profile}
 use Rattle.flac_info.specs.Info.{Info}
 use Rattle.flac_frame.specs.declared.before.Before.{Before}
-use Rattle.flac_frame.specs.Frame.{Frame, frame, after}
+use Rattle.flac_frame.specs.Frame.{Frame, frame, after_frame}
 
 -- How many channels and how many samples of each the arrays have room for, the state after the frames before, and the
 -- frame that was read last.
@@ -28,7 +28,7 @@ empty channels max_block = record { channels = channels; max_block = max_block; 
 
 -- the buffers after a frame that was returned, or that was refused
 abbrev pub LeavesIn : {X : Type 0} → Kept → Kept → (X → Frame) → Result X Why → Type 0
-LeavesIn old last shown (Ok x) = (last.before ≡ Some (after old.before (shown x))) × (last.held ≡ shown x)
+LeavesIn old last shown (Ok x) = (last.before ≡ Some (after_frame old.before (shown x))) × (last.held ≡ shown x)
 LeavesIn old last shown (Err e) = (last.before ≡ old.before) × (last.held ≡ nothing)
 
 abbrev pub Leaves : {X : Type 0} → Kept → Kept → (X → Frame) → Result X Why → Type 0

@@ -1,10 +1,10 @@
 //! Buffers for the samples of a frame.
 
 ghost use Rattle.std.specs.Prelude.{◌≡◌, ◌≤◌, ◌<◌, ◌*◌, Some, OnOk, OnErr, IfOk, IfErr, ⊤};
-ghost use Rattle.flac_frame.specs.Frame.{longest_block, after};
+ghost use Rattle.flac_frame.specs.Frame.{longest_block, after_frame};
 ghost use Rattle.flac_frame.specs.Kept.{nothing, empty, ReadsFrame, Leaves};
 ghost use Rattle.flac_frame.specs.inner.Reading.{ReadsAnyFrame};
-ghost use Rattle.flac_frame.specs.Lent.{frame_of};
+ghost use Rattle.flac_frame.specs.Viewed.{frame_of};
 ghost use Rattle.std.specs.Borrow.{sem, follows_so};
 ghost use mathlib.Core.Option.{none};
 ghost use Rattle.flac_frame.specs.contracts.buffers.FrameBuffers.{the_row};
@@ -162,7 +162,7 @@ impl FrameBuffers {
         requires channels { info.now.channels ≤ self.old.channels }
         requires block { longest_block profile info.now ≤ self.old.max_block }
         ensures room { (self.new.channels ≡ self.old.channels) × (self.new.max_block ≡ self.old.max_block) }
-        ensures before { OnOk result (self.new.before ≡ Some (after self.old.before self.new.held)) }
+        ensures before { OnOk result (self.new.before ≡ Some (after_frame self.old.before self.new.held)) }
         ensures refused { OnErr result ((self.new.before ≡ self.old.before) × (self.new.held ≡ nothing)) }
         ensures reading { ReadsFrame (λ _. self.new.held) profile info.now self.old.before bits.old bits.new result }
     {
@@ -182,7 +182,7 @@ impl FrameBuffers {
         requires channels { info.now.channels ≤ self.old.channels }
         requires block { longest_block profile info.now ≤ self.old.max_block }
         ensures room { (self.new.channels ≡ self.old.channels) × (self.new.max_block ≡ self.old.max_block) }
-        ensures before { OnOk result (self.new.before ≡ Some (after self.old.before self.new.held)) }
+        ensures before { OnOk result (self.new.before ≡ Some (after_frame self.old.before self.new.held)) }
         ensures refused { OnErr result ((self.new.before ≡ self.old.before) × (self.new.held ≡ nothing)) }
         ensures reading { ReadsAnyFrame (λ _. self.new.held) profile info.now self.old.before bits.old bits.new result }
     {

@@ -45,7 +45,7 @@ pub(crate) fn plane_of(assignment: ChannelAssignment, channel: usize) -> usize
 }
 
 /// What [`read_subframe`] does, proved by the reading of the layout.
-fn subframe_here<R: Source>(
+fn subframe_by_layout<R: Source>(
     bits: &mut BitReader<R>,
     depth: u32,
     block: u32,
@@ -83,7 +83,7 @@ pub(crate) fn read_subframes<R: Source>(
     for channel in 0..shape.channels {
         let start = channel * size;
         let own = &mut samples[start..start + size];
-        if !subframe_here(
+        if !subframe_by_layout(
             bits,
             shape.depth + side_bit(assignment, channel),
             shape.block,

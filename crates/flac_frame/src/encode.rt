@@ -4,12 +4,12 @@ ghost use Rattle.std.specs.Prelude.{◌≡◌, ◌≤◌, ◌<◌, ◌+◌, ◌-
 ghost use Rattle.flac_bits.specs.Written.{Writes};
 ghost use Rattle.flac_subframe.specs.format.Handed.{AreWithin};
 ghost use Rattle.flac_frame.specs.Audio.{samples_each};
-ghost use Rattle.flac_frame.specs.Chosen.{AreMadeByPlane, IsRangeByPlane, IsRangeWith, AllWide, HasPlaces};
+ghost use Rattle.flac_frame.specs.Chosen.{AreMadeByPlane, IsRangeByPlane, IsRangeWith, AllHaveCodings, HasPlaces};
 ghost use Rattle.flac_frame.specs.inner.Subject.{HasOrders, HasChosen, apart_spelling, block_samples, lists_in, IsChoiceFor, choice_spelling, WritesFrameOf};
 ghost use Rattle.flac_frame.specs.Encoding.{partition_limit, EncodesRange, EncodesByPlane, EncodesWith, CountsBytes};
 ghost use Rattle.flac_frame.specs.inner.Encoding.{end_spelling};
 ghost use Rattle.flac_frame.specs.Frame.{limits_at};
-ghost use Rattle.flac_frame.specs.Pair.{AreWide};
+ghost use Rattle.flac_frame.specs.Pair.{HaveCodings};
 ghost use Rattle.flac_frame.specs.PlaneLists.{lists_of, AreAllWithin};
 
 use crate::audio::Audio;
@@ -47,10 +47,10 @@ fn choose_channels(
     requires partition { partition_limit subject.now.audio.now ≤ workspace.old.most }
     requires orders { HasOrders subject.now }
     requires choices { length subject.now.audio.now.channels ≤ length subframes.old }
-    requires wide { AllWide workspace.old.most subframes.old }
+    requires codings { AllHaveCodings workspace.old.most subframes.old }
     ensures chosen { HasChosen subject.now subframes.new }
     ensures bits { result ≡ length (apart_spelling subject.now subframes.new) }
-    ensures wide { AllWide workspace.old.most subframes.new }
+    ensures codings { AllHaveCodings workspace.old.most subframes.new }
     ensures room { workspace.new ≡ workspace.old }
 {
     let audio = subject.audio;
@@ -115,12 +115,12 @@ fn choose_first(
     requires places { 4 * subject.now.size ≤ length places.old }
     requires block { subject.now.size ≤ workspace.old.block }
     requires partition { partition_limit subject.now.audio.now ≤ workspace.old.most }
-    requires wide { AreWide workspace.old.most choices.old }
+    requires codings { HaveCodings workspace.old.most choices.old }
     requires choices { HasPlaces (length subject.now.audio.now.channels) workspace.old.most choice.old }
     requires number { subject.now.number < 2 ^ 31 }
     requires orders { HasOrders subject.now }
     ensures chosen { IsChoiceFor subject.now choice.new }
-    ensures wide { AreWide workspace.old.most choices.new }
+    ensures codings { HaveCodings workspace.old.most choices.new }
     ensures choices { HasPlaces (length subject.now.audio.now.channels) workspace.old.most choice.new }
     ensures many { length choice.new.subframes.items ≡ length choice.old.subframes.items }
     ensures room { workspace.new ≡ workspace.old }

@@ -37,17 +37,17 @@ impl Drop for EncodeBuffers {
 
 impl Model for EncodeBuffers {
     ghost use Rattle.std.specs.Prelude.{◌≡◌, ◌≤◌, ◌*◌, vec_len};
-    ghost use Rattle.flac_subframe.specs.search.Room.{Room};
+    ghost use Rattle.flac_subframe.specs.search.Capacity.{Capacity};
     ghost use Rattle.flac_frame.specs.Chosen.{HasPlaces};
-    ghost use Rattle.flac_frame.specs.Pair.{AreWide};
+    ghost use Rattle.flac_frame.specs.Pair.{HaveCodings};
 
-    ghost Value = { Room };
+    ghost Value = { Capacity };
 
     ghost view = { λ b. b.workspace };
 
     ghost invariant = { λ b. record {
       places : vec_len b.places ≡ 4 * b.workspace.block;
-      choices : AreWide b.workspace.most b.choices;
+      choices : HaveCodings b.workspace.most b.choices;
       choice : HasPlaces 8 b.workspace.most b.choice;
       block : b.workspace.block ≤ 65535;
     } };

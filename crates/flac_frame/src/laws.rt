@@ -1,6 +1,6 @@
 //! Laws: what holds of the definitions. Calling them does nothing; a proof may name them.
 
-ghost use Rattle.flac_frame.specs.Encoding.{FormsStand, EncodingsAreFrames, FrameFamilyIsPlain, FramePlanesIsPlain, FrameWidenedIsPlain};
+ghost use Rattle.flac_frame.specs.Encoding.{FormsStand, EncodingsAreFrames, FrameFamilyIsPlain, FramePlanesIsPlain, FrameFamilyWithIsPlain};
 ghost use Rattle.flac_frame.specs.Follows.{AcceptedFollow, FramesFollow};
 ghost use Rattle.flac_frame.specs.Spelling.{FramesAreSpelled, FramesAreReadAgain, FramesAreBytes};
 ghost use Rattle.flac_frame.specs.Stereo.{ChannelsAreJoined, ChannelsAreKept};
@@ -46,8 +46,8 @@ pub fn frame_family_is_plain()
 {}
 
 /// The same if linear predictors are handed in: subframes may also be by one of these.
-pub fn frame_widened_is_plain()
-    ensures { FrameWidenedIsPlain }
+pub fn frame_family_with_is_plain()
+    ensures { FrameFamilyWithIsPlain }
 {}
 
 /// The same if each plane has a list of its own: a subframe may also be by one of the list of its plane, and by no other.

@@ -46,7 +46,7 @@ pub use encode_buffers::EncodeBuffers;
 pub use frame_choice::FrameChoice;
 pub use laws::{
     channels_are_joined, encodings_are_frames, forms_stand_for_samples, frame_family_is_plain,
-    frame_planes_is_plain, frame_widened_is_plain, frames_are_spelled, frames_follow,
+    frame_family_with_is_plain, frame_planes_is_plain, frames_are_spelled, frames_follow,
 };
 pub use limits::greatest_order;
 pub use plane_predictors::PlanePredictors;

@@ -9,7 +9,7 @@ ghost use Rattle.flac_frame.specs.Audio.{samples_each};
 ghost use Rattle.flac_frame.specs.Chosen.{HasPlaces};
 ghost use Rattle.flac_frame.specs.Encoding.{block_of, partition_limit};
 ghost use Rattle.flac_frame.specs.Frame.{side_bit};
-ghost use Rattle.flac_frame.specs.Pair.{AreWide};
+ghost use Rattle.flac_frame.specs.Pair.{HaveCodings};
 ghost use Rattle.flac_frame.specs.inner.Pair.{IsPairCode, IsFirstLeast, FitAsKept, kept_block, pair_cost, choices_cost};
 ghost use Rattle.flac_frame.specs.inner.Subject.{HasOrders, HasPlanes, IsChoiceFor, AreMadeFor, kept_in, pair_spelling, choice_spelling};
 ghost use Rattle.flac_frame.specs.Stereo.{side_of, middle_of, kept_as};
@@ -104,13 +104,13 @@ fn choose_planes(
 ) -> (ChannelAssignment, u64)
     requires block { length planes.now.left.now ≤ workspace.old.block }
     requires partition { partition_limit subject.now.audio.now ≤ workspace.old.most }
-    requires wide { AreWide workspace.old.most choices.old }
+    requires codings { HaveCodings workspace.old.most choices.old }
     requires orders { HasOrders subject.now }
     ensures planes { HasPlanes subject.now planes.now choices.new }
     ensures valid { IsAssignment result.0 }
     ensures best { IsFirstLeast (choices_cost choices.new) (code_of result.0) }
     ensures bits { result.1 ≡ choices_cost choices.new (code_of result.0) }
-    ensures wide { AreWide workspace.old.most choices.new }
+    ensures codings { HaveCodings workspace.old.most choices.new }
     ensures room { workspace.new ≡ workspace.old }
 {
     let depth = planes.depth;
@@ -196,12 +196,12 @@ pub(crate) fn choose_pair(
     requires places { 4 * subject.now.size ≤ length places.old }
     requires block { subject.now.size ≤ workspace.old.block }
     requires partition { partition_limit subject.now.audio.now ≤ workspace.old.most }
-    requires wide { AreWide workspace.old.most choices.old }
+    requires codings { HaveCodings workspace.old.most choices.old }
     requires choices { HasPlaces 2 workspace.old.most choice.old }
     requires number { subject.now.number < 2 ^ 31 }
     requires orders { HasOrders subject.now }
     ensures chosen { IsChoiceFor subject.now choice.new }
-    ensures wide { AreWide workspace.old.most choices.new }
+    ensures codings { HaveCodings workspace.old.most choices.new }
     ensures choices { HasPlaces 2 workspace.old.most choice.new }
     ensures many { length choice.new.subframes.items ≡ length choice.old.subframes.items }
     ensures room { workspace.new ≡ workspace.old }

@@ -2,8 +2,8 @@
 
 ghost use Rattle.std.specs.Prelude.{◌≡◌, ◌≤◌, length, IfOk, IfErr};
 ghost use Rattle.flac_header.specs.Assignment.{code_of, IsAssignment};
-ghost use Rattle.flac_frame.specs.Pair.{AreWide};
-ghost use Rattle.flac_frame.specs.inner.Pair.{with_kept, KeepsWide};
+ghost use Rattle.flac_frame.specs.Pair.{HaveCodings};
+ghost use Rattle.flac_frame.specs.inner.Pair.{with_kept, KeepsCodings};
 
 use flac_bits::Why;
 use flac_header::ChannelAssignment;
@@ -37,7 +37,7 @@ impl PairChoices {
     /// [`Why::Memory`] if an allocation fails.
     pub(crate) fn new(alloc: Global, limits: &Limits) -> Result<PairChoices, Why>
         requires { limits.now.partition ≤ 15 }
-        ensures wide { IfOk result (AreWide limits.now.partition) }
+        ensures codings { IfOk result (HaveCodings limits.now.partition) }
         ensures memory { IfErr result (λ e. e ≡ Why.Memory) }
     {
         let left = WideChoice::new(alloc, limits)?;
@@ -57,7 +57,7 @@ impl PairChoices {
         requires valid { IsAssignment assignment }
         requires two { 2 ≤ length places.old }
         ensures kept { places.new ≡ with_kept (code_of assignment) self.old places.old }
-        ensures wide { KeepsWide self.old places.old self.new places.new }
+        ensures codings { KeepsCodings self.old places.old self.new places.new }
     {
         match assignment {
             ChannelAssignment::Independent(_) => {

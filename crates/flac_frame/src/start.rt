@@ -76,7 +76,7 @@ fn breaks_size(info: &StreamInfo, before: &Option<Before>, header: &FrameHeader)
 }
 
 /// What [`read_header`] does, proved by the reading of the layout.
-fn header_here<R: Source>(bits: &mut BitReader<R>) -> Result<FrameHeader, Why>
+fn header_by_layout<R: Source>(bits: &mut BitReader<R>) -> Result<FrameHeader, Why>
     ensures reading { CallInPlace 40 (λ old. Reads (λ h. h) header_layout (started old)) bits.old bits.new result }
 {
     read_header(bits)
@@ -100,7 +100,7 @@ pub(crate) fn read_start<R: Source>(
     ensures size { IfOk result (FitsStream profile info.now) }
     ensures reading { ReadsFromHeader (λ h. h) (stream_header profile info.now before.now) bits.old bits.new result }
 {
-    let header = header_here(bits)?;
+    let header = header_by_layout(bits)?;
     if !allows(profile, &header) {
         return Err(Why::NotSubset);
     }

@@ -29,7 +29,7 @@ pub struct FrameView<'a> {
 impl<'a> FrameView<'a> {
     ghost use Rattle.flac_header.specs.Strategy.{is_variable, strategy_of};
     ghost use Rattle.flac_frame.specs.Frame.{first_sample};
-    ghost use Rattle.flac_frame.specs.Lent.{frame_of};
+    ghost use Rattle.flac_frame.specs.Viewed.{frame_of};
     ghost use Rattle.flac_frame.specs.Interleaved.{whole_rows, first_rows, PutsRow, KeepsRest};
 
     /// How many samples each channel has: the block size, at most 65535.

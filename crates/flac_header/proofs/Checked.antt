@@ -1,4 +1,4 @@
--- Parts of a text with their remainder behind them.
+-- Parts of a text with their remainder after them.
 use Rattle.std.proofs.Common.{◌≡◌, ℕ, zero, suc, ◌*◌, ◌%◌, ◌<◌, ◌^◌, cond, bit_xor, length, Bool, true, false, nat_eq, List, [], ◌∷◌, ◌++◌, refl, sym, ap, ◌∙◌, append_assoc, arith}
 use Rattle.std.proofs.lemmas.List.{append-nil}
 use Rattle.std.specs.Int.{bit_at}
@@ -10,12 +10,12 @@ use Rattle.flac_bits.specs.Forms.{joined}
 use Rattle.flac_bits.proofs.Laws.{past-append}
 use Rattle.flac_bits.proofs.Check.{check8_is}
 
--- the parts one after another, with more behind them
+-- the parts one after another, with more after them
 abbrev pub before : List (List Bool) → List Bool → List Bool
 before [] text = text
 before (part ∷ parts) text = part ++ before parts text
 
--- behind the parts, one after another
+-- after the parts, one after another
 abbrev pub pasts : List (List Bool) → Mark → Mark
 pasts [] m = m
 pasts (part ∷ parts) m = pasts parts (past part m)
@@ -28,11 +28,11 @@ pub pasts_is : (parts : List (List Bool)) (m : Mark) → past (joined parts) m �
 pasts_is [] m = refl
 pasts_is (part ∷ parts) m = past-append part (joined parts) m ∙ pasts_is parts (past part m)
 
--- the remainder that is known behind the parts is theirs
+-- the remainder that is known after the parts is theirs
 pub parts_check : (parts : List (List Bool)) (m : Mark) → m.check8 ≡ 0 → (pasts parts m).check8 ≡ remainder 8 7 (joined parts)
 parts_check parts m z = ap (λ (k : Mark). k.check8) (sym (pasts_is parts m)) ∙ check8_is (joined parts) m z
 
--- parts with a check behind them that is their remainder
+-- parts with a check after them that is their remainder
 pub with_check : (parts : List (List Bool)) (m : Mark) (check : ℕ) → m.check8 ≡ 0 → check ≡ (pasts parts m).check8
     → before parts (unsigned 8 check ++ []) ≡ joined parts ++ unsigned 8 (remainder 8 7 (joined parts))
 with_check parts m check z is =

@@ -1,10 +1,10 @@
--- A header is read as its codes and what comes behind them.
+-- A header is read as its codes and what comes after them.
 use Rattle.std.proofs.Common.{◌≡◌, Result, Ok, Err, refl, ◌∙◌}
 use Rattle.flac_bits.specs.State.{State, Cursor}
 use Rattle.flac_bits.specs.Layout.{Layout, bind, Reason, run, and_then}
 use Rattle.flac_bits.proofs.Telling.{Told}
 use Rattle.flac_header.specs.Header.{Header, header}
-use Rattle.flac_header.specs.inner.Codes.{Codes, codes, behind_codes}
+use Rattle.flac_header.specs.inner.Codes.{Codes, codes, after_codes}
 
 -- a layout is read as a first part and the rest
 record IsThen {B C : Type 0} (whole : Layout C) (first : Layout B) (rest : B → Layout C) : Type 0 where
@@ -19,12 +19,12 @@ module _ {A B C : Type 0} {f : A → Layout B} {h : A → Layout C} {rest : B �
   each : {l : Layout A} → IsThen (bind l h) (bind l f) rest
   each {l = l} = record { same = λ c. joined (run l c) }
 
-header_parts : IsThen header codes behind_codes
-unfolding header codes behind_codes
+header_parts : IsThen header codes after_codes
+unfolding header codes after_codes
 header_parts = each (λ _. each (λ _. each (λ _. each (λ _. each (λ _. each (λ _. each (λ _. each (λ _. each (λ _. each (λ _. each (λ _. each (λ _. each (λ _. record { same = λ c. refl })))))))))))))
 
-abbrev pub behind : Codes → Cursor → Result (Header × Cursor) Reason
-behind k d = run (behind_codes k) d
+abbrev pub after : Codes → Cursor → Result (Header × Cursor) Reason
+after k d = run (after_codes k) d
 
-pub told_header : {answer : Result (Header × Cursor) Reason} (old new : State) → Told (and_then (run codes old.cursor) behind) answer old new → Told (run header old.cursor) answer old new
+pub told_header : {answer : Result (Header × Cursor) Reason} (old new : State) → Told (and_then (run codes old.cursor) after) answer old new → Told (run header old.cursor) answer old new
 told_header old new told = λ known same. header_parts.same old.cursor ∙ told known same

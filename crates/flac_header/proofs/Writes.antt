@@ -1,11 +1,11 @@
--- The fields of a header with their check behind them, as a writer writes them.
+-- The fields of a header with their check after them, as a writer writes them.
 use Rattle.std.proofs.Common.{◌≡◌, ℕ, Bool, List, [], ◌∷◌, ◌++◌, Result, Ok, Err, refl, sym, ap, ◌∙◌, append_assoc}
 use Rattle.std.proofs.lemmas.List.{append-nil}
 use Rattle.flac_bits.specs.Bits.{unsigned}
 use Rattle.flac_bits.specs.State.{Mark, past, fresh}
 use Rattle.flac_bits.specs.Check.{remainder}
 use Rattle.flac_bits.specs.Written.{Written, Fails, Adds, Restarts, Writes}
-use Rattle.flac_bits.specs.inner.Written.{WritesParts, Wrote, behind_parts}
+use Rattle.flac_bits.specs.inner.Written.{WritesParts, Wrote, after_parts}
 use Rattle.flac_bits.specs.declared.why.Why.{Why}
 use Rattle.flac_bits.proofs.Check.{check8_is}
 use Rattle.flac_bits.proofs.Writing.{fails_later, fails_more, writes_then, parts_written, wrote_more, wrote_fails}
@@ -21,11 +21,11 @@ started_fails {old = old} {new = new} {e = e} h f =
     let g : Fails (old.bits ++ header_spelling h) old new e = fails_more (header_spelling h) f in
     record { reason = g.reason; kept = g.kept; names = g.names; rises = g.rises; begun = g.begun; risen = g.risen }
 
--- the writer as it is behind the beginning of the checks
+-- the writer as it is after the beginning of the checks
 begun : {old mid : Written} → Restarts old mid → Adds [] (restarted old) mid
 begun {old = old} r = record { known = r.known; errors = r.errors; names = r.names; mark = r.mark; bits = λ k. r.bits k ∙ sym (append-nil old.bits) }
 
-pub fields_fail : {old mid new : Written} {e : Why} (h : Header) → Restarts old mid → Fails (behind_parts mid.bits (header_parts h)) mid new e → Fails ((restarted old).bits ++ header_spelling h) (restarted old) new e
+pub fields_fail : {old mid new : Written} {e : Why} (h : Header) → Restarts old mid → Fails (after_parts mid.bits (header_parts h)) mid new e → Fails ((restarted old).bits ++ header_spelling h) (restarted old) new e
 fields_fail {old = old} {mid = mid} {new = new} {e = e} h r f =
     let joined_fails = parts_written {X = Unit {0}} (header_parts h) mid new (Err e) f in
     fails_later ((restarted old).bits ++ header_spelling h) r.known r.errors r.names (unsigned 8 (remainder 8 7 (header_front h)))

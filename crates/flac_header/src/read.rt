@@ -78,7 +78,7 @@ fn read_rate<R: Source>(bits: &mut BitReader<R>, code: u8) -> Result<u32, Why>
 }
 
 /// What [`read_number`] does, proved by the reading of the layout.
-fn number_here<R: Source>(bits: &mut BitReader<R>, max_bits: u32) -> Result<u64, Why>
+fn number_by_layout<R: Source>(bits: &mut BitReader<R>, max_bits: u32) -> Result<u64, Why>
     // proof only
     ensures fits { IfOk result (λ v. IsNumber max_bits v) }
     ensures reading { CallInPlace 8 (Reads (λ v. v) (number max_bits)) bits.old bits.new result }
@@ -146,7 +146,7 @@ fn read_fields<R: Source>(bits: &mut BitReader<R>) -> Result<FrameHeader, Why>
         channel_code,
         depth_code,
     } = read_codes(bits)?;
-    let number = number_here(bits, strategy.number_bits())?;
+    let number = number_by_layout(bits, strategy.number_bits())?;
     let size = read_size(bits, size_code)?;
     let rate = read_rate(bits, rate_code)?;
     let check = bits.check8();

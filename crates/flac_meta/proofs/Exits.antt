@@ -33,10 +33,10 @@ pub spends_last : {X : Type 0} (a b old mid new : ℕ) (result : Result X Why) �
 spends_last a b old mid new (Ok x) h k = spends_then a b old mid new h k
 spends_last a b old mid new (Err e) h k = tt
 
--- a field and the bytes behind it
-pub fits_behind : (size left : ℕ) (result : Result (List ℕ) Why) → size ≤ left → IfOk result (λ b. length b ≤ left - size) → IfOk result (λ b. size + length b ≤ left)
-fits_behind size left (Ok b) h k = omega arith
-fits_behind size left (Err e) h k = tt
+-- a field and the bytes after it
+pub fits_after : (size left : ℕ) (result : Result (List ℕ) Why) → size ≤ left → IfOk result (λ b. length b ≤ left - size) → IfOk result (λ b. size + length b ≤ left)
+fits_after size left (Ok b) h k = omega arith
+fits_after size left (Err e) h k = tt
 
 -- numbers that differ
 pub not_same : (n m : ℕ) → (n ≡ m → ⊥) → nat_eq n m ≡ false
@@ -79,7 +79,7 @@ goes_first old new more a is r same = record {
   known = a.0;
   errors = a.1;
   raised = a.2;
-  behind = a.3;
+  after = a.3;
   names = a.4;
   reads = λ known. sym same ∙ sym (ap (λ p. and_then p more) (r known a.1)) ∙ sym is;
 }

@@ -67,10 +67,10 @@ pub values_over : (name : List ℕ) (texts : List (List ℕ)) (i : ℕ) → leng
 unfolding values_of
 values_over name texts i le = at_drop_all (values_of name) texts i le
 
--- the texts behind one
-pub values_behind : (name : List ℕ) (texts : List (List ℕ)) (i : ℕ) (value : List ℕ) → values_of name texts ≡ value ∷ values_of name (drop (i + 1) texts)
+-- the texts after one
+pub values_after : (name : List ℕ) (texts : List (List ℕ)) (i : ℕ) (value : List ℕ) → values_of name texts ≡ value ∷ values_of name (drop (i + 1) texts)
     → values_of name texts ≡ value ∷ values_of name (take (length texts - (i + 1)) (drop (i + 1) texts))
-values_behind name texts i value is = is ∙ ap (λ t. value ∷ values_of name t) (sym (take_rest texts (i + 1)))
+values_after name texts i value is = is ∙ ap (λ t. value ∷ values_of name t) (sym (take_rest texts (i + 1)))
 
 pub one_less : (all rest : List (List ℕ)) (value : List ℕ) → all ≡ value ∷ rest → length rest < length all
 one_less all rest value is = rw is (omega arith)

@@ -71,8 +71,8 @@ unfolding picture picture_front
 spelled_tie b numbers texts left lt m = tie (picture left) m (PictureOf left) (λ p. joined (parts b p))
     (each_tied (number_32 left) _ (In32 left) b _ (numbers left _) (λ kind h.
     each_tied (sized (bits 32) (left - 4)) _ (IsText (left - 4)) (text_spelling b) _ (texts (left - 4) _) (λ media i.
-    let behind_media : ℕ = left - (8 + length media) in
-    each_tied (sized (bits 32) behind_media) _ (IsText behind_media) (text_spelling b) _ (texts behind_media _) (λ text j.
+    let after_media : ℕ = left - (8 + length media) in
+    each_tied (sized (bits 32) after_media) _ (IsText after_media) (text_spelling b) _ (texts after_media _) (λ text j.
     let rest : ℕ = left - (12 + length media + length text) in
     each_tied (sizes rest) _ (AreSizes rest) (λ f. joined (sizes_parts b f)) _ (sizes_tie b numbers rest _) (λ f k.
     each_tied (sized (bits 32) (rest - 16)) _ (IsText (rest - 16)) (text_spelling b) _ (texts (rest - 16) _) (λ bytes l kept.
@@ -84,12 +84,12 @@ spelled_tie b numbers texts left lt m = tie (picture left) m (PictureOf left) (�
     )))))))
     (λ p v.
     let size = v.size in
-    let behind_media : ℕ = left - (8 + length p.media) in
+    let after_media : ℕ = left - (8 + length p.media) in
     let rest : ℕ = left - (12 + length p.media + length p.text) in
     let f : ℕ × ℕ × ℕ × ℕ = sizes_of p in
     some_tied (number_32 left) _ (In32 left) b _ p.kind (numbers left _) (omega arith, v.is.kind)
     (some_tied (sized (bits 32) (left - 4)) _ (IsText (left - 4)) (text_spelling b) _ p.media (texts (left - 4) _) (record { fits = omega arith; few = omega arith; small = v.is.media })
-    (some_tied (sized (bits 32) behind_media) _ (IsText behind_media) (text_spelling b) _ p.text (texts behind_media _) (record { fits = omega arith; few = omega arith; small = v.is.text })
+    (some_tied (sized (bits 32) after_media) _ (IsText after_media) (text_spelling b) _ p.text (texts after_media _) (record { fits = omega arith; few = omega arith; small = v.is.text })
     (some_tied (sizes rest) _ (AreSizes rest) (λ f. joined (sizes_parts b f)) _ f (sizes_tie b numbers rest _) (record { room = omega arith; width = v.is.width; height = v.is.height; depth = v.is.depth; colours = v.is.colours })
     (some_tied (sized (bits 32) (rest - 16)) _ (IsText (rest - 16)) (text_spelling b) _ p.bytes (texts (rest - 16) _) (record { fits = omega arith; few = omega arith; small = v.is.bytes }) (
       (let z : rest - (20 + length p.bytes) ≡ 0 = omega arith in rw z refl, tt),

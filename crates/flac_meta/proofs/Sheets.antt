@@ -109,8 +109,8 @@ unfolding front_spelling s.track_spelling
 track_is t = joined_append (front_parts (front_of t)) (unsigned 8 (length t.indices) ∷ s.each_spelled s.index_spelling t.indices ∷ [])
 
 -- what follows the front
-behind_front : (t : CueTrack) (n : ℕ) → length t.indices ≡ n → front_spelling (front_of t) ++ joined (unsigned 8 n ∷ s.each_spelled s.index_spelling t.indices ∷ []) ≡ s.track_spelling t
-behind_front t n e = ap (λ k. front_spelling (front_of t) ++ joined (unsigned 8 k ∷ s.each_spelled s.index_spelling t.indices ∷ [])) (sym e) ∙ track_is t
+after_front : (t : CueTrack) (n : ℕ) → length t.indices ≡ n → front_spelling (front_of t) ++ joined (unsigned 8 n ∷ s.each_spelled s.index_spelling t.indices ∷ []) ≡ s.track_spelling t
+after_front t n e = ap (λ k. front_spelling (front_of t) ++ joined (unsigned 8 k ∷ s.each_spelled s.index_spelling t.indices ∷ [])) (sym e) ∙ track_is t
 
 track_tie : (left : ℕ) (m : Mark) → Ties (cue_track left) m (TrackOf left) s.track_spelling
 unfolding cue_track
@@ -122,7 +122,7 @@ track_tie left m = tie (cue_track left) m (TrackOf left) s.track_spelling
     let few = w.1 in let room = w.0 in let many = x.many in
     let fits = not_less (left - 36) (12 * count) kept.0 in
     let t : CueTrack = record { offset = f.0; number = f.1; isrc = f.2; audio = f.3; pre_emphasis = f.4; indices = indices } in
-    (record { is = record { offset = v.offset; number = v.number; isrc = v.isrc; indices = x.all }; few = omega arith; fits = omega arith }, behind_front t count many))))))
+    (record { is = record { offset = v.offset; number = v.number; isrc = v.isrc; indices = x.all }; few = omega arith; fits = omega arith }, after_front t count many))))))
     (λ t v.
     let few = v.few in let fits = v.fits in
     part_some 35 left _ m _ (omega arith)
@@ -130,7 +130,7 @@ track_tie left m = tie (cue_track left) m (TrackOf left) s.track_spelling
     (some_tied (cue_count (left - 35)) _ (In8 (left - 35)) (unsigned 8) _ (length t.indices) (count_tie (left - 35) _) (omega arith, few) (
       (less_not (left - 36) (12 * length t.indices) (omega arith), tt),
       some_tied (list_of (length t.indices) cue_index) _ (AreMany IsIndex (length t.indices)) (s.each_spelled s.index_spelling) _ t.indices (list_tie cue_index IsIndex s.index_spelling index_tie (length t.indices) _) (record { many = refl; all = v.is.indices })
-          (behind_front t (length t.indices) refl, refl),
+          (after_front t (length t.indices) refl, refl),
     ))))
 
 record AreTracks (n left : ℕ) (ts : List CueTrack) : Type 0 where
@@ -222,8 +222,8 @@ sheet_is : (x : CueSheet) → top_spelling (top_of x) ++ joined (unsigned 8 (len
 unfolding top_spelling s.sheet_spelling
 sheet_is x = joined_append (top_parts (top_of x)) (unsigned 8 (length x.tracks) ∷ s.each_spelled s.track_spelling x.tracks ∷ [])
 
-behind_top : (x : CueSheet) (n : ℕ) → length x.tracks ≡ n → top_spelling (top_of x) ++ joined (unsigned 8 n ∷ s.each_spelled s.track_spelling x.tracks ∷ []) ≡ s.sheet_spelling x
-behind_top x n e = ap (λ k. top_spelling (top_of x) ++ joined (unsigned 8 k ∷ s.each_spelled s.track_spelling x.tracks ∷ [])) (sym e) ∙ sheet_is x
+after_top : (x : CueSheet) (n : ℕ) → length x.tracks ≡ n → top_spelling (top_of x) ++ joined (unsigned 8 n ∷ s.each_spelled s.track_spelling x.tracks ∷ []) ≡ s.sheet_spelling x
+after_top x n e = ap (λ k. top_spelling (top_of x) ++ joined (unsigned 8 k ∷ s.each_spelled s.track_spelling x.tracks ∷ [])) (sym e) ∙ sheet_is x
 
 some_tracks : (n : ℕ) (o : Bool) → nat_eq n 0 ≡ false → n < 2 ^ 8 → o ≡ false → (nat_eq n 0 || nat_lt 255 n || o) ≡ false
 some_tracks n o h lt k = let l = within_255 n lt in rw (h, l, k) refl
@@ -263,7 +263,7 @@ sheet_tie left m = tie (cue_sheet left) m (SheetOf left) s.sheet_spelling
         good = some_tracks (length tracks) (overflows tracks) some (omega arith) k.few;
         size = omega arith;
       },
-      behind_top x count many,
+      after_top x count many,
     ))))))
     (λ x v.
     let size = v.size in
@@ -275,5 +275,5 @@ sheet_tie left m = tie (cue_sheet left) m (SheetOf left) s.sheet_spelling
       (k.some, (less_not (left - 396) (36 * length x.tracks) (omega arith), tt)),
       some_tied (cue_tracks (length x.tracks) (left - 396)) _ (TracksFrom (length x.tracks) (left - 396)) (s.each_spelled s.track_spelling) _ x.tracks (tracks_tie (length x.tracks) (left - 396) _)
           (are_tracks (length x.tracks) (left - 396) x.tracks (record { many = refl; all = v.is.tracks; few = k.fine; size = omega arith }))
-          (behind_top x (length x.tracks) refl, refl),
+          (after_top x (length x.tracks) refl, refl),
     ))))

@@ -65,4 +65,4 @@ seen_after seen found = seen
 -- Memory runs out only after a valid header of a kind that needs some: neither STREAMINFO nor padding.
 abbrev pub MemoryAsked : {X : Type 0} → Seen → State → State → Result X Why → Type 0
 MemoryAsked seen old new result = result ≡ Err Memory → old.known ≡ true → new.errors ≡ old.errors → (old.cursor.mark.short ≡ Memory → ⊥)
-    → (header : BlockHeader) × (behind : Cursor) × (run (block_header seen) old.cursor ≡ Ok (header, behind)) × (1 < header.kind)
+    → (header : BlockHeader) × (after : Cursor) × (run (block_header seen) old.cursor ≡ Ok (header, after)) × (1 < header.kind)

@@ -34,12 +34,12 @@ number_32 left = part 4 left (bits 32)
 
 -- n items one after another, each in the state after those before it, and what is checked after the last
 unfoldable pub in_turn : {S A : Type 0} → (S → Layout A) → (S → A → S) → (S → Layout ⊤) → ℕ → S → Layout (List A)
-in_turn item next behind_last zero s = do
-  _ ← behind_last s
+in_turn item next after_last zero s = do
+  _ ← after_last s
   done []
-in_turn item next behind_last (suc n) s = do
+in_turn item next after_last (suc n) s = do
   x ← item s
-  xs ← in_turn item next behind_last n (next s x)
+  xs ← in_turn item next after_last n (next s x)
   done (x ∷ xs)
 
 -- whether n bits are zeros

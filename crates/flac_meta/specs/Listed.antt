@@ -50,8 +50,8 @@ came seen (block_of.VorbisComment found) = seen.comments
 came seen b = false
 
 -- why it may not follow these blocks
-abbrev pub fault_behind : Seen → Block → Option Why
-fault_behind seen b = cond (came seen b) (Some why.RepeatedBlock) (block_fault b)
+abbrev pub fault_after : Seen → Block → Option Why
+fault_after seen b = cond (came seen b) (Some why.RepeatedBlock) (block_fault b)
 
 abbrev pub or_else : Option Why → Option Why → Option Why
 or_else None rest = rest
@@ -60,7 +60,7 @@ or_else (Some w) rest = Some w
 -- the fault of the first block that has one
 abbrev pub list_fault : Seen → List Block → Option Why
 list_fault seen [] = None
-list_fault seen (b ∷ bs) = or_else (fault_behind seen b) (list_fault (seen_after seen b) bs)
+list_fault seen (b ∷ bs) = or_else (fault_after seen b) (list_fault (seen_after seen b) bs)
 
 -- STREAMINFO came and nothing else
 abbrev pub info_seen : Seen

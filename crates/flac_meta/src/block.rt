@@ -5,7 +5,7 @@ ghost use Rattle.flac_meta.specs.Spelling.{kind_of, length_of, header_spelling, 
 ghost use Rattle.flac_meta.specs.Listed.{is_forbidden, block_fault, has_bad_sheet};
 ghost use Rattle.flac_meta.specs.Header.{nothing_seen, is_repeated, block_header};
 ghost use Rattle.flac_meta.specs.Block.{seen_after, application, content, block, MemoryAsked};
-ghost use Rattle.flac_bits.specs.Reading.{Reads, ReadsInRoom, Call, MeansInRoom};
+ghost use Rattle.flac_bits.specs.Reading.{Reads, ReadsGivenMemory, Call, MeansGivenMemory};
 ghost use Rattle.flac_meta.specs.declared.block.BlockHeader.{BlockHeader};
 ghost use Rattle.flac_bits.specs.Written.{Writes};
 ghost use Rattle.flac_bits.specs.Bits.{bits_of};
@@ -13,7 +13,7 @@ ghost use Rattle.flac_bits.specs.Forms.{joined};
 ghost use Rattle.flac_meta.specs.declared.block.Block.TheVariants as block_of;
 
 use crate::comments::{Comments, put_comments, read_comments};
-use crate::cue_sheet::{CueSheet, is_bad, put_sheet, read_cue_sheet, tracks_behind};
+use crate::cue_sheet::{CueSheet, is_bad, put_sheet, read_cue_sheet, tracks_after};
 use crate::fields::{Field, MOST_BYTES, TOO_LONG, capped, flag, read_raw, skip_bytes};
 use crate::lists::Bytes;
 use crate::picture::{Picture, put_picture, read_picture};
@@ -106,7 +106,7 @@ impl Block {
             Block::Application { id: _, bytes } => capped(4, bytes.len()),
             Block::SeekTable(table) => capped(0, table.points().len().saturating_mul(18)),
             Block::VorbisComment(comments) => comments.length(),
-            Block::CueSheet(sheet) => tracks_behind(396, sheet.tracks.as_slice()),
+            Block::CueSheet(sheet) => tracks_after(396, sheet.tracks.as_slice()),
             Block::Picture(picture) => {
                 let media = capped(32, picture.media.len());
                 let text = capped(media, picture.text.len());
@@ -214,7 +214,7 @@ fn read_application<R: Source>(
     length: u32,
 ) -> Result<Block, Why>
     requires { 4 ≤ length }
-    ensures reading { Call 0 (ReadsInRoom (λ b. b) (application length)) bits.old bits.new result }
+    ensures reading { Call 0 (ReadsGivenMemory (λ b. b) (application length)) bits.old bits.new result }
 {
     let mut id = [0u8; 4];
     read_bytes(bits, &mut id)?;
@@ -232,7 +232,7 @@ fn read_content<R: Source>(
 ) -> Result<Block, Why>
     requires small { length < 2 ^ 24 }
     requires id { kind ≡ 2 → 4 ≤ length }
-    ensures reading { Call 0 (ReadsInRoom (λ b. b) (content kind length)) bits.old bits.new result }
+    ensures reading { Call 0 (ReadsGivenMemory (λ b. b) (content kind length)) bits.old bits.new result }
     ensures spare { result ≡ Err Why.Memory → bits.old.known ≡ true → bits.new.errors ≡ bits.old.errors
         → (bits.old.cursor.mark.short ≡ Why.Memory → ⊥) → 1 < kind }
 {
@@ -261,7 +261,7 @@ fn next_block<R: Source>(
     bits: &mut BitReader<R>,
     seen: &Seen,
 ) -> Result<(bool, Block), Why>
-    ensures reading { Call 32 (ReadsInRoom (λ x. x) (block seen.now)) bits.old bits.new result }
+    ensures reading { Call 32 (ReadsGivenMemory (λ x. x) (block seen.now)) bits.old bits.new result }
     ensures spare { MemoryAsked seen.now bits.old bits.new result }
 {
     let header = read_block_header(bits, seen)?;
@@ -293,7 +293,7 @@ pub fn read_block<R: Source>(
     bits: &mut BitReader<R>,
     seen: &mut Seen,
 ) -> Result<(bool, Block), Why>
-    ensures reading { Call 32 (MeansInRoom (λ x. x) (block seen.old)) bits.old bits.new result }
+    ensures reading { Call 32 (MeansGivenMemory (λ x. x) (block seen.old)) bits.old bits.new result }
     ensures spare { MemoryAsked seen.old bits.old bits.new result }
     ensures seen { IfOk result (λ x. seen.new ≡ seen_after seen.old x.1) }
     ensures unseen { OnErr result (seen.new ≡ seen.old) }

@@ -4,7 +4,7 @@ ghost use Rattle.flac_meta.specs.Valid.{AllAre, FitsFields};
 ghost use Rattle.std.specs.Prelude.{◌≡◌, ◌⊎◌, ◌∷◌, [], MatchResult, IfOk, IfErr, OnOk, None, Some};
 ghost use Rattle.std.specs.Cmp.{partial_equiv_from_equiv};
 ghost use Rattle.std.specs.Cmp.Lexicographic.{pointwise, lists_equiv};
-ghost use Rattle.flac_meta.specs.Listed.{fault_behind, list_fault, info_seen};
+ghost use Rattle.flac_meta.specs.Listed.{fault_after, list_fault, info_seen};
 
 use crate::block::{Block, Seen, fault_of, is_of_forbidden_kind};
 use crate::comments::Comments;
@@ -73,7 +73,7 @@ impl Eq for BlockList {
 /// Why a block may not come after those seen, or `None` if it may.
 #[tactic(auto, using(crate::proofs::Repeated::came_allowed, crate::proofs::Repeated::came_forbidden))]
 fn fault_after(seen: Seen, block: &Block) -> Option<Why>
-    ensures { result ≡ fault_behind seen block.now }
+    ensures { result ≡ fault_after seen block.now }
 {
     if !is_of_forbidden_kind(block) && seen.has(block.kind()) {
         return Some(Why::RepeatedBlock);

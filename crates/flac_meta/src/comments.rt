@@ -5,7 +5,7 @@ ghost use Rattle.std.specs.Iterator.{YieldsFirstRef, item_count};
 ghost use Rattle.flac_meta.specs.Parts.{HasNoEquals, LacksParts, AreParts};
 ghost use Rattle.flac_meta.specs.Named.{value_under, values_of, IsFirstOf};
 ghost use Rattle.flac_meta.specs.Spelling.{texts_length, comments_length, each_spelled, little_sized, comments_spelling};
-ghost use Rattle.flac_bits.specs.Reading.{ReadsInRoom, Call};
+ghost use Rattle.flac_bits.specs.Reading.{ReadsGivenMemory, Call};
 ghost use Rattle.flac_meta.specs.Comments.{texts, comments};
 ghost use Rattle.flac_bits.specs.Written.{Writes};
 
@@ -43,8 +43,8 @@ fn parts_of(text: &[u8]) -> Option<(&[u8], &[u8])>
         (λ p. (text.now ≡ p.0.now ++ 61 ∷ p.1.now) × HasNoEquals p.0.now) }
 {
     let k = place_of_equals(text)?;
-    let behind = k + 1;
-    Some((&text[..k], &text[behind..]))
+    let after = k + 1;
+    Some((&text[..k], &text[after..]))
 }
 
 /// The value of a text, if it has this name.
@@ -210,12 +210,12 @@ impl Comments {
     pub fn length(&self) -> u64
         ensures { result ≡ min (comments_length self.now) 16777216 }
     {
-        texts_behind(capped(8, self.vendor.len()), self.list.as_slice())
+        texts_after(capped(8, self.vendor.len()), self.list.as_slice())
     }
 }
 
 /// The length of these texts, each with 4 bytes for its length, after `before` bytes.
-fn texts_behind(before: u64, texts: &[Bytes]) -> u64
+fn texts_after(before: u64, texts: &[Bytes]) -> u64
     requires { before ≤ 16777216 }
     ensures { result ≡ min (before + texts_length texts.now) 16777216 }
 {
@@ -235,7 +235,7 @@ fn read_texts<R: Source>(
     left: u32,
 ) -> Result<Texts, Why>
     requires { left < 2 ^ 24 }
-    ensures reading { Call 0 (ReadsInRoom (λ t. t) (texts count left)) bits.old bits.new result }
+    ensures reading { Call 0 (ReadsGivenMemory (λ t. t) (texts count left)) bits.old bits.new result }
 {
     let mut list = Vec::new(alloc);
     let mut left = left;
@@ -259,7 +259,7 @@ pub(crate) fn read_comments<R: Source>(
     left: u32,
 ) -> Result<Comments, Why>
     requires { left < 2 ^ 24 }
-    ensures reading { Call 0 (ReadsInRoom (λ c. c) (comments left)) bits.old bits.new result }
+    ensures reading { Call 0 (ReadsGivenMemory (λ c. c) (comments left)) bits.old bits.new result }
 {
     let vendor = read_sized_little(alloc, bits, left)?;
     let rest = left - (4 + vendor.len() as u32);

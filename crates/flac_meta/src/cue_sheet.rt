@@ -5,7 +5,7 @@ ghost use Rattle.flac_meta.specs.inner.Cues.{track_front_spelling, track_flags_s
 ghost use Rattle.flac_meta.specs.Spelling.{tracks_length, each_spelled, index_spelling, track_spelling, sheet_spelling};
 ghost use Rattle.flac_meta.specs.Listed.{overflows, is_bad_sheet};
 ghost use Rattle.flac_bits.specs.Lists.{list_of};
-ghost use Rattle.flac_bits.specs.Reading.{Reads, ReadsInRoom, Call};
+ghost use Rattle.flac_bits.specs.Reading.{Reads, ReadsGivenMemory, Call};
 ghost use Rattle.flac_meta.specs.CueSheet.{cue_count, cue_index, track_front, cue_track, cue_tracks, sheet_front, cue_sheet};
 ghost use Rattle.flac_bits.specs.Written.{Writes};
 
@@ -77,7 +77,7 @@ pub struct CueSheet {
 }
 
 /// The length of these tracks, after `before` bytes.
-pub(crate) fn tracks_behind(before: u64, tracks: &[CueTrack]) -> u64
+pub(crate) fn tracks_after(before: u64, tracks: &[CueTrack]) -> u64
     requires { before ≤ 16777216 }
     ensures { result ≡ min (before + tracks_length tracks.now) 16777216 }
 {
@@ -134,7 +134,7 @@ fn read_indices<R: Source>(
     count: u8,
 ) -> Result<CueIndices, Why>
     ensures count { IfOk result (λ t. length t ≡ count) }
-    ensures reading { Call 0 (ReadsInRoom (λ t. t) (list_of count cue_index)) bits.old bits.new result }
+    ensures reading { Call 0 (ReadsGivenMemory (λ t. t) (list_of count cue_index)) bits.old bits.new result }
 {
     let mut items = Vec::new(alloc);
     for i in 0..count {
@@ -184,7 +184,7 @@ fn read_track_front<R: Source>(bits: &mut BitReader<R>) -> Result<TrackFront, Wh
 fn read_track<R: Source>(alloc: Global, bits: &mut BitReader<R>, left: u32) -> Result<CueTrack, Why>
     requires { left < 2 ^ 24 }
     ensures fits { IfOk result (λ t. 36 + 12 * length t.indices ≤ left) }
-    ensures reading { Call 0 (ReadsInRoom (λ t. t) (cue_track left)) bits.old bits.new result }
+    ensures reading { Call 0 (ReadsGivenMemory (λ t. t) (cue_track left)) bits.old bits.new result }
 {
     if left < 35 {
         return Err(too_short(bits, left));
@@ -228,7 +228,7 @@ fn read_tracks<R: Source>(
     left: u32,
 ) -> Result<CueTracks, Why>
     requires { left < 2 ^ 24 }
-    ensures reading { Call 0 (ReadsInRoom (λ t. t) (cue_tracks count left)) bits.old bits.new result }
+    ensures reading { Call 0 (ReadsGivenMemory (λ t. t) (cue_tracks count left)) bits.old bits.new result }
 {
     let mut tracks = Vec::new(alloc);
     let mut left = left;
@@ -267,7 +267,7 @@ pub(crate) fn read_cue_sheet<R: Source>(
     left: u32,
 ) -> Result<CueSheet, Why>
     requires { left < 2 ^ 24 }
-    ensures reading { Call 0 (ReadsInRoom (λ s. s) (cue_sheet left)) bits.old bits.new result }
+    ensures reading { Call 0 (ReadsGivenMemory (λ s. s) (cue_sheet left)) bits.old bits.new result }
 {
     if left < 395 {
         return Err(too_short(bits, left));

@@ -4,7 +4,7 @@ ghost use Rattle.std.specs.Prelude.{◌≡◌, ◌<◌, ◌≤◌, ◌^◌, OnOk
 ghost use Rattle.flac_bits.specs.Bits.{bit_value};
 ghost use Rattle.flac_bits.specs.Layout.{bits as number};
 ghost use Rattle.flac_bits.specs.Lists.{list_of};
-ghost use Rattle.flac_bits.specs.Reading.{Counts, Reads, ReadsInRoom, Call};
+ghost use Rattle.flac_bits.specs.Reading.{Counts, Reads, ReadsGivenMemory, Call};
 ghost use Rattle.flac_meta.specs.Fields.{ends_short, sized, number_32, zeros};
 ghost use Rattle.flac_meta.specs.inner.Counted.{counted};
 ghost use Rattle.flac_meta.specs.Padding.{skipped};
@@ -66,7 +66,7 @@ pub(crate) fn read_raw<R: Source>(
     size: u32,
 ) -> Result<Bytes, Why>
     ensures size { IfOk result (λ b. length b ≡ size) }
-    ensures reading { Call 0 (ReadsInRoom (λ b. b) (list_of size (number 8))) bits.old bits.new result }
+    ensures reading { Call 0 (ReadsGivenMemory (λ b. b) (list_of size (number 8))) bits.old bits.new result }
 {
     let mut bytes = Vec::new(alloc);
     for i in 0..size {
@@ -84,7 +84,7 @@ fn read_counted<R: Source>(
     left: u32,
 ) -> Result<Bytes, Why>
     ensures fits { IfOk result (λ b. length b ≤ left) }
-    ensures reading { Call 0 (ReadsInRoom (λ b. b) (counted size left)) bits.old bits.new result }
+    ensures reading { Call 0 (ReadsGivenMemory (λ b. b) (counted size left)) bits.old bits.new result }
 {
     if left < size {
         return Err(Why::BlockLength);
@@ -113,7 +113,7 @@ pub(crate) fn read_sized<R: Source>(
 ) -> Result<Bytes, Why>
     requires { left < 2 ^ 24 }
     ensures fits { IfOk result (λ b. 4 + length b ≤ left) }
-    ensures reading { Call 0 (ReadsInRoom (λ b. b) (sized (number 32) left)) bits.old bits.new result }
+    ensures reading { Call 0 (ReadsGivenMemory (λ b. b) (sized (number 32) left)) bits.old bits.new result }
 {
     let size = read_number_32(bits, left)?;
     read_counted(alloc, bits, size, left - 4)
@@ -128,7 +128,7 @@ pub(crate) fn read_sized_little<R: Source>(
 ) -> Result<Bytes, Why>
     requires { left < 2 ^ 24 }
     ensures fits { IfOk result (λ b. 4 + length b ≤ left) }
-    ensures reading { Call 0 (ReadsInRoom (λ b. b) (sized little_32 left)) bits.old bits.new result }
+    ensures reading { Call 0 (ReadsGivenMemory (λ b. b) (sized little_32 left)) bits.old bits.new result }
 {
     if left < 4 {
         return Err(too_short(bits, left));

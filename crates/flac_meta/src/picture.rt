@@ -1,7 +1,7 @@
 //! Pictures (RFC 9639, section 8.8).
 
 ghost use Rattle.std.specs.Prelude.{OnOk, IfOk, ◌+◌, ◌<◌, ◌≤◌, ◌^◌, length};
-ghost use Rattle.flac_bits.specs.Reading.{Reads, ReadsInRoom, Call};
+ghost use Rattle.flac_bits.specs.Reading.{Reads, ReadsGivenMemory, Call};
 ghost use Rattle.flac_meta.specs.Picture.{picture, picture_front, sizes};
 ghost use Rattle.flac_bits.specs.Written.{Writes};
 ghost use Rattle.flac_meta.specs.Spelling.{picture_spelling};
@@ -71,7 +71,7 @@ fn read_picture_front<R: Source>(
 ) -> Result<(u32, Bytes, Bytes), Why>
     requires { left < 2 ^ 24 }
     ensures fits { IfOk result (λ f. 12 + length f.1 + length f.2 ≤ left) }
-    ensures reading { Call 0 (ReadsInRoom (λ f. f) (picture_front left)) bits.old bits.new result }
+    ensures reading { Call 0 (ReadsGivenMemory (λ f. f) (picture_front left)) bits.old bits.new result }
 {
     let kind = read_number_32(bits, left)?;
     let media = read_sized(alloc, bits, left - 4)?;
@@ -87,7 +87,7 @@ pub(crate) fn read_picture<R: Source>(
     left: u32,
 ) -> Result<Picture, Why>
     requires { left < 2 ^ 24 }
-    ensures reading { Call 0 (ReadsInRoom (λ p. p) (picture left)) bits.old bits.new result }
+    ensures reading { Call 0 (ReadsGivenMemory (λ p. p) (picture left)) bits.old bits.new result }
 {
     let (kind, media, text) = read_picture_front(alloc, bits, left)?;
     let rest = left - (12 + media.len() as u32 + text.len() as u32);

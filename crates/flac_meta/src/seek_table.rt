@@ -1,7 +1,7 @@
 //! Seek tables (RFC 9639, section 8.5).
 
 ghost use Rattle.std.specs.Prelude.{◌≡◌, ◌<◌, length, None, false, nat_eq};
-ghost use Rattle.flac_bits.specs.Reading.{Reads, ReadsInRoom, Call};
+ghost use Rattle.flac_bits.specs.Reading.{Reads, ReadsGivenMemory, Call};
 ghost use Rattle.flac_meta.specs.SeekTable.{placeholder, follows, seek_point, seek_points, in_order, last_before};
 ghost use Rattle.flac_bits.specs.Written.{Writes};
 ghost use Rattle.flac_meta.specs.Spelling.{each_spelled, point_spelling};
@@ -111,7 +111,7 @@ pub(crate) fn read_seek_table<R: Source>(
     bits: &mut BitReader<R>,
     count: u32,
 ) -> Result<SeekTable, Why>
-    ensures reading { Call 0 (ReadsInRoom (λ t. t) (seek_points count None)) bits.old bits.new result }
+    ensures reading { Call 0 (ReadsGivenMemory (λ t. t) (seek_points count None)) bits.old bits.new result }
 {
     let mut points = Vec::new(alloc);
     let mut before = None;

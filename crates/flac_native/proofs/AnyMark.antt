@@ -4,7 +4,7 @@ use Rattle.flac_bits.specs.State.{Mark, past, fresh}
 use Rattle.flac_bits.specs.Meaning.{Spells}
 use Rattle.flac_bits.specs.Fence.{InRoom}
 use Rattle.flac_bits.specs.Items.{Joined, Stream}
-use Rattle.flac_bits.proofs.ItemSpellings.{fresh_unread, fresh_check8, fresh_check16, behind_whole}
+use Rattle.flac_bits.proofs.ItemSpellings.{fresh_unread, fresh_check8, fresh_check16, after_whole}
 use Rattle.flac_meta.proofs.Blocks.{blocks_spelled}
 use Rattle.flac_header.specs.declared.subset.Profile.{Profile}
 use Rattle.flac_frame.proofs.FrameTie.{frames_spelled}
@@ -48,7 +48,7 @@ pub any_mark : (p : Progress) (m k : Mark) (items : List Piece) (text : List Boo
 any_mark p m k [] text told u z j = j
 any_mark p m k (x ∷ xs) text told u z (front, rest, split, spelled, fits, others) =
     let s = step_of p.stand m front x told u spelled in
-    let more = any_mark (next p x) (past front (fresh m)) (past front (fresh k)) xs rest s.rules (behind_whole front (fresh m) (fresh_unread m u) s.whole) (behind_whole front (fresh k) (fresh_unread k z) s.whole) others in
+    let more = any_mark (next p x) (past front (fresh m)) (past front (fresh k)) xs rest s.rules (after_whole front (fresh m) (fresh_unread m u) s.whole) (after_whole front (fresh k) (fresh_unread k z) s.whole) others in
     (front, rest, split, part_any p.stand m k front x told u z spelled, room_any p.stand.phase (fresh m) (fresh k) front (fresh_unread m u) (fresh_unread k z) fits, more)
 
 pub stream_any : (profile : Profile) (m k : Mark) (items : List Piece) (text : List Bool) → m.unread ≡ 0 → k.unread ≡ 0 → Stream grammar (opening profile) m items text → Stream grammar (opening profile) k items text

@@ -12,7 +12,7 @@ use Rattle.flac_bits.specs.declared.why.Why.TheVariants.{Memory}
 use Rattle.flac_bits.proofs.Laws.{at_}
 use Rattle.flac_bits.proofs.Items.{final, spelled_step, over_step, stops_step}
 use Rattle.flac_native.specs.Stream.{Piece, Progress, grammar, next}
-use Rattle.flac_native.specs.Item.{told}
+use Rattle.flac_native.specs.Item.{fault_pair}
 use Rattle.flac_bits.specs.inner.Within.{IsOpen}
 use Rattle.flac_native.specs.Coming.{PartsCome, IsNext}
 use Rattle.flac_native.specs.declared.fault.Place.{Place}
@@ -79,7 +79,7 @@ FirstPart p [] (Some f) view result at = result ≡ Err (record { at = f.0; why 
 FirstPart {X} p (x ∷ xs) end view result at = (y : X) × (result ≡ Ok (Some y)) × (view y ≡ x) × PartsCome (next p x) at xs end
 
 first_part : {X : Type 0} (p : Progress) (c at : Cursor) (view : X → Piece) (result : Result (Option X) Fault) (parts : List Piece) (end : Option (Place × Why))
-    → PartsCome p c parts end → StepIs view told (step_at grammar p c) at result → (reason_of told result ≡ Err Memory → ⊥) → FirstPart p parts end view result at
+    → PartsCome p c parts end → StepIs view fault_pair (step_at grammar p c) at result → (reason_of fault_pair result ≡ Err Memory → ⊥) → FirstPart p parts end view result at
 first_part p c at view (Ok None) [] None come is room = refl
 first_part p c at view (Ok None) [] (Some f) come is room = absurd (over_refusal f.0 f.1 (sym is ∙ last_part p c (Some f) come))
 first_part p c at view (Ok None) (x ∷ xs) end come is room = let n = next_part p c x xs end come in absurd (over_item x n.0 (sym is ∙ n.1))
@@ -94,18 +94,18 @@ first_part p c at view (Err e) [] (Some f) come is room =
     ap (λ (a : Place). Err (record { at = a; why = e.why })) same.0 ∙ ap (λ (w : Why). Err (record { at = f.0; why = w })) same.1
 first_part p c at view (Err e) (x ∷ xs) end come is room = let n = next_part p c x xs end come in absurd (item_refusal x n.0 e.at e.why (sym n.1 ∙ is (λ h. room (ap Err h))))
 
--- ---- no fence stands behind an item
+-- ---- no fence stands after an item
 
-pub open_behind : (p : Progress) (s t : State) (x : Piece) → t.behind ≡ (lifted s).behind → step_at grammar p (lifted s).cursor ≡ item x t.cursor → IsOpen t
-open_behind p s t x behind step = open_on (lifted s) t (lifted_open s) behind (step_short grammar p (lifted s).cursor t.cursor x step)
+pub open_after : (p : Progress) (s t : State) (x : Piece) → t.after ≡ (lifted s).after → step_at grammar p (lifted s).cursor ≡ item x t.cursor → IsOpen t
+open_after p s t x after step = open_on (lifted s) t (lifted_open s) after (step_short grammar p (lifted s).cursor t.cursor x step)
 
 pub same_cursor : (t : State) → IsOpen t → (lifted t).cursor ≡ t.cursor
 same_cursor t opened = ap (λ (s : State). s.cursor) (open_lifted t opened)
 
 -- ---- a call gives the next part
 
-pub native_next : {X : Type 0} (p : Progress) (s t : State) (view : X → Piece) (result : Result (Option X) Fault) → s.known ≡ true → Counts (lifted s) t (reason_of told result)
-    → StepIs view told (step_at grammar p (lifted s).cursor) t.cursor result → (reason_of told result ≡ Err Memory → ⊥)
+pub native_next : {X : Type 0} (p : Progress) (s t : State) (view : X → Piece) (result : Result (Option X) Fault) → s.known ≡ true → Counts (lifted s) t (reason_of fault_pair result)
+    → StepIs view fault_pair (step_at grammar p (lifted s).cursor) t.cursor result → (reason_of fault_pair result ≡ Err Memory → ⊥)
     → (parts : List Piece) (end : Option (Place × Why)) → PartsCome p (lifted s).cursor parts end → IsNext (λ q ps e. PartsCome q (lifted t).cursor ps e) p view result parts end
 native_next {X} p s t view result known counts step room parts end come = go parts end (first_part p (lifted s).cursor t.cursor view result parts end come step room)
   where
@@ -113,6 +113,6 @@ native_next {X} p s t view result known counts step room parts end come = go par
     go [] None f = f
     go [] (Some r) f = f
     go (x ∷ xs) end (y, is, seen, rest) =
-        let behind = (subst (λ r. Counts (lifted s) t (reason_of told r)) is counts).3 known in
-        let opened = open_behind p s t (view y) behind (subst (λ r. StepIs view told (step_at grammar p (lifted s).cursor) t.cursor r) is step) in
+        let after = (subst (λ r. Counts (lifted s) t (reason_of fault_pair r)) is counts).3 known in
+        let opened = open_after p s t (view y) after (subst (λ r. StepIs view fault_pair (step_at grammar p (lifted s).cursor) t.cursor r) is step) in
         (y, is, seen, subst (λ d. PartsCome (next p x) d xs end) (sym (same_cursor t opened)) rest)

@@ -8,7 +8,7 @@ use Rattle.flac_bits.specs.Bits.{bit_value}
 use Rattle.flac_bits.specs.State.{Mark, past, fresh}
 use Rattle.flac_bits.specs.Meaning.{Spells}
 use Rattle.flac_bits.specs.Fence.{InRoom}
-use Rattle.flac_bits.specs.Items.{Joined, Stream, after}
+use Rattle.flac_bits.specs.Items.{Joined, Stream, state_after}
 use Rattle.flac_info.specs.Info.{Info}
 use Rattle.flac_meta.specs.Header.{nothing_seen}
 use Rattle.flac_meta.specs.Block.{seen_after}
@@ -213,7 +213,7 @@ one_before : (last : Bool) (b : Block) (seen : Seen) (list : List MarkedBlock) (
 one_before last b seen [] front rest text e split is spelled r = absurd r.marks
 one_before last b seen (c ∷ cs) front rest text e split is spelled r = record { marks = (e, r.marks); all = (is, r.all); spelled = (front, rest, split, spelled, r.spelled) }
 
-read : (p : Progress) (m : Mark) (list : List MarkedBlock) (text : List Bool) → p.stand.phase ≡ Blocks → Joined grammar p m (map part_of list) text → (after grammar p (map part_of list)).stand.phase ≡ Frames → Read p.stand.seen list text
+read : (p : Progress) (m : Mark) (list : List MarkedBlock) (text : List Bool) → p.stand.phase ≡ Blocks → Joined grammar p m (map part_of list) text → (state_after grammar p (map part_of list)).stand.phase ≡ Frames → Read p.stand.seen list text
 read p m [] text phase j end = let e = sym phase ∙ end in absurd cc
 read p m ((true, b) ∷ more) text phase (front, rest, split, spelled, fits, others) end =
     let t = block_there p.stand (fresh m) front (block true b) phase spelled in
@@ -233,7 +233,7 @@ read p m ((false, b) ∷ more) text phase (front, rest, split, spelled, fits, ot
 
 -- and the other way
 abbrev Until : Progress → Mark → List MarkedBlock → List Bool → Type 0
-Until p m list text = Joined grammar p m (map part_of list) text × ((after grammar p (map part_of list)).stand.phase ≡ Frames)
+Until p m list text = Joined grammar p m (map part_of list) text × ((state_after grammar p (map part_of list)).stand.phase ≡ Frames)
 
 here : (p : Progress) (m : Mark) (list : List MarkedBlock) (text : List Bool) → p.stand.phase ≡ Blocks → LastIsMarked list → AllBlocks p.stand.seen (without_marks list) → AreSpelled list text → Until p m list text
 here p m [] text phase marks all spelled = absurd marks

@@ -3,11 +3,11 @@ use Rattle.std.proofs.Common.{◌≡◌, ℕ, ◌*◌, Bool, true, false, List, 
 use Rattle.std.proofs.lemmas.List.{append-nil}
 use Rattle.flac_bits.specs.State.{Cursor, Mark, past, fresh}
 use Rattle.flac_bits.specs.Meaning.{Spells}
-use Rattle.flac_bits.specs.Items.{after, Joined, mark_behind}
+use Rattle.flac_bits.specs.Items.{state_after, Joined, mark_after}
 use Rattle.flac_bits.specs.Handing.{TakesAll}
 use Rattle.flac_bits.proofs.Handing.{Far}
 use Rattle.flac_bits.proofs.Words.{length-unsigned}
-use Rattle.flac_bits.proofs.ItemSpellings.{fresh_unread, behind_whole}
+use Rattle.flac_bits.proofs.ItemSpellings.{fresh_unread, after_whole}
 use Rattle.flac_info.specs.Info.{Info}
 use Rattle.flac_meta.specs.Listed.{block_fault}
 use Rattle.flac_meta.specs.Spelling as s
@@ -20,7 +20,7 @@ use Rattle.flac_header.specs.declared.subset.Profile.TheVariants.{Subset}
 use Rattle.flac_frame.specs.Frame.{Frame}
 use Rattle.flac_native.specs.Stream.{Piece, marked, block, framed, Progress, Stand, grammar, opening, next, layout, layout_in, marker}
 use Rattle.flac_native.specs.Given.{closing}
-use Rattle.flac_native.specs.Track.{is_behind_blocks}
+use Rattle.flac_native.specs.Track.{is_after_blocks}
 use Rattle.flac_native.specs.Retag.{unless_comment, without_comments}
 use Rattle.flac_native.specs.inner.Retag.{AreKept, keeps}
 use Rattle.flac_native.specs.declared.track.Phase.{Phase}
@@ -91,15 +91,15 @@ part_whole s m text x old new kept h = go s.phase h
     go Blocks h = let t = there s m text x h in block_long t.last t.is text t.spelled
     go Frames h = let f = frame_at s m text x h in absurd (no_frame_there old new x f.0 f.1 kept)
 
-pub aligned : (p : Progress) (m : Mark) (items : List Piece) (text : List Bool) (old new : List Block) (j : Joined grammar p m items text) → m.unread ≡ 0 → TakesAll keeps old items new → (mark_behind grammar p m items text j).unread ≡ 0
+pub aligned : (p : Progress) (m : Mark) (items : List Piece) (text : List Bool) (old new : List Block) (j : Joined grammar p m items text) → m.unread ≡ 0 → TakesAll keeps old items new → (mark_after grammar p m items text j).unread ≡ 0
 aligned p m [] text old new j z took = z
 aligned p m (x ∷ xs) text old new (front, rest, split, spelled, fits, others) z (mid, kept, took) =
     let whole = part_whole p.stand (fresh m) front x old mid kept spelled in
-    aligned (next p x) (past front (fresh m)) xs rest mid new others (behind_whole front (fresh m) (fresh_unread m z) whole.bytes) took
+    aligned (next p x) (past front (fresh m)) xs rest mid new others (after_whole front (fresh m) (fresh_unread m z) whole.bytes) took
 
 -- ---- all parts
 
--- behind the last block nothing comes that is no frame
+-- after the last block nothing comes that is no frame
 over_then : (p : Progress) (m : Mark) (items : List Piece) (text : List Bool) (old new : List Block) → p.stand.phase ≡ Frames → Joined grammar p m items text → TakesAll keeps old items new → (items ≡ []) × (old ≡ new)
 unfolding layout
 over_then p m [] text old new phase j took = (refl, took)
@@ -116,8 +116,8 @@ pub record AreBlocks (seen : Seen) (items : List Piece) (old new : List Block) :
   pub valid : IsBlock seen first
 
 pub are_blocks : (p : Progress) (m : Mark) (items : List Piece) (text : List Bool) (old new : List Block) → p.stand.phase ≡ Blocks → Joined grammar p m items text → TakesAll keeps old items new
-    → is_behind_blocks (after grammar p items).stand.phase ≡ true → AreBlocks p.stand.seen items old new
-are_blocks p m [] text old new phase j took end = let e = ap is_behind_blocks phase in absurd cc
+    → is_after_blocks (state_after grammar p items).stand.phase ≡ true → AreBlocks p.stand.seen items old new
+are_blocks p m [] text old new phase j took end = let e = ap is_after_blocks phase in absurd cc
 are_blocks p m (marked ∷ xs) text old new phase (front, rest, split, spelled, fits, others) took end =
     let t = block_there p.stand (fresh m) front marked phase spelled in
     let e = t.part in absurd cc
@@ -167,12 +167,12 @@ pub record AreHead (items : List Piece) (new : List Block) : Type 0 where
   pub are : items ≡ marked ∷ closing (block_of.StreamInfo info ∷ list)
   pub kept : new ≡ block_of.StreamInfo info ∷ without_comments list
 
-pub are_head : (m : Mark) (items : List Piece) (text : List Bool) (new : List Block) → Joined grammar (opening Subset) m items text → TakesAll keeps [] items new → is_behind_blocks (after grammar (opening Subset) items).stand.phase ≡ true → AreHead items new
+pub are_head : (m : Mark) (items : List Piece) (text : List Bool) (new : List Block) → Joined grammar (opening Subset) m items text → TakesAll keeps [] items new → is_after_blocks (state_after grammar (opening Subset) items).stand.phase ≡ true → AreHead items new
 are_head m [] text new j took end = absurd cc
 are_head m (x ∷ xs) text new (front, rest, split, spelled, fits, others) (mid, kept, took) end =
     let first = marker_there (opening Subset).stand (fresh m) front x refl spelled in
     let here = subst (λ y. Joined grammar (next (opening Subset) y) (past front (fresh m)) xs rest) first.0 others in
-    let at_end = subst (λ y. is_behind_blocks (after grammar (next (opening Subset) y) xs).stand.phase ≡ true) first.0 end in
+    let at_end = subst (λ y. is_after_blocks (state_after grammar (next (opening Subset) y) xs).stand.phase ≡ true) first.0 end in
     let nothing : mid ≡ [] = subst (λ y. keeps [] y mid) first.0 kept in
     let all = are_blocks (next (opening Subset) marked) (past front (fresh m)) xs rest mid new refl here took at_end in
     let i = first_is all.first (all.valid.first refl) all.valid.written in
@@ -185,10 +185,10 @@ are_head m (x ∷ xs) text new (front, rest, split, spelled, fits, others) (mid,
 
 -- ---- what was kept where the blocks are over
 
-pub kept_are : (old now : Cursor) (p : Progress) (none kept : List Block) → none ≡ [] → Far grammar keeps (opening Subset) p old now none kept → is_behind_blocks p.stand.phase ≡ true → AreKept old kept now.left
+pub kept_are : (old now : Cursor) (p : Progress) (none kept : List Block) → none ≡ [] → Far grammar keeps (opening Subset) p old now none kept → is_after_blocks p.stand.phase ≡ true → AreKept old kept now.left
 kept_are old now p none kept empty far end =
     let took = subst (λ k. TakesAll keeps k far.items kept) empty far.took in
-    let head = are_head old.mark far.items far.text kept far.spelled took (subst (λ (q : Progress). is_behind_blocks q.stand.phase ≡ true) far.state_is end) in
+    let head = are_head old.mark far.items far.text kept far.spelled took (subst (λ (q : Progress). is_after_blocks q.stand.phase ≡ true) far.state_is end) in
     record {
       info = head.info;
       list = head.list;

@@ -6,7 +6,7 @@ use Rattle.std.proofs.lemmas.Bool.Decides.{nat_tests}
 use Rattle.flac_bits.specs.Bits.{is_nil}
 use Rattle.flac_bits.specs.declared.why.Why.{Why}
 use Rattle.flac_meta.specs.Block.{seen_after}
-use Rattle.flac_meta.specs.Listed.{came, block_fault, fault_behind, or_else, list_fault}
+use Rattle.flac_meta.specs.Listed.{came, block_fault, fault_after, or_else, list_fault}
 use Rattle.flac_meta.specs.Spelling.{block_spelling}
 use Rattle.flac_meta.specs.declared.block.Seen.{Seen}
 use Rattle.flac_meta.specs.declared.block.Block.{Block}
@@ -43,8 +43,8 @@ both_none (Some w) y e = absurd cc
 -- each block of a list may be written
 pub each_written : (bs : List Block) (seen : Seen) (i : ℕ) (b : Block) → list_fault seen bs ≡ None → i < length bs → b ≡ get_or bs i b → block_fault b ≡ None
 each_written [] seen i b e lt is = absurd (omega (arith, lt))
-each_written (x ∷ xs) seen zero b e lt is = ap block_fault is ∙ first_none (came seen x) _ (block_fault x) (both_none (fault_behind seen x) _ e).0
-each_written (x ∷ xs) seen (suc i) b e lt is = each_written xs (seen_after seen x) i b (both_none (fault_behind seen x) _ e).1 (omega (arith, lt)) is
+each_written (x ∷ xs) seen zero b e lt is = ap block_fault is ∙ first_none (came seen x) _ (block_fault x) (both_none (fault_after seen x) _ e).0
+each_written (x ∷ xs) seen (suc i) b e lt is = each_written xs (seen_after seen x) i b (both_none (fault_after seen x) _ e).1 (omega (arith, lt)) is
 
 pub nil_is : (bs : List Block) → is_nil bs ≡ nat_eq (length bs) 0
 nil_is [] = refl
@@ -73,9 +73,9 @@ pub table_written : {X : Type 0} (points : List SeekPoint) (old new : Written) (
 table_written [] old new r e w = absurd cc
 table_written (x ∷ xs) old new r e w = subst (λ t. Writes t old new r) (sym (append-nil (block_spelling true (block_of.SeekTable (x ∷ xs))))) w
 
-pub behind_all : (bs more : List Block) (i : ℕ) → i ≡ length bs → drop i (bs ++ more) ≡ more
-behind_all [] more i e = ap (λ n. drop n more) e
-behind_all (x ∷ xs) more i e = ap (λ n. drop n (x ∷ xs ++ more)) e ∙ behind_all xs more (length xs) refl
+pub after_all : (bs more : List Block) (i : ℕ) → i ≡ length bs → drop i (bs ++ more) ≡ more
+after_all [] more i e = ap (λ n. drop n more) e
+after_all (x ∷ xs) more i e = ap (λ n. drop n (x ∷ xs ++ more)) e ∙ after_all xs more (length xs) refl
 
 pub before_table : (bs more : List Block) (i : ℕ) (b : Block) → i < length bs → b ≡ get_or bs i b → (i < length (bs ++ more)) × (b ≡ get_or (bs ++ more) i b)
 before_table bs more i b lt is = (omega (arith, lt, length-append bs more), is ∙ sym (get_or-append bs more b i lt))

@@ -2,7 +2,7 @@
 use Rattle.std.proofs.Common.{◌≡◌, ◌≢◌, ◌⊎◌, inl, inr, Bool, true, false, List, [], ◌∷◌, Option, Some, None, Result, Ok, Err, refl, ap, ◌∙◌}
 use Rattle.std.specs.Prelude.{IfErr, IfSome}
 use Rattle.flac_bits.specs.State.{Cursor}
-use Rattle.flac_bits.specs.Items.{after}
+use Rattle.flac_bits.specs.Items.{state_after}
 use Rattle.flac_bits.specs.declared.why.Why.{Why}
 use Rattle.flac_bits.specs.declared.why.Why.TheVariants as why
 use Rattle.flac_bits.proofs.Handing.{Far}
@@ -29,7 +29,7 @@ breaks_at old now p none kept at far there = record {
 }
 
 -- after the last block
-after_closing : (p : Progress) (b : Block) (bs : List Block) → place.Frame 0 ≡ grammar.place (after grammar p (closing (b ∷ bs)))
+after_closing : (p : Progress) (b : Block) (bs : List Block) → place.Frame 0 ≡ grammar.place (state_after grammar p (closing (b ∷ bs)))
 after_closing p b [] = refl
 after_closing p b (c ∷ cs) = after_closing (next p (block false b)) c cs
 

@@ -4,7 +4,7 @@ use Rattle.std.proofs.lemmas.List.{append-nil}
 use Rattle.flac_bits.specs.Bits.{bits_of}
 use Rattle.flac_bits.proofs.Holding.{bits_of-append}
 
--- the bits that were sent, behind those before, and the bits that are left are these
+-- the bits that were sent, after those before, and the bits that are left are these
 abbrev pub Copied : (old now : List ℕ) (left whole : List Bool) → Type 0
 Copied old now left whole = (front : List Bool) × (bits_of now ≡ bits_of old ++ front) × (front ++ left ≡ whole)
 
@@ -21,7 +21,7 @@ copied_all old new left whole (front, sent, is) none = sent ∙ ap (λ k. bits_o
 
 -- a beginning of a piece was sent
 pub copied_part : (old mid new piece some others : List ℕ) (left rest whole : List Bool) → Copied old mid left whole → left ≡ bits_of piece ++ rest → piece ≡ some ++ others → new ≡ mid ++ some
-    → (front : List Bool) × (behind : List Bool) × (bits_of new ≡ bits_of old ++ front) × (front ++ behind ≡ whole)
+    → (front : List Bool) × (after : List Bool) × (bits_of new ≡ bits_of old ++ front) × (front ++ after ≡ whole)
 copied_part old mid new piece some others left rest whole so_far split cut more =
     let k = copied_more old mid new some left (bits_of others ++ rest) whole so_far (split ∙ ap (λ k. bits_of k ++ rest) cut ∙ ap (λ k. k ++ rest) (bits_of-append some others) ∙ append_assoc (bits_of some) (bits_of others) rest) more in
     (k.0, bits_of others ++ rest, k.1, k.2)

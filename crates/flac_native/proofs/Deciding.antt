@@ -10,7 +10,7 @@ use Rattle.flac_header.specs.Header.{header}
 use Rattle.flac_info.specs.Info.{Info}
 use Rattle.flac_meta.specs.Header.{block_header}
 use Rattle.flac_meta.specs.Block.{block as block_layout}
-use Rattle.flac_native.specs.Stream.{grammar, marker, layout, layout_in, frame_behind, may_end_in}
+use Rattle.flac_native.specs.Stream.{grammar, marker, layout, layout_in, frame_after, may_end_in}
 use Rattle.flac_native.specs.declared.track.Phase.{Phase}
 use Rattle.flac_native.specs.declared.track.Phase.TheVariants.{Opening, Blocks, Frames}
 
@@ -18,7 +18,7 @@ two : false ≡ true → ⊥
 two e = absurd cc
 
 pub needs_bits : NeedsBits grammar
-unfolding layout frame_behind frame stream_header header
+unfolding layout frame_after frame stream_header header
 needs_bits p m e = go p.stand.phase p.stand.info e
   where
     go : (phase : Phase) (info : Option Info) → may_end_in phase info ≡ true → IsCut (layout_in phase (record p.stand { info = info })) m []
@@ -32,7 +32,7 @@ one_answer = one_reading grammar needs_bits
 
 -- no part is spelled by no bit
 pub has_bits : HasBits grammar
-unfolding layout frame_behind frame stream_header header marker block_layout block_header
+unfolding layout frame_after frame stream_header header marker block_layout block_header
 has_bits p m text x s = go p.stand.phase p.stand.info s
   where
     go : (phase : Phase) (info : Option Info) → Spells (layout_in phase (record p.stand { info = info })) m text x → 0 < length text

@@ -16,7 +16,7 @@ use Rattle.flac_frame.specs.Spelling.{frame_spelling}
 use Rattle.flac_frame.proofs.Encodings.{encodings_are_frames}
 use Rattle.flac_frame.proofs.FrameTie.{frames_spelled}
 use Rattle.flac_native.specs.Message.{sample_width}
-use Rattle.flac_native.specs.Stream.{framed, Progress, layout, frame_behind}
+use Rattle.flac_native.specs.Stream.{framed, Progress, layout, frame_after}
 use Rattle.flac_native.specs.declared.track.Phase.TheVariants.{Frames}
 use Rattle.flac_native.specs.Given.{Cut, size_of, frame_of}
 use Rattle.flac_native.specs.Writing.{SpellsFrame}
@@ -82,9 +82,9 @@ module _ (p : Cut) (a : Sound) (info : Info) (q : Planned p) (f : Fit p a) (suit
       go (Some k) (inl e) full = absurd cc
       go (Some k) (inr e) full = let is : k ≡ full_before b number = cc in rw (full, is) refl
 
-  pub frame_here : (number : ℕ) (before : Option Before) (m : Mark) (t : List Bool) → m.unread ≡ 0 → (before ≡ None) ⊎ (before ≡ Some (full_before b number)) → SpellsFrame a (frame_of b a number) t
+  pub frame_by_layout : (number : ℕ) (before : Option Before) (m : Mark) (t : List Bool) → m.unread ≡ 0 → (before ≡ None) ⊎ (before ≡ Some (full_before b number)) → SpellsFrame a (frame_of b a number) t
       → Spells (frame a.profile info before) (fresh m) t (frame_of b a number)
-  frame_here number before m t z left s =
+  frame_by_layout number before m t z left s =
       let h = s.form.header in
       let size = size_of b total number in
       let x = frame_of b a number in
@@ -112,5 +112,5 @@ module _ (p : Cut) (a : Sound) (info : Info) (q : Planned p) (f : Fit p a) (suit
 
   pub as_piece : (index samples : ℕ) (seen : Seen) (before : Option Before) (message : List ℕ) (m : Mark) (t : List Bool) (x : Frame) → Spells (frame a.profile info before) m t x
       → Spells (layout (at_frame index seen before samples message).stand) m t (framed x)
-  unfolding layout frame_behind
+  unfolding layout frame_after
   as_piece index samples seen before message m t x s = (x, t, [], sym (append-nil t), s, (refl, refl))

@@ -7,8 +7,8 @@ use Rattle.flac_bits.specs.State.{Mark, past, fresh}
 use Rattle.flac_bits.specs.Forms.{joined}
 use Rattle.flac_bits.specs.Meaning.{Spells}
 use Rattle.flac_bits.specs.Fence.{InRoom}
-use Rattle.flac_bits.specs.Items.{Joined, after}
-use Rattle.flac_bits.proofs.ItemSpellings.{fresh_unread, behind_whole}
+use Rattle.flac_bits.specs.Items.{Joined, state_after}
+use Rattle.flac_bits.proofs.ItemSpellings.{fresh_unread, after_whole}
 use Rattle.flac_info.specs.Info.{Info}
 use Rattle.flac_meta.specs.declared.block.Seen.{Seen}
 use Rattle.flac_frame.specs.Audio.{Sound, samples_each}
@@ -23,11 +23,11 @@ use Rattle.flac_native.specs.Given.{Cut, blocks_in, info_of, sound_message, size
 use Rattle.flac_native.specs.Writing.{SpellsFrame}
 use Rattle.flac_native.proofs.Messages.{rows_split}
 use Rattle.flac_native.proofs.Planned.{Planned, Fit, keeps_rules}
-use Rattle.flac_native.proofs.EachFrame.{Suits, Left, left_on, frame_here, at_frame, as_piece}
+use Rattle.flac_native.proofs.EachFrame.{Suits, Left, left_on, frame_by_layout, at_frame, as_piece}
 
 -- ---- items one after another, and where they end
 
--- behind all parts
+-- after all parts
 pub record Ended (i : Info) (told : List ℕ) (q : Progress) : Type 0 where
   pub phase : q.stand.phase ≡ Frames
   pub info : q.stand.info ≡ Some i
@@ -35,7 +35,7 @@ pub record Ended (i : Info) (told : List ℕ) (q : Progress) : Type 0 where
   pub message : q.message ≡ told
 
 abbrev pub Runs : Info → List ℕ → Progress → Mark → List Piece → List Bool → Type 0
-Runs i message s m items text = Joined grammar s m items text × Ended i message (after grammar s items)
+Runs i message s m items text = Joined grammar s m items text × Ended i message (state_after grammar s items)
 
 pub one_more : (i : Info) (message : List ℕ) (s : Progress) (m : Mark) (x : Piece) (xs : List Piece) (front rest : List Bool) → Spells (layout s.stand) (fresh m) front x
     → InRoom (room_in s.stand.phase) (fresh m) front → Runs i message (next s x) (past front (fresh m)) xs rest → Runs i message s m (x ∷ xs) (front ++ rest)
@@ -123,8 +123,8 @@ module _ (p : Cut) (a : Sound) (least greatest : ℕ) (q : Planned p) (f : Fit p
       ap (λ k. k ++ rows_bytes width (block_of (b * number) size a.channels) size 0) (told ∙ ap (λ n. rows_bytes width a.channels n 0) so_far)
       ∙ ap (λ r. rows_bytes width a.channels (b * number) 0 ++ r) here_rows ∙ sym split ∙ ap (λ n. rows_bytes width a.channels n 0) (sym then_far) in
       one_more info (sound_message a) (at_frame p a info q f suits index seen before samples message) m (framed (frame_of b a number)) (map framed (frames_from b a (length ts) (number + 1))) t (joined ts)
-      (as_piece p a info q f suits index samples seen before message (fresh m) t (frame_of b a number) (frame_here p a info q f suits number before m t z was here))
+      (as_piece p a info q f suits index samples seen before message (fresh m) t (frame_of b a number) (frame_by_layout p a info q f suits number before m t z was here))
       (omega (arith, fresh_unread m z, here.short))
       (frames_run ts (number + 1) (raised index) (samples + size) seen (Some (left_by before false number size)) (message ++ rows_bytes width (block_of (b * number) size a.channels) size 0) (past t (fresh m))
-      (behind_whole t (fresh m) (fresh_unread m z) whole) (omega (arith, many)) (left_on p a info q f suits number before was) (omega (arith, counted, so_far, then_far)) told_then
+      (after_whole t (fresh m) (fresh_unread m z) whole) (omega (arith, many)) (left_on p a info q f suits number before was) (omega (arith, counted, so_far, then_far)) told_then
       (λ j h. subst (λ n. SpellsFrame a (frame_of b a n) (slice_index_or ts j [])) (let e : number + suc j ≡ number + 1 + j = omega arith in e) (each (suc j) (omega (arith, h)))))

@@ -5,9 +5,9 @@ use Rattle.std.proofs.lemmas.List.{get_or-take, length-take-le, map-append}
 use Rattle.flac_bits.specs.Bits.{unsigned}
 use Rattle.flac_bits.specs.State.{Mark, past, fresh}
 use Rattle.flac_bits.specs.Forms.{joined}
-use Rattle.flac_bits.specs.Items.{Joined, after}
+use Rattle.flac_bits.specs.Items.{Joined, state_after}
 use Rattle.flac_bits.specs.declared.why.Why.TheVariants.{Truncated}
-use Rattle.flac_bits.proofs.ItemSpellings.{fresh_unread, behind_whole}
+use Rattle.flac_bits.proofs.ItemSpellings.{fresh_unread, after_whole}
 use Rattle.flac_info.specs.Info.{Info}
 use Rattle.flac_meta.specs.declared.block.Block.{Block}
 use Rattle.flac_meta.specs.declared.block.Block.TheVariants as block_of
@@ -32,19 +32,19 @@ use Rattle.flac_native.proofs.Resumed.{Among, frames_on}
 abbrev first : Mark
 first = beginning Truncated
 
--- ---- parts, and others behind them
+-- ---- parts, and others after them
 
 -- the bits are these parts, and frames of this STREAMINFO come next
 abbrev pub Reaches : Info → Progress → Mark → List Piece → List Bool → Type 0
-Reaches i p m items text = Joined grammar p m items text × Among i (after grammar p items)
+Reaches i p m items text = Joined grammar p m items text × Among i (state_after grammar p items)
 
--- what is spelled at any whole byte is spelled behind parts
+-- what is spelled at any whole byte is spelled after parts
 and_then : (i : Info) (p : Progress) (m : Mark) (xs ys : List Piece) (front rest : List Bool) → Told p.stand.info → m.unread ≡ 0 → Joined grammar p m xs front
-    → ((k : Mark) → k.unread ≡ 0 → Reaches i (after grammar p xs) k ys rest) → Reaches i p m (xs ++ ys) (front ++ rest)
+    → ((k : Mark) → k.unread ≡ 0 → Reaches i (state_after grammar p xs) k ys rest) → Reaches i p m (xs ++ ys) (front ++ rest)
 and_then i p m [] ys front rest told z j more = subst (λ t. Reaches i p m ys (t ++ rest)) (sym j) (more m z)
 and_then i p m (x ∷ xs) ys front rest told z (part, left, split, spelled, fits, others) more =
     let s = step_of p.stand m part x told z spelled in
-    let r = and_then i (next p x) (past part (fresh m)) xs ys left rest s.rules (behind_whole part (fresh m) (fresh_unread m z) s.whole) others more in
+    let r = and_then i (next p x) (past part (fresh m)) xs ys left rest s.rules (after_whole part (fresh m) (fresh_unread m z) s.whole) others more in
     ((part, left ++ rest, ap (λ t. t ++ rest) split ∙ append_assoc part left rest, spelled, fits, r.0), r.1)
 
 -- the first parts alone
@@ -63,7 +63,7 @@ head_joined profile i list more text j =
     let head = front_of (opening profile) first (head_parts i list) more text j in
     let all = valid_after profile first i list head.0 head.1 in
     let mark = past marker (fresh first) in
-    let u : mark.unread ≡ 0 = behind_whole marker (fresh first) (fresh_unread first refl) refl in
+    let u : mark.unread ≡ 0 = after_whole marker (fresh first) (fresh_unread first refl) refl in
     (marker, blocks_spelling (block_of.StreamInfo i ∷ list), refl, marker_here profile (fresh first), tt, spelled_blocks (next (opening profile) marked) mark (block_of.StreamInfo i) list refl u all)
 
 -- where frames come, with this in the stand
@@ -90,7 +90,7 @@ up_to_here p list a least greatest frames number planned_is fits f s few head =
     let texts = take number frames in
     let long : length texts ≡ number = length-take-le number frames few in
     let all = valid_after a.profile first i list (head_spelling i list) head in
-    let here = after grammar (opening a.profile) (head_parts i list) in
+    let here = state_after grammar (opening a.profile) (head_parts i list) in
     let at = head_leaves a.profile i list all.1 in
     let each : (j : ℕ) → j < length texts → SpellsFrame a (frame_of b a (0 + j)) (slice_index_or texts j []) = λ j h.
     subst (λ t. SpellsFrame a (frame_of b a (0 + j)) t) (sym (get_or-take number frames j [] (omega (arith, h, long))))
@@ -125,8 +125,8 @@ given_split p list a least greatest count number many few =
     let b = p.block_size in
     let head = head_parts (info_of p a least greatest) list in
     let before = frames_from b a number 0 in
-    let behind = frames_from b a (count - number) number in
+    let after = frames_from b a (count - number) number in
     let whole : blocks_in b (samples_each a.channels) ≡ number + (count - number) = sym many ∙ (let e : count ≡ number + (count - number) = omega (arith, few) in e) in
-    let split : frames_of b a ≡ before ++ behind =
+    let split : frames_of b a ≡ before ++ after =
     ap (λ n. frames_from b a n 0) whole ∙ frames_split b a number (count - number) 0 ∙ ap (λ n. before ++ frames_from b a (count - number) n) (let e : 0 + number ≡ number = omega arith in e) in
-    ap (λ l. head ++ map framed l) split ∙ ap (λ l. head ++ l) (map-append framed before behind) ∙ sym (append_assoc head (map framed before) (map framed behind))
+    ap (λ l. head ++ map framed l) split ∙ ap (λ l. head ++ l) (map-append framed before after) ∙ sym (append_assoc head (map framed before) (map framed after))

@@ -3,7 +3,7 @@ use Rattle.std.proofs.Common.{◌≡◌, true, List, [], ◌∷◌, Option, Some
 use Rattle.flac_bits.specs.declared.why.Why.{Why}
 use Rattle.flac_bits.specs.declared.why.Why.TheVariants.{Memory}
 use Rattle.flac_native.specs.Stream.{Piece, marked, block, framed, Progress, next}
-use Rattle.flac_native.specs.Track.{IsAt, is_made, IsMadeAs, IsInOrder, is_behind_blocks, piece_of, block_in}
+use Rattle.flac_native.specs.Track.{IsAt, is_made, IsMadeAs, IsInOrder, is_after_blocks, piece_of, block_in}
 use Rattle.flac_native.specs.Item.{Item, metadata, frame}
 use Rattle.flac_native.specs.Coming.{Coming, IsNext}
 use Rattle.flac_native.specs.Giving.{handed, before, items_of, IsFirst, seen_by, found, ComesInOrder, Stage, Goes, MovesFrom, Moves}
@@ -34,13 +34,13 @@ made_as old new part.Marker other made = absurd (other refl)
 made_as old new part.Block other made = made
 made_as old new part.Frame other made = made
 
-pub made_behind : (old new : Track) (y : Part) → old.position.phase ≡ phase.Blocks → IsMadeAs y old new → is_made (course.Read y) new ≡ true
-made_behind old new part.Marker blocks made = absurd (two (sym blocks ∙ made.0))
+pub made_after : (old new : Track) (y : Part) → old.position.phase ≡ phase.Blocks → IsMadeAs y old new → is_made (course.Read y) new ≡ true
+made_after old new part.Marker blocks made = absurd (two (sym blocks ∙ made.0))
   where
     two : phase.Blocks ≡ phase.Opening → ⊥
     two e = absurd cc
-made_behind old new part.Block blocks made = made
-made_behind old new part.Frame blocks made = made
+made_after old new part.Block blocks made = made
+made_after old new part.Frame blocks made = made
 
 -- what comes in its phase
 pub in_order : (old new : Track) (result : Result (Option Part) Fault) → IfOk result (λ o. IfSome o (λ y. is_made (course.Read y) new ≡ true)) → IfOk result (λ o. IsInOrder o old new) → IfOk result (λ o. ComesInOrder old new (found new o))
@@ -64,7 +64,7 @@ marker_before old mid new (Ok o) opens blocks ordered = go (found new o) ordered
 
     go : (i : Option Item) → ComesInOrder mid new i → ComesInOrder old new i
     go None h = absurd (two (sym blocks ∙ h.0))
-    go (Some (metadata b)) h = ap is_behind_blocks opens
+    go (Some (metadata b)) h = ap is_after_blocks opens
     go (Some (frame f)) h = absurd (two (sym blocks ∙ h.0))
 
 -- the next of the parts is the first of the items
@@ -90,10 +90,10 @@ item_first given p new result made noted parts end f = go parts end f
 abbrev answer : Option Part → Result (Option Part) Fault
 answer o = Ok o
 
--- of the marker nothing is handed out
-pub behind_marker : (given : Coming) (p : Progress) (t : Track) (parts : List Piece) (end : Option (Place × Why)) → IsNext given p (piece_of t) (Ok (Some part.Marker)) parts end
+-- of the marker nothing is yielded
+pub after_marker : (given : Coming) (p : Progress) (t : Track) (parts : List Piece) (end : Option (Place × Why)) → IsNext given p (piece_of t) (Ok (Some part.Marker)) parts end
     → (xs : List Piece) × (items_of parts ≡ items_of xs) × given (next p marked) xs end
-behind_marker given p t parts end f = go parts end f
+after_marker given p t parts end f = go parts end f
   where
     none_some : (y : Part) → answer None ≡ answer (Some y) → ⊥
     none_some y e = absurd cc
@@ -127,7 +127,7 @@ pub moves_refused : {C X Y : Type 0} (g : container.Ghosts C) (old new : Stage C
 moves_refused {C} {X} {Y} g old new view seen f h = go old.course h
   where
     goes : Goes g old new view (Err f) → Goes g old new seen (Err f)
-    goes h = record { gives = λ p at known same quiet room items end still. h.gives p at known same quiet (λ e. room (same_why f.why Memory e)) items end still; counts = record { met = tt; kept = h.counts.kept; read = h.counts.read; risen = h.counts.risen; output = h.counts.output; behind = h.counts.behind; names = h.counts.names }; passes = λ p at. tt; broken = h.broken; memory = h.memory; ordered = h.ordered; going = h.going; ends = h.ends; refused = h.refused }
+    goes h = record { gives = λ p at known same quiet room items end still. h.gives p at known same quiet (λ e. room (same_why f.why Memory e)) items end still; counts = record { met = tt; kept = h.counts.kept; read = h.counts.read; risen = h.counts.risen; output = h.counts.output; after = h.counts.after; names = h.counts.names }; passes = λ p at. tt; broken = h.broken; memory = h.memory; ordered = h.ordered; going = h.going; ends = h.ends; refused = h.refused }
 
     go : (k : Course) → MovesFrom g k old new view (Err f) → MovesFrom g k old new seen (Err f)
     go course.Begun h = goes h

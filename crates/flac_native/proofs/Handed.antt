@@ -1,13 +1,13 @@
 -- The parts that come are handed to a receiver, one after another, whatever container they stand in.
 use Rattle.std.proofs.Common.{◌≡◌, ◌≢◌, ◌<◌, ℕ, List, [], ◌∷◌, ◌++◌, Option, Some, None, Result, Ok, Err, inl, inr, refl, sym, ap, subst, ◌∙◌, append_assoc, arith}
-use Rattle.flac_bits.specs.Items.{after}
+use Rattle.flac_bits.specs.Items.{state_after}
 use Rattle.flac_bits.specs.Handing.{TakesAll, reason_of, IsOutside}
 use Rattle.flac_bits.specs.declared.why.Why.{Why}
 use Rattle.flac_bits.specs.declared.why.Why.TheVariants.{Memory, Sink}
-use Rattle.flac_bits.proofs.Handing.{after-append, TakesAll-append}
+use Rattle.flac_bits.proofs.Handing.{state_after-append, TakesAll-append}
 use Rattle.flac_native.specs.Stream.{Piece, Progress, grammar, next}
 use Rattle.flac_native.specs.Track.{IsAt}
-use Rattle.flac_native.specs.Item.{told}
+use Rattle.flac_native.specs.Item.{fault_pair}
 use Rattle.flac_native.specs.Coming.{Coming, IsNext, HandsFirst}
 use Rattle.flac_native.specs.declared.fault.Place.{Place}
 use Rattle.flac_native.specs.declared.fault.Fault.{Fault}
@@ -21,7 +21,7 @@ pub record Far {K : Type 0} (gives : Coming) (gave : List Piece → Type 0) (tak
   pub took : TakesAll takes old taken now
   pub received : errors now ≡ errors old
   pub q : Progress
-  pub state : q ≡ after grammar p taken
+  pub state : q ≡ state_after grammar p taken
   pub at : IsAt t q
   pub comes : gives q left end
   pub given : gave taken
@@ -78,7 +78,7 @@ one_more {X = X} gives given gave gave' takes errors p parts end t u old now new
           took = TakesAll-append takes old far.taken now z new far.took (subst (λ k. takes now k new) same took);
           received = received ∙ far.received;
           q = next far.q z;
-          state = ap (λ s. next s z) far.state ∙ sym (after-append grammar p far.taken z);
+          state = ap (λ s. next s z) far.state ∙ sym (state_after-append grammar p far.taken z);
           at = subst (λ k. IsAt u (next far.q k)) same noted;
           comes = comes;
           given = more far.taken z far.given;
@@ -158,13 +158,13 @@ okay x = Ok x
 abbrev reason : {X : Type 0} → Why → Result X Why
 reason w = Err w
 
-pub room_for : {X : Type 0} (f : Fault) → f.why ≢ Memory → reason_of {X = X} told (Err f) ≡ Err Memory → ⊥
+pub room_for : {X : Type 0} (f : Fault) → f.why ≢ Memory → reason_of {X = X} fault_pair (Err f) ≡ Err Memory → ⊥
 room_for {X = X} f room e = let k : f.why ≡ Memory = same_reason f.why Memory e in room k
   where
     same_reason : (v w : Why) → reason {X = X} v ≡ reason w → v ≡ w
     same_reason v w e = cc
 
-pub no_fault : {X : Type 0} (x : X) → reason_of told (Ok x) ≡ Err Memory → ⊥
+pub no_fault : {X : Type 0} (x : X) → reason_of fault_pair (Ok x) ≡ Err Memory → ⊥
 no_fault {X = X} x e = absurd (differ e)
   where
     differ : okay x ≡ Err Memory → ⊥

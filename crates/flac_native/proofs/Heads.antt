@@ -4,7 +4,7 @@ use Rattle.flac_bits.specs.Bits.{bits_of}
 use Rattle.flac_bits.specs.State.{Mark}
 use Rattle.flac_bits.specs.Written.{Written, Adds}
 use Rattle.flac_bits.specs.declared.why.Why.{Why}
-use Rattle.flac_bits.proofs.ItemSpellings.{behind_whole}
+use Rattle.flac_bits.proofs.ItemSpellings.{after_whole}
 
 -- a writer that has written nothing
 pub record Blank (w : Written) : Type 0 where
@@ -17,4 +17,4 @@ pub head_collected : (old new : Written) (text : List Bool) (r : Result (Vec ℕ
     → IfOk r (λ v. new.known ≡ true → new.mark.unread ≡ 0 → bits_of v.items ≡ new.bits) → IfOk r (λ v. bits_of v.items ≡ text)
 head_collected old new text (Err e) s whole adds h = tt
 head_collected old new text (Ok v) s whole adds h =
-    h (adds.known s.known) (ap (λ (m : Mark). m.unread) adds.mark ∙ behind_whole text old.mark s.unread whole) ∙ adds.bits s.known ∙ ap (λ k. k ++ text) s.bits
+    h (adds.known s.known) (ap (λ (m : Mark). m.unread) adds.mark ∙ after_whole text old.mark s.unread whole) ∙ adds.bits s.known ∙ ap (λ k. k ++ text) s.bits

@@ -8,7 +8,7 @@ use Rattle.flac_bits.specs.declared.why.Why.TheVariants.{Truncated}
 use Rattle.flac_bits.specs.declared.target.Target as target
 use Rattle.flac_bits.proofs.Holding.{bits_of-append}
 use Rattle.flac_bits.proofs.Writing.{begins_is}
-use Rattle.flac_native.specs.inner.Lent.{has_still, sent_since, named}
+use Rattle.flac_native.specs.inner.Borrowed.{has_still, sent_since, named}
 use Rattle.flac_native.specs.inner.Writing.{WritesAll}
 use Rattle.flac_native.specs.Sent.{SendsBits}
 

@@ -15,7 +15,7 @@ pub mod Onwards
 pub mod Whole
 pub mod BlockOrder
 pub mod Ordered
-pub mod Wider
+pub mod LaxProfile
 pub mod Outside
 -- ---- samples as bytes, and their digest
 pub mod Messages
@@ -35,7 +35,7 @@ pub mod Gathered
 pub mod WrittenFrames
 pub mod Spelled
 pub mod Sendings
-pub mod Rooms
+pub mod FixedBuffers
 pub mod Lending
 -- ---- encoding: that it is a stream, and is read back
 pub mod Encoded

@@ -64,7 +64,7 @@ pub fed_none : (a : Sound) (h : Md5) → Holds h [] → Holds h (fed_rows a 0 0)
 unfolding rows_bytes
 fed_none a h e = e
 
--- a block of so many more behind the first ones
+-- a block of n more after the first ones
 pub fed_more : (a : Sound) (h k : Md5) (start more size : ℕ) → size ≡ more → ((m : List ℕ) → Holds h m → Holds k (m ++ fed_rows a size start)) → Holds h (fed_rows a start 0) → Holds k (fed_rows a (start + more) 0)
 fed_more a h k start more size e feeds held =
     let so : Holds k (fed_rows a start 0 ++ fed_rows a more start) = subst (λ n. Holds k (fed_rows a start 0 ++ fed_rows a n start)) e (feeds (fed_rows a start 0) held) in

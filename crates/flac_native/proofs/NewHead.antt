@@ -6,7 +6,7 @@ use Rattle.flac_bits.specs.Bits.{unsigned}
 use Rattle.flac_bits.specs.State.{Mark, Cursor, past, fresh}
 use Rattle.flac_bits.specs.Fence.{InRoom}
 use Rattle.flac_bits.specs.Items.{Joined}
-use Rattle.flac_bits.proofs.ItemSpellings.{fresh_unread, behind_whole}
+use Rattle.flac_bits.proofs.ItemSpellings.{fresh_unread, after_whole}
 use Rattle.flac_info.specs.Info.{Info}
 use Rattle.flac_meta.specs.Header.{nothing_seen}
 use Rattle.flac_meta.specs.Block.{seen_after}
@@ -27,7 +27,7 @@ use Rattle.flac_native.specs.inner.Retag.{AreKept, MayBeHead}
 use Rattle.flac_native.specs.declared.track.Phase.{Phase}
 use Rattle.flac_native.specs.declared.track.Phase.TheVariants.{Opening, Blocks, Frames}
 use Rattle.flac_native.proofs.Blocks.{block_there}
-use Rattle.flac_native.proofs.Streams.{block_here, marker_here}
+use Rattle.flac_native.proofs.Streams.{block_by_layout, marker_here}
 use Rattle.flac_native.proofs.WholeBytes.{block_whole}
 
 -- each block may stand where the blocks before it came
@@ -51,15 +51,15 @@ no_bound Opening m text e = tt
 no_bound Frames m text e = absurd cc
 
 pub spelled_blocks : (p : Progress) (m : Mark) (b : Block) (bs : List Block) → p.stand.phase ≡ Blocks → m.unread ≡ 0 → AllBlocks p.stand.seen (b ∷ bs) → Joined grammar p m (closing (b ∷ bs)) (blocks_spelling (b ∷ bs))
-spelled_blocks p m b [] phase z (is, rest) = (block_spelling true b, [], refl, block_here p.stand (fresh m) true b phase is, no_bound p.stand.phase (fresh m) (block_spelling true b) phase, refl)
+spelled_blocks p m b [] phase z (is, rest) = (block_spelling true b, [], refl, block_by_layout p.stand (fresh m) true b phase is, no_bound p.stand.phase (fresh m) (block_spelling true b) phase, refl)
 spelled_blocks p m b (c ∷ cs) phase z (is, rest) =
     let whole = block_whole false b in (
       block_spelling false b,
       blocks_spelling (c ∷ cs),
       refl,
-      block_here p.stand (fresh m) false b phase is,
+      block_by_layout p.stand (fresh m) false b phase is,
       no_bound p.stand.phase (fresh m) (block_spelling false b) phase,
-      spelled_blocks (next p (block false b)) (past (block_spelling false b) (fresh m)) c cs refl (behind_whole (block_spelling false b) (fresh m) (fresh_unread m z) whole.bytes) rest,
+      spelled_blocks (next p (block false b)) (past (block_spelling false b) (fresh m)) c cs refl (after_whole (block_spelling false b) (fresh m) (fresh_unread m z) whole.bytes) rest,
     )
 
 -- ---- without comments
@@ -100,7 +100,7 @@ comments_here : (c : Comments) → comments_length c ≤ 16777215 → IsComments
 comments_here c h fits = record { first = λ e. absurd cc; once = refl; written = may_be_written c h; fits = fits }
 
 pub valid_after : (profile : Profile) (m : Mark) (info : Info) (list : List Block) (head : List Bool) → Joined grammar (opening profile) m (marked ∷ closing (block_of.StreamInfo info ∷ list)) head → AllBlocks nothing_seen (block_of.StreamInfo info ∷ list)
-valid_after profile m info list head (front, behind, split, spelled, fits, more) = valid_blocks (next (opening profile) marked) (past front (fresh m)) (block_of.StreamInfo info) list behind refl more
+valid_after profile m info list head (front, after, split, spelled, fits, more) = valid_blocks (next (opening profile) marked) (past front (fresh m)) (block_of.StreamInfo info) list after refl more
 
 pub retagged_are_read : RetaggedAreRead
 retagged_are_read m k text comments info list rest z short fits b =
@@ -111,7 +111,7 @@ retagged_are_read m k text comments info list rest z short fits b =
     let all : AllBlocks nothing_seen (block_of.StreamInfo info ∷ note ∷ without_comments list) =
     (there.0, (comments_here comments short fits, others info_seen (seen_after info_seen note) list refl refl there.1)) in
     let mark = past marker (fresh k) in
-    let u : mark.unread ≡ 0 = behind_whole marker (fresh k) (fresh_unread k z) refl in
+    let u : mark.unread ≡ 0 = after_whole marker (fresh k) (fresh_unread k z) refl in
     record {
       head = head_spelling info (note ∷ without_comments list);
       stands = refl;

@@ -3,7 +3,7 @@ use Rattle.std.proofs.Common.{◌≡◌, ℕ, Bool, true, false, List, [], ◌�
 use Rattle.flac_bits.specs.State.{Cursor, Mark, past, fresh}
 use Rattle.flac_bits.specs.Meaning.{Spells}
 use Rattle.flac_bits.specs.Fence.{InRoom}
-use Rattle.flac_bits.specs.Items.{Step, item, refused, after, Joined}
+use Rattle.flac_bits.specs.Items.{Step, item, refused, state_after, Joined}
 use Rattle.flac_bits.specs.inner.Items.{step_at}
 use Rattle.flac_bits.specs.declared.why.Why.{Why}
 use Rattle.flac_bits.proofs.Laws.{at_}
@@ -37,7 +37,7 @@ stepped p m text part rest left x split spelled fits =
     let whole : text ++ left ≡ part ++ (rest ++ left) = ap (λ t. t ++ left) split ∙ append_assoc part rest left in
     ap (λ t. step_at grammar p (at_ t m)) whole ∙ spelled_step grammar needs_bits p m part (rest ++ left) x spelled fits
 
--- ---- behind the blocks nothing is refused at the marker or a block
+-- ---- after the blocks nothing is refused at the marker or a block
 
 not_early : (phase : Phase) (index : ℕ) (at : Place) → phase ≡ Frames → at ≡ place_in phase index → is_before_frames at ≡ true → ⊥
 not_early phase index at e is early =
@@ -55,7 +55,7 @@ late p c (y ∷ ys) at why phase (d, s, more) early =
     let f = frame_at p.stand (fresh c.mark) t.0 y (subst (λ k. Spells (layout_in k p.stand) (fresh c.mark) t.0 y) phase t.2) in
     late (next p y) d ys at why (subst (λ z. (next p z).stand.phase ≡ Frames) (sym f.1) phase) more early
 
-clash : (p : Progress) (m : Mark) (xs : List Piece) (front left : List Bool) (ys : List Piece) (at : Place) (why : Why) → Joined grammar p m xs front → (after grammar p xs).stand.phase ≡ Frames
+clash : (p : Progress) (m : Mark) (xs : List Piece) (front left : List Bool) (ys : List Piece) (at : Place) (why : Why) → Joined grammar p m xs front → (state_after grammar p xs).stand.phase ≡ Frames
     → Steps grammar p (at_ (front ++ left) m) ys (Some (at, why)) → is_before_frames at ≡ true → ⊥
 clash p m [] front left ys at why j end s early = late p (at_ (front ++ left) m) ys at why end s early
 clash p m (x ∷ xs) front left [] at why (part, rest, split, spelled, fits, others) end s early =
@@ -66,7 +66,7 @@ clash p m (x ∷ xs) front left (y ∷ ys) at why (part, rest, split, spelled, f
     subst (λ k. Steps grammar (next p x) k ys (Some (at, why))) (sym same.1) (subst (λ z. Steps grammar (next p z) d ys (Some (at, why))) (sym same.0) more) in
     clash (next p x) (past part (fresh m)) xs rest left ys at why others end here early
 
-pub closing_ends : (p : Progress) (b : Block) (bs : List Block) → (after grammar p (closing (b ∷ bs))).stand.phase ≡ Frames
+pub closing_ends : (p : Progress) (b : Block) (bs : List Block) → (state_after grammar p (closing (b ∷ bs))).stand.phase ≡ Frames
 closing_ends p b [] = refl
 closing_ends p b (c ∷ cs) = closing_ends (next p (block false b)) c cs
 
@@ -92,7 +92,7 @@ same_block l k b c e = (let p : l ≡ k = cc in p, let q : b ≡ c = cc in q)
 abbrev list_of : Block → List Block → List Block
 list_of b bs = b ∷ bs
 
--- two first parts of the same bits are one, and what is behind them begins at one place
+-- two first parts of the same bits are one, and what is after them begins at one place
 pub heads : (p : Progress) (m : Mark) (x y : Piece) (xs ys : List Piece) (front left head rest : List Bool) → front ++ left ≡ head ++ rest → Joined grammar p m (x ∷ xs) front → Joined grammar p m (y ∷ ys) head
     → (x ≡ y) × (more : List Bool) × (more' : List Bool) × (k : Mark) × (more ++ left ≡ more' ++ rest) × Joined grammar (next p x) k xs more × Joined grammar (next p x) k ys more'
 heads p m x y xs ys front left head rest e (part, more, split, spelled, fits, others) (part', more', split', spelled', fits', others') =

@@ -6,25 +6,25 @@ use Rattle.std.proofs.lemmas.List.{append-nil}
 use Rattle.flac_bits.specs.State.{Mark, past, fresh}
 use Rattle.flac_bits.specs.Meaning.{Spells, AllKept}
 use Rattle.flac_bits.specs.Fence.{InRoom}
-use Rattle.flac_bits.specs.Items.{Joined, Stream, after}
-use Rattle.flac_bits.proofs.ItemSpellings.{fresh_unread, fresh_check8, fresh_check16, behind_whole}
+use Rattle.flac_bits.specs.Items.{Joined, Stream, state_after}
+use Rattle.flac_bits.proofs.ItemSpellings.{fresh_unread, fresh_check8, fresh_check16, after_whole}
 use Rattle.flac_header.specs.Header.{Header}
 use Rattle.flac_header.specs.declared.subset.Profile.{Profile}
 use Rattle.flac_info.specs.Info.{Info, KeepsRules, without_totals}
 use Rattle.flac_meta.specs.Valid.{FitsFields}
 use Rattle.flac_meta.specs.declared.block.Block.{Block}
 use Rattle.flac_meta.specs.declared.block.Block.TheVariants as block_of
-use Rattle.flac_frame.specs.Frame.{Frame, frame, header_rules, left_by, after as frame_after}
+use Rattle.flac_frame.specs.Frame.{Frame, frame, header_rules, left_by, after_frame}
 use Rattle.flac_frame.specs.declared.before.Before.{Before}
 use Rattle.flac_frame.proofs.FrameTie.{frames_spelled, frames_bytes}
 use Rattle.flac_native.specs.Resuming.{resumed, Resumes, FramesAreResumed}
-use Rattle.flac_native.specs.Stream.{Piece, marked, block, framed, Stand, Progress, grammar, opening, next, layout, layout_in, frame_behind, room_in, may_end_in, end_rules, info_after}
+use Rattle.flac_native.specs.Stream.{Piece, marked, block, framed, Stand, Progress, grammar, opening, next, layout, layout_in, frame_after, room_in, may_end_in, end_rules, info_after}
 use Rattle.flac_native.specs.declared.track.Phase.{Phase}
 use Rattle.flac_native.specs.declared.track.Phase.TheVariants.{Opening, Blocks, Frames}
 use Rattle.flac_native.proofs.Blocks.{block_there, marker_there, block_long}
 use Rattle.flac_native.proofs.OneHead.{heads}
 
--- ---- what a header is judged by, behind more frames and behind fewer
+-- ---- what a header is judged by, after more frames and after fewer
 
 -- The same but for the first size, which is the same where the size before is that of the first, as it is with fixed
 -- blocking.
@@ -63,7 +63,7 @@ same_first : (profile : Profile) (i : Info) (new old : Before) (h : Header) → 
 same_first profile i new old h a k fixed =
     a.first (fixed_before h.variable old.variable _ k.1.1.0 fixed) (of_first h.variable i.greatest_block i.least_block old.first_size h.size old.size k.1.1.1.0 fixed)
 
--- what keeps the rules behind more frames keeps them behind fewer
+-- what keeps the rules after more frames keeps them after fewer
 rules_kept : (profile : Profile) (i : Info) (new old : Option Before) (h : Header) → AreAlike new old → AllKept (header_rules profile i old h) → AllKept (header_rules profile (without_totals i) new h)
 rules_kept profile i None None h a k = k
 rules_kept profile i None (Some old) h a k = (k.0, (k.1.0, (refl, (at_most h.variable i.greatest_block i.least_block old.first_size h.size old.size k.1.1.1.0, tt))))
@@ -106,7 +106,7 @@ without_totals_rules i r = record {
 
 record Again (profile : Profile) (i : Info) (new old : Option Before) (k : Mark) (text : List Bool) (f : Frame) : Type 0 where
   spelled : Spells (frame profile (without_totals i) new) (fresh k) text f
-  alike : Alike (frame_after new f) (frame_after old f)
+  alike : Alike (after_frame new f) (after_frame old f)
   whole : length text % 8 ≡ 0
 
 frame_again : (profile : Profile) (i : Info) (new old : Option Before) (m k : Mark) (text : List Bool) (f : Frame) → KeepsRules i → m.unread ≡ 0 → k.unread ≡ 0 → AreAlike new old → Spells (frame profile i old) (fresh m) text f → Again profile i new old k text f
@@ -123,7 +123,7 @@ frame_again profile i new old m k text f rules u z a h =
         frame = s.frame;
         samples = s.samples;
       });
-      alike = subst (λ (x : Frame). Alike (frame_after new x) (frame_after old x)) (sym s.frame) left;
+      alike = subst (λ (x : Frame). Alike (after_frame new x) (after_frame old x)) (sym s.frame) left;
       whole = ap (λ (t : List Bool). length t % 8) s.spelling ∙ frames_bytes i.depth s.form;
     }
 
@@ -137,8 +137,8 @@ pub record FrameThere (s : Stand) (m : Mark) (text : List Bool) (x : Piece) : Ty
   pub part : x ≡ framed is
   pub spelled : Spells (frame s.profile info s.before) m text is
 
-told_there : (profile : Profile) (info : Option Info) (before : Option Before) (m : Mark) (text : List Bool) (f : Frame) → Spells (frame_behind profile info before) m text f → (i : Info) × (info ≡ Some i) × Spells (frame profile i before) m text f
-unfolding frame_behind
+told_there : (profile : Profile) (info : Option Info) (before : Option Before) (m : Mark) (text : List Bool) (f : Frame) → Spells (frame_after profile info before) m text f → (i : Info) × (info ≡ Some i) × Spells (frame profile i before) m text f
+unfolding frame_after
 told_there profile None before m text f h = absurd h
 told_there profile (Some i) before m text f h = (i, refl, h)
 
@@ -153,8 +153,8 @@ unfolding layout
 frame_there s m text x phase h = in_frames s m text x (subst (λ k. Spells (layout_in k s) m text x) phase h)
 
 pub as_part : (s : Stand) (i : Info) (m : Mark) (text : List Bool) (f : Frame) → s.phase ≡ Frames → s.info ≡ Some i → Spells (frame s.profile i s.before) m text f → Spells (layout s) m text (framed f)
-unfolding layout frame_behind
-as_part s i m text f phase told h = subst (λ k. Spells (layout_in k s) m text (framed f)) (sym phase) (f, text, [], sym (append-nil text), subst (λ o. Spells (frame_behind s.profile o s.before) m text f) (sym told) h, (refl, refl))
+unfolding layout frame_after
+as_part s i m text f phase told h = subst (λ k. Spells (layout_in k s) m text (framed f)) (sym phase) (f, text, [], sym (append-nil text), subst (λ o. Spells (frame_after s.profile o s.before) m text f) (sym told) h, (refl, refl))
 
 -- where a frame stands no other part comes
 phase_there : (s : Stand) (m : Mark) (text : List Bool) (f : Frame) → Spells (layout s) m text (framed f) → s.phase ≡ Frames
@@ -187,7 +187,7 @@ same_info i j None e f = absurd cc
 same_info i j (Some k) e f = cc
 
 abbrev Runs : Progress → Mark → List Piece → List Bool → Type 0
-Runs new k items text = Joined grammar new k items text × ((after grammar new items).stand.phase ≡ Frames) × ((i : Info) × ((after grammar new items).stand.info ≡ Some (without_totals i)))
+Runs new k items text = Joined grammar new k items text × ((state_after grammar new items).stand.phase ≡ Frames) × ((i : Info) × ((state_after grammar new items).stand.info ≡ Some (without_totals i)))
 
 frames_again : (i : Info) (new old : Progress) (m k : Mark) (items : List Piece) (text : List Bool) → KeepsRules i → m.unread ≡ 0 → k.unread ≡ 0 → Onwards i new old → Joined grammar old m items text → Runs new k items text
 frames_again i new old m k [] text rules u z o j = (j, o.phase_new, (i, o.info_new))
@@ -197,7 +197,7 @@ frames_again i new old m k (x ∷ xs) text rules u z o (front, rest, split, spel
     let same : t.info ≡ i = same_info i t.info old.stand.info o.info t.told in
     let a = frame_again old.stand.profile i new.stand.before old.stand.before m k front f rules u z o.before (subst (λ j. Spells (frame old.stand.profile j old.stand.before) (fresh m) front f) same t.spelled) in
     let onwards : Onwards i (next new (framed f)) (next old (framed f)) = record { phase = o.phase; info = o.info; phase_new = o.phase_new; info_new = o.info_new; before = a.alike; judged = o.judged } in
-    let more = frames_again i (next new (framed f)) (next old (framed f)) (past front (fresh m)) (past front (fresh k)) xs rest rules (behind_whole front (fresh m) (fresh_unread m u) a.whole) (behind_whole front (fresh k) (fresh_unread k z) a.whole) onwards
+    let more = frames_again i (next new (framed f)) (next old (framed f)) (past front (fresh m)) (past front (fresh k)) xs rest rules (after_whole front (fresh m) (fresh_unread m u) a.whole) (after_whole front (fresh k) (fresh_unread k z) a.whole) onwards
     (subst (λ y. Joined grammar (next old y) (past front (fresh m)) xs rest) t.part others) in
     let spelled_new = subst (λ q. Spells (frame q (without_totals i) new.stand.before) (fresh k) front f) o.judged a.spelled in
     let here = as_part new.stand (without_totals i) (fresh k) front f o.phase_new o.info_new spelled_new in
@@ -271,7 +271,7 @@ next_profile p marked = refl
 next_profile p (block last b) = refl
 next_profile p (framed f) = refl
 
-pub after_profile : (p : Progress) (items : List Piece) → (after grammar p items).stand.profile ≡ p.stand.profile
+pub after_profile : (p : Progress) (items : List Piece) → (state_after grammar p items).stand.profile ≡ p.stand.profile
 after_profile p [] = refl
 after_profile p (x ∷ xs) = after_profile (next p x) xs ∙ next_profile p x
 
@@ -285,7 +285,7 @@ resumed_at p m k [] more f text told u z j =
     let start = resumed p.stand.profile i in
     let onwards : Onwards i start p = record { phase = phase; info = t.told; phase_new = refl; info_new = refl; before = tt; judged = refl } in
     let r = frames_again i start p m k (framed f ∷ more) text (told i t.told) u z onwards j in
-    let q = after grammar start (framed f ∷ more) in
+    let q = state_after grammar start (framed f ∷ more) in
     record {
       before = [];
       rest = text;
@@ -298,7 +298,7 @@ resumed_at p m k [] more f text told u z j =
     }
 resumed_at p m k (x ∷ xs) more f text told u z (part, rest, split, spelled, fits, others) =
     let s = step_of p.stand m part x told u spelled in
-    let r = resumed_at (next p x) (past part (fresh m)) k xs more f rest s.rules (behind_whole part (fresh m) (fresh_unread m u) s.whole) z others in
+    let r = resumed_at (next p x) (past part (fresh m)) k xs more f rest s.rules (after_whole part (fresh m) (fresh_unread m u) s.whole) z others in
     let whole : text ≡ (part ++ r.before) ++ r.rest = split ∙ ap (λ (t : List Bool). part ++ t) r.split ∙ sym (append_assoc part r.before r.rest) in
     let here : Joined grammar p m (x ∷ xs) (part ++ r.before) = (part, r.before, refl, spelled, fits, r.spelled) in
     record {

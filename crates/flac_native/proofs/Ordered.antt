@@ -7,8 +7,8 @@ use Rattle.flac_bits.specs.Bits.{unsigned}
 use Rattle.flac_bits.specs.State.{Mark, past, fresh}
 use Rattle.flac_bits.specs.Meaning.{Spells, AllKept}
 use Rattle.flac_bits.specs.Fence.{InRoom}
-use Rattle.flac_bits.specs.Items.{Joined, after, mark_behind}
-use Rattle.flac_bits.proofs.ItemSpellings.{fresh_unread, fresh_check8, fresh_check16, behind_whole}
+use Rattle.flac_bits.specs.Items.{Joined, state_after, mark_after}
+use Rattle.flac_bits.proofs.ItemSpellings.{fresh_unread, fresh_check8, fresh_check16, after_whole}
 use Rattle.flac_header.specs.Header.{Header}
 use Rattle.flac_header.specs.declared.subset.Profile.{Profile}
 use Rattle.flac_info.specs.Info.{Info, KeepsRules}
@@ -55,7 +55,7 @@ frames_any profile i before m k (f ∷ fs) text rules u z (front, rest, split, s
       split,
       there,
       room_any (fresh m) (fresh k) front (fresh_unread m u) (fresh_unread k z) fits,
-      frames_any profile i (Some (frame.after before f)) (past front (fresh m)) (past front (fresh k)) fs rest rules (behind_whole front (fresh m) (fresh_unread m u) bytes) (behind_whole front (fresh k) (fresh_unread k z) bytes) others,
+      frames_any profile i (Some (frame.after_frame before f)) (past front (fresh m)) (past front (fresh k)) fs rest rules (after_whole front (fresh m) (fresh_unread m u) bytes) (after_whole front (fresh k) (fresh_unread k z) bytes) others,
     )
 
 -- what is said of frames at one whole byte, at another
@@ -71,11 +71,11 @@ moved profile i m k hs fs text rules u z are follow =
     record { headers = there.0; are = there.1; follow = there.2 }
 
 -- parts end at a whole byte
-pub ends_whole : (p : Progress) (m : Mark) (items : List Piece) (text : List Bool) (j : Joined grammar p m items text) → Told p.stand.info → m.unread ≡ 0 → (mark_behind grammar p m items text j).unread ≡ 0
+pub ends_whole : (p : Progress) (m : Mark) (items : List Piece) (text : List Bool) (j : Joined grammar p m items text) → Told p.stand.info → m.unread ≡ 0 → (mark_after grammar p m items text j).unread ≡ 0
 ends_whole p m [] text j told u = u
 ends_whole p m (x ∷ xs) text (front, rest, split, spelled, fits, others) told u =
     let s = step_of p.stand m front x told u spelled in
-    ends_whole (next p x) (past front (fresh m)) xs rest others s.rules (behind_whole front (fresh m) (fresh_unread m u) s.whole)
+    ends_whole (next p x) (past front (fresh m)) xs rest others s.rules (after_whole front (fresh m) (fresh_unread m u) s.whole)
 
 -- ---- the head
 
@@ -112,18 +112,18 @@ headed : (profile : Profile) (m : Mark) (text : List Bool) (i : Info) (list : Li
 headed profile m text i list rest b = go b.head b.stands b.spelled
   where
     go : (head : List Bool) → text ≡ head ++ rest → Joined grammar (opening profile) m (head_parts i list) head → Headed text i list rest
-    go head stands (front, behind, split, spelled, fits, others) =
+    go head stands (front, after, split, spelled, fits, others) =
         let first = block_of.StreamInfo i in
         let bits = marker_is profile (fresh m) front marked spelled in
         let c = closed first list in
-        let joined = subst (λ ys. Joined grammar (next (opening profile) marked) (past front (fresh m)) ys behind) c.parts others in
-        let over = subst (λ (ys : List Piece). (after grammar (next (opening profile) marked) ys).stand.phase ≡ Frames) c.parts (closing_ends (next (opening profile) marked) first list) in
-        let blocks = are_ordered profile (past front (fresh m)) c.list behind (record { spelled = joined; over = over }) in
+        let joined = subst (λ ys. Joined grammar (next (opening profile) marked) (past front (fresh m)) ys after) c.parts others in
+        let over = subst (λ (ys : List Piece). (state_after grammar (next (opening profile) marked) ys).stand.phase ≡ Frames) c.parts (closing_ends (next (opening profile) marked) first list) in
+        let blocks = are_ordered profile (past front (fresh m)) c.list after (record { spelled = joined; over = over }) in
         record {
           marks = c.list;
           parts = c.parts;
-          head = behind;
-          stands = stands ∙ ap (λ t. t ++ rest) (split ∙ ap (λ t. t ++ behind) bits) ∙ append_assoc (unsigned 32 0x664C6143) behind rest;
+          head = after;
+          stands = stands ∙ ap (λ t. t ++ rest) (split ∙ ap (λ t. t ++ after) bits) ∙ append_assoc (unsigned 32 0x664C6143) after rest;
           blocks = blocks;
           info = same_first i blocks.order.info list blocks.order.others (sym c.blocks ∙ blocks.order.first);
         }
@@ -156,7 +156,7 @@ to_order : (profile : Profile) (m : Mark) (items : List Piece) (text : List Bool
 to_order profile m items text u w =
     let h = headed profile m text w.info w.list w.rest w.begins in
     let all = valid_after profile m w.info w.list w.begins.head w.begins.spelled in
-    let k = mark_behind grammar (opening profile) m (head_parts w.info w.list) w.begins.head w.begins.spelled in
+    let k = mark_after grammar (opening profile) m (head_parts w.info w.list) w.begins.head w.begins.spelled in
     let z = ends_whole (opening profile) m (head_parts w.info w.list) w.begins.head w.begins.spelled nothing_told u in
     let f = moved profile w.info k m w.headers w.frames w.rest all.0.fits.rules z u w.are w.follow in
     record {
@@ -179,7 +179,7 @@ of_order profile m items text u o =
     let list = o.blocks.order.others in
     let b = begins profile m text o.list o.head o.rest o.stands o.blocks in
     let all = valid_after profile m info list b.head b.spelled in
-    let k = mark_behind grammar (opening profile) m (head_parts info list) b.head b.spelled in
+    let k = mark_after grammar (opening profile) m (head_parts info list) b.head b.spelled in
     let z = ends_whole (opening profile) m (head_parts info list) b.head b.spelled nothing_told u in
     let f = moved profile info m k o.headers o.frames o.rest all.0.fits.rules u z o.are o.follow in
     record {

@@ -5,7 +5,7 @@ use Rattle.std.proofs.lemmas.Bool.Decides.{nat_tests}
 use Rattle.flac_bits.specs.State.{Mark, past, fresh}
 use Rattle.flac_bits.specs.Layout.{Layout, Rule, done, bind, bits, unary, judge, refuse, mark, choose}
 use Rattle.flac_bits.specs.Meaning.{Shows, BreaksFirst}
-use Rattle.flac_bits.specs.Items.{Joined, StopsAt, after, mark_behind}
+use Rattle.flac_bits.specs.Items.{Joined, StopsAt, state_after, mark_after}
 use Rattle.flac_bits.specs.Lists.{list_of}
 use Rattle.flac_bits.specs.LittleEndian.{little_32}
 use Rattle.flac_bits.specs.Number.{number, continued, some_or_bad, lead_form}
@@ -31,8 +31,8 @@ use Rattle.flac_subframe.specs.format.Residual.{residual, residual_header, parti
 use Rattle.flac_subframe.specs.format.Subframe.{Constant, Verbatim, Fixed, Linear, subframe_samples, subframe, header as subframe_header, content, constant, verbatim, fixed, linear, predictor, predictor_order, wasted_bits, one_more, linear_order}
 use Rattle.flac_frame.specs.Frame.{frame, stream_header, header_rules, frame_body, subframes, frame_end, limits_of, some_or, in_range}
 use Rattle.flac_frame.specs.declared.before.Before.{Before}
-use Rattle.flac_native.specs.Stream.{Piece, Stand, Progress, grammar, layout, layout_in, marker, frame_behind, end_rules}
-use Rattle.flac_native.specs.Wider.{NothingIsOutsideLax}
+use Rattle.flac_native.specs.Stream.{Piece, Stand, Progress, grammar, layout, layout_in, marker, frame_after, end_rules}
+use Rattle.flac_native.specs.LaxProfile.{NothingIsOutsideLax}
 use Rattle.flac_native.specs.declared.track.Phase.{Phase}
 use Rattle.flac_native.specs.declared.track.Phase.TheVariants.{Opening, Blocks, Frames}
 use Rattle.flac_native.proofs.Onwards.{after_profile}
@@ -71,7 +71,7 @@ judged rules h = record { never = λ m front s. not_first rules h s.1 }
 refused : {A : Type 0} (why : Why) → why ≢ NotSubset → Inside (refuse {A = A} why)
 refused why other = record { never = λ m front s. other s.1 }
 
--- one layout behind another
+-- one layout after another
 one_then : {A B : Type 0} (l : Layout A) (f : A → Layout B) → Inside l → ((x : A) → Inside (f x)) → Inside (bind l f)
 one_then {A} {B} l f first more = record { never = never }
   where
@@ -79,7 +79,7 @@ one_then {A} {B} l f first more = record { never = never }
     never m front (inl s) = first.never m front s
     never m front (inr (x, part, rest, split, spelled, s)) = (more x).never (past part m) rest s
 
--- behind a number of so many bits
+-- after a number of n bits
 number_then : {B : Type 0} (n : ℕ) (f : ℕ → Layout B) → ((v : ℕ) → v < 2 ^ n → Inside (f v)) → Inside (bind (bits n) f)
 number_then {B} n f more = record { never = never }
   where
@@ -155,10 +155,10 @@ word_inside : (left : ℕ) → Inside (number_32 left)
 unfolding number_32
 word_inside left = part_inside 4 left _ (field 32)
 
-turns_inside : {S A : Type 0} (item : S → Layout A) (next : S → A → S) (behind : S → Layout ⊤) → ((s : S) → Inside (item s)) → ((s : S) → Inside (behind s)) → (n : ℕ) (s : S) → Inside (in_turn item next behind n s)
+turns_inside : {S A : Type 0} (item : S → Layout A) (next : S → A → S) (after : S → Layout ⊤) → ((s : S) → Inside (item s)) → ((s : S) → Inside (after s)) → (n : ℕ) (s : S) → Inside (in_turn item next after n s)
 unfolding in_turn
-turns_inside item next behind each last zero s = one_then _ _ (last s) (λ v. ends [])
-turns_inside item next behind each last (suc n) s = one_then _ _ (each s) (λ x. one_then _ _ (turns_inside item next behind each last n (next s x)) (λ xs. ends (x ∷ xs)))
+turns_inside item next after each last zero s = one_then _ _ (last s) (λ v. ends [])
+turns_inside item next after each last (suc n) s = one_then _ _ (each s) (λ x. one_then _ _ (turns_inside item next after each last n (next s x)) (λ xs. ends (x ∷ xs)))
 
 reserved_inside : (n : ℕ) → Inside (reserved n)
 unfolding reserved zeros
@@ -356,17 +356,17 @@ frame_inside info before = one_then _ _ (start_inside info before) (λ h. one_th
 -- ---- a stream
 
 part_inside_lax : (s : Stand) → s.profile ≡ Lax → Inside (layout s)
-unfolding layout marker frame_behind
+unfolding layout marker frame_after
 part_inside_lax s judged_by = go s.phase
   where
-    framed_inside : (o : Option Info) → Inside (frame_behind Lax o s.before)
+    framed_inside : (o : Option Info) → Inside (frame_after Lax o s.before)
     framed_inside None = refused _ (λ e. absurd cc)
     framed_inside (Some info) = frame_inside info s.before
 
     go : (phase : Phase) → Inside (layout_in phase s)
     go Opening = one_then _ _ (one_then _ _ (field 32) (λ v. unless _ _ (λ e. absurd cc))) (λ v. ends _)
     go Blocks = one_then _ _ (block_inside s.seen) (λ b. ends _)
-    go Frames = one_then _ _ (subst (λ q. Inside (frame_behind q s.info s.before)) (sym judged_by) (framed_inside s.info)) (λ f. ends _)
+    go Frames = one_then _ _ (subst (λ q. Inside (frame_after q s.info s.before)) (sym judged_by) (framed_inside s.info)) (λ f. ends _)
 
 end_not : (info : Option Info) (samples : ℕ) (message : List ℕ) → BreaksFirst (end_rules info samples message) NotSubset → ⊥
 unfolding end_rules
@@ -380,22 +380,22 @@ fresh-short m = go (nat_eq m.unread 0)
     go true = refl
     go false = refl
 
--- the reason of bits that run short stays behind items
-behind_short : (p : Progress) (m : Mark) (items : List Piece) (text : List Bool) (j : Joined grammar p m items text) → (mark_behind grammar p m items text j).short ≡ m.short
-behind_short p m [] text j = refl
-behind_short p m (x ∷ xs) text j = behind_short (grammar.next p x) (past j.0 (fresh m)) xs j.1 j.5 ∙ past-short j.0 (fresh m) ∙ fresh-short m
+-- the reason of bits that run short stays after items
+after_short : (p : Progress) (m : Mark) (items : List Piece) (text : List Bool) (j : Joined grammar p m items text) → (mark_after grammar p m items text j).short ≡ m.short
+after_short p m [] text j = refl
+after_short p m (x ∷ xs) text j = after_short (grammar.next p x) (past j.0 (fresh m)) xs j.1 j.5 ∙ past-short j.0 (fresh m) ∙ fresh-short m
 
 pub nothing_is_outside : NothingIsOutsideLax
 nothing_is_outside p m items text at why judged_by own r = go r.stops
   where
     q : Progress
-    q = after grammar p items
+    q = state_after grammar p items
 
     k : Mark
-    k = mark_behind grammar p m items r.front r.spelled
+    k = mark_after grammar p m items r.front r.spelled
 
     short : (fresh k).short ≡ m.short
-    short = fresh-short k ∙ behind_short p m items r.front r.spelled
+    short = fresh-short k ∙ after_short p m items r.front r.spelled
 
     clean : Inside (layout q.stand)
     clean = part_inside_lax q.stand (after_profile p items ∙ judged_by)

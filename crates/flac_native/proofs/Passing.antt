@@ -1,11 +1,11 @@
 -- Which parts of a stream a container gave, by calls one after another.
 use Rattle.std.proofs.Common.{◌≡◌, true, List, [], ◌∷◌, ◌++◌, Option, Some, None, Result, Ok, Err, IfOk, IfErr, IfSome, inl, inr, refl, sym, ap, subst, ◌∙◌, append_assoc}
 use Rattle.std.proofs.lemmas.List.{append-nil}
-use Rattle.flac_bits.specs.Items.{Grammar, after}
+use Rattle.flac_bits.specs.Items.{Grammar, state_after}
 use Rattle.flac_bits.specs.Handing.{TakesAll, IsOutside}
 use Rattle.flac_bits.specs.declared.why.Why.{Why}
 use Rattle.flac_bits.specs.declared.why.Why.TheVariants.{Spent}
-use Rattle.flac_bits.proofs.Handing.{after-append}
+use Rattle.flac_bits.proofs.Handing.{state_after-append}
 use Rattle.flac_native.specs.Stream.{Piece, marked, block, framed, Progress, grammar, next}
 use Rattle.flac_native.specs.Track.{IsAt, piece_of}
 use Rattle.flac_native.specs.Item.{Item, metadata, frame}
@@ -24,7 +24,7 @@ use Rattle.flac_native.specs.declared.decoder.Course.TheVariants as course
 
 -- ---- some parts, and then others
 
-after_both : {S I P : Type 0} (g : Grammar S I P) (s : S) (xs ys : List I) → after g s (xs ++ ys) ≡ after g (after g s xs) ys
+after_both : {S I P : Type 0} (g : Grammar S I P) (s : S) (xs ys : List I) → state_after g s (xs ++ ys) ≡ state_after g (state_after g s xs) ys
 after_both g s [] ys = refl
 after_both g s (x ∷ xs) ys = after_both g (g.next s x) xs ys
 
@@ -43,7 +43,7 @@ items_both (x ∷ xs) ys = ap (before (handed x)) (items_both xs ys) ∙ go (han
 pub passes_none : {C : Type 0} (g : container.Ghosts C) (p : Progress) (c : C) → PassesParts g p c [] c
 passes_none g p c = record { gave = refl; known = λ known. known; first = λ known all end come. (all, refl, come) }
 
-pub passes_both : {C : Type 0} (g : container.Ghosts C) (p : Progress) (old mid new : C) (xs ys : List Piece) → PassesParts g p old xs mid → PassesParts g (after grammar p xs) mid ys new → PassesParts g p old (xs ++ ys) new
+pub passes_both : {C : Type 0} (g : container.Ghosts C) (p : Progress) (old mid new : C) (xs ys : List Piece) → PassesParts g p old xs mid → PassesParts g (state_after grammar p xs) mid ys new → PassesParts g p old (xs ++ ys) new
 passes_both {C} g p old mid new xs ys one two = record {
   gave = taken_both (λ (a : C) (x : Piece) (b : C). g.gave a b) old mid new xs ys one.gave two.gave;
   known = λ known. two.known (one.known known);
@@ -71,29 +71,29 @@ passes_one g p old new t y gave knows gives = record { gave = (new, gave, refl);
     same_part : (z : Part) → answer (Some y) ≡ answer (Some z) → y ≡ z
     same_part z e = cc
 
-    go : (all : List Piece) (end : Option (Place × Why)) → IsNext (g.gives new) p (piece_of t) (Ok (Some y)) all end → (left : List Piece) × (all ≡ (piece_of t y ∷ []) ++ left) × g.gives new (after grammar p (piece_of t y ∷ [])) left end
+    go : (all : List Piece) (end : Option (Place × Why)) → IsNext (g.gives new) p (piece_of t) (Ok (Some y)) all end → (left : List Piece) × (all ≡ (piece_of t y ∷ []) ++ left) × g.gives new (state_after grammar p (piece_of t y ∷ [])) left end
     go [] None f = absurd (none_some (sym f))
     go [] (Some r) f = absurd (some_err _ f)
     go (x ∷ xs) end (z, is, view, rest) =
         let same : piece_of t y ≡ x = ap (piece_of t) (same_part z is) ∙ view in
         (xs, ap (λ k. k ∷ xs) (sym same), subst (λ k. g.gives new (next p k) xs end) (sym same) rest)
 
--- behind what was read before, the part of an item
-pub passes_item : {C : Type 0} (g : container.Ghosts C) (p : Progress) (front : List Piece) (old mid new : C) (t : Track) (y : Part) → IsBeforeItem p front → PassesParts g p old front mid → PassesParts g (after grammar p front) mid (piece_of t y ∷ []) new
-    → IsAt t (next (after grammar p front) (piece_of t y)) → IfSome (found t (Some y)) (λ item. PassesItem g p old new t item)
+-- after what was read before, the part of an item
+pub passes_item : {C : Type 0} (g : container.Ghosts C) (p : Progress) (front : List Piece) (old mid new : C) (t : Track) (y : Part) → IsBeforeItem p front → PassesParts g p old front mid → PassesParts g (state_after grammar p front) mid (piece_of t y ∷ []) new
+    → IsAt t (next (state_after grammar p front) (piece_of t y)) → IfSome (found t (Some y)) (λ item. PassesItem g p old new t item)
 passes_item g p front old mid new t y leads first then at = go (piece_of t y) then at
   where
-    all : (x : Piece) (i : Item) → handed x ≡ Some i → PassesParts g (after grammar p front) mid (x ∷ []) new → IsAt t (next (after grammar p front) x) → PassesItem g p old new t i
+    all : (x : Piece) (i : Item) → handed x ≡ Some i → PassesParts g (state_after grammar p front) mid (x ∷ []) new → IsAt t (next (state_after grammar p front) x) → PassesItem g p old new t i
     all x i shown then at = record {
       front = front;
       before = leads;
       part = x;
       shown = shown;
       passes = passes_both g p old mid new front (x ∷ []) first then;
-      at = subst (λ (q : Progress). IsAt t q) (sym (after-append grammar p front x)) at;
+      at = subst (λ (q : Progress). IsAt t q) (sym (state_after-append grammar p front x)) at;
     }
 
-    go : (x : Piece) → PassesParts g (after grammar p front) mid (x ∷ []) new → IsAt t (next (after grammar p front) x) → IfSome (handed x) (λ item. PassesItem g p old new t item)
+    go : (x : Piece) → PassesParts g (state_after grammar p front) mid (x ∷ []) new → IsAt t (next (state_after grammar p front) x) → IfSome (handed x) (λ item. PassesItem g p old new t item)
     go marked then at = tt
     go (block last b) then at = all (block last b) (metadata b) refl then at
     go (framed f) then at = all (framed f) (frame f) refl then at
@@ -101,10 +101,10 @@ passes_item g p front old mid new t y leads first then at = go (piece_of t y) th
 -- which a call does that returns one
 pub passes_found : {C : Type 0} (g : container.Ghosts C) (p : Progress) (front : List Piece) (old mid new : C) (t : Track) (result : Result (Option Part) Fault) → IsBeforeItem p front → PassesParts g p old front mid
     → IfOk result (λ o. IfSome o (λ _. g.gave mid new)) → IfOk result (λ _. g.known mid ≡ true → g.known new ≡ true)
-    → IfOk result (λ _. g.known mid ≡ true → (all : List Piece) (end : Option (Place × Why)) → g.gives mid (after grammar p front) all end → IsNext (g.gives new) (after grammar p front) (piece_of t) result all end)
-    → IfOk result (λ o. IfSome o (λ y. IsAt t (next (after grammar p front) (piece_of t y)))) → IfOk result (λ o. IfSome (found t o) (λ item. PassesItem g p old new t item))
+    → IfOk result (λ _. g.known mid ≡ true → (all : List Piece) (end : Option (Place × Why)) → g.gives mid (state_after grammar p front) all end → IsNext (g.gives new) (state_after grammar p front) (piece_of t) result all end)
+    → IfOk result (λ o. IfSome o (λ y. IsAt t (next (state_after grammar p front) (piece_of t y)))) → IfOk result (λ o. IfSome (found t o) (λ item. PassesItem g p old new t item))
 passes_found g p front old mid new t (Ok None) leads first gave knows gives at = tt
-passes_found g p front old mid new t (Ok (Some y)) leads first gave knows gives at = passes_item g p front old mid new t y leads first (passes_one g (after grammar p front) mid new t y gave knows gives) at
+passes_found g p front old mid new t (Ok (Some y)) leads first gave knows gives at = passes_item g p front old mid new t y leads first (passes_one g (state_after grammar p front) mid new t y gave knows gives) at
 passes_found g p front old mid new t (Err f) leads first gave knows gives at = tt
 
 pub ok_inside : {X : Type 0} {P Q : X → Type 0} (result : Result X Fault) → ((x : X) → result ≡ Ok x → P x → Q x) → IfOk result P → IfOk result Q
@@ -139,7 +139,7 @@ spent_inside : (why : Why) → why ≡ Spent → IsOutside why → ⊥
 spent_inside why e (inl read) = absurd cc
 spent_inside why e (inr memory) = absurd cc
 
--- what a call did is told by its answer alone, whatever it hands out
+-- what a call did is told by its answer alone, whatever it yields
 pub answers_seen : {C X : Type 0} (g : container.Ghosts C) (old new : Stage C) (view : X → Option Item) (result : Result X Fault) → Moves g old new view result → Answers g old (seen_by view result) new
 answers_seen {C} {X} g old new view (Err f) h = moves_refused g old new view (λ (o : Option Item). o) f h
 answers_seen {C} {X} g old new view (Ok x) h = go old.course h
@@ -147,7 +147,7 @@ answers_seen {C} {X} g old new view (Ok x) h = go old.course h
     goes : Goes g old new view (Ok x) → Goes g old new (λ (o : Option Item). o) (Ok (view x))
     goes h = record {
       gives = λ p at known same quiet room items end still. h.gives p at known same quiet (no_fault x) items end still;
-      counts = record { met = h.counts.met; kept = h.counts.kept; read = tt; risen = tt; output = tt; behind = h.counts.behind; names = h.counts.names };
+      counts = record { met = h.counts.met; kept = h.counts.kept; read = tt; risen = tt; output = tt; after = h.counts.after; names = h.counts.names };
       passes = h.passes;
       broken = λ p at. tt;
       memory = λ frames. tt;
@@ -183,7 +183,7 @@ broke_off {C} g old new f h out p at = go old.course h
 
 -- ---- calls one after another
 
--- nothing is handed out of what is read before an item
+-- nothing is yielded of what is read before an item
 none_before : (p : Progress) (front : List Piece) → IsBeforeItem p front → items_of front ≡ []
 none_before p front (inl e) = ap items_of e
 none_before p front (inr (opens, e)) = ap items_of e
@@ -196,14 +196,14 @@ record SoFar {C : Type 0} (g : container.Ghosts C) (p : Progress) (first now : S
   parts : List Piece
   items_are : items ≡ items_of parts
   passes : PassesParts g p first.container parts now.container
-  at : IsAt now.track (after grammar p parts)
+  at : IsAt now.track (state_after grammar p parts)
 
 so_far : {C : Type 0} (g : container.Ghosts C) (p : Progress) (first now : Stage C) (items : List Item) → IsAt first.track p → GivesAll g first items now → SoFar g p first now items
 so_far {C} g p first now [] at h = subst (λ (s : Stage C). SoFar g p first s []) h (record { parts = []; items_are = refl; passes = passes_none g p first.container; at = at })
 so_far {C} g p first now (x ∷ xs) at (mid, one, more) =
     let i = gave_item g first mid x one p at in
     let parts = i.front ++ i.part ∷ [] in
-    let rest = so_far g (after grammar p parts) mid now xs i.at more in
+    let rest = so_far g (state_after grammar p parts) mid now xs i.at more in
     record {
       parts = parts ++ rest.parts;
       items_are = ap (λ k. x ∷ k) rest.items_are ∙ sym (items_both parts rest.parts ∙ ap (λ k. k ++ items_of rest.parts) (one_item p i.front i.part x i.before i.shown));
@@ -211,18 +211,18 @@ so_far {C} g p first now (x ∷ xs) at (mid, one, more) =
       at = subst (λ (q : Progress). IsAt now.track q) (sym (after_both grammar p parts rest.parts)) rest.at;
     }
 
-pub calls_break_behind : {C : Type 0} (g : container.Ghosts C) → FailuresArePlaced g
-calls_break_behind {C} g = λ p first now last items f at gives breaks out.
+pub calls_break_after : {C : Type 0} (g : container.Ghosts C) → FailuresArePlaced g
+calls_break_after {C} g = λ p first now last items f at gives breaks out.
     let far = so_far g p first now items at gives in
-    let off = broke_off g now last f breaks out (after grammar p far.parts) far.at in (
+    let off = broke_off g now last f breaks out (state_after grammar p far.parts) far.at in (
       far.parts ++ off.front,
-      far.items_are ∙ sym (items_both far.parts off.front ∙ ap (λ k. items_of far.parts ++ k) (none_before (after grammar p far.parts) off.front off.before) ∙ append-nil (items_of far.parts)),
+      far.items_are ∙ sym (items_both far.parts off.front ∙ ap (λ k. items_of far.parts ++ k) (none_before (state_after grammar p far.parts) off.front off.before) ∙ append-nil (items_of far.parts)),
       λ known all end come.
           let front = far.passes.first known all end come in
           let back = off.first (far.passes.known known) front.0 end front.2 in
           (back.0, front.1 ∙ ap (λ k. far.parts ++ k) back.1 ∙ sym (append_assoc far.parts off.front back.0)),
       (
-        subst (λ (q : Progress). g.breaks last.container q f.at f.why) (sym (after_both grammar p far.parts off.front)) off.behind.0,
-        (off.behind.1.0, taken_both (λ (a : C) (x : Piece) (b : C). g.gave a b) first.container now.container off.behind.1.0 far.parts off.front far.passes.gave off.behind.1.1, off.behind.1.2),
+        subst (λ (q : Progress). g.breaks last.container q f.at f.why) (sym (after_both grammar p far.parts off.front)) off.after.0,
+        (off.after.1.0, taken_both (λ (a : C) (x : Piece) (b : C). g.gave a b) first.container now.container off.after.1.0 far.parts off.front far.passes.gave off.after.1.1, off.after.1.2),
       ),
     )

@@ -10,7 +10,7 @@ use Rattle.flac_header.specs.Choice.{rate_choice, depth_choice, rate_choice_in, 
 use Rattle.flac_header.specs.declared.subset.Profile.{Profile}
 use Rattle.flac_header.specs.declared.subset.Profile.TheVariants.{Subset, Lax}
 use Rattle.flac_subframe.specs.format.Handed.{AreWithin}
-use Rattle.flac_subframe.specs.search.Room.{Room}
+use Rattle.flac_subframe.specs.search.Capacity.{Capacity}
 use Rattle.flac_subframe.specs.declared.format.linear.LinearPredictor.{LinearPredictor}
 use Rattle.flac_frame.specs.Encoding.{partition_limit, most_in}
 use Rattle.flac_frame.specs.Frame.{limits_at}
@@ -202,13 +202,13 @@ orders_in limit lists n other all one = elim (cases_lt n (length lists)) [
 ]
 
 -- arrays that were made for the plan
-pub room_is : (p : Cut) (r : Room) (size : ℕ) (profile : Profile) → size ≡ p.block_size → profile ≡ p.profile → r ≡ record { block = size; most = most_in profile } → r ≡ room_of p
+pub room_is : (p : Cut) (r : Capacity) (size : ℕ) (profile : Profile) → size ≡ p.block_size → profile ≡ p.profile → r ≡ record { block = size; most = most_in profile } → r ≡ room_of p
 room_is p r size profile s x is = is ∙ ap (λ n. record { block = n; most = most_in profile }) s ∙ ap (λ k. record { block = p.block_size; most = most_in k }) x
 
 -- the plan's arrays have room for the partition orders of the samples
-pub partition_of : (p : Cut) (a : Sound) (r : Room) → Fit p a → r ≡ room_of p → partition_limit a ≤ r.most
+pub partition_of : (p : Cut) (a : Sound) (r : Capacity) → Fit p a → r ≡ room_of p → partition_limit a ≤ r.most
 partition_of p a r f is =
-    let most : r.most ≡ (limits_at a.profile 0).partition = ap (λ (x : Room). x.most) is ∙ ap (λ x. (limits_at x 0).partition) f.profile in
+    let most : r.most ≡ (limits_at a.profile 0).partition = ap (λ (x : Capacity). x.most) is ∙ ap (λ x. (limits_at x 0).partition) f.profile in
     omega (arith, partition_is a.profile a.rate, most)
 
 pub keeps_rules : (p : Cut) (a : Sound) (least greatest : ℕ) → Planned p → Fit p a → least < 2 ^ 24 → greatest < 2 ^ 24 → KeepsRules (info_of p a least greatest)

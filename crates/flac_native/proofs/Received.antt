@@ -2,8 +2,8 @@
 use Rattle.std.proofs.Common.{◌≡◌, ℕ, Bool, List, [], ◌∷◌, ◌++◌, append_assoc, Option, Some, None, refl, sym, ap, subst, ◌∙◌, inl, inr}
 use Rattle.std.proofs.lemmas.List.{append-nil}
 use Rattle.flac_bits.specs.State.{Mark, Cursor, past, fresh}
-use Rattle.flac_bits.specs.Items.{Joined, after}
-use Rattle.flac_bits.specs.Handing.{TakesAll, Reading, Hands, Decides, by_grammar, IsRead}
+use Rattle.flac_bits.specs.Items.{Joined, state_after}
+use Rattle.flac_bits.specs.Handing.{TakesAll, InputReading, Hands, Decides, by_grammar, IsRead}
 use Rattle.flac_bits.specs.declared.why.Why.{Why}
 use Rattle.flac_bits.proofs.Laws.{at_}
 use Rattle.flac_native.specs.Stream.{Piece, Progress, grammar, next}
@@ -13,12 +13,12 @@ use Rattle.flac_native.proofs.Deciding.{some_answer}
 
 -- ---- by any reading
 
--- it begins with the first of them, and the place of the part behind these is that of a stream
-pub record Fronts (r : Reading Piece Place) (p : Progress) (parts : List Piece) : Type 0 where
+-- it begins with the first of them, and the place of the part after these is that of a stream
+pub record Fronts (r : InputReading Piece Place) (p : Progress) (parts : List Piece) : Type 0 where
   pub begins : (xs ys : List Piece) → parts ≡ xs ++ ys → r.begins xs
-  pub place : (xs : List Piece) → r.place xs ≡ grammar.place (after grammar p xs)
+  pub place : (xs : List Piece) → r.place xs ≡ grammar.place (state_after grammar p xs)
 
-pub hands_of : {K : Type 0} (r : Reading Piece Place) (takes : K → Piece → K → Type 0) (errors : K → ℕ) (p : Progress) (parts : List Piece) (end : Option (Place × Why)) (calm : Type 0) (breaks : List Piece → Place → Why → Type 0) (old new : K) (outcome : Option (Place × Why))
+pub hands_of : {K : Type 0} (r : InputReading Piece Place) (takes : K → Piece → K → Type 0) (errors : K → ℕ) (p : Progress) (parts : List Piece) (end : Option (Place × Why)) (calm : Type 0) (breaks : List Piece → Place → Why → Type 0) (old new : K) (outcome : Option (Place × Why))
     → ReadAs r parts end → Fronts r p parts → ((xs : List Piece) (at : Place) (why : Why) → breaks xs at why → r.breaks xs at why) → HandsFirst takes errors p parts end calm breaks old new outcome → Hands r takes errors calm old new outcome
 hands_of {K} r takes errors p parts end calm breaks old new outcome has fronts told h =
     let begins = fronts.begins h.taken h.left h.split in
@@ -40,12 +40,12 @@ hands_of {K} r takes errors p parts end calm breaks old new outcome has fronts t
     all stop none is =
         subst (λ (k : List Piece). ReadAs r k stop) (h.split ∙ ap (λ k. h.taken ++ k) none ∙ append-nil h.taken) (subst (λ (e : Option (Place × Why)). ReadAs r parts e) is has)
 
--- the same where the place is that of the part behind them, and more is told
-pub hands_placed : {K : Type 0} (r : Reading Piece Place) (takes : K → Piece → K → Type 0) (errors : K → ℕ) (p : Progress) (parts : List Piece) (end : Option (Place × Why)) (calm : Type 0) (breaks : Progress → Place → Why → Type 0) (more : List Piece → Type 0) (old new : K)
-    (outcome : Option (Place × Why)) → ReadAs r parts end → Fronts r p parts → ((xs : List Piece) (at : Place) (why : Why) → breaks (after grammar p xs) at why → r.breaks xs at why)
-    → HandsFirst takes errors p parts end calm (λ xs at why. breaks (after grammar p xs) at why × more xs) old new outcome → Hands r takes errors calm old new outcome
+-- the same where the place is that of the part after them, and more is told
+pub hands_placed : {K : Type 0} (r : InputReading Piece Place) (takes : K → Piece → K → Type 0) (errors : K → ℕ) (p : Progress) (parts : List Piece) (end : Option (Place × Why)) (calm : Type 0) (breaks : Progress → Place → Why → Type 0) (more : List Piece → Type 0) (old new : K)
+    (outcome : Option (Place × Why)) → ReadAs r parts end → Fronts r p parts → ((xs : List Piece) (at : Place) (why : Why) → breaks (state_after grammar p xs) at why → r.breaks xs at why)
+    → HandsFirst takes errors p parts end calm (λ xs at why. breaks (state_after grammar p xs) at why × more xs) old new outcome → Hands r takes errors calm old new outcome
 hands_placed r takes errors p parts end calm breaks more old new outcome has fronts told h =
-    hands_of r takes errors p parts end calm (λ xs at why. breaks (after grammar p xs) at why × more xs) old new outcome has fronts (λ xs at why b. told xs at why b.0) h
+    hands_of r takes errors p parts end calm (λ xs at why. breaks (state_after grammar p xs) at why × more xs) old new outcome has fronts (λ xs at why b. told xs at why b.0) h
 
 abbrev pub ends : Option (Place × Why) → Option (Place × Why)
 ends e = e
@@ -59,7 +59,7 @@ some_is r q e = cc
 pub same_end : (at to : Place) (v w : Why) → ends (Some (at, v)) ≡ Some (to, w) → (at ≡ to) × (v ≡ w)
 same_end at to v w e = let pair = some_is (at, v) (to, w) e in (ap (λ (r : Place × Why). r.0) pair, ap (λ (r : Place × Why). r.1) pair)
 
-pub decides_of : {K : Type 0} (r : Reading Piece Place) (takes : K → Piece → K → Type 0) (errors : K → ℕ) (p : Progress) (calm : Type 0) (breaks : List Piece → Place → Why → Type 0) (old new : K) (outcome : Option (Place × Why))
+pub decides_of : {K : Type 0} (r : InputReading Piece Place) (takes : K → Piece → K → Type 0) (errors : K → ℕ) (p : Progress) (calm : Type 0) (breaks : List Piece → Place → Why → Type 0) (old new : K) (outcome : Option (Place × Why))
     → ((parts : List Piece) (end : Option (Place × Why)) → ReadAs r parts end → HandsFirst takes errors p parts end calm breaks old new outcome) → calm → errors new ≡ errors old → Decides r outcome
 decides_of r takes errors p calm breaks old new outcome hands quiet same = record {
   accepted = λ parts stream at why is room. none_some (at, why) ((hands parts None stream).refused quiet at why is room same).1;

@@ -5,9 +5,9 @@ use Rattle.std.proofs.lemmas.List.{get_or-drop, length-drop}
 use Rattle.flac_bits.specs.State.{Mark, past, fresh}
 use Rattle.flac_bits.specs.Forms.{joined}
 use Rattle.flac_bits.specs.Meaning.{AllKept}
-use Rattle.flac_bits.specs.Items.{Joined, Stream, after}
+use Rattle.flac_bits.specs.Items.{Joined, Stream, state_after}
 use Rattle.flac_bits.specs.declared.why.Why.TheVariants.{Truncated}
-use Rattle.flac_bits.proofs.ItemSpellings.{fresh_unread, behind_whole}
+use Rattle.flac_bits.proofs.ItemSpellings.{fresh_unread, after_whole}
 use Rattle.flac_meta.specs.Header.{nothing_seen}
 use Rattle.flac_info.specs.Info.{Info, without_totals}
 use Rattle.flac_meta.specs.declared.block.Seen.{Seen}
@@ -24,7 +24,7 @@ use Rattle.flac_native.specs.Given.{Cut, blocks_in, info_of, size_of, frame_of, 
 use Rattle.flac_native.specs.Writing.{SpellsFrame}
 use Rattle.flac_native.specs.Resuming.{resumed, EncodedAreResumed}
 use Rattle.flac_native.proofs.Planned.{Planned, Fit, planned, fit, keeps_rules}
-use Rattle.flac_native.proofs.EachFrame.{Suits, Left, left_on, frame_here, at_frame, as_piece}
+use Rattle.flac_native.proofs.EachFrame.{Suits, Left, left_on, frame_by_layout, at_frame, as_piece}
 use Rattle.flac_native.proofs.Encoded.{least_part}
 use Rattle.flac_native.proofs.Streams.{least_small}
 use Rattle.flac_native.proofs.Onwards.{without_totals_rules}
@@ -45,7 +45,7 @@ module _ (p : Cut) (a : Sound) (info : Info) (q : Planned p) (f : Fit p a) (suit
       → number + length texts ≤ blocks_in b total → Left p a info q f suits number before
       → ((j : ℕ) → j < length texts → SpellsFrame a (frame_of b a (number + j)) (slice_index_or texts j []))
       → Joined grammar (at_frame p a info q f suits index seen before samples message) m (map framed (frames_from b a (length texts) number)) (joined texts)
-      × Among info (after grammar (at_frame p a info q f suits index seen before samples message) (map framed (frames_from b a (length texts) number)))
+      × Among info (state_after grammar (at_frame p a info q f suits index seen before samples message) (map framed (frames_from b a (length texts) number)))
   frames_on [] number index samples seen before message m z many left each = (refl, record { phase = refl; info = refl })
   frames_on (t ∷ ts) number index samples seen before message m z many left each =
       let here : SpellsFrame a (frame_of b a number) t = subst (λ n. SpellsFrame a (frame_of b a n) t) (let e : number + 0 ≡ number = omega arith in e) (each 0 (omega arith)) in
@@ -53,9 +53,9 @@ module _ (p : Cut) (a : Sound) (info : Info) (q : Planned p) (f : Fit p a) (suit
       let size = size_of b total number in
       let whole : length t % 8 ≡ 0 = ap (λ (k : List Bool). length k % 8) here.spelling ∙ frames_bytes a.bits here.form in
       let more = frames_on ts (number + 1) (raised index) (samples + size) seen (Some (left_by before false number size)) (message ++ rows_bytes (sample_width info.depth) (block_of (b * number) size a.channels) size 0) (past t (fresh m))
-      (behind_whole t (fresh m) (fresh_unread m z) whole) (omega (arith, many)) (left_on p a info q f suits number before was)
+      (after_whole t (fresh m) (fresh_unread m z) whole) (omega (arith, many)) (left_on p a info q f suits number before was)
       (λ j h. subst (λ n. SpellsFrame a (frame_of b a n) (slice_index_or ts j [])) (let e : number + suc j ≡ number + 1 + j = omega arith in e) (each (suc j) (omega (arith, h)))) in
-      ((t, joined ts, refl, as_piece p a info q f suits index samples seen before message (fresh m) t (frame_of b a number) (frame_here p a info q f suits number before m t z was here), omega (arith, fresh_unread m z, here.short), more.0), more.1)
+      ((t, joined ts, refl, as_piece p a info q f suits index samples seen before message (fresh m) t (frame_of b a number) (frame_by_layout p a info q f suits number before m t z was here), omega (arith, fresh_unread m z, here.short), more.0), more.1)
 
 may_end : (i : Info) (s : Progress) → Among i s → may_end_in s.stand.phase s.stand.info ≡ true
 may_end i s e = rw (e.phase, e.info) refl
@@ -79,6 +79,6 @@ encoded_are_resumed p a least greatest frames number planned_is fits f s few =
     subst (λ t. SpellsFrame a (frame_of b a (number + j)) t) (sym (get_or-drop number frames j [])) (f.each (number + j) (omega (arith, h, long))) in
     let r = frames_on p a (without_totals i) q k suits texts number 0 0 nothing_seen None [] (beginning Truncated) refl (omega (arith, long, few, f.many)) (λ more. inl refl) each in
     let joins = subst (λ n. Joined grammar (resumed a.profile i) (beginning Truncated) (map framed (frames_from b a n number)) (joined texts)) long r.0 in
-    let among = subst (λ n. Among (without_totals i) (after grammar (resumed a.profile i) (map framed (frames_from b a n number)))) long r.1 in
+    let among = subst (λ n. Among (without_totals i) (state_after grammar (resumed a.profile i) (map framed (frames_from b a n number)))) long r.1 in
     subst (λ x. Stream grammar (resumed x i) (beginning Truncated) (map framed (frames_from b a (length frames - number) number)) (joined texts)) (sym k.profile)
     (record { spelled = joins; ends = may_end (without_totals i) _ among; kept = ends_well i _ among })

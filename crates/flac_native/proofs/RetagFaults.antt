@@ -28,7 +28,7 @@ same_place at to e = cc
 pub frame_marker : place.Frame 0 ≡ place.Marker → ⊥
 frame_marker e = absurd cc
 
--- a fault before the frames is none of a device behind them
+-- a fault before the frames is none of a device after them
 pub before_device : (at : Place) (w : Why) → is_before_frames at ≡ true
     → (fault_at (Some at) w ≡ not_read) ⊎ (fault_at (Some at) w ≡ not_written) → ⊥
 before_device at w before (inl e) =
@@ -100,10 +100,10 @@ copy_calm f K A Q (inl e) none = rw e (λ k a room. absurd (none (ap (λ (x : Re
 copy_calm f K A Q (inr e) none = rw e tt
 
 -- its fault is none of the blocks
-pub copy_behind : (f : RetagFault) (K : Type 0) → (f ≡ not_read) ⊎ (f ≡ not_written)
+pub copy_after : (f : RetagFault) (K : Type 0) → (f ≡ not_read) ⊎ (f ≡ not_written)
     → IfSome f.at (λ at. K → (is_before_frames at ≡ true) ⊎ ((f ≡ not_read) ⊎ (f ≡ no_memory)))
-copy_behind f K (inl e) = rw e (λ k. inr (inl refl))
-copy_behind f K (inr e) = rw e tt
+copy_after f K (inl e) = rw e (λ k. inr (inl refl))
+copy_after f K (inr e) = rw e tt
 
 pub copy_placeless : (f : RetagFault) → (f ≡ not_read) ⊎ (f ≡ not_written) → f.at ≡ None → f ≡ not_written
 copy_placeless f (inl e) none = let p = sym none ∙ ap (λ (x : RetagFault). x.at) e in absurd cc

@@ -8,7 +8,7 @@ pub rows_none : (width : ℕ) (channels : List (List ℤ)) (i : ℕ) → rows_by
 unfolding rows_bytes
 rows_none width channels i = refl
 
--- What was sent is n rows behind the whole; k more are sent.
+-- What was sent is n rows after the whole; k more are sent.
 pub rows_step : (width : ℕ) (channels : List (List ℤ)) (n k : ℕ) (whole sent later piece : List ℕ)
     → sent ≡ whole ++ rows_bytes width channels n 0
     → piece ≡ rows_bytes width channels k n

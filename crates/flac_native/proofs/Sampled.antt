@@ -4,7 +4,7 @@ use Rattle.flac_bits.specs.Handing.{TakesAll}
 use Rattle.flac_native.specs.Stream.{Piece, marked, block, framed}
 use Rattle.flac_native.specs.Item.{Item}
 use Rattle.flac_native.specs.Decoding.{taken}
-use Rattle.flac_native.specs.Samples.{samples_from, frame_bytes, depth_behind, samples_in}
+use Rattle.flac_native.specs.Samples.{samples_from, frame_bytes, depth_after_item, samples_in}
 
 module _ {S : Type 0} (is_known : S → Bool) (bytes : S → List ℕ) (want bits : S → ℕ) where
   -- what such a sink makes of an item
@@ -12,11 +12,11 @@ module _ {S : Type 0} (is_known : S → Bool) (bytes : S → List ℕ) (want bit
   Takes s x t = record {
     known : is_known s ≡ true → is_known t ≡ true;
     asked : want t ≡ want s;
-    depth : bits t ≡ depth_behind (bits s) x;
+    depth : bits t ≡ depth_after_item (bits s) x;
     sent : is_known s ≡ true → bytes t ≡ bytes s ++ samples_in (want s) (bits s) x;
   }
 
-  -- It has written the samples of all parts, behind what was there.
+  -- It has written the samples of all parts, after what was there.
   pub all_written : (old : S) (xs : List Piece) (new : S) → TakesAll (taken Takes) old xs new → is_known old ≡ true
       → bytes new ≡ bytes old ++ samples_from (want old) (bits old) xs
   all_written old [] new h t = ap bytes (sym h) ∙ sym (append-nil (bytes old))

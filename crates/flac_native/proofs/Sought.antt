@@ -32,19 +32,19 @@ is_under a b h = grind (arith, nat_tests)
 both_under : (a b c d : ℕ) → a < b → c < d → (nat_lt a b && nat_lt c d) ≡ true
 both_under a b c d h k = rw (is_under a b h, is_under c d k) refl
 
--- the first multiple at or behind a number
+-- the first multiple at or after a number
 at_least : (n m rest k : ℕ) → 0 < n → n * k + rest ≡ m + (n - 1) → rest < n → m ≤ n * k
 at_least n m rest k some e small = omega (arith, some, e, small)
 
-pub multiple_behind : (n m : ℕ) → 0 < n → m ≤ n * blocks_in n m
-multiple_behind n m some = at_least n m _ (blocks_in n m) some (div-add-mod (m + (n - 1)) n) (mod-lt (m + (n - 1)) {m = n} some)
+pub multiple_after : (n m : ℕ) → 0 < n → m ≤ n * blocks_in n m
+multiple_after n m some = at_least n m _ (blocks_in n m) some (div-add-mod (m + (n - 1)) n) (mod-lt (m + (n - 1)) {m = n} some)
 
 too_low : (n m rest number blocks : ℕ) → 0 < n → n * blocks + rest ≡ m + (n - 1) → number < blocks → n * number < m
 too_low n m rest number blocks some e h =
     let up : n * suc number ≤ n * blocks = mul-le-mul_left n h in
     omega (arith, some, e, up, mul-suc n number)
 
--- it is not behind another one
+-- it is not after another one
 pub multiple_first : (n m k : ℕ) → 0 < n → m ≤ n * k → n * blocks_in n m ≤ n * k
 multiple_first n m k some h = elim (cases_lt k (blocks_in n m)) [
   | inl lt ↦ let low = too_low n m _ k (blocks_in n m) some (div-add-mod (m + (n - 1)) n) lt in absurd (omega (arith, low, h))
@@ -69,7 +69,7 @@ module _ (p : Cut) where
   unfolding has_point
   held number offset e =
       let k = both_true _ _ e in
-      record { first = multiple_behind p.seek_every (b * number) (under 0 p.seek_every k.0); behind = under _ _ k.1 }
+      record { first = multiple_after p.seek_every (b * number) (under 0 p.seek_every k.0); after = under _ _ k.1 }
 
   -- a frame that holds a multiple has a point
   has_it : (number m : ℕ) → 0 < p.seek_every → b * number ≤ p.seek_every * m → p.seek_every * m < b * number + size_of b total number → has number ≡ true
@@ -149,5 +149,5 @@ points_name_frames p a frames good fits f =
           let to : p.seek_every * m < size * i + size_of size p.total i = omega (arith, parts, small, below) in
           let at = still_some size p.total i q.least (omega (arith, from, below)) in
           let x = found p 0 0 i frames (omega arith) (omega (arith, at, many)) (has_it p i m some from to) in
-          (the_point p i x.0, x.1, record { first = from; behind = to }),
+          (the_point p i x.0, x.1, record { first = from; after = to }),
     )

@@ -12,11 +12,11 @@ use Rattle.flac_bits.specs.Forms.{joined}
 use Rattle.flac_bits.specs.Meaning.{Spells, AllKept}
 use Rattle.flac_bits.specs.declared.why.Why.{Why}
 use Rattle.flac_bits.specs.declared.why.Why.TheVariants.{Truncated}
-use Rattle.flac_bits.proofs.ItemSpellings.{fresh_unread, behind_whole}
+use Rattle.flac_bits.proofs.ItemSpellings.{fresh_unread, after_whole}
 use Rattle.flac_info.specs.Info.{Info}
 use Rattle.flac_meta.specs.Header.{nothing_seen}
 use Rattle.flac_meta.specs.Block.{seen_after}
-use Rattle.flac_meta.specs.Listed.{came, block_fault, fault_behind, or_else, list_fault, info_seen}
+use Rattle.flac_meta.specs.Listed.{came, block_fault, fault_after, or_else, list_fault, info_seen}
 use Rattle.flac_meta.specs.Spelling.{content_spelling, block_spelling}
 use Rattle.flac_meta.specs.Valid.{AllAre, FitsFields, IsInfo, IsBlock, ContentSpelled, BlockSpelled}
 use Rattle.flac_meta.specs.declared.block.Seen.{Seen}
@@ -29,7 +29,7 @@ use Rattle.flac_frame.specs.Audio.{Sound, samples_each}
 use Rattle.flac_native.specs.Decoding.{beginning}
 use Rattle.flac_native.specs.Message.{rows_bytes, sample_width}
 use Rattle.flac_bits.specs.Items.{Stream}
-use Rattle.flac_native.specs.Stream.{Piece, marked, block, framed, Stand, Progress, grammar, opening, layout, layout_in, marker, next, raised, phase_behind, end_rules, is_unknown, may_end_in}
+use Rattle.flac_native.specs.Stream.{Piece, marked, block, framed, Stand, Progress, grammar, opening, layout, layout_in, marker, next, raised, phase_after, end_rules, is_unknown, may_end_in}
 use Rattle.flac_native.specs.declared.track.Phase.{Phase}
 use Rattle.flac_native.specs.declared.track.Phase.TheVariants.{Opening, Blocks, Frames}
 use Rattle.md5.specs.Md5.{md5}
@@ -62,9 +62,9 @@ block_written : (last : Bool) (b : Block) → BlockSpelled last b (block_spellin
 unfolding block_spelling
 block_written last b = (content_spelling b, content_written b, refl)
 
-pub block_here : (s : Stand) (m : Mark) (last : Bool) (b : Block) → s.phase ≡ Blocks → IsBlock s.seen b → Spells (layout s) m (block_spelling last b) (block last b)
+pub block_by_layout : (s : Stand) (m : Mark) (last : Bool) (b : Block) → s.phase ≡ Blocks → IsBlock s.seen b → Spells (layout s) m (block_spelling last b) (block last b)
 unfolding layout
-block_here s m last b phase is = go s.phase phase
+block_by_layout s m last b phase is = go s.phase phase
   where
     go : (k : Phase) → k ≡ Blocks → Spells (layout_in k s) m (block_spelling last b) (block last b)
     go Blocks e = ((last, b), block_spelling last b, [], sym (append-nil (block_spelling last b)), (blocks_spelled s.seen m (block_spelling last b) last b).1 (is, block_written last b), (refl, refl))
@@ -80,20 +80,20 @@ both_none : (x y : Option Why) → or_else x y ≡ None → (x ≡ None) × (y �
 both_none None y e = (refl, e)
 both_none (Some w) y e = absurd cc
 
-listed : (seen : Seen) (b : Block) → seen.stream_info ≡ true → fault_behind seen b ≡ None → FitsFields b → IsBlock seen b
+listed : (seen : Seen) (b : Block) → seen.stream_info ≡ true → fault_after seen b ≡ None → FitsFields b → IsBlock seen b
 listed seen b first e fits =
     let k = first_none (came seen b) _ (block_fault b) e in
     record { first = λ h. absurd (two seen.stream_info first h); once = k.0; written = k.1; fits = fits }
 
 module _ (profile : Profile) (i : Info) where
-  -- among the blocks, behind STREAMINFO
+  -- among the blocks, after STREAMINFO
   abbrev pub at_block : ℕ → Seen → Progress
   at_block index seen = record { stand = record { profile = profile; phase = Blocks; index = index; seen = seen; info = Some i; before = None }; samples = 0; message = [] }
 
-  abbrev pub behind : Bool → ℕ → Seen → Progress
-  behind last index seen = record { stand = record { profile = profile; phase = phase_behind last; index = cond last 0 (raised index); seen = seen; info = Some i; before = None }; samples = 0; message = [] }
+  abbrev pub after : Bool → ℕ → Seen → Progress
+  after last index seen = record { stand = record { profile = profile; phase = phase_after last; index = cond last 0 (raised index); seen = seen; info = Some i; before = None }; samples = 0; message = [] }
 
-  pub goes_on : (last : Bool) (b : Block) (index : ℕ) (seen : Seen) → seen.stream_info ≡ true → came seen b ≡ false → (next (at_block index seen) (block last b) ≡ behind last index (seen_after seen b)) × ((seen_after seen b).stream_info ≡ true)
+  pub goes_on : (last : Bool) (b : Block) (index : ℕ) (seen : Seen) → seen.stream_info ≡ true → came seen b ≡ false → (next (at_block index seen) (block last b) ≡ after last index (seen_after seen b)) × ((seen_after seen b).stream_info ≡ true)
   goes_on last (blocks.StreamInfo info) index seen first e = absurd (two seen.stream_info first e)
   goes_on last (blocks.Padding n) index seen first e = (refl, first)
   goes_on last (blocks.Application id bytes) index seen first e = (refl, first)
@@ -104,30 +104,30 @@ module _ (profile : Profile) (i : Info) where
   goes_on last (blocks.Other kind bytes) index seen first e = (refl, first)
 
   -- the blocks, where what follows them is there
-  module _ (message : List ℕ) (items : List Piece) (text : List Bool) (there : (seen : Seen) (m : Mark) → m.unread ≡ 0 → Runs i message (behind true 0 seen) m items text) where
+  module _ (message : List ℕ) (items : List Piece) (text : List Bool) (there : (seen : Seen) (m : Mark) → m.unread ≡ 0 → Runs i message (after true 0 seen) m items text) where
     blocks_run : (b : Block) (bs : List Block) (index : ℕ) (seen : Seen) (m : Mark) → seen.stream_info ≡ true → m.unread ≡ 0 → list_fault seen (b ∷ bs) ≡ None → AllAre FitsFields (b ∷ bs)
         → Runs i message (at_block index seen) m (closing (b ∷ bs) ++ items) (blocks_spelling (b ∷ bs) ++ text)
     blocks_run b [] index seen m first z e fits =
-        let faults = both_none (fault_behind seen b) None e in
+        let faults = both_none (fault_after seen b) None e in
         let is = listed seen b first faults.0 fits.0 in
         let on = goes_on true b index seen first is.once in
         let u = fresh_unread m z in
         let whole = block_whole true b in
-        let rest = subst (λ s. Runs i message s (past (block_spelling true b) (fresh m)) items text) (sym on.0) (there (seen_after seen b) (past (block_spelling true b) (fresh m)) (behind_whole (block_spelling true b) (fresh m) u whole.bytes)) in
-        let run = one_more i message (at_block index seen) m (block true b) items (block_spelling true b) text (block_here (at_block index seen).stand (fresh m) true b refl is) tt rest in
+        let rest = subst (λ s. Runs i message s (past (block_spelling true b) (fresh m)) items text) (sym on.0) (there (seen_after seen b) (past (block_spelling true b) (fresh m)) (after_whole (block_spelling true b) (fresh m) u whole.bytes)) in
+        let run = one_more i message (at_block index seen) m (block true b) items (block_spelling true b) text (block_by_layout (at_block index seen).stand (fresh m) true b refl is) tt rest in
         subst (λ t. Runs i message (at_block index seen) m (block true b ∷ items) (t ++ text)) (sym (append-nil (block_spelling true b))) run
     blocks_run b (c ∷ cs) index seen m first z e fits =
-        let faults = both_none (fault_behind seen b) _ e in
+        let faults = both_none (fault_after seen b) _ e in
         let is = listed seen b first faults.0 fits.0 in
         let on = goes_on false b index seen first is.once in
         let u = fresh_unread m z in
         let whole = block_whole false b in
-        let more = blocks_run c cs (raised index) (seen_after seen b) (past (block_spelling false b) (fresh m)) on.1 (behind_whole (block_spelling false b) (fresh m) u whole.bytes) faults.1 fits.1 in
+        let more = blocks_run c cs (raised index) (seen_after seen b) (past (block_spelling false b) (fresh m)) on.1 (after_whole (block_spelling false b) (fresh m) u whole.bytes) faults.1 fits.1 in
         let rest = subst (λ s. Runs i message s (past (block_spelling false b) (fresh m)) (closing (c ∷ cs) ++ items) (blocks_spelling (c ∷ cs) ++ text)) (sym on.0) more in
-        let run = one_more i message (at_block index seen) m (block false b) (closing (c ∷ cs) ++ items) (block_spelling false b) (blocks_spelling (c ∷ cs) ++ text) (block_here (at_block index seen).stand (fresh m) false b refl is) tt rest in
+        let run = one_more i message (at_block index seen) m (block false b) (closing (c ∷ cs) ++ items) (block_spelling false b) (blocks_spelling (c ∷ cs) ++ text) (block_by_layout (at_block index seen).stand (fresh m) false b refl is) tt rest in
         subst (λ t. Runs i message (at_block index seen) m (closing (b ∷ c ∷ cs) ++ items) t) (sym (append_assoc (block_spelling false b) (blocks_spelling (c ∷ cs)) text)) run
 
-    -- behind the marker
+    -- after the marker
     abbrev unread_stand : Progress
     unread_stand = record { stand = record { profile = profile; phase = Blocks; index = 0; seen = nothing_seen; info = None; before = None }; samples = 0; message = [] }
 
@@ -138,16 +138,16 @@ module _ (profile : Profile) (i : Info) where
         let u = fresh_unread m z in
         let whole = block_whole true b in
         let valid : IsBlock nothing_seen b = record { first = λ h. refl; once = refl; written = refl; fits = is } in
-        let rest = there info_seen (past (block_spelling true b) (fresh m)) (behind_whole (block_spelling true b) (fresh m) u whole.bytes) in
-        let run = one_more i message unread_stand m (block true b) items (block_spelling true b) text (block_here unread_stand.stand (fresh m) true b refl valid) tt rest in
+        let rest = there info_seen (past (block_spelling true b) (fresh m)) (after_whole (block_spelling true b) (fresh m) u whole.bytes) in
+        let run = one_more i message unread_stand m (block true b) items (block_spelling true b) text (block_by_layout unread_stand.stand (fresh m) true b refl valid) tt rest in
         subst (λ t. Runs i message unread_stand m (block true b ∷ items) (t ++ text)) (sym (append-nil (block_spelling true b))) run
     info_run (c ∷ cs) m z is e fits =
         let b = blocks.StreamInfo i in
         let u = fresh_unread m z in
         let whole = block_whole false b in
         let valid : IsBlock nothing_seen b = record { first = λ h. refl; once = refl; written = refl; fits = is } in
-        let rest = blocks_run c cs (raised 0) info_seen (past (block_spelling false b) (fresh m)) refl (behind_whole (block_spelling false b) (fresh m) u whole.bytes) e fits in
-        let run = one_more i message unread_stand m (block false b) (closing (c ∷ cs) ++ items) (block_spelling false b) (blocks_spelling (c ∷ cs) ++ text) (block_here unread_stand.stand (fresh m) false b refl valid) tt rest in
+        let rest = blocks_run c cs (raised 0) info_seen (past (block_spelling false b) (fresh m)) refl (after_whole (block_spelling false b) (fresh m) u whole.bytes) e fits in
+        let run = one_more i message unread_stand m (block false b) (closing (c ∷ cs) ++ items) (block_spelling false b) (blocks_spelling (c ∷ cs) ++ text) (block_by_layout unread_stand.stand (fresh m) false b refl valid) tt rest in
         subst (λ t. Runs i message unread_stand m (closing (b ∷ c ∷ cs) ++ items) t) (sym (append_assoc (block_spelling false b) (blocks_spelling (c ∷ cs)) text)) run
 
 -- ---- the marker
@@ -199,11 +199,11 @@ encoded_are_streams p list a least greatest frames planned_is fits listed_is fie
     let b = p.block_size in
     let width = sample_width a.bits in
     let items = map framed (frames_from b a (length frames) 0) in
-    let there : (seen : Seen) (m : Mark) → m.unread ≡ 0 → Runs i message (behind a.profile i true 0 seen) m items (joined frames) = λ seen m z.
+    let there : (seen : Seen) (m : Mark) → m.unread ≡ 0 → Runs i message (after a.profile i true 0 seen) m items (joined frames) = λ seen m z.
     frames_run p a least greatest q k small.0 small.1 frames 0 0 0 seen None [] m z (omega (arith, f.many)) (λ more. inl refl) (sym (no_samples b (samples_each a.channels))) (sym (ap (λ n. rows_bytes width a.channels n 0) (no_samples b (samples_each a.channels)))) (λ j h. subst (λ n. SpellsFrame a (frame_of b a n) (slice_index_or frames j [])) (let e : j ≡ 0 + j = omega arith in e) (f.each j h)) in
     let start = beginning Truncated in
     let m = past (unsigned 32 0x664C6143) (fresh start) in
-    let z : m.unread ≡ 0 = behind_whole (unsigned 32 0x664C6143) (fresh start) refl refl in
+    let z : m.unread ≡ 0 = after_whole (unsigned 32 0x664C6143) (fresh start) refl refl in
     let r = one_more i message (opening a.profile) start marked (closing (blocks.StreamInfo i ∷ list) ++ items) (unsigned 32 0x664C6143) (blocks_spelling (blocks.StreamInfo i ∷ list) ++ joined frames) (marker_here a.profile (fresh start)) tt
     (info_run a.profile i message items (joined frames) there list m z is listed_is fields) in
     let all : Runs i message (opening a.profile) start (given p list a least greatest) (stream_spelling p list a least greatest frames) = subst (λ n. Runs i message (opening a.profile) start (marked ∷ (closing (blocks.StreamInfo i ∷ list) ++ map framed (frames_from b a n 0))) (stream_spelling p list a least greatest frames)) f.many r in

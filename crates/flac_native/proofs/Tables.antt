@@ -7,7 +7,7 @@ use Rattle.std.proofs.Math.Nat.{mul-suc}
 use Rattle.flac_bits.specs.Bits.{bit_value}
 use Rattle.flac_meta.specs.SeekTable.{in_order, follows}
 use Rattle.flac_meta.specs.Block.{seen_after}
-use Rattle.flac_meta.specs.Listed.{block_fault, fault_behind, or_else, list_fault, info_seen}
+use Rattle.flac_meta.specs.Listed.{block_fault, fault_after, or_else, list_fault, info_seen}
 use Rattle.flac_meta.specs.Valid.{AllAre, FitsFields, IsPoint}
 use Rattle.flac_meta.specs.declared.block.Seen.{Seen}
 use Rattle.flac_meta.specs.declared.seek_table.SeekPoint.{SeekPoint}
@@ -157,14 +157,14 @@ table_good p a frames q k f =
     let few : length (points_of p frames) ≤ 932067 = omega (arith, all, same, q.points) in
     (table_may (points_of p frames) few (ordered p 0 0 None frames q.least tt), fitting p 0 0 frames q (omega (arith, many)) (omega arith) (λ j h. (f.each j h).short))
 
--- ---- behind a list
+-- ---- after a list
 
--- which kinds came behind a list
-abbrev seen_behind : Seen → List Block → Seen
-seen_behind seen [] = seen
-seen_behind seen (b ∷ bs) = seen_behind (seen_after seen b) bs
+-- which kinds came after a list
+abbrev seen_after_list : Seen → List Block → Seen
+seen_after_list seen [] = seen
+seen_after_list seen (b ∷ bs) = seen_after_list (seen_after seen b) bs
 
-no_table : (seen : Seen) (list : List Block) → seen.seek_table ≡ false → has_table list ≡ false → (seen_behind seen list).seek_table ≡ false
+no_table : (seen : Seen) (list : List Block) → seen.seek_table ≡ false → has_table list ≡ false → (seen_after_list seen list).seek_table ≡ false
 no_table seen [] e h = e
 no_table seen (blocks.StreamInfo info ∷ bs) e h = no_table (seen_after seen (blocks.StreamInfo info)) bs e h
 no_table seen (blocks.Padding n ∷ bs) e h = no_table seen bs e h
@@ -182,25 +182,25 @@ both_none (Some w) y e = absurd cc
 then_none : (x y : Option Why) → x ≡ None → y ≡ None → or_else x y ≡ None
 then_none x y e f = rw (e, f) refl
 
-one_behind : (seen : Seen) (list : List Block) (b : Block) → list_fault seen list ≡ None → fault_behind (seen_behind seen list) b ≡ None → list_fault seen (list ++ b ∷ []) ≡ None
-one_behind seen [] b e h = then_none (fault_behind seen b) None h refl
-one_behind seen (x ∷ xs) b e h =
-    let k = both_none (fault_behind seen x) (list_fault (seen_after seen x) xs) e in
-    then_none (fault_behind seen x) (list_fault (seen_after seen x) (xs ++ b ∷ [])) k.0 (one_behind (seen_after seen x) xs b k.1 h)
+one_after : (seen : Seen) (list : List Block) (b : Block) → list_fault seen list ≡ None → fault_after (seen_after_list seen list) b ≡ None → list_fault seen (list ++ b ∷ []) ≡ None
+one_after seen [] b e h = then_none (fault_after seen b) None h refl
+one_after seen (x ∷ xs) b e h =
+    let k = both_none (fault_after seen x) (list_fault (seen_after seen x) xs) e in
+    then_none (fault_after seen x) (list_fault (seen_after seen x) (xs ++ b ∷ [])) k.0 (one_after (seen_after seen x) xs b k.1 h)
 
-all_behind : (list : List Block) (b : Block) → AllAre FitsFields list → FitsFields b → AllAre FitsFields (list ++ b ∷ [])
-all_behind [] b h f = (f, tt)
-all_behind (x ∷ xs) b h f = (h.0, all_behind xs b h.1 f)
+all_after : (list : List Block) (b : Block) → AllAre FitsFields list → FitsFields b → AllAre FitsFields (list ++ b ∷ [])
+all_after [] b h f = (f, tt)
+all_after (x ∷ xs) b h f = (h.0, all_after xs b h.1 f)
 
 abbrev pub IsGood : List Block → Type 0
 IsGood list = (list_fault info_seen list ≡ None) × AllAre FitsFields list
 
--- a good list, and behind it a good table where there is a point
+-- a good list, and after it a good table where there is a point
 with_table : (list : List Block) (points : List SeekPoint) → IsGood list → has_table list ≡ false → block_fault (blocks.SeekTable points) ≡ None → FitsFields (blocks.SeekTable points) → IsGood (list ++ table_of points)
 with_table list [] g none may fits = subst IsGood (sym (append-nil list)) g
 with_table list (x ∷ xs) g none may fits =
-    let once : fault_behind (seen_behind info_seen list) (blocks.SeekTable (x ∷ xs)) ≡ None = rw (no_table info_seen list refl none) may in
-    (one_behind info_seen list (blocks.SeekTable (x ∷ xs)) g.0 once, all_behind list (blocks.SeekTable (x ∷ xs)) g.1 fits)
+    let once : fault_after (seen_after_list info_seen list) (blocks.SeekTable (x ∷ xs)) ≡ None = rw (no_table info_seen list refl none) may in
+    (one_after info_seen list (blocks.SeekTable (x ∷ xs)) g.0 once, all_after list (blocks.SeekTable (x ∷ xs)) g.1 fits)
 
 pub tabled : (p : Cut) (a : Sound) (list : List Block) (frames : List (List Bool)) → Planned p → Fit p a → AreFrames p a frames → repeats_table p list ≡ false → IsGood list → IsGood (list ++ table_of (points_of p frames))
 tabled p a list frames q k f once g =

@@ -6,7 +6,7 @@ use Rattle.std.specs.List.{sum_by, flat_map}
 use Rattle.flac_bits.specs.State.{Mark, past, fresh}
 use Rattle.flac_bits.specs.Meaning.{Spells, AllKept}
 use Rattle.flac_bits.specs.Fence.{InRoom}
-use Rattle.flac_bits.specs.Items.{after, Joined, mark_behind, Stream}
+use Rattle.flac_bits.specs.Items.{state_after, Joined, mark_after, Stream}
 use Rattle.flac_info.specs.Info.{Info}
 use Rattle.flac_meta.specs.Block.{seen_after}
 use Rattle.flac_meta.specs.Listed.{info_seen}
@@ -29,7 +29,7 @@ use Rattle.flac_native.specs.declared.track.Phase.TheVariants.{Opening, Blocks, 
 use Rattle.flac_native.proofs.Blocks.{block_there, marker_there, first_is}
 use Rattle.flac_native.proofs.NewHead.{AllBlocks, valid_after}
 use Rattle.flac_native.proofs.Onwards.{frame_there, as_part, same_info}
-use Rattle.flac_native.proofs.Streams.{at_block, behind, goes_on}
+use Rattle.flac_native.proofs.Streams.{at_block, after, goes_on}
 
 -- ---- frames
 
@@ -83,7 +83,7 @@ record Left (i : Info) (p : Progress) (fs : List Frame) (q : Progress) : Type 0 
 regroup : (a b c : ℕ) → a + b + c ≡ a + (b + c)
 regroup a b c = omega arith
 
-frames_leave : (i : Info) (p : Progress) (fs : List Frame) → p.stand.phase ≡ Frames → p.stand.info ≡ Some i → Left i p fs (after grammar p (map framed fs))
+frames_leave : (i : Info) (p : Progress) (fs : List Frame) → p.stand.phase ≡ Frames → p.stand.info ≡ Some i → Left i p fs (state_after grammar p (map framed fs))
 frames_leave i p [] phase told = record { phase = phase; info = told; samples = omega arith; message = sym (append-nil p.message) }
 frames_leave i p (f ∷ fs) phase told =
     let r = frames_leave i (next p (framed f)) fs phase told in
@@ -107,10 +107,10 @@ record Split (p : Progress) (m : Mark) (items : List Piece) (text : List Bool) :
   rest : List Bool
   stands : text ≡ head ++ rest
   spelled : Joined grammar p m (closing (first ∷ others)) head
-  left : Joined grammar (after grammar p (closing (first ∷ others))) (mark_behind grammar p m (closing (first ∷ others)) head spelled) more rest
+  left : Joined grammar (state_after grammar p (closing (first ∷ others))) (mark_after grammar p m (closing (first ∷ others)) head spelled) more rest
   valid : IsBlock p.stand.seen first
 
-split_at : (p : Progress) (m : Mark) (items : List Piece) (text : List Bool) → p.stand.phase ≡ Blocks → Joined grammar p m items text → (after grammar p items).stand.phase ≡ Frames → Split p m items text
+split_at : (p : Progress) (m : Mark) (items : List Piece) (text : List Bool) → p.stand.phase ≡ Blocks → Joined grammar p m items text → (state_after grammar p items).stand.phase ≡ Frames → Split p m items text
 split_at p m [] text phase j end = let e = sym phase ∙ end in absurd cc
 split_at p m (marked ∷ xs) text phase (front, rest, split, spelled, fits, others) end =
     let t = block_there p.stand (fresh m) front marked phase spelled in
@@ -158,14 +158,14 @@ record Begun (profile : Profile) (m : Mark) (items : List Piece) (text : List Bo
   are : items ≡ head_parts info list ++ more
   rest : List Bool
   begins : Begins profile m text info list rest
-  left : Joined grammar (after grammar (opening profile) (head_parts info list)) (mark_behind grammar (opening profile) m (head_parts info list) begins.head begins.spelled) more rest
+  left : Joined grammar (state_after grammar (opening profile) (head_parts info list)) (mark_after grammar (opening profile) m (head_parts info list) begins.head begins.spelled) more rest
 
-begun_by : (profile : Profile) (m : Mark) (xs : List Piece) (text front behind : List Bool) → text ≡ front ++ behind → Spells (layout (opening profile).stand) (fresh m) front marked → Joined grammar (next (opening profile) marked) (past front (fresh m)) xs behind
-    → (s : Split (next (opening profile) marked) (past front (fresh m)) xs behind) → (i : Info) → s.first ≡ block_of.StreamInfo i → Begun profile m (marked ∷ xs) text
-begun_by profile m xs text front behind split spelled others s i first = go s.first first s.others s.are s.spelled s.left
+begun_by : (profile : Profile) (m : Mark) (xs : List Piece) (text front after : List Bool) → text ≡ front ++ after → Spells (layout (opening profile).stand) (fresh m) front marked → Joined grammar (next (opening profile) marked) (past front (fresh m)) xs after
+    → (s : Split (next (opening profile) marked) (past front (fresh m)) xs after) → (i : Info) → s.first ≡ block_of.StreamInfo i → Begun profile m (marked ∷ xs) text
+begun_by profile m xs text front after split spelled others s i first = go s.first first s.others s.are s.spelled s.left
   where
     go : (b : Block) → b ≡ block_of.StreamInfo i → (bs : List Block) → xs ≡ closing (b ∷ bs) ++ s.more → (j : Joined grammar (next (opening profile) marked) (past front (fresh m)) (closing (b ∷ bs)) s.head)
-        → Joined grammar (after grammar (next (opening profile) marked) (closing (b ∷ bs))) (mark_behind grammar (next (opening profile) marked) (past front (fresh m)) (closing (b ∷ bs)) s.head j) s.more s.rest → Begun profile m (marked ∷ xs) text
+        → Joined grammar (state_after grammar (next (opening profile) marked) (closing (b ∷ bs))) (mark_after grammar (next (opening profile) marked) (past front (fresh m)) (closing (b ∷ bs)) s.head j) s.more s.rest → Begun profile m (marked ∷ xs) text
     go (block_of.StreamInfo k) e bs are j left = record {
       info = k;
       list = bs;
@@ -177,16 +177,16 @@ begun_by profile m xs text front behind split spelled others s i first = go s.fi
     }
     go b e bs are j left = absurd cc
 
-begun : (profile : Profile) (m : Mark) (items : List Piece) (text : List Bool) → Joined grammar (opening profile) m items text → (after grammar (opening profile) items).stand.phase ≡ Frames → Begun profile m items text
+begun : (profile : Profile) (m : Mark) (items : List Piece) (text : List Bool) → Joined grammar (opening profile) m items text → (state_after grammar (opening profile) items).stand.phase ≡ Frames → Begun profile m items text
 begun profile m [] text j end = absurd cc
-begun profile m (x ∷ xs) text (front, behind, split, spelled, fits, others) end =
+begun profile m (x ∷ xs) text (front, after, split, spelled, fits, others) end =
     let first = marker_there (opening profile).stand (fresh m) front x refl spelled in
-    let here = subst (λ y. Joined grammar (next (opening profile) y) (past front (fresh m)) xs behind) first.0 others in
-    let at_end = subst (λ y. (after grammar (next (opening profile) y) xs).stand.phase ≡ Frames) first.0 end in
+    let here = subst (λ y. Joined grammar (next (opening profile) y) (past front (fresh m)) xs after) first.0 others in
+    let at_end = subst (λ y. (state_after grammar (next (opening profile) y) xs).stand.phase ≡ Frames) first.0 end in
     let mark = subst (λ y. Spells (layout (opening profile).stand) (fresh m) front y) first.0 spelled in
-    let s = split_at (next (opening profile) marked) (past front (fresh m)) xs behind refl here at_end in
+    let s = split_at (next (opening profile) marked) (past front (fresh m)) xs after refl here at_end in
     let i = first_is s.first (s.valid.first refl) s.valid.written in
-    subst (λ y. Begun profile m (y ∷ xs) text) (sym first.0) (begun_by profile m xs text front behind split mark here s i.0 i.1)
+    subst (λ y. Begun profile m (y ∷ xs) text) (sym first.0) (begun_by profile m xs text front after split mark here s i.0 i.1)
 
 -- what the blocks leave
 pub record AtFrames (profile : Profile) (i : Info) (p : Progress) : Type 0 where
@@ -197,24 +197,24 @@ pub record AtFrames (profile : Profile) (i : Info) (p : Progress) : Type 0 where
   pub samples : p.samples ≡ 0
   pub message : p.message ≡ []
 
-blocks_leave : (profile : Profile) (i : Info) (b : Block) (bs : List Block) (index : ℕ) (seen : Seen) → seen.stream_info ≡ true → AllBlocks seen (b ∷ bs) → AtFrames profile i (after grammar (at_block profile i index seen) (closing (b ∷ bs)))
+blocks_leave : (profile : Profile) (i : Info) (b : Block) (bs : List Block) (index : ℕ) (seen : Seen) → seen.stream_info ≡ true → AllBlocks seen (b ∷ bs) → AtFrames profile i (state_after grammar (at_block profile i index seen) (closing (b ∷ bs)))
 blocks_leave profile i b [] index seen first (valid, all) = subst (AtFrames profile i) (sym (goes_on profile i true b index seen first valid.once).0) (record { phase = refl; info = refl; before = refl; judged = refl; samples = refl; message = refl })
 blocks_leave profile i b (c ∷ cs) index seen first (valid, all) =
     let on = goes_on profile i false b index seen first valid.once in
-    subst (λ q. AtFrames profile i (after grammar q (closing (c ∷ cs)))) (sym on.0) (blocks_leave profile i c cs (behind profile i false index (seen_after seen b)).stand.index (seen_after seen b) on.1 all)
+    subst (λ q. AtFrames profile i (state_after grammar q (closing (c ∷ cs)))) (sym on.0) (blocks_leave profile i c cs (after profile i false index (seen_after seen b)).stand.index (seen_after seen b) on.1 all)
 
-pub head_leaves : (profile : Profile) (i : Info) (list : List Block) → AllBlocks info_seen list → AtFrames profile i (after grammar (opening profile) (head_parts i list))
+pub head_leaves : (profile : Profile) (i : Info) (list : List Block) → AllBlocks info_seen list → AtFrames profile i (state_after grammar (opening profile) (head_parts i list))
 head_leaves profile i [] all = record { phase = refl; info = refl; before = refl; judged = refl; samples = refl; message = refl }
 head_leaves profile i (b ∷ bs) all = blocks_leave profile i b bs 1 info_seen refl all
 
 -- ---- the whole
 
-both_parts : (p : Progress) (m : Mark) (xs ys : List Piece) (front rest : List Bool) (j : Joined grammar p m xs front) → Joined grammar (after grammar p xs) (mark_behind grammar p m xs front j) ys rest → Joined grammar p m (xs ++ ys) (front ++ rest)
+both_parts : (p : Progress) (m : Mark) (xs ys : List Piece) (front rest : List Bool) (j : Joined grammar p m xs front) → Joined grammar (state_after grammar p xs) (mark_after grammar p m xs front j) ys rest → Joined grammar p m (xs ++ ys) (front ++ rest)
 both_parts p m [] ys front rest j k = subst (λ t. Joined grammar p m ys (t ++ rest)) (sym j) k
 both_parts p m (x ∷ xs) ys front rest (part, more, split, spelled, fits, others) k =
     (part, more ++ rest, ap (λ t. t ++ rest) split ∙ append_assoc part more rest, spelled, fits, both_parts (next p x) (past part (fresh m)) xs ys more rest others k)
 
-after_both : (p : Progress) (xs ys : List Piece) → after grammar p (xs ++ ys) ≡ after grammar (after grammar p xs) ys
+after_both : (p : Progress) (xs ys : List Piece) → state_after grammar p (xs ++ ys) ≡ state_after grammar (state_after grammar p xs) ys
 after_both p [] ys = refl
 after_both p (x ∷ xs) ys = after_both (next p x) xs ys
 
@@ -233,9 +233,9 @@ record Ended (i : Info) (fs : List Frame) (q : Progress) : Type 0 where
 no_more : (n : ℕ) → 0 + n ≡ n
 no_more n = omega arith
 
-ended : (profile : Profile) (i : Info) (list : List Block) (fs : List Frame) → AtFrames profile i (after grammar (opening profile) (head_parts i list)) → Ended i fs (after grammar (opening profile) (head_parts i list ++ map framed fs))
+ended : (profile : Profile) (i : Info) (list : List Block) (fs : List Frame) → AtFrames profile i (state_after grammar (opening profile) (head_parts i list)) → Ended i fs (state_after grammar (opening profile) (head_parts i list ++ map framed fs))
 ended profile i list fs at =
-    let p = after grammar (opening profile) (head_parts i list) in
+    let p = state_after grammar (opening profile) (head_parts i list) in
     let r = frames_leave i p fs at.phase at.info in
     subst (Ended i fs) (sym (after_both (opening profile) (head_parts i list) (map framed fs))) (record {
       phase = r.phase;
@@ -258,18 +258,18 @@ kept_of i fs q e k =
 
 is_whole : (profile : Profile) (m : Mark) (items : List Piece) (text : List Bool) → Stream grammar (opening profile) m items text → IsWhole profile m items text
 is_whole profile m items text s =
-    let q = after grammar (opening profile) items in
+    let q = state_after grammar (opening profile) items in
     let b = begun profile m items text s.spelled (frames_then q.stand.phase q.stand.info s.ends) in
     let all = valid_after profile m b.info b.list b.begins.head b.begins.spelled in
     let at = head_leaves profile b.info b.list all.1 in
-    let p = after grammar (opening profile) (head_parts b.info b.list) in
-    let f = to_frames b.info p (mark_behind grammar (opening profile) m (head_parts b.info b.list) b.begins.head b.begins.spelled) b.more b.rest at.phase at.info b.left in
-    let k = mark_behind grammar (opening profile) m (head_parts b.info b.list) b.begins.head b.begins.spelled in
+    let p = state_after grammar (opening profile) (head_parts b.info b.list) in
+    let f = to_frames b.info p (mark_after grammar (opening profile) m (head_parts b.info b.list) b.begins.head b.begins.spelled) b.more b.rest at.phase at.info b.left in
+    let k = mark_after grammar (opening profile) m (head_parts b.info b.list) b.begins.head b.begins.spelled in
     let judged = subst (λ q. Joined (frames q b.info most) p.stand.before k f.list b.rest) at.judged f.joined in
     let joined = subst (λ o. Joined (frames profile b.info most) o k f.list b.rest) at.before judged in
-    let follow = (frames_follow profile b.info most (mark_behind grammar (opening profile) m (head_parts b.info b.list) b.begins.head b.begins.spelled) f.list b.rest).0 joined in
+    let follow = (frames_follow profile b.info most (mark_after grammar (opening profile) m (head_parts b.info b.list) b.begins.head b.begins.spelled) f.list b.rest).0 joined in
     let parts : items ≡ head_parts b.info b.list ++ map framed f.list = b.are ∙ ap (λ ys. head_parts b.info b.list ++ ys) f.are in
-    let kept = subst (λ (xs : List Piece). AllKept (grammar.at_end (after grammar (opening profile) xs))) parts s.kept in
+    let kept = subst (λ (xs : List Piece). AllKept (grammar.at_end (state_after grammar (opening profile) xs))) parts s.kept in
     let e = ended profile b.info b.list f.list at in
     record {
       info = b.info;
@@ -281,21 +281,21 @@ is_whole profile m items text s =
       headers = follow.0;
       are = follow.1;
       follow = follow.2;
-      kept = kept_to b.info f.list (after grammar (opening profile) (head_parts b.info b.list ++ map framed f.list)) e kept;
+      kept = kept_to b.info f.list (state_after grammar (opening profile) (head_parts b.info b.list ++ map framed f.list)) e kept;
     }
 
 is_stream : (profile : Profile) (m : Mark) (items : List Piece) (text : List Bool) → IsWhole profile m items text → Stream grammar (opening profile) m items text
 is_stream profile m items text w =
     let all = valid_after profile m w.info w.list w.begins.head w.begins.spelled in
     let at = head_leaves profile w.info w.list all.1 in
-    let p = after grammar (opening profile) (head_parts w.info w.list) in
-    let k = mark_behind grammar (opening profile) m (head_parts w.info w.list) w.begins.head w.begins.spelled in
+    let p = state_after grammar (opening profile) (head_parts w.info w.list) in
+    let k = mark_after grammar (opening profile) m (head_parts w.info w.list) w.begins.head w.begins.spelled in
     let joined = (frames_follow profile w.info most k w.frames w.rest).1 (w.headers, w.are, w.follow) in
     let f = of_frames w.info p k w.frames w.rest at.phase at.info (subst (λ q. Joined (frames q w.info most) p.stand.before k w.frames w.rest) (sym at.judged) (subst (λ o. Joined (frames profile w.info most) o k w.frames w.rest) (sym at.before) joined)) in
     let spelled = both_parts (opening profile) m (head_parts w.info w.list) (map framed w.frames) w.begins.head w.rest w.begins.spelled f in
     let e = ended profile w.info w.list w.frames at in
     let all_items = head_parts w.info w.list ++ map framed w.frames in
-    let q = after grammar (opening profile) all_items in
+    let q = state_after grammar (opening profile) all_items in
     let stream : Stream grammar (opening profile) m all_items (w.begins.head ++ w.rest) = record {
       spelled = spelled;
       ends = rw (e.phase, e.info) refl;

@@ -6,7 +6,7 @@ use Rattle.flac_bits.specs.State.{Mark}
 use Rattle.flac_bits.specs.Bits.{bits_of}
 use Rattle.flac_bits.specs.Written.{Written, Adds, Writes, Fails}
 use Rattle.flac_bits.specs.declared.why.Why.{Why}
-use Rattle.flac_bits.proofs.ItemSpellings.{fresh_unread, behind_whole}
+use Rattle.flac_bits.proofs.ItemSpellings.{fresh_unread, after_whole}
 use Rattle.flac_bits.proofs.Writing.{fails_later, fails_more}
 use Rattle.flac_header.specs.Spelling.{restarted}
 use Rattle.flac_meta.proofs.Tied.{joined_append}
@@ -18,7 +18,7 @@ use Rattle.flac_native.specs.Given.{Cut, tried, blocks_in, frame_of}
 use Rattle.flac_native.specs.Writing.{SpellsFrame, SpellsLeast, AreFrames, AreLeastFrames, AreCounted, IsSpelled}
 use Rattle.flac_native.specs.inner.Writing.{HaveFrames, WritesOn, WritesAll, WritesFrames}
 use Rattle.flac_native.proofs.Gathered.{nth, snoc, length-snoc, each_more}
-use Rattle.flac_native.proofs.Rooms.{unstarted}
+use Rattle.flac_native.proofs.FixedBuffers.{unstarted}
 use Rattle.flac_native.proofs.Spelled.{came_out, each_append, each_drop}
 
 -- ---- one after another, whether the checks begin anew or not
@@ -32,7 +32,7 @@ gave_out e = Err e
 -- bits of whole bytes
 pub on_added : (text : List Bool) (old new : Written) → old.mark.unread ≡ 0 → length text % 8 ≡ 0 → Adds text old new → WritesOn text old new came_out
 on_added text old new unread whole adds =
-    record { failed = tt; known = adds.known; counted = adds.errors; names = adds.names; bits = adds.bits; whole = ap (λ (m : Mark). m.unread) adds.mark ∙ behind_whole text old.mark unread whole }
+    record { failed = tt; known = adds.known; counted = adds.errors; names = adds.names; bits = adds.bits; whole = ap (λ (m : Mark). m.unread) adds.mark ∙ after_whole text old.mark unread whole }
 
 pub on_failed : (text : List Bool) (old new : Written) (e : Why) → Fails (old.bits ++ text) old new e → WritesOn text old new (gave_out e)
 on_failed text old new e fails = record { failed = fails; known = tt; counted = tt; names = fails.names; bits = tt; whole = tt }
@@ -96,7 +96,7 @@ fault_sent w = record { failed = w.failed; known = tt; counted = tt; names = w.n
 pub have_frames : (p : Cut) (a : Sound) (least greatest : ℕ) (points : List SeekPoint) → AreCounted p a least greatest points → HaveFrames p a
 have_frames p a least greatest points e = record { frames = e.frames; are = e.are; are_least = e.are_least }
 
--- so many frames were written
+-- n frames were written
 pub record WrittenFrames (p : Cut) (a : Sound) (number : ℕ) (old now : Written) : Type 0 where
   pub frames : List (List Bool)
   pub many : length frames ≡ number
@@ -120,7 +120,7 @@ module _ (p : Cut) (a : Sound) where
     wrote = subst (λ k. WritesOn k old new came_out) (one_more s.frames t) (on_then came_out s.wrote wrote);
   }
 
-  -- the frames that were written, the one that was not written whole, and those behind it
+  -- the frames that were written, the one that was not written whole, and those after it
   pub frames_fail : (number : ℕ) (old mid new : Written) (t : List Bool) (e : Why) (others : List (List Bool)) → number < length others → AreFrames p a others → AreLeastFrames p a others → WrittenFrames p a number old mid
       → IsSpelled p a number t → WritesOn t mid new (gave_out e) → WritesFrames p a old new (gave_out e)
   frames_fail number old mid new t e others lt are least s is wrote =

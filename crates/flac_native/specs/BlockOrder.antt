@@ -2,7 +2,7 @@
 use Rattle.std.specs.Prelude.{◌≡◌, ◌↔◌, ◌≤◌, Bool, true, false, List, [], ◌∷◌, ◌++◌, map, None, All}
 use Rattle.std.specs.List.{count_by}
 use Rattle.flac_bits.specs.State.{Mark}
-use Rattle.flac_bits.specs.Items.{Joined, Stream, after}
+use Rattle.flac_bits.specs.Items.{Joined, Stream, state_after}
 use Rattle.flac_header.specs.declared.subset.Profile.{Profile}
 use Rattle.flac_info.specs.Info.{Info}
 use Rattle.flac_meta.specs.Listed.{block_fault}
@@ -70,7 +70,7 @@ AreSpelled (b ∷ more) text = (front : List Bool) × (rest : List Bool) × (tex
 -- these bits, after the marker, are these blocks, each in the state after those before it, and frames come next
 pub record AreRead (profile : Profile) (m : Mark) (list : List MarkedBlock) (text : List Bool) : Type 0 where
   pub spelled : Joined grammar (next (opening profile) marked) m (map part_of list) text
-  pub over : (after grammar (next (opening profile) marked) (map part_of list)).stand.phase ≡ Frames
+  pub over : (state_after grammar (next (opening profile) marked) (map part_of list)).stand.phase ≡ Frames
 
 -- blocks in order, of which the last alone is marked, and their bits
 pub record AreOrdered (list : List MarkedBlock) (text : List Bool) : Type 0 where

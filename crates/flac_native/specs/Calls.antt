@@ -4,7 +4,7 @@ use Rattle.flac_bits.specs.Handing.{TakesAll, IsOutside}
 use Rattle.flac_native.specs.Stream.{Piece, Progress}
 use Rattle.flac_native.specs.Track.{IsAt}
 use Rattle.flac_native.specs.Item.{Item}
-use Rattle.flac_native.specs.Giving.{items_of, HasFirst, BreaksBehind, Stage, Moves}
+use Rattle.flac_native.specs.Giving.{items_of, HasFirst, BreaksAfter, Stage, Moves}
 use Rattle.flac_native.specs.declared.fault.Fault.{Fault}
 use Rattle.flac_native.specs.declared.container.Container as container
 
@@ -21,4 +21,4 @@ GivesAll {C} g old items new = TakesAll (λ (a : Stage C) (x : Item) (b : Stage 
 -- and the place is that of the container that gave these parts.
 abbrev pub FailuresArePlaced : {C : Type 0} → container.Ghosts C → Type 0
 FailuresArePlaced {C} g = (p : Progress) (first now last : Stage C) (items : List Item) (f : Fault) → IsAt first.track p → GivesAll g first items now → Answers g now (Err f) last → IsOutside f.why
-    → (parts : List Piece) × (items ≡ items_of parts) × HasFirst g p first.container parts × BreaksBehind g p first.container last.container parts f.at f.why
+    → (parts : List Piece) × (items ≡ items_of parts) × HasFirst g p first.container parts × BreaksAfter g p first.container last.container parts f.at f.why

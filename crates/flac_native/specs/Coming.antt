@@ -1,8 +1,8 @@
 -- What is still to come of a stream, whatever container it is in, and what a sink takes of it.
 use Rattle.std.specs.Prelude.{◌≡◌, ◌≢◌, ◌<◌, ℕ, List, [], ◌∷◌, ◌++◌, Option, Some, None, Result, Ok, Err}
 use Rattle.flac_bits.specs.State.{Cursor}
-use Rattle.flac_bits.specs.Items.{after}
-use Rattle.flac_bits.specs.Handing.{TakesAll, Reading, by_grammar, IsOutside}
+use Rattle.flac_bits.specs.Items.{state_after}
+use Rattle.flac_bits.specs.Handing.{TakesAll, InputReading, by_grammar, IsOutside}
 use Rattle.flac_bits.specs.declared.why.Why.{Why}
 use Rattle.flac_bits.specs.declared.why.Why.TheVariants.{Memory, Sink}
 use Rattle.flac_native.specs.Stream.{Piece, Progress, grammar, next}
@@ -15,7 +15,7 @@ abbrev pub Coming : Type 1
 Coming = Progress → List Piece → Option (Place × Why) → Type 0
 
 -- by this reading, these parts are all items, or it is refused after them
-abbrev pub ReadAs : Reading Piece Place → List Piece → Option (Place × Why) → Type 0
+abbrev pub ReadAs : InputReading Piece Place → List Piece → Option (Place × Why) → Type 0
 ReadAs r parts None = r.whole parts
 ReadAs r parts (Some f) = r.refused parts f.0 f.1
 
@@ -49,4 +49,4 @@ pub record HandsFirst {K : Type 0} (takes : K → Piece → K → Type 0) (error
   -- if the source failed or memory ran out, this is reported at its place of the part after them
   pub broken : (at : Place) (why : Why) → outcome ≡ Some (at, why) → IsOutside why → (mid ≡ new) × breaks taken at why
   -- if it failed, this is reported at the place of the part that it did not take
-  pub failed : errors old < errors new → (at : Place) × (outcome ≡ Some (at, Sink)) × (at ≡ grammar.place (after grammar p taken))
+  pub failed : errors old < errors new → (at : Place) × (outcome ≡ Some (at, Sink)) × (at ≡ grammar.place (state_after grammar p taken))

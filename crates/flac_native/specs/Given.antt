@@ -11,7 +11,7 @@ use Rattle.flac_meta.specs.declared.block.Block.TheVariants as blocks
 use Rattle.flac_header.specs.Header.{allows_block}
 use Rattle.flac_header.specs.declared.subset.Profile.{Profile}
 use Rattle.flac_header.specs.declared.subset.Profile.TheVariants.{Subset, Lax}
-use Rattle.flac_subframe.specs.search.Room.{Room}
+use Rattle.flac_subframe.specs.search.Capacity.{Capacity}
 use Rattle.flac_subframe.specs.declared.format.linear.LinearPredictor.{LinearPredictor}
 use Rattle.flac_frame.specs.Frame.{Frame, limits_at}
 use Rattle.flac_frame.specs.Audio.{Sound, samples_each}
@@ -107,7 +107,7 @@ fits_plan p a =
     same_profile p.profile a.profile && nat_eq p.rate a.rate && nat_eq p.bits a.bits && nat_eq p.channels (length a.channels) && nat_eq p.total (samples_each a.channels)
 
 -- working arrays that have room for the plan's frames
-abbrev pub room_of : Cut → Room
+abbrev pub room_of : Cut → Capacity
 room_of p = record { block = p.block_size; most = most_in p.profile }
 
 -- how many blocks hold `total` samples

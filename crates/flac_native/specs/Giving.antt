@@ -1,15 +1,15 @@
 -- What a decoder still has to return, and that each call returns the first of it.
 use Rattle.std.specs.Prelude.{◌≡◌, ◌≢◌, ◌≤◌, ◌<◌, ◌⊎◌, Bool, true, false, List, [], ◌∷◌, ◌++◌, Option, Some, None, Result, Ok, Err, IfOk, IfErr, IfSome}
 use Rattle.flac_bits.specs.State.{Rises, without_fence}
-use Rattle.flac_bits.specs.Items.{after}
+use Rattle.flac_bits.specs.Items.{state_after}
 use Rattle.flac_bits.specs.Handing.{TakesAll, reason_of, IsOutside}
 use Rattle.flac_bits.specs.Reasons.{of_output}
 use Rattle.flac_bits.specs.declared.why.Why.{Why}
 use Rattle.flac_bits.specs.declared.why.Why.TheVariants.{Memory, Read, Spent}
-use Rattle.flac_frame.specs.Lent.{frame_of}
+use Rattle.flac_frame.specs.Viewed.{frame_of}
 use Rattle.flac_native.specs.Stream.{Piece, marked, block, framed, Progress, grammar}
-use Rattle.flac_native.specs.Track.{IsAt, AreAtFrames, is_behind_blocks, piece_of, stand_of}
-use Rattle.flac_native.specs.Item.{Item, metadata, frame, told}
+use Rattle.flac_native.specs.Track.{IsAt, AreAtFrames, is_after_blocks, piece_of, stand_of}
+use Rattle.flac_native.specs.Item.{Item, metadata, frame, fault_pair}
 use Rattle.flac_native.specs.Coming.{Coming}
 use Rattle.flac_native.specs.declared.fault.Place.{Place}
 use Rattle.flac_native.specs.declared.fault.Fault.{Fault}
@@ -20,8 +20,8 @@ use Rattle.flac_native.specs.declared.decoder.Course.{Course}
 use Rattle.flac_native.specs.declared.decoder.Course.TheVariants as course
 use Rattle.flac_native.specs.declared.container.Container as container
 use Rattle.flac_native.specs.declared.decoder.Decoder.{Decoder}
-use Rattle.flac_native.specs.declared.item.Item.{Item as Lent}
-use Rattle.flac_native.specs.declared.item.Item.TheVariants as lent
+use Rattle.flac_native.specs.declared.item.Item.{Item as BorrowedItem}
+use Rattle.flac_native.specs.declared.item.Item.TheVariants as borrowed_item
 
 -- a decoder returns the blocks and frames of a stream, but not the marker
 abbrev pub handed : Piece → Option Item
@@ -50,22 +50,22 @@ abbrev pub Gave : {C : Type 0} → container.Ghosts C → C → List Piece → C
 Gave g old parts new = TakesAll (λ c _ d. g.gave c d) old parts new
 
 -- A container gave these parts and then ended early, for this reason, which is reported at this place.
-abbrev pub BreaksBehind : {C : Type 0} → container.Ghosts C → Progress → C → C → List Piece → Place → Why → Type 0
-BreaksBehind {C} g p old new parts at why = g.breaks new (after grammar p parts) at why × ((there : C) × Gave g old parts there × g.broke there new why)
+abbrev pub BreaksAfter : {C : Type 0} → container.Ghosts C → Progress → C → C → List Piece → Place → Why → Type 0
+BreaksAfter {C} g p old new parts at why = g.breaks new (state_after grammar p parts) at why × ((there : C) × Gave g old parts there × g.broke there new why)
 
 -- A call that passes parts to a receiver ended early, by an error of the device or because memory ran out: the place is
 -- the one that the container reports after the parts that the receiver took, whatever is known of its bytes. `counts`:
 -- whether the errors of the receiver are counted.
 abbrev pub EndsEarlyAfter : {C K : Type 0} → container.Ghosts C → (K → Piece → K → Type 0) → Progress → C → (counts : Bool) → K → K → Fault → Type 0
 EndsEarlyAfter g takes p end counts old new f = IsOutside f.why
-    → (q : Progress) × g.breaks end q f.at f.why × (counts ≡ true → (parts : List Piece) × TakesAll takes old parts new × (q ≡ after grammar p parts))
+    → (q : Progress) × g.breaks end q f.at f.why × (counts ≡ true → (parts : List Piece) × TakesAll takes old parts new × (q ≡ state_after grammar p parts))
 
 -- From this progress on a container gave these parts. If its bytes are known, they are the first of what was still to
 -- come, and the others still are.
 pub record PassesParts {C : Type 0} (g : container.Ghosts C) (p : Progress) (old : C) (parts : List Piece) (new : C) : Type 0 where
   pub gave : Gave g old parts new
   pub known : g.known old ≡ true → g.known new ≡ true
-  pub first : g.known old ≡ true → (all : List Piece) (end : Option (Place × Why)) → g.gives old p all end → (left : List Piece) × (all ≡ parts ++ left) × g.gives new (after grammar p parts) left end
+  pub first : g.known old ≡ true → (all : List Piece) (end : Option (Place × Why)) → g.gives old p all end → (left : List Piece) × (all ≡ parts ++ left) × g.gives new (state_after grammar p parts) left end
 
 -- the device returned no error in a call, foretold or not
 abbrev pub NoErrorIn : {C : Type 0} → container.Ghosts C → C → C → Type 0
@@ -99,7 +99,7 @@ seen_by view (Err f) = Err f
 -- call, and memory did not run out.
 abbrev pub GivesFirst : {C X : Type 0} → container.Ghosts C → Progress → C → C → Track → (X → Option Item) → Result X Fault → Type 0
 GivesFirst g p old new track view result =
-    g.known old ≡ true → g.errors new ≡ g.errors old → g.raised new ≡ g.raised old → (reason_of told result ≡ Err Memory → ⊥)
+    g.known old ≡ true → g.errors new ≡ g.errors old → g.raised new ≡ g.raised old → (reason_of fault_pair result ≡ Err Memory → ⊥)
     → (items : List Item) (end : Option (Place × Why)) → StillGives (g.gives old) p items end → IsFirst (g.gives new) items end (seen_by view result) track
 
 -- Errors of the device are counted: a call that returns a value met none, and one that returns Read met one, unless it
@@ -111,7 +111,7 @@ pub record CountsIn {C X : Type 0} (g : container.Ghosts C) (track : Track) (old
   pub read : IfErr result (λ f. g.known old ≡ true → f.why ≡ Read → g.clear old track → g.raised old < g.raised new)
   pub risen : IfErr result (λ f. f.why ≡ Read → Rises (g.met old) (g.met new))
   pub output : IfErr result (λ f. of_output f.why ≡ false)
-  pub behind : g.known old ≡ true → g.errors new ≡ g.errors old → g.behind new ≡ without_fence (g.behind old)
+  pub after : g.known old ≡ true → g.errors new ≡ g.errors old → g.after new ≡ without_fence (g.after old)
   pub names : g.names new ≡ g.names old
 
 -- what a call reads before the part of its item: nothing, or at the start of the stream the marker
@@ -125,7 +125,7 @@ pub record PassesItem {C : Type 0} (g : container.Ghosts C) (p : Progress) (old 
   pub part : Piece
   pub shown : handed part ≡ Some item
   pub passes : PassesParts g p old (front ++ part ∷ []) new
-  pub at : IsAt track (after grammar p (front ++ part ∷ []))
+  pub at : IsAt track (state_after grammar p (front ++ part ∷ []))
 
 -- A call that ended early, by an error of the device or because memory ran out, read at most the marker: the place is
 -- that of the part after it.
@@ -133,7 +133,7 @@ pub record BreaksOff {C : Type 0} (g : container.Ghosts C) (p : Progress) (old n
   pub front : List Piece
   pub before : IsBeforeItem p front
   pub first : HasFirst g p old front
-  pub behind : BreaksBehind g p old new front f.at f.why
+  pub after : BreaksAfter g p old new front f.at f.why
 
 -- the item in a track after a call that read this part
 abbrev pub found : Track → Option Part → Option Item
@@ -143,14 +143,14 @@ found t (Some p) = handed (piece_of t p)
 -- a block comes before the last metadata block was read, a frame and the end after
 abbrev pub ComesInOrder : Track → Track → Option Item → Type 0
 ComesInOrder old new None = AreAtFrames old new
-ComesInOrder old new (Some (metadata b)) = is_behind_blocks old.position.phase ≡ false
+ComesInOrder old new (Some (metadata b)) = is_after_blocks old.position.phase ≡ false
 ComesInOrder old new (Some (frame f)) = AreAtFrames old new
 
 -- the item that is lent
-abbrev pub shown_of : Lent → Option Item
-shown_of (lent.Block b) = Some (metadata b.now)
-shown_of (lent.Frame v) = Some (frame (frame_of v))
-shown_of lent.End = None
+abbrev pub shown_of : BorrowedItem → Option Item
+shown_of (borrowed_item.Block b) = Some (metadata b.now)
+shown_of (borrowed_item.Frame v) = Some (frame (frame_of v))
+shown_of borrowed_item.End = None
 
 -- ---- a decoder
 

@@ -10,5 +10,5 @@ pub data Item : Type 0 where
   frame : Frame → Item
 
 -- the place and the reason of an error
-abbrev pub told : Fault → Place × Why
-told f = (f.at, f.why)
+abbrev pub fault_pair : Fault → Place × Why
+fault_pair f = (f.at, f.why)

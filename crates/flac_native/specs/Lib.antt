@@ -20,7 +20,7 @@ pub mod ReadBack
 pub mod Whole
 pub mod BlockOrder
 pub mod Ordered
-pub mod Room
+pub mod FixedBuffer
 pub mod Places
-pub mod Wider
+pub mod LaxProfile
 pub mod inner

@@ -11,7 +11,7 @@ use Rattle.flac_native.specs.Writing.{AreFrames}
 -- one of a point's samples has this number
 pub record Holds (x : SeekPoint) (sample : ℕ) : Type 0 where
   pub first : x.sample ≤ sample
-  pub behind : sample < x.sample + x.length
+  pub after : sample < x.sample + x.length
 
 -- A point names one of these frames: its first sample, the bytes before it, and its samples, of which one is a
 -- multiple.

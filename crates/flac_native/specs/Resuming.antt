@@ -2,7 +2,7 @@
 use Rattle.std.specs.Prelude.{◌≡◌, ℕ, ◌-◌, ◌≤◌, Bool, true, List, [], ◌∷◌, ◌++◌, length, map, drop, Some, None}
 use Rattle.flac_bits.specs.State.{Mark}
 use Rattle.flac_bits.specs.Forms.{joined}
-use Rattle.flac_bits.specs.Items.{Joined, Stream, after}
+use Rattle.flac_bits.specs.Items.{Joined, Stream, state_after}
 use Rattle.flac_bits.specs.declared.why.Why.TheVariants.{Truncated}
 use Rattle.flac_header.specs.declared.subset.Profile.{Profile}
 use Rattle.flac_meta.specs.Header.{nothing_seen}
@@ -41,7 +41,7 @@ pub record Resumes (s : Progress) (m k : Mark) (front : List Piece) (f : Frame) 
   pub spelled : Joined grammar s m front before
   pub only : (head left : List Bool) → text ≡ head ++ left → Joined grammar s m front head → left ≡ rest
   pub info : Info
-  pub told : (after grammar s front).stand.info ≡ Some info
+  pub told : (state_after grammar s front).stand.info ≡ Some info
   pub stream : Stream grammar (resumed s.stand.profile info) k (framed f ∷ more) rest
 
 -- This holds at each frame of a stream.

@@ -3,7 +3,7 @@
 use Rattle.std.specs.Prelude.{◌≡◌, Bool, true, false, cond, List, [], ◌∷◌, ◌++◌, Some, None, ◌≤◌, ◌⊎◌}
 use Rattle.flac_bits.specs.Bits.{bits_of}
 use Rattle.flac_bits.specs.State.{Mark, Cursor}
-use Rattle.flac_bits.specs.Items.{after, Joined, Refused}
+use Rattle.flac_bits.specs.Items.{state_after, Joined, Refused}
 use Rattle.flac_bits.specs.declared.target.Target as target
 use Rattle.flac_bits.specs.declared.why.Why.{Why}
 use Rattle.flac_bits.specs.declared.why.Why.TheVariants as why
@@ -70,7 +70,7 @@ pub record BreaksAt (m : Mark) (text : List Bool) (at : Place) : Type 0 where
   pub left : List Bool
   pub stands : text ≡ front ++ left
   pub spelled : Joined grammar (opening Subset) m items front
-  pub place : at ≡ grammar.place (after grammar (opening Subset) items)
+  pub place : at ≡ grammar.place (state_after grammar (opening Subset) items)
 
 -- The bits begin with a head.
 pub record HasHead (m : Mark) (text : List Bool) : Type 0 where

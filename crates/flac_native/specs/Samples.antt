@@ -29,9 +29,9 @@ samples_from asked depth (block last b ∷ xs) = samples_from asked (depth_after
 samples_from asked depth (framed f ∷ xs) = frame_bytes asked depth f ++ samples_from asked depth xs
 
 -- the depth after one item, and its samples
-abbrev pub depth_behind : ℕ → Item → ℕ
-depth_behind depth (metadata b) = depth_after depth b
-depth_behind depth (frame f) = depth
+abbrev pub depth_after_item : ℕ → Item → ℕ
+depth_after_item depth (metadata b) = depth_after depth b
+depth_after_item depth (frame f) = depth
 
 abbrev pub samples_in : (asked depth : ℕ) → Item → List ℕ
 samples_in asked depth (metadata b) = []

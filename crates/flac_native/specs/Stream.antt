@@ -12,7 +12,7 @@ use Rattle.flac_info.specs.Info.{Info}
 use Rattle.flac_meta.specs.declared.block.Seen.{Seen}
 use Rattle.flac_meta.specs.declared.block.Block.{Block}
 use Rattle.flac_meta.specs.declared.block.Block.TheVariants as blocks
-use Rattle.flac_frame.specs.Frame.{Frame, frame as frame_layout, after as frame_after}
+use Rattle.flac_frame.specs.Frame.{Frame, frame as frame_layout, after_frame}
 use Rattle.flac_frame.specs.declared.before.Before.{Before}
 use Rattle.flac_native.specs.Message.{frame_message}
 use Rattle.flac_native.specs.declared.fault.Place.{Place}
@@ -52,9 +52,9 @@ marker = do
   judge (record { broken = not (nat_eq v 0x664C6143); why = BadMarker } ∷ [])
 
 -- a frame of the format in STREAMINFO
-unfoldable pub frame_behind : Profile → Option Info → Option Before → Layout Frame
-frame_behind profile None before = refuse NotStreamInfoFirst
-frame_behind profile (Some info) before = frame_layout profile info before
+unfoldable pub frame_after : Profile → Option Info → Option Before → Layout Frame
+frame_after profile None before = refuse NotStreamInfoFirst
+frame_after profile (Some info) before = frame_layout profile info before
 
 abbrev pub layout_in : Phase → Stand → Layout Piece
 layout_in Opening s = do
@@ -64,7 +64,7 @@ layout_in Blocks s = do
   b ← block_layout s.seen
   done (block b.0 b.1)
 layout_in Frames s = do
-  f ← frame_behind s.profile s.info s.before
+  f ← frame_after s.profile s.info s.before
   done (framed f)
 
 unfoldable pub layout : Stand → Layout Piece
@@ -81,18 +81,18 @@ abbrev pub info_after : Option Info → Block → Option Info
 info_after info (blocks.StreamInfo i) = Some i
 info_after info other = info
 
-abbrev pub before_behind : Option Before → Block → Option Before
-before_behind before (blocks.StreamInfo i) = None
-before_behind before other = before
+abbrev pub before_after_block : Option Before → Block → Option Before
+before_after_block before (blocks.StreamInfo i) = None
+before_after_block before other = before
 
-abbrev pub phase_behind : Bool → Phase
-phase_behind true = Frames
-phase_behind false = Blocks
+abbrev pub phase_after : Bool → Phase
+phase_after true = Frames
+phase_after false = Blocks
 
 abbrev pub stand_after : Stand → Piece → Stand
 stand_after s marked = record s { phase = Blocks }
-stand_after s (block last b) = record s { phase = phase_behind last; index = cond last 0 (raised s.index); seen = seen_after s.seen b; info = info_after s.info b; before = before_behind s.before b }
-stand_after s (framed f) = record s { index = raised s.index; before = Some (frame_after s.before f) }
+stand_after s (block last b) = record s { phase = phase_after last; index = cond last 0 (raised s.index); seen = seen_after s.seen b; info = info_after s.info b; before = before_after_block s.before b }
+stand_after s (framed f) = record s { index = raised s.index; before = Some (after_frame s.before f) }
 
 -- the samples of each channel that a part adds
 abbrev pub samples_in : Piece → ℕ

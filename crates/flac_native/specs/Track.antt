@@ -10,7 +10,7 @@ use Rattle.flac_info.specs.Info.{Info}
 use Rattle.flac_meta.specs.declared.block.Block.{Block}
 use Rattle.flac_frame.specs.Frame.{Frame}
 use Rattle.flac_frame.specs.declared.before.Before.{Before}
-use Rattle.flac_native.specs.Stream.{Piece, marked, block, framed, frame_behind, next, Stand, Progress}
+use Rattle.flac_native.specs.Stream.{Piece, marked, block, framed, frame_after, next, Stand, Progress}
 use Rattle.flac_native.specs.declared.format.Format.{Format}
 use Rattle.flac_native.specs.declared.position.Position.{Position}
 use Rattle.flac_native.specs.declared.track.Track.{Track}
@@ -44,10 +44,10 @@ abbrev pub position_of : Stand → Position
 position_of s = record { phase = s.phase; index = s.index; seen = s.seen }
 
 -- the last metadata block was read, so that only frames are still to come
-abbrev pub is_behind_blocks : Phase → Bool
-is_behind_blocks phase.Opening = false
-is_behind_blocks phase.Blocks = false
-is_behind_blocks phase.Frames = true
+abbrev pub is_after_blocks : Phase → Bool
+is_after_blocks phase.Opening = false
+is_after_blocks phase.Blocks = false
+is_after_blocks phase.Frames = true
 
 abbrev pub no_frame : Frame
 no_frame = record { number = 0; variable = false; size = 0; channels = [] }
@@ -87,11 +87,11 @@ ReadsPart old x new = (p : Progress) → IsAt old p → IsAt new (next p x)
 -- A frame that follows this state was read, of at most 16777215 bytes (RFC 9639, section 8.2): what was returned is
 -- what the bits mean, and nothing was allocated.
 abbrev pub MeansFrame : {X : Type 0} → (X → Frame) → Stand → State → State → Result X Why → Type 0
-MeansFrame view s old new result = CallInPlace 40 (λ _. MeansWithin (Some 16777215) view (frame_behind s.profile s.info s.before) old) (lifted old) new result
+MeansFrame view s old new result = CallInPlace 40 (λ _. MeansWithin (Some 16777215) view (frame_after s.profile s.info s.before) old) (lifted old) new result
 
 -- the same by the reading of the layout
 abbrev pub ReadsFrame : {X : Type 0} → (X → Frame) → Stand → State → State → Result X Why → Type 0
-ReadsFrame view s old new result = CallInPlace 40 (λ _. ReadsWithin (Some 16777215) view (frame_behind s.profile s.info s.before) old) (lifted old) new result
+ReadsFrame view s old new result = CallInPlace 40 (λ _. ReadsWithin (Some 16777215) view (frame_after s.profile s.info s.before) old) (lifted old) new result
 
 -- the part that was read is there; the marker comes only once
 abbrev pub IsMadeAs : Part → Track → Track → Type 0
@@ -106,8 +106,8 @@ AreAtFrames old new = (old.position.phase ≡ phase.Frames) × (new.position.pha
 -- Each part comes in its phase: the marker and a block before the last metadata block was read, a frame and the end after.
 abbrev pub IsInOrder : Option Part → Track → Track → Type 0
 IsInOrder None old new = AreAtFrames old new
-IsInOrder (Some part.Marker) old new = is_behind_blocks old.position.phase ≡ false
-IsInOrder (Some part.Block) old new = is_behind_blocks old.position.phase ≡ false
+IsInOrder (Some part.Marker) old new = is_after_blocks old.position.phase ≡ false
+IsInOrder (Some part.Block) old new = is_after_blocks old.position.phase ≡ false
 IsInOrder (Some part.Frame) old new = AreAtFrames old new
 
 -- what was read last is there to be lent

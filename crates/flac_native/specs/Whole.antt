@@ -3,7 +3,7 @@ use Rattle.std.specs.Prelude.{◌≡◌, ◌↔◌, Bool, List, ◌∷◌, ◌++
 use Rattle.std.specs.List.{sum_by, flat_map}
 use Rattle.flac_bits.specs.State.{Mark}
 use Rattle.flac_bits.specs.Meaning.{AllKept}
-use Rattle.flac_bits.specs.Items.{Stream, mark_behind}
+use Rattle.flac_bits.specs.Items.{Stream, mark_after}
 use Rattle.flac_info.specs.Info.{Info}
 use Rattle.flac_meta.specs.declared.block.Block.{Block}
 use Rattle.flac_meta.specs.declared.block.Block.TheVariants as blocks
@@ -32,7 +32,7 @@ pub record IsWhole (profile : Profile) (m : Mark) (items : List Piece) (text : L
   pub rest : List Bool
   pub begins : Begins profile m text info list rest
   pub headers : List Header
-  pub are : AreFrames profile info (Some 16777215) (mark_behind grammar (opening profile) m (head_parts info list) begins.head begins.spelled) headers frames rest
+  pub are : AreFrames profile info (Some 16777215) (mark_after grammar (opening profile) m (head_parts info list) begins.head begins.spelled) headers frames rest
   pub follow : Follows profile info headers
   pub kept : AllKept (end_rules (Some info) (sum_by (λ f. f.size) frames) (flat_map (frame_message info.depth) frames))
 

@@ -2,4 +2,4 @@
 pub mod Writing
 pub mod Retag
 pub mod InOrder
-pub mod Lent
+pub mod Borrowed

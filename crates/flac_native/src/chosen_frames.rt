@@ -12,7 +12,7 @@ ghost use Rattle.flac_native.specs.inner.Writing.{KeepsUpTo, IsReady, HaveFrames
 
 use crate::digest::{digest_of, feed_block};
 use crate::plan::Plan;
-use crate::targets::Room;
+use crate::targets::FixedBuffer;
 use flac_bits::{BitWriter, Target, Why};
 use flac_frame::{Audio, EncodeBuffers, FrameChoice, choose_frame, encode_frame_with, write_frame};
 use flac_meta::{SeekPoint, StreamInfo};
@@ -170,11 +170,11 @@ impl ChosenFrames {
     ///
     /// # Errors
     /// [`Why::Memory`] if the allocation fails.
-    pub fn room(&self, alloc: Global) -> Result<Room, Why>
+    pub fn room(&self, alloc: Global) -> Result<FixedBuffer, Why>
         ensures places { IfOk result (λ room. room.places ≡ self.now.greatest) }
         ensures memory { IfErr result (λ e. e ≡ Why.Memory) }
     {
-        Room::new(alloc, self.greatest as usize)
+        FixedBuffer::new(alloc, self.greatest as usize)
     }
 
     /// Writes frame `number`, counted from 0, into a place for the longest frame, in place of what is there. The plan,
@@ -185,8 +185,8 @@ impl ChosenFrames {
         audio: &Audio,
         number: u64,
         buffers: &mut EncodeBuffers,
-        room: Room,
-    ) -> Room
+        room: FixedBuffer,
+    ) -> FixedBuffer
         requires fits { fits_plan plan.now audio.now ≡ true }
         requires choices { AreChoices plan.now audio.now self.now.choices.items }
         requires buffers { buffers.old ≡ room_of plan.now }

@@ -2,13 +2,13 @@
 
 ghost use Rattle.std.specs.Prelude.{◌≡◌, ◌≢◌, ◌<◌, ◌≤◌, ℕ, Bool, true, false, List, Option, IfOk, IfErr, IfSome, Err};
 ghost use Rattle.std.specs.Borrow.{GName};
-ghost use Rattle.flac_bits.specs.State.{Behind, Rises, without_fence};
+ghost use Rattle.flac_bits.specs.State.{After, Rises, without_fence};
 ghost use Rattle.flac_bits.specs.Handing.{reason_of, IsOutside};
 ghost use Rattle.flac_bits.specs.Reasons.{of_output};
 ghost use Rattle.flac_bits.specs.declared.why.Why.TheVariants.{Memory};
 ghost use Rattle.flac_native.specs.Stream.{Piece, Progress, Stand};
 ghost use Rattle.flac_native.specs.Track.{IsAt, IsMadeAs, IsInOrder, ReadsPart, piece_of, stand_of};
-ghost use Rattle.flac_native.specs.Item.{told};
+ghost use Rattle.flac_native.specs.Item.{fault_pair};
 ghost use Rattle.flac_native.specs.Coming.{Coming, IsNext};
 ghost use Rattle.flac_native.specs.declared.track.Phase.TheVariants.{Frames};
 
@@ -39,7 +39,7 @@ pub trait Container {
     /// Whether the parts still to come are known.
     ghost known: { Self → Bool };
 
-    /// How many errors of the device were returned that `behind` did not announce.
+    /// How many errors of the device were returned that `after` did not announce.
     ghost errors: { Self → ℕ };
 
     /// How many errors of the device were returned, announced or not, as far as the parts still to come depend on it.
@@ -50,7 +50,7 @@ pub trait Container {
     ghost met: { Self → ℕ };
 
     /// What comes after the bytes still to come.
-    ghost behind: { Self → Behind };
+    ghost after: { Self → After };
 
     /// No error of the device is announced that `raised` would not count.
     ghost clear: { Self → Track → Type 0 };
@@ -99,14 +99,14 @@ pub trait Container {
         ensures risen { IfErr result (λ f. f.why ≡ Why.Read → Rises (met self.old) (met self.new)) }
         // No error of a sink or a target is met.
         ensures output { IfErr result (λ f. of_output f.why ≡ false) }
-        ensures behind { known self.old ≡ true → errors self.new ≡ errors self.old
-            → behind self.new ≡ without_fence (behind self.old) }
+        ensures after { known self.old ≡ true → errors self.new ≡ errors self.old
+            → after self.new ≡ without_fence (after self.old) }
         ensures names { names self.new ≡ names self.old }
         // After the last metadata block no memory is allocated.
         ensures memory { (stand_of track.old).phase ≡ Frames → IfErr result (λ f. f.why ≢ Why.Memory) }
         ensures gives { (p : Progress) → IsAt track.old p
             → known self.old ≡ true → errors self.new ≡ errors self.old → raised self.new ≡ raised self.old
-            → (reason_of told result ≡ Err Memory → ⊥)
+            → (reason_of fault_pair result ≡ Err Memory → ⊥)
             → (parts : List Piece) (end : Option (Place × Why)) → gives self.old p parts end
             → IsNext (gives self.new) p (piece_of track.new) result parts end }
         ensures broken { (p : Progress) → IsAt track.old p

@@ -1,6 +1,6 @@
 //! A decoder that lends one item of a stream after another, from the start or from a frame on.
 
-ghost use Rattle.flac_native.specs.Track.{is_made, is_going, stand_of, IsAt, is_behind_blocks};
+ghost use Rattle.flac_native.specs.Track.{is_made, is_going, stand_of, IsAt, is_after_blocks};
 ghost use Rattle.std.specs.Prelude.{◌≡◌, ◌*◌, true, ⊤, Some, Ok, option_copied, IfOk, IfErr, drop};
 ghost use Rattle.std.specs.Borrow.{sem, follows_so};
 ghost use mathlib.Core.Option.{none};
@@ -192,7 +192,7 @@ impl<C: Container> Decoder<C> {
     /// }
     /// ```
     pub fn is_past_metadata(&self) -> bool
-        ensures { result ≡ is_behind_blocks (stand_of (stage_of self.now).track).phase }
+        ensures { result ≡ is_after_blocks (stand_of (stage_of self.now).track).phase }
     {
         self.track.is_past_metadata()
     }
@@ -226,7 +226,7 @@ impl<R: Source> Decoder<BitReader<R>> {
         ensures known { result.container.known ≡ R.known source }
         ensures errors { (result.container.errors ≡ R.errors source) × (result.container.raised ≡ R.raised source) }
         ensures cursor { (lifted result.container).cursor ≡ source_start R.Source source }
-        ensures behind { result.container.behind ≡ without_fence (R.behind source) }
+        ensures after { result.container.after ≡ without_fence (R.after source) }
         ensures most { result.container.most ≡ 8 * R.most source }
         ensures names { result.container.names ≡ R.names source }
     {
@@ -237,7 +237,7 @@ impl<R: Source> Decoder<BitReader<R>> {
     pub fn into_source(self) -> R
         ensures known { self.container.known ≡ true → R.known result ≡ true }
         ensures errors { (R.errors result ≡ self.container.errors) × (R.raised result ≡ self.container.raised) }
-        ensures behind { without_fence (R.behind result) ≡ without_fence self.container.behind }
+        ensures after { without_fence (R.after result) ≡ without_fence self.container.after }
         ensures names { R.names result ≡ self.container.names }
     {
         self.into_container().into_source()
@@ -259,7 +259,7 @@ impl<R: Source> Decoder<BitReader<R>> {
         ensures errors { IfOk result (λ d. (d.container.errors ≡ R.errors source)
             × (d.container.raised ≡ R.raised source)) }
         ensures cursor { IfOk result (λ d. (lifted d.container).cursor ≡ source_start R.Source source) }
-        ensures behind { IfOk result (λ d. d.container.behind ≡ without_fence (R.behind source)) }
+        ensures after { IfOk result (λ d. d.container.after ≡ without_fence (R.after source)) }
         ensures most { IfOk result (λ d. d.container.most ≡ 8 * R.most source) }
         ensures names { IfOk result (λ d. d.container.names ≡ R.names source) }
         ensures memory { IfErr result (λ x. x.fault ≡ record { at = Place.Marker; why = Why.Memory }) }
@@ -303,7 +303,7 @@ impl<R: Source + Drop> Decoder<BitReader<R>> {
         ensures errors { IfOk result (λ d. (d.container.errors ≡ R.errors source)
             × (d.container.raised ≡ R.raised source)) }
         ensures cursor { IfOk result (λ d. (lifted d.container).cursor ≡ source_start R.Source source) }
-        ensures behind { IfOk result (λ d. d.container.behind ≡ without_fence (R.behind source)) }
+        ensures after { IfOk result (λ d. d.container.after ≡ without_fence (R.after source)) }
         ensures most { IfOk result (λ d. d.container.most ≡ 8 * R.most source) }
         ensures names { IfOk result (λ d. d.container.names ≡ R.names source) }
         ensures memory { IfErr result (λ f. f ≡ record { at = Place.Marker; why = Why.Memory }) }

@@ -3,15 +3,15 @@
 ghost use Rattle.std.specs.Prelude.{◌≡◌, ◌≢◌, ◌<◌, ℕ, Bool, true, List, OnOk, OnErr, ◌≤◌, Option, Some, IfOk, IfErr, is_some, codes};
 ghost use Rattle.std.specs.Borrow.{GName};
 ghost use Rattle.flac_bits.specs.State.{Rises, without_fence};
-ghost use Rattle.flac_frame.specs.Lent.{frame_of};
-ghost use Rattle.flac_native.specs.Item.{Item, metadata, frame as frame_item, told};
+ghost use Rattle.flac_frame.specs.Viewed.{frame_of};
+ghost use Rattle.flac_native.specs.Item.{Item, metadata, frame as frame_item, fault_pair};
 ghost use Rattle.flac_bits.specs.Handing.{outcome_of, Hands, Decides, IsOutside, TakesAll};
-ghost use Rattle.flac_bits.specs.Items.{after};
+ghost use Rattle.flac_bits.specs.Items.{state_after};
 ghost use Rattle.flac_native.specs.Stream.{Piece, Progress, grammar, opening};
 ghost use Rattle.flac_native.specs.Track.{IsAt, piece_of, stand_of};
 ghost use Rattle.flac_native.specs.Decoding.{taken, source_start, NoError, stream_at};
 ghost use Rattle.flac_native.specs.Coming.{HandsFirst, EndsEarly};
-ghost use Rattle.flac_native.specs.Giving.{BreaksBehind, EndsEarlyAfter, NoErrorIn, MetNone};
+ghost use Rattle.flac_native.specs.Giving.{BreaksAfter, EndsEarlyAfter, NoErrorIn, MetNone};
 
 use crate::container::{Container, Part};
 use crate::fault::{Fault, Place};
@@ -150,7 +150,7 @@ fn hand_at<S: Sink>(at: Place, part: Part, track: &Track, sink: &mut S) -> Resul
 /// - [`Why::Memory`]: an allocation failed.
 /// - [`Why::Sink`]: the sink did not take the item at this place.
 /// - Any other reason: the stream is refused there.
-pub fn hand_out<C: Container, S: Sink>(
+pub fn decode_into<C: Container, S: Sink>(
     container: &mut C,
     track: &mut Track,
     sink: &mut S,
@@ -159,7 +159,7 @@ pub fn hand_out<C: Container, S: Sink>(
     ensures hands { (p : Progress) → IsAt track.old p → C.known container.old ≡ true → S.known sink.old ≡ true
         → (parts : List Piece) (end : Option (Place × Why)) → C.gives container.old p parts end
         → HandsFirst (taken S.takes) S.errors p parts end (NoErrorIn C.Container container.old container.new)
-        (BreaksBehind C.Container p container.old container.new) sink.old sink.new (outcome_of told result) }
+        (BreaksAfter C.Container p container.old container.new) sink.old sink.new (outcome_of fault_pair result) }
     ensures met { IfOk result (λ _. MetNone C.Container container.old container.new) }
     ensures kept { C.errors container.old ≤ C.errors container.new }
     ensures read { IfErr result (λ f. C.known container.old ≡ true → f.why ≡ Why.Read
@@ -173,8 +173,8 @@ pub fn hand_out<C: Container, S: Sink>(
     // sink took, whatever is known of its bytes.
     ensures broken { (p : Progress) → IsAt track.old p → IfErr result
         (EndsEarlyAfter C.Container (taken S.takes) p container.new (S.known sink.old) sink.old sink.new) }
-    ensures behind { C.known container.old ≡ true → C.errors container.new ≡ C.errors container.old
-        → C.behind container.new ≡ without_fence (C.behind container.old) }
+    ensures after { C.known container.old ≡ true → C.errors container.new ≡ C.errors container.old
+        → C.after container.new ≡ without_fence (C.after container.old) }
     ensures names { S.names sink.new ≡ S.names sink.old }
     ensures container_names { C.names container.new ≡ C.names container.old }
 {
@@ -216,14 +216,14 @@ pub fn decode<R: Source, S: Sink>(
     // exactly the items before; and in each case the sink took items that are spelled whole, from the start.
     ensures hands { R.known source.old ≡ true → S.known sink.old ≡ true →
         Hands (stream_at profile (source_start R.Source source.old)) (taken S.takes) S.errors
-        (NoError R.Source source.old source.new) sink.old sink.new (outcome_of told result) }
+        (NoError R.Source source.old source.new) sink.old sink.new (outcome_of fault_pair result) }
     // Ok only if no error of the source was met, whatever is known of its bytes.
     ensures counted { OnOk result (NoError R.Source source.old source.new) }
     // A stream is not refused, unless memory runs out, and the place and the reason are those that the bytes show.
     ensures decides { R.known source.old ≡ true → S.known sink.old ≡ true
         → R.errors source.new ≡ R.errors source.old → R.raised source.new ≡ R.raised source.old
         → S.errors sink.new ≡ S.errors sink.old
-        → Decides (stream_at profile (source_start R.Source source.old)) (outcome_of told result) }
+        → Decides (stream_at profile (source_start R.Source source.old)) (outcome_of fault_pair result) }
     ensures kept { R.errors source.old ≤ R.errors source.new }
     ensures read { IfErr result (λ f. R.known source.old ≡ true → f.why ≡ Why.Read
         → R.raised source.old < R.raised source.new) }
@@ -236,7 +236,7 @@ pub fn decode<R: Source, S: Sink>(
     // exactly those that the sink took.
     ensures placed { S.known sink.old ≡ true → IfErr result (λ f. IsOutside f.why → (items : List Piece)
         × TakesAll (taken S.takes) sink.old items sink.new
-        × EndsEarly (after grammar (opening profile) items) f.at f.why) }
+        × EndsEarly (state_after grammar (opening profile) items) f.at f.why) }
     // No allocation fails at the marker: none is needed there.
     ensures memory { IfErr result (λ f. f.why ≡ Why.Memory → f.at ≢ Place.Marker) }
     ensures names { S.names sink.new ≡ S.names sink.old }
@@ -244,7 +244,7 @@ pub fn decode<R: Source, S: Sink>(
 {
     let mut reader = BitReader::new(source);
     let mut track = Track::opening(alloc, profile);
-    let outcome = hand_out(&mut reader, &mut track, sink);
+    let outcome = decode_into(&mut reader, &mut track, sink);
     let _source = reader.into_source(); // for its clauses alone
     outcome
 }

@@ -18,7 +18,7 @@ use crate::chosen_frames::{ChosenFrames, write_frames};
 use crate::fault::EncodeFault;
 use crate::native::MARKER;
 use crate::plan::Plan;
-use crate::targets::Lent;
+use crate::targets::Borrowed;
 use flac_bits::{BitWriter, Target, Why};
 use flac_frame::{Audio, EncodeBuffers};
 use flac_meta::{Block, BlockList, SeekPoint, SeekTable, StreamInfo, write_block};
@@ -134,7 +134,7 @@ pub fn send_head<W: Target>(
     requires { block_fault (block_of.SeekTable points.items) ≡ None }
     ensures { SendsBits W.Target (head_spelling info (list.now ++ table_of points.items)) target.old target.new result }
 {
-    let mut writer = BitWriter::new(Lent::over(target));
+    let mut writer = BitWriter::new(Borrowed::over(target));
     let outcome = finish_head(info, list, points, &mut writer);
     let _target = writer.into_target().into_target(); // for its clauses alone
     outcome
@@ -211,7 +211,7 @@ fn send_stream<W: Target>(
     ensures { SendsStream W.Target (chosen_head plan.now list.now audio.now frames) plan.now audio.now
         target.old target.new result }
 {
-    let mut writer = BitWriter::new(Lent::over(target));
+    let mut writer = BitWriter::new(Borrowed::over(target));
     let outcome = write_stream(plan, list, audio, frames, buffers, &mut writer);
     let _target = writer.into_target().into_target(); // for its clauses alone
     outcome

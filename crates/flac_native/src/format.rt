@@ -4,7 +4,7 @@ ghost use Rattle.std.specs.Prelude.{◌≡◌, OnOk, IfOk, IfErr, Some, None, mi
 ghost use Rattle.flac_bits.specs.Reading.{CallInPlace};
 ghost use Rattle.flac_bits.specs.Fencing.{lifted};
 ghost use Rattle.flac_bits.specs.Within.{ReadsWithin};
-ghost use Rattle.flac_frame.specs.Frame.{frame, after};
+ghost use Rattle.flac_frame.specs.Frame.{frame, after_frame};
 ghost use Rattle.flac_header.specs.Header.{greatest_in};
 
 use flac_bits::{BitReader, Source, Why};
@@ -33,7 +33,7 @@ impl Drop for Format {
 }
 
 impl Format {
-    ghost use Rattle.flac_frame.specs.Lent.{frame_of};
+    ghost use Rattle.flac_frame.specs.Viewed.{frame_of};
 
     /// Makes the buffers. Its only error is `Memory`: an allocation failed.
     pub(crate) fn new(alloc: Global, profile: Profile, info: StreamInfo) -> Result<Format, Why>
@@ -54,7 +54,7 @@ impl Format {
         ensures reading { CallInPlace 40 (λ _. ReadsWithin (Some 16777215) (λ _. self.new.buffers.held)
             (frame self.old.profile self.old.info self.old.buffers.before) bits.old) (lifted bits.old) bits.new result }
         ensures before { OnOk result (self.new.buffers.before
-            ≡ Some (after self.old.buffers.before self.new.buffers.held)) }
+            ≡ Some (after_frame self.old.buffers.before self.new.buffers.held)) }
         ensures info { self.new.info ≡ self.old.info }
         ensures profile { self.new.profile ≡ self.old.profile }
     {

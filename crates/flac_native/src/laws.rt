@@ -6,7 +6,7 @@ ghost use Rattle.flac_native.specs.Retag.{HeadsAreOne, RetaggedAreRead};
 ghost use Rattle.flac_native.specs.Whole.{StreamsAreWhole};
 ghost use Rattle.flac_native.specs.BlockOrder.{BlocksAreInOrder};
 ghost use Rattle.flac_native.specs.Ordered.{StreamsAreOrdered};
-ghost use Rattle.flac_native.specs.Wider.{SubsetIsLax, NothingIsOutsideLax};
+ghost use Rattle.flac_native.specs.LaxProfile.{SubsetIsLax, NothingIsOutsideLax};
 ghost use Rattle.flac_native.specs.Points.{PointsNameFrames};
 ghost use Rattle.flac_native.specs.ReadBack.{EncodedAreReadBack};
 ghost use Rattle.flac_native.specs.Resuming.{FramesAreResumed, EncodedAreResumed};

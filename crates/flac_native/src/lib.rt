@@ -36,7 +36,7 @@ mod track;
 pub use chosen_frames::{ChosenFrames, info_of};
 pub use container::{Container, Part};
 pub use decoder::{Decoder, bytes_from};
-pub use decoding::{Sink, SinkFault, decode, hand_out};
+pub use decoding::{Sink, SinkFault, decode, decode_into};
 pub use encoding::{encode, send_head};
 pub use fault::{EncodeFault, Fault, Place, Refused};
 pub use flac_bits::{
@@ -61,5 +61,5 @@ pub use plan::{Plan, predictors_fault};
 pub use retagging::{RetagFault, retag};
 pub use sample_bytes::{put_rows, sample_width};
 pub use sinks::{Failures, SampleWriter};
-pub use targets::Room;
+pub use targets::FixedBuffer;
 pub use track::Track;

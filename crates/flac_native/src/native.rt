@@ -8,9 +8,9 @@ ghost use Rattle.flac_bits.specs.inner.Items.{step_at};
 ghost use Rattle.flac_bits.specs.Handing.{reason_of, IsOutside};
 ghost use Rattle.flac_bits.specs.inner.Handing.{StepsTo};
 ghost use Rattle.flac_native.specs.Stream.{marker, layout, room_in, Progress, grammar, may_end_in};
-ghost use Rattle.flac_bits.specs.inner.Within.{ReadsWithinInRoom};
-ghost use Rattle.flac_native.specs.Track.{IsAt, IsMadeAs, IsInOrder, ReadsPart, piece_of, stand_of, info_in, is_behind_blocks};
-ghost use Rattle.flac_native.specs.Item.{told};
+ghost use Rattle.flac_bits.specs.inner.Within.{ReadsWithinGivenMemory};
+ghost use Rattle.flac_native.specs.Track.{IsAt, IsMadeAs, IsInOrder, ReadsPart, piece_of, stand_of, info_in, is_after_blocks};
+ghost use Rattle.flac_native.specs.Item.{fault_pair};
 ghost use Rattle.flac_native.specs.Coming.{PartsCome, EndsEarly};
 
 use crate::container::{Container, Part};
@@ -43,7 +43,7 @@ fn read_part<R: Source>(reader: &mut BitReader<R>, track: &mut Track) -> Result<
     ensures counts { Counts (lifted reader.old) reader.new result }
     ensures memory { (stand_of track.old).phase ≡ Phase.Frames → IfErr result (λ e. e ≢ Why.Memory) }
     ensures marker { (stand_of track.old).phase ≡ Phase.Opening → IfErr result (λ e. e ≢ Why.Memory) }
-    ensures reads { ReadsWithinInRoom (room_in (stand_of track.old).phase) (λ part. piece_of track.new part)
+    ensures reads { ReadsWithinGivenMemory (room_in (stand_of track.old).phase) (λ part. piece_of track.new part)
         (layout (stand_of track.old)) reader.old reader.new result }
     ensures made { IfOk result (λ part. IsMadeAs part track.old track.new) }
     ensures ordered { IfOk result (λ part. IsInOrder (Some part) track.old track.new) }
@@ -60,25 +60,25 @@ fn read_part<R: Source>(reader: &mut BitReader<R>, track: &mut Track) -> Result<
         Phase::Blocks => {
             reader.lift();
             reader.start_checks();
-            track.next_block_here(reader)?;
+            track.next_block_by_layout(reader)?;
             Ok(Part::Block)
         }
         Phase::Frames => {
-            track.next_frame_here(reader)?;
+            track.next_frame_by_layout(reader)?;
             Ok(Part::Frame)
         }
     }
 }
 
 /// Whether the stream ends here: all metadata blocks were read, and no bit is left.
-fn ends_here<R: Source>(reader: &mut BitReader<R>, track: &Track) -> Result<bool, Why>
+fn is_at_end<R: Source>(reader: &mut BitReader<R>, track: &Track) -> Result<bool, Why>
     // proof only
     ensures spends { OnOk result (reader.new.most ≤ reader.old.most) }
     ensures counts { Counts reader.old reader.new result }
     ensures over { IfOk result (λ over. reader.old.known ≡ true → (reader.new.cursor ≡ reader.old.cursor)
         × (over ≡ (may_end_in (stand_of track.now).phase (info_in track.now.format)
         && is_nil reader.old.cursor.left))) }
-    ensures later { IfOk result (λ over. over ≡ true → is_behind_blocks (stand_of track.now).phase ≡ true) }
+    ensures later { IfOk result (λ over. over ≡ true → is_after_blocks (stand_of track.now).phase ≡ true) }
     ensures failed { IfErr result (λ e. e ≡ Why.Read) }
 {
     match track.position.phase {
@@ -100,11 +100,11 @@ pub(crate) fn advance<R: Source>(
     // proof only
     ensures spends { IfOk result (λ o. MatchOption o (reader.new.most ≤ reader.old.most)
         (λ _. reader.new.most + 32 ≤ reader.old.most)) }
-    ensures counts { Counts (lifted reader.old) reader.new (reason_of told result) }
+    ensures counts { Counts (lifted reader.old) reader.new (reason_of fault_pair result) }
     // After the last metadata block no allocation fails.
     ensures memory { (stand_of track.old).phase ≡ Phase.Frames → IfErr result (λ f. f.why ≢ Why.Memory) }
     ensures broken { (p : Progress) → IsAt track.old p → IfErr result (λ f. IsOutside f.why → EndsEarly p f.at f.why) }
-    ensures steps { (p : Progress) → IsAt track.old p → StepsTo (λ part. piece_of track.new part) told
+    ensures steps { (p : Progress) → IsAt track.old p → StepsTo (λ part. piece_of track.new part) fault_pair
         (step_at grammar p (lifted reader.old).cursor) (lifted reader.old) reader.new result }
     ensures made { IfOk result (λ o. IfSome o (λ part. IsMadeAs part track.old track.new)) }
     // No frame and no end comes before the last metadata block, and no block after it.
@@ -113,7 +113,7 @@ pub(crate) fn advance<R: Source>(
 {
     reader.lift();
     let at = track.place();
-    match ends_here(reader, track) {
+    match is_at_end(reader, track) {
         Ok(false) => match read_part(reader, track) {
             Ok(part) => Ok(Some(part)),
             Err(why) => Err(Fault { at, why }),
@@ -138,7 +138,7 @@ impl<R: Source> Container for BitReader<R> {
 
     ghost met = { λ r. r.raised };
 
-    ghost behind = { λ r. r.behind };
+    ghost after = { λ r. r.after };
 
     ghost clear = { λ _ _. ⊤ };
 

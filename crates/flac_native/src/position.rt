@@ -1,11 +1,11 @@
 //! Where a stream is between two of its parts, and its metadata blocks.
 
 ghost use Rattle.std.specs.Prelude.{◌≡◌, cond, OnErr, IfOk};
-ghost use Rattle.flac_bits.specs.Reading.{ReadsInRoom, Call};
+ghost use Rattle.flac_bits.specs.Reading.{ReadsGivenMemory, Call};
 ghost use Rattle.flac_meta.specs.Block.{block as block_layout, seen_after};
 ghost use Rattle.flac_meta.specs.Header.{nothing_seen};
-ghost use Rattle.flac_native.specs.Stream.{phase_behind, raised, place_in};
-ghost use Rattle.flac_native.specs.Track.{is_behind_blocks};
+ghost use Rattle.flac_native.specs.Stream.{phase_after, raised, place_in};
+ghost use Rattle.flac_native.specs.Track.{is_after_blocks};
 
 use crate::fault::Place;
 use crate::track::Phase;
@@ -14,13 +14,13 @@ use flac_meta::{Block, Seen, read_block};
 use std::alloc::Global;
 
 /// What [`read_block`] does, proved by the reading of the layout.
-fn read_here<R: Source>(
+fn read_by_layout<R: Source>(
     alloc: Global,
     bits: &mut BitReader<R>,
     seen: &mut Seen,
 ) -> Result<(bool, Block), Why>
     // proof only
-    ensures reading { Call 32 (ReadsInRoom (λ x. x) (block_layout seen.old)) bits.old bits.new result }
+    ensures reading { Call 32 (ReadsGivenMemory (λ x. x) (block_layout seen.old)) bits.old bits.new result }
     ensures seen { IfOk result (λ x. seen.new ≡ seen_after seen.old x.1) }
     ensures unseen { OnErr result (seen.new ≡ seen.old) }
 {
@@ -53,7 +53,7 @@ impl Position {
 
     /// Whether the last metadata block was read.
     pub(crate) fn is_past_metadata(&self) -> bool
-        ensures { result ≡ is_behind_blocks self.now.phase }
+        ensures { result ≡ is_after_blocks self.now.phase }
     {
         match self.phase {
             Phase::Opening => false,
@@ -80,12 +80,12 @@ impl Position {
         alloc: Global,
         bits: &mut BitReader<R>,
     ) -> Result<(bool, Block), Why>
-        ensures reading { Call 32 (ReadsInRoom (λ x. x) (block_layout self.old.seen)) bits.old bits.new result }
-        ensures phase { IfOk result (λ x. self.new.phase ≡ phase_behind x.0) }
+        ensures reading { Call 32 (ReadsGivenMemory (λ x. x) (block_layout self.old.seen)) bits.old bits.new result }
+        ensures phase { IfOk result (λ x. self.new.phase ≡ phase_after x.0) }
         ensures index { IfOk result (λ x. self.new.index ≡ cond x.0 0 (raised self.old.index)) }
         ensures seen { IfOk result (λ x. self.new.seen ≡ seen_after self.old.seen x.1) }
     {
-        let (last, block) = read_here(alloc, bits, &mut self.seen)?;
+        let (last, block) = read_by_layout(alloc, bits, &mut self.seen)?;
         if last {
             self.phase = Phase::Frames;
             self.index = 0;

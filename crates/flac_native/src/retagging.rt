@@ -2,15 +2,15 @@
 
 ghost use Rattle.std.specs.Prelude.{◌≡◌, ◌≢◌, ◌≤◌, ◌+◌, ◌++◌, [], true, false, OnOk, IfOk, IfErr, Some, None, ◌<◌, Bool, List, OnErr, IfSome, IsErrAnd, Err, is_some, ◌⊎◌};
 ghost use Rattle.flac_bits.specs.Fencing.{lifted};
-ghost use Rattle.flac_bits.specs.Reading.{Counts, ReadsInRoom};
+ghost use Rattle.flac_bits.specs.Reading.{Counts, ReadsGivenMemory};
 ghost use Rattle.flac_bits.specs.Reasons.{of_output};
 ghost use Rattle.flac_bits.specs.Items.{item, refused};
 ghost use Rattle.flac_bits.specs.inner.Items.{step_at};
 ghost use Rattle.flac_bits.specs.Handing.{reason_of};
 ghost use Rattle.flac_bits.specs.inner.Handing.{IsCalm};
 ghost use Rattle.flac_native.specs.Stream.{Piece, Progress, Stand, grammar, layout, next, place_in, stand_after};
-ghost use Rattle.flac_native.specs.Track.{is_behind_blocks, position_of};
-ghost use Rattle.flac_native.specs.Item.{told};
+ghost use Rattle.flac_native.specs.Track.{is_after_blocks, position_of};
+ghost use Rattle.flac_native.specs.Item.{fault_pair};
 ghost use Rattle.flac_native.specs.Places.{retag_text};
 ghost use Rattle.flac_native.specs.Retag.{is_before_frames, IsRefusedAt, IsPlaceAt, HasHeadAt, SendsRetagged, SendsPrefix, SendsHeadAndPart, IsOfDevice, IsBeforeOrOutside, not_read, not_written, BeginsWith, retagged, too_long};
 ghost use Rattle.flac_native.specs.inner.Retag.{stand_at, piece_in, keeps, AreKept, MayBeHead, new_head};
@@ -86,12 +86,12 @@ fn read_next<R: Source>(
     reader: &mut BitReader<R>,
     position: &mut Position,
 ) -> Result<Option<(bool, Block)>, Why>
-    requires { is_behind_blocks position.old.phase ≡ false }
+    requires { is_after_blocks position.old.phase ≡ false }
     // proof only
     ensures spends { OnOk result (reader.new.most + 32 ≤ reader.old.most) }
     ensures counts { Counts (lifted reader.old) reader.new result }
     ensures reads { (s : Stand)
-        → ReadsInRoom piece_in (layout (stand_at position.old s)) (started (lifted reader.old)) reader.new result }
+        → ReadsGivenMemory piece_in (layout (stand_at position.old s)) (started (lifted reader.old)) reader.new result }
     ensures next { IfOk result (λ part. (s : Stand)
         → position_of (stand_after (stand_at position.old s) (piece_in part)) ≡ position.new) }
     ensures first { position.old.phase ≡ Phase.Opening → IfOk result (λ part. is_some part ≡ false) }
@@ -120,10 +120,10 @@ fn keep_next<R: Source>(
     position: &mut Position,
     kept: &mut Vec<Block>,
 ) -> Result<(), Fault>
-    requires { is_behind_blocks position.old.phase ≡ false }
+    requires { is_after_blocks position.old.phase ≡ false }
     // proof only
     ensures spends { OnOk result (reader.new.most + 32 ≤ reader.old.most) }
-    ensures counts { Counts (lifted reader.old) reader.new (reason_of told result) }
+    ensures counts { Counts (lifted reader.old) reader.new (reason_of fault_pair result) }
     ensures keeps { OnOk result ((p : Progress) → position_of p.stand ≡ position.old
         → (x : Piece) × (position_of (next p x).stand ≡ position.new) × keeps kept.old.items x kept.new.items
         × (reader.old.known ≡ true → step_at grammar p (lifted reader.old).cursor ≡ item x reader.new.cursor)) }
@@ -153,7 +153,7 @@ fn keep_all<R: Source>(
     requires whole { reader.old.cursor.mark.unread ≡ 0 }
     requires none { kept.old.items ≡ [] }
     // proof only
-    ensures counts { Counts (lifted reader.old) reader.new (reason_of told result) }
+    ensures counts { Counts (lifted reader.old) reader.new (reason_of fault_pair result) }
     ensures whole { OnOk result (reader.new.cursor.mark.unread ≡ 0) }
     ensures kept { OnOk result (reader.old.known ≡ true
         → AreKept (lifted reader.old).cursor kept.new.items reader.new.cursor.left) }
@@ -185,7 +185,7 @@ pub(crate) fn read_kept<R: Source>(
 ) -> Result<Vec<Block>, Fault>
     requires { reader.old.cursor.mark.unread ≡ 0 }
     // proof only
-    ensures counts { Counts (lifted reader.old) reader.new (reason_of told result) }
+    ensures counts { Counts (lifted reader.old) reader.new (reason_of fault_pair result) }
     ensures whole { OnOk result (reader.new.cursor.mark.unread ≡ 0) }
     ensures kept { IfOk result (λ kept. reader.old.known ≡ true
         → AreKept (lifted reader.old).cursor kept.items reader.new.cursor.left) }
@@ -311,7 +311,7 @@ fn retag_from<R: Source, W: Target>(
     ensures placed { IfErr result (λ f. IfSome f.at (λ at. reader.old.known ≡ true
         → IsPlaceAt (lifted reader.old).cursor at)) }
     ensures memory { IfErr result (λ f. f.why ≡ Why.Memory → f.at ≢ Some Place.Marker) }
-    ensures behind { IfErr result (λ f. IfSome f.at (λ at. reader.old.known ≡ true → IsBeforeOrOutside f at)) }
+    ensures after { IfErr result (λ f. IfSome f.at (λ at. reader.old.known ≡ true → IsBeforeOrOutside f at)) }
     ensures head { OnOk result (reader.old.known ≡ true → HasHeadAt (lifted reader.old).cursor) }
     ensures found { IfErr result (λ f. IsOfDevice f → reader.old.known ≡ true → HasHeadAt (lifted reader.old).cursor) }
     ensures nothing { IfErr result (λ f. f ≢ not_read → f ≢ not_written → target.new ≡ target.old) }
@@ -398,7 +398,7 @@ pub fn retag<R: Source, W: Target>(
     // That is so for each way in which the input begins.
     ensures exact { OnOk result (R.known source.old ≡ true → W.known target.old ≡ true
         → (info : Info) (list : List Block) (rest : List Bool)
-        → BeginsWith (start_mark (R.behind source.old)) (bits_of (R.coming source.old)) info list rest
+        → BeginsWith (start_mark (R.after source.old)) (bits_of (R.coming source.old)) info list rest
         → bits_of (W.sent target.new) ≡ bits_of (W.sent target.old) ++ retagged comments.now info list rest) }
     // Refused only as the marker and the blocks are, at that place and for that reason.
     ensures refused { IfErr result (λ f. IfSome f.at (λ at. IfCalm R.Source source.old source.new
@@ -415,7 +415,7 @@ pub fn retag<R: Source, W: Target>(
     ensures memory { IfErr result (λ f. f.why ≡ Why.Memory → f.at ≢ Some Place.Marker) }
     // After the blocks only an error of the source or of an allocation is returned: no block that was read is refused
     // in writing.
-    ensures behind { IfErr result (λ f. IfSome f.at (λ at. R.known source.old ≡ true → IsBeforeOrOutside f at)) }
+    ensures after { IfErr result (λ f. IfSome f.at (λ at. R.known source.old ≡ true → IsBeforeOrOutside f at)) }
     // An input that begins with a marker and blocks is refused only for the comments, the target and memory.
     ensures accepted { IfErr result (λ f. f ≢ too_long → IfCalm R.Source source.old source.new
         (f.why ≢ Why.Memory → HasHeadAt (source_start R.Source source.old) → f ≡ not_written)) }

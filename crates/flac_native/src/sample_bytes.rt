@@ -2,7 +2,7 @@
 
 ghost use Rattle.std.specs.Prelude.{◌≡◌, ◌≤◌, ◌<◌, ◌+◌, ◌*◌, ◌++◌, length, take, List, [], ℕ, ℤ, slice_index_or, pos, ◌∷◌, map};
 ghost use Rattle.flac_native.specs.Message.{sample_bytes, row_bytes, rows_bytes, sample_width};
-ghost use Rattle.flac_frame.specs.Lent.{frame_of};
+ghost use Rattle.flac_frame.specs.Viewed.{frame_of};
 ghost use Rattle.flac_frame.specs.Audio.{samples_each};
 
 use flac_frame::{Audio, FrameView};

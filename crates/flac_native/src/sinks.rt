@@ -2,9 +2,9 @@
 
 ghost use Rattle.std.specs.Prelude.{◌≡◌, ◌≤◌, ◌<◌, ◌+◌, ◌++◌, ◌∷◌, min, nat_lt, true, OnOk, OnErr};
 ghost use Rattle.flac_bits.specs.Bits.{bit_value};
-ghost use Rattle.flac_frame.specs.Lent.{frame_of};
+ghost use Rattle.flac_frame.specs.Viewed.{frame_of};
 ghost use Rattle.flac_native.specs.Message.{frame_rows};
-ghost use Rattle.flac_native.specs.Samples.{width_of, depth_behind, samples_in};
+ghost use Rattle.flac_native.specs.Samples.{width_of, depth_after_item, samples_in};
 
 use crate::decoding::{Sink, SinkFault};
 use crate::sample_bytes::{put_rows, sample_width};
@@ -174,7 +174,7 @@ impl<W: Target> Sink for SampleWriter<W> {
     ghost takes = { λ old item new. record {
       known : W.known old.target ≡ true → W.known new.target ≡ true;
       asked : new.asked ≡ old.asked;
-      depth : new.depth ≡ depth_behind old.depth item;
+      depth : new.depth ≡ depth_after_item old.depth item;
       sent : W.known old.target ≡ true → W.sent new.target ≡ W.sent old.target ++ samples_in old.asked old.depth item;
     } };
 

@@ -1,8 +1,8 @@
 //! Targets: a place that is allocated once, and another target that is borrowed.
 
 ghost use Rattle.std.specs.Prelude.{◌≡◌, ◌≤◌, ◌<◌, ◌+◌, ◌-◌, ◌^◌, [], length, nat_lt, vec_capacity, IfOk, IfErr, ◌∷◌, ◌&&◌};
-ghost use Rattle.flac_native.specs.Room.{placed};
-ghost use Rattle.flac_native.specs.inner.Lent.{has_still, sent_since, named};
+ghost use Rattle.flac_native.specs.FixedBuffer.{placed};
+ghost use Rattle.flac_native.specs.inner.Borrowed.{has_still, sent_since, named};
 
 use flac_bits::{Target, Why};
 use std::alloc::Global;
@@ -15,7 +15,7 @@ const PIECE: usize = 4096;
 /// A place in memory for a number of bytes, which is allocated once, and then filled and emptied as often as needed. It
 /// is a [`Target`] that keeps what it is sent: up to that number of bytes it needs no allocation and returns no error.
 #[derive(Drop)]
-pub struct Room {
+pub struct FixedBuffer {
     bytes: Vec<u8>,
     places: usize,
     errors: u64,
@@ -23,19 +23,19 @@ pub struct Room {
     ghost full: { 1 ≤ errors → places < length bytes.items },
 }
 
-impl Room {
+impl FixedBuffer {
     /// Allocates an empty place for `places` bytes, at most 2^32.
     ///
     /// # Errors
     /// [`Why::Memory`] if the allocation fails.
-    pub fn new(alloc: Global, places: usize) -> Result<Room, Why>
+    pub fn new(alloc: Global, places: usize) -> Result<FixedBuffer, Why>
         requires { places ≤ 2 ^ 32 }
         ensures places { IfOk result (λ room. room.places ≡ places) }
         ensures none { IfOk result (λ room. room.bytes.items ≡ []) }
         ensures memory { IfErr result (λ e. e ≡ Why.Memory) }
     {
         let bytes = Vec::with_capacity(alloc, places + PIECE)?;
-        Ok(Room {
+        Ok(FixedBuffer {
             bytes,
             places,
             errors: 0,
@@ -50,18 +50,18 @@ impl Room {
     }
 
     /// Returns the same place without bytes, and with no error counted.
-    pub fn emptied(self) -> Room
+    pub fn emptied(self) -> FixedBuffer
         ensures places { result.places ≡ self.places }
         ensures none { result.bytes.items ≡ [] }
         ensures errors { result.errors ≡ 0 }
     {
-        let Room {
+        let FixedBuffer {
             mut bytes,
             places,
             ..
         } = self;
         bytes.clear();
-        Room {
+        FixedBuffer {
             bytes,
             places,
             errors: 0,
@@ -69,7 +69,7 @@ impl Room {
     }
 }
 
-impl Target for Room {
+impl Target for FixedBuffer {
     ghost known = { λ r. nat_lt r.errors (2 ^ 64 - 1) };
 
     ghost sent = { λ r. placed r.places r.bytes.items };
@@ -93,21 +93,21 @@ impl Target for Room {
 /// A target that borrows another, and passes on what it is sent. To a proof it has been sent what came since it was
 /// made, so a prefix of that says of the other that it still has what it had been sent before.
 #[derive(Drop)]
-pub(crate) struct Lent<'a, W: Target> {
+pub(crate) struct Borrowed<'a, W: Target> {
     target: &'a mut W,
     /// The target as it was borrowed, for clauses only.
     began: Snapshot<W>,
 }
 
-impl<'a, W: Target> Lent<'a, W> {
+impl<'a, W: Target> Borrowed<'a, W> {
     /// Borrows a target.
-    pub(crate) fn over(target: &'a mut W) -> Lent<'a, W>
+    pub(crate) fn over(target: &'a mut W) -> Borrowed<'a, W>
         ensures same { result.target.ghost_name ≡ target.entry.ghost_name }
         ensures target { result.target.now ≡ target.old }
         ensures began { result.began.value ≡ target.old }
     {
         let began = Snapshot::of(&*target);
-        Lent { target, began }
+        Borrowed { target, began }
     }
 
     /// Returns the target.
@@ -115,12 +115,12 @@ impl<'a, W: Target> Lent<'a, W> {
         ensures same { result.ghost_name ≡ self.entry.target.ghost_name }
         ensures target { result.now ≡ self.entry.target.now }
     {
-        let Lent { target, began: _ } = self;
+        let Borrowed { target, began: _ } = self;
         target
     }
 }
 
-impl<W: Target> Target for Lent<'_, W> {
+impl<W: Target> Target for Borrowed<'_, W> {
     ghost known = { λ l. W.known l.target.now && has_still (W.sent l.began.value) (W.sent l.target.now) };
 
     ghost sent = { λ l. sent_since (W.sent l.began.value) (W.sent l.target.now) };

@@ -3,13 +3,13 @@
 ghost use Rattle.std.specs.Prelude.{◌≡◌, ◌≢◌, OnOk, IfOk, IfErr, Err, Some, is_some, true, ⊤, ℕ, List, [], min, false};
 ghost use Rattle.std.specs.Borrow.{sem, follows_so};
 ghost use mathlib.Core.Option.{none};
-ghost use Rattle.flac_bits.specs.Reading.{ReadsInRoom, Call, MeansInRoom};
+ghost use Rattle.flac_bits.specs.Reading.{ReadsGivenMemory, Call, MeansGivenMemory};
 ghost use Rattle.flac_bits.specs.Reasons.{of_output};
 ghost use Rattle.flac_meta.specs.Block.{block as block_layout};
 ghost use Rattle.flac_native.specs.Resuming.{at_frames};
-ghost use Rattle.flac_frame.specs.Lent.{frame_of};
-ghost use Rattle.flac_native.specs.Stream.{Progress, marked, block as block_piece, framed, info_after, before_behind, frame_behind, place_in, next, opening, layout_in, is_unknown, end_rules};
-ghost use Rattle.flac_native.specs.Track.{IsAt, ReadsPart, MeansFrame, ReadsFrame, stand_of, is_behind_blocks, profile_in, info_in, before_in, shown, kept};
+ghost use Rattle.flac_frame.specs.Viewed.{frame_of};
+ghost use Rattle.flac_native.specs.Stream.{Progress, marked, block as block_piece, framed, info_after, before_after_block, frame_after, place_in, next, opening, layout_in, is_unknown, end_rules};
+ghost use Rattle.flac_native.specs.Track.{IsAt, ReadsPart, MeansFrame, ReadsFrame, stand_of, is_after_blocks, profile_in, info_in, before_in, shown, kept};
 ghost use Rattle.flac_native.specs.declared.track.Phase.TheVariants.{Blocks};
 ghost use Rattle.flac_native.specs.contracts.track.Track.{the_row};
 ghost use Rattle.std.specs.Str.{bytes_eq};
@@ -132,7 +132,7 @@ impl Track {
         ensures profile { OnOk result (profile_in self.new.profile self.new.format
             ≡ profile_in self.old.profile self.old.format) }
         ensures info { OnOk result (info_in self.new.format ≡ info_after (info_in self.old.format) block.now) }
-        ensures before { OnOk result (before_in self.new.format ≡ before_behind (before_in self.old.format) block.now) }
+        ensures before { OnOk result (before_in self.new.format ≡ before_after_block (before_in self.old.format) block.now) }
         ensures samples { self.new.samples ≡ self.old.samples }
         ensures hasher { self.new.hasher ≡ self.old.hasher }
         ensures last { self.new.last ≡ self.old.last }
@@ -152,19 +152,19 @@ impl Track {
     /// Those of [`flac_meta::read_block`], which depend on the blocks that this track read before; [`Why::Memory`] also
     /// if the allocation for a frame fails. The track must not be used to read on then.
     pub fn block<R: Source>(&mut self, bits: &mut BitReader<R>) -> Result<(bool, Block), Why>
-        ensures reading { Call 32 (MeansInRoom (λ x. x) (block_layout (stand_of self.old).seen))
+        ensures reading { Call 32 (MeansGivenMemory (λ x. x) (block_layout (stand_of self.old).seen))
             bits.old bits.new result }
         ensures next { IfOk result (λ x. ReadsPart self.old (block_piece x.0 x.1) self.new) }
         // The block that Track::next_block keeps does not change.
         ensures last { self.new.last ≡ self.old.last }
         ensures kept { self.new.block ≡ self.old.block }
     {
-        self.block_here(bits)
+        self.block_by_layout(bits)
     }
 
     /// What [`Track::block`] does, proved by the reading of the layout.
-    fn block_here<R: Source>(&mut self, bits: &mut BitReader<R>) -> Result<(bool, Block), Why>
-        ensures reading { Call 32 (ReadsInRoom (λ x. x) (block_layout (stand_of self.old).seen))
+    fn block_by_layout<R: Source>(&mut self, bits: &mut BitReader<R>) -> Result<(bool, Block), Why>
+        ensures reading { Call 32 (ReadsGivenMemory (λ x. x) (block_layout (stand_of self.old).seen))
             bits.old bits.new result }
         ensures next { IfOk result (λ x. ReadsPart self.old (block_piece x.0 x.1) self.new) }
         ensures last { self.new.last ≡ self.old.last }
@@ -186,23 +186,26 @@ impl Track {
     /// # Errors
     /// Those of [`Track::block`].
     pub fn next_block<R: Source>(&mut self, bits: &mut BitReader<R>) -> Result<(), Why>
-        ensures reading { Call 32 (MeansInRoom (λ _. kept self.new) (layout_in Blocks (stand_of self.old)))
+        ensures reading { Call 32 (MeansGivenMemory (λ _. kept self.new) (layout_in Blocks (stand_of self.old)))
             bits.old bits.new result }
         ensures next { OnOk result (ReadsPart self.old (kept self.new) self.new) }
         ensures made { OnOk result (is_some self.new.block ≡ true) }
     {
-        self.next_block_here(bits)
+        self.next_block_by_layout(bits)
     }
 
     /// What [`Track::next_block`] does, proved by the reading of the layout.
-    pub(crate) fn next_block_here<R: Source>(&mut self, bits: &mut BitReader<R>) -> Result<(), Why>
-        ensures reading { Call 32 (ReadsInRoom (λ _. kept self.new) (layout_in Blocks (stand_of self.old)))
+    pub(crate) fn next_block_by_layout<R: Source>(
+        &mut self,
+        bits: &mut BitReader<R>,
+    ) -> Result<(), Why>
+        ensures reading { Call 32 (ReadsGivenMemory (λ _. kept self.new) (layout_in Blocks (stand_of self.old)))
             bits.old bits.new result }
         ensures next { OnOk result (ReadsPart self.old (kept self.new) self.new) }
         ensures made { OnOk result (is_some self.new.block ≡ true) }
     {
         self.block = None; // so that only one block is held
-        let (last, block) = self.block_here(bits)?;
+        let (last, block) = self.block_by_layout(bits)?;
         self.last = last;
         self.block = Some(block);
         Ok(())
@@ -225,12 +228,15 @@ impl Track {
         ensures last { self.new.last ≡ self.old.last }
         ensures kept { self.new.block ≡ self.old.block }
     {
-        self.next_frame_here(bits)
+        self.next_frame_by_layout(bits)
     }
 
     /// What [`Track::next_frame`] does, proved by the reading of the layout.
-    #[tactic(auto, unfolding(crate::specs::Stream::frame_behind))]
-    pub(crate) fn next_frame_here<R: Source>(&mut self, bits: &mut BitReader<R>) -> Result<(), Why>
+    #[tactic(auto, unfolding(crate::specs::Stream::frame_after))]
+    pub(crate) fn next_frame_by_layout<R: Source>(
+        &mut self,
+        bits: &mut BitReader<R>,
+    ) -> Result<(), Why>
         ensures reading { ReadsFrame (λ _. shown self.new) (stand_of self.old) bits.old bits.new result }
         ensures next { OnOk result (ReadsPart self.old (framed (shown self.new)) self.new) }
         ensures phase { OnOk result ((stand_of self.new).phase ≡ (stand_of self.old).phase) }
@@ -278,7 +284,7 @@ impl Track {
     /// Whether the last metadata block was read, so that only frames and the end are still to come (RFC 9639, section
     /// 8.1).
     pub fn is_past_metadata(&self) -> bool
-        ensures { result ≡ is_behind_blocks (stand_of self.now).phase }
+        ensures { result ≡ is_after_blocks (stand_of self.now).phase }
     {
         self.position.is_past_metadata()
     }

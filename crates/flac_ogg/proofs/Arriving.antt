@@ -5,14 +5,14 @@ use Rattle.std.specs.Borrow.{GName}
 use Rattle.flac_bits.specs.State.{Mark, State, Rises, short_of}
 use Rattle.flac_bits.specs.Fencing.{lifted}
 use Rattle.flac_bits.specs.Reading.{Counts}
-use Rattle.flac_bits.specs.Items.{after}
+use Rattle.flac_bits.specs.Items.{state_after}
 use Rattle.flac_bits.specs.Handing.{TakesAll, Hands, Decides, reason_of, IsOutside}
 use Rattle.flac_bits.specs.Reasons.{of_output}
 use Rattle.flac_bits.specs.declared.why.Why.{Why}
 use Rattle.flac_bits.specs.declared.why.Why.TheVariants.{Memory, Read, Truncated}
 use Rattle.flac_native.specs.Stream.{Piece, Progress, Stand, grammar, next}
 use Rattle.flac_native.specs.Track.{IsAt, stand_of}
-use Rattle.flac_native.specs.Item.{Item, told}
+use Rattle.flac_native.specs.Item.{Item, fault_pair}
 use Rattle.flac_native.specs.Giving.{items_of, Gave, Stage}
 use Rattle.flac_native.specs.Calls.{Answers, GivesAll}
 use Rattle.flac_native.specs.declared.container.Container as container
@@ -24,7 +24,7 @@ use Rattle.flac_native.specs.declared.fault.Fault.{Fault}
 use Rattle.flac_native.specs.declared.track.Phase.TheVariants.{Opening}
 use Rattle.flac_native.specs.declared.track.Track.{Track}
 use Rattle.flac_pages.specs.Packets.{Place as Stands, Ahead, OnPage, ahead, at_front}
-use Rattle.flac_pages.specs.Items.{IsAtPacket, GoesBehind}
+use Rattle.flac_pages.specs.Items.{IsAtPacket, GoesAfter}
 use Rattle.flac_ogg.specs.Stream.{start, packet_start, closed_packet, OggStream, OggRefused}
 use Rattle.flac_ogg.specs.Steps.{PacketStep, item, over, refused, packet_step, Goes}
 use Rattle.flac_ogg.specs.Decoding.{BeginsWith, IsBrokenAt, BreaksAtPage, PassesNext, BreaksInNext, IsFront, ogg_reading}
@@ -38,7 +38,7 @@ use Rattle.flac_ogg.proofs.MeaningReadings.{some_ogg_reading}
 use Rattle.flac_ogg.proofs.MeaningErrors.{stops_read, fault_read, stop_read}
 use Rattle.flac_ogg.proofs.PagesRead.{reads_to}
 use Rattle.flac_ogg.proofs.UnderWay.{started, goes_on}
-use Rattle.flac_native.proofs.Passing.{calls_break_behind}
+use Rattle.flac_native.proofs.Passing.{calls_break_after}
 use Rattle.flac_native.proofs.Received.{Fronts, hands_of, decides_of, none_some, same_end}
 use Rattle.flac_header.specs.declared.subset.Profile.{Profile}
 
@@ -57,7 +57,7 @@ on_ok_at (Err e) A B a h = tt
 
 -- a packet's item was read, and no error was met
 pub went_on : {X : Type 0} {name : GName} {page : OnPage} (p : Stands) (old mid : State) (new : Stands) (read : Result X Why) (result : Result X (Option ℕ × Why))
-    → IsAtPacket name page p old → Counts (lifted old) mid read → IfOk result (λ item. read ≡ Ok item) → OnOk result (GoesBehind mid new) → OnOk result ((p.known ≡ true → new.known ≡ true) × (new.errors ≡ p.errors))
+    → IsAtPacket name page p old → Counts (lifted old) mid read → IfOk result (λ item. read ≡ Ok item) → OnOk result (GoesAfter mid new) → OnOk result ((p.known ≡ true → new.known ≡ true) × (new.errors ≡ p.errors))
 went_on {X} p old mid new read (Ok x) at counts same goes =
     let c = subst (λ (r : Result X Why). Counts (lifted old) mid r) same counts in
     (λ k. goes.known (c.0 (at.known ∙ k)), goes.errors ∙ c.1 ∙ at.errors)
@@ -98,9 +98,9 @@ final_item (Some f) x a e = item_refusal x a f.0 f.1 (sym e)
 last_here : (p : Progress) (a : Ahead) (end : Option (Place × Why)) → ItemsCome p a [] end → packet_step p a ≡ final end
 last_here p a end i = ap (λ k. packet_step k a) i.goes.0 ∙ ap (λ k. packet_step i.state k) i.goes.1 ∙ i.ends
 
--- behind the first item the others come
-come_behind : (p : Progress) (a b : Ahead) (x : Piece) (xs : List Piece) (end : Option (Place × Why)) → packet_step p a ≡ item x b → ItemsCome p a (x ∷ xs) end → ItemsCome (next p x) b xs end
-come_behind p a b x xs end step i =
+-- after the first item the others come
+come_after : (p : Progress) (a b : Ahead) (x : Piece) (xs : List Piece) (end : Option (Place × Why)) → packet_step p a ≡ item x b → ItemsCome p a (x ∷ xs) end → ItemsCome (next p x) b xs end
+come_after p a b x xs end step i =
     let same : i.goes.0 ≡ b = (same_item x x i.goes.0 b (sym i.goes.1 ∙ step)).1 in
     let one = step_item p a i.packets i.begun x b i.given step in
     record {
@@ -109,12 +109,12 @@ come_behind p a b x xs end step i =
       begun = i.begun;
       given = one.ahead;
       state = i.state;
-      behind = i.behind;
-      goes = subst (λ (k : Ahead). Goes (next p x) k xs i.state i.behind) same i.goes.2;
+      after = i.after;
+      goes = subst (λ (k : Ahead). Goes (next p x) k xs i.state i.after) same i.goes.2;
       ends = i.ends;
     }
 
-pub ogg_next : {X : Type 0} (p : Progress) (a b : Ahead) (view : X → Piece) (result : Result (Option X) Fault) → StepIs view (packet_step p a) b result → (reason_of told result ≡ Err Memory → ⊥)
+pub ogg_next : {X : Type 0} (p : Progress) (a b : Ahead) (view : X → Piece) (result : Result (Option X) Fault) → StepIs view (packet_step p a) b result → (reason_of fault_pair result ≡ Err Memory → ⊥)
     → (items : List Piece) (end : Option (Place × Why)) → ItemsCome p a items end → IsNext (λ q xs e. ItemsCome q b xs e) p view result items end
 ogg_next p a b view (Ok None) is room [] None i = refl
 ogg_next p a b view (Ok None) is room [] (Some f) i = absurd (over_refusal f.0 f.1 (sym is ∙ last_here p a (Some f) i))
@@ -122,7 +122,7 @@ ogg_next p a b view (Ok None) is room (x ∷ xs) end i = absurd (over_item x i.g
 ogg_next p a b view (Ok (Some y)) is room [] end i = absurd (final_item end (view y) b (sym (last_here p a end i) ∙ is))
 ogg_next p a b view (Ok (Some y)) is room (x ∷ xs) end i =
     let same = same_item (view y) x b i.goes.0 (sym is ∙ i.goes.1) in
-    (y, refl, same.0, come_behind p a b x xs end (is ∙ ap (λ z. the_item z b) same.0) i)
+    (y, refl, same.0, come_after p a b x xs end (is ∙ ap (λ z. the_item z b) same.0) i)
 ogg_next p a b view (Err e) is room [] None i = absurd (over_refusal e.at e.why (sym (last_here p a None i) ∙ is (λ h. room (ap Err h))))
 ogg_next p a b view (Err e) is room [] (Some f) i =
     let same = same_refusal e.at f.0 e.why f.1 (sym (is (λ h. room (ap Err h))) ∙ last_here p a (Some f) i) in
@@ -193,12 +193,12 @@ come_next : {X : Type 0} (p : Progress) (a b : Ahead) (view : X → Piece) (x : 
 come_next p a b view x [] end step i = absurd (final_item end (view x) b (sym (last_here p a end i) ∙ step))
 come_next p a b view x (y ∷ ys) end step i =
     let same = same_item (view x) y b i.goes.0 (sym step ∙ i.goes.1) in
-    (ys, come_behind p a b (view x) ys end step (subst (λ (k : Piece). ItemsCome p a (k ∷ ys) end) (sym same.0) i))
+    (ys, come_after p a b (view x) ys end step (subst (λ (k : Piece). ItemsCome p a (k ∷ ys) end) (sym same.0) i))
 
-pub clear_behind : {X : Type 0} (p q : Stands) (view : X → Piece) (t u : Track) (result : Result (Option X) Fault) → Steps view t p q result → Went p q result → IfOk result (λ o. IfSome o (λ x. (pr : Progress) → IsAt t pr → IsAt u (next pr (view x))))
+pub clear_after : {X : Type 0} (p q : Stands) (view : X → Piece) (t u : Track) (result : Result (Option X) Fault) → Steps view t p q result → Went p q result → IfOk result (λ o. IfSome o (λ x. (pr : Progress) → IsAt t pr → IsAt u (next pr (view x))))
     → IfOk result (λ o. IfSome o (λ _. p.known ≡ true → IsClear p t → IsClear q u))
-clear_behind p q view t u (Ok None) steps went moves = tt
-clear_behind p q view t u (Ok (Some x)) steps went moves = λ known c.
+clear_after p q view t u (Ok None) steps went moves = tt
+clear_after p q view t u (Ok (Some x)) steps went moves = λ known c.
     let step = steps c.progress c.at c.come.way known went.1 in
     let rest = come_next c.progress (ahead p) (ahead q) view x c.items c.end step c.come in
     record {
@@ -209,7 +209,7 @@ clear_behind p q view t u (Ok (Some x)) steps went moves = λ known c.
       come = rest.1;
       none = λ h. c.none (foretold_before c.progress (ahead p) (ahead q) view x c.items c.end step c.come h);
     }
-clear_behind p q view t u (Err e) steps went moves = tt
+clear_after p q view t u (Err e) steps went moves = tt
 
 pub read_rises : {X : Type 0} (p q : Stands) (view : X → Piece) (t : Track) (result : Result (Option X) Fault) → Steps view t p q result → p.errors ≤ q.errors → IfErr result (λ f. p.known ≡ true → f.why ≡ Read → IsClear p t → p.errors < q.errors)
 read_rises p q view t (Ok x) steps kept = tt
@@ -219,7 +219,7 @@ read_rises p q view t (Err f) steps kept = λ known is c.
       | inr rose ↦ rose
     ]
 
-pub gives_there : {X : Type 0} (p q : Stands) (view : X → Piece) (t : Track) (result : Result (Option X) Fault) → Steps view t p q result → (pr : Progress) → IsAt t pr → p.known ≡ true → q.errors ≡ p.errors → (reason_of told result ≡ Err Memory → ⊥)
+pub gives_there : {X : Type 0} (p q : Stands) (view : X → Piece) (t : Track) (result : Result (Option X) Fault) → Steps view t p q result → (pr : Progress) → IsAt t pr → p.known ≡ true → q.errors ≡ p.errors → (reason_of fault_pair result ≡ Err Memory → ⊥)
     → (items : List Piece) (end : Option (Place × Why)) → ItemsCome pr (ahead p) items end → IsNext (λ k xs e. ItemsCome k (ahead q) xs e) pr view result items end
 gives_there p q view t result steps pr at known same room items end come = ogg_next pr (ahead p) (ahead q) view result (steps pr at come.way known same) room items end come
 
@@ -237,7 +237,7 @@ front_ahead p known errors raised most names text short e =
 all_come : (profile : Profile) (mark : Mark) (text : List Bool) (items : List Piece) (end : Option (Place × Why)) → IsReadTo profile mark text items (final end) → ItemsCome (start profile) (ahead_of mark text) items end
 all_come profile mark text items end r =
     let c = some_contents mark text in
-    record { way = started profile; packets = c.packets; begun = c.begun; given = contents_ahead c; state = r.state; behind = r.ahead; goes = r.goes; ends = r.step }
+    record { way = started profile; packets = c.packets; begun = c.begun; given = contents_ahead c; state = r.state; after = r.ahead; goes = r.goes; ends = r.step }
 
 pub stream_comes : (profile : Profile) (mark : Mark) (text : List Bool) (items : List Piece) → OggStream profile mark items text → ItemsCome (start profile) (ahead_of mark text) items None
 stream_comes profile mark text items s = all_come profile mark text items None (stream_goes profile mark text items s)
@@ -260,12 +260,12 @@ goes_front : (p : Progress) (a : Ahead) (xs ys : List Piece) (q : Progress) (b :
 goes_front p a [] ys q b g = (p, a, (refl, refl))
 goes_front p a (x ∷ xs) ys q b (c, step, more) = let k = goes_front (next p x) c xs ys q b more in (k.0, k.1, (c, step, k.2))
 
--- ---- so much was handed out
+-- ---- so much was yielded
 
 -- what is still to come of the whole input is how it is read
 read_as : (profile : Profile) (mark : Mark) (text : List Bool) (items : List Piece) (end : Option (Place × Why)) → ItemsCome (start profile) (ahead_of mark text) items end → ReadAs (ogg_reading profile mark text) items end
-read_as profile mark text items None come = goes_over profile mark text items come.state come.behind come.goes come.ends
-read_as profile mark text items (Some f) come = goes_refused profile mark text items come.state come.behind f.0 f.1 come.goes come.ends
+read_as profile mark text items None come = goes_over profile mark text items come.state come.after come.goes come.ends
+read_as profile mark text items (Some f) come = goes_refused profile mark text items come.state come.after f.0 f.1 come.goes come.ends
 
 comes : (profile : Profile) (mark : Mark) (text : List Bool) (items : List Piece) (end : Option (Place × Why)) → ReadAs (ogg_reading profile mark text) items end → ItemsCome (start profile) (ahead_of mark text) items end
 comes profile mark text items None stream = stream_comes profile mark text items stream
@@ -274,7 +274,7 @@ comes profile mark text items (Some f) refusal = refusal_comes profile mark text
 fronts : (profile : Profile) (mark : Mark) (text : List Bool) (items : List Piece) (end : Option (Place × Why)) → ItemsCome (start profile) (ahead_of mark text) items end → Fronts (ogg_reading profile mark text) (start profile) items
 fronts profile mark text items end come = record {
   begins = λ xs ys split.
-      let front = goes_front (start profile) (ahead_of mark text) xs ys come.state come.behind (subst (λ (k : List Piece). Goes (start profile) (ahead_of mark text) k come.state come.behind) split come.goes) in
+      let front = goes_front (start profile) (ahead_of mark text) xs ys come.state come.after (subst (λ (k : List Piece). Goes (start profile) (ahead_of mark text) k come.state come.after) split come.goes) in
       (goes_begins profile mark text xs front.0 front.1 front.2).begins;
   place = λ xs. refl;
 }
@@ -282,7 +282,7 @@ fronts profile mark text items end come = record {
 -- the reader of packets gave these items' packets, and then broke off
 abbrev BreaksOff : {C : Type 0} → (C → Stands) → Profile → C → C → List Piece → Place → Why → Type 0
 BreaksOff {C} pages profile first last items at why =
-    IsBrokenAt (pages last).count (after grammar (start profile) items) at why × ((there : C) × TakesAll (λ (a : C) (x : Piece) (b : C). PassesNext (pages a) (pages b)) first items there × BreaksInNext (pages there) (pages last) why)
+    IsBrokenAt (pages last).count (state_after grammar (start profile) items) at why × ((there : C) × TakesAll (λ (a : C) (x : Piece) (b : C). PassesNext (pages a) (pages b)) first items there × BreaksInNext (pages there) (pages last) why)
 
 pub begins_at : (p : Stands) (known : Bool) (errors raised most : ℕ) (names : List GName) (text : List Bool) (short : Why) → p ≡ at_front known errors raised most names text short → known ≡ true → IsFront (beginning short) text p
 begins_at p known errors raised most names text short e told = record {
@@ -334,11 +334,11 @@ calls_at_pages {C} g pages knows gives breaks gave broke = λ profile mark text 
     let there = some_come profile mark text in
     let same : ahead (pages c) ≡ ahead_of mark text = begins_ahead mark text (pages c) front.lacing front.body front.last front.before front.count front.cursor in
     let come : ItemsCome (start profile) (ahead (pages c)) there.items there.end = subst (λ (a : Ahead). ItemsCome (start profile) a there.items there.end) (sym same) there.come in
-    let b = calls_break_behind g (start profile) first now last items f at gives_all off out in
+    let b = calls_break_after g (start profile) first now last items f at gives_all off out in
     let left = b.2 (knows c front.known) there.items there.end (gives c (start profile) there.items there.end come) in
     let begins = (fronts profile mark text there.items there.end there.come).begins b.0 left.0 left.1 in
     let told : BreaksOff pages profile c last.container b.0 f.at f.why = (
-      breaks last.container (after grammar (start profile) b.0) f.at f.why b.3.0,
+      breaks last.container (state_after grammar (start profile) b.0) f.at f.why b.3.0,
       (b.3.1.0, all_passed g pages gave c b.3.1.0 b.0 b.3.1.1, broke b.3.1.0 last.container f.why b.3.1.2),
     ) in
     (b.0, b.1, begins, breaks_there pages profile mark text b.0 c last.container f.at f.why front begins told)
@@ -352,7 +352,7 @@ pub decides_ogg : {K : Type 0} (profile : Profile) (breaks : List Piece → Plac
 decides_ogg profile breaks takes errors mark text calm old new outcome hands quiet same =
     decides_of (ogg_reading profile mark text) takes errors (start profile) calm breaks old new outcome (λ items end has. hands items end (comes profile mark text items end has)) quiet same
 
--- an error that is foretold stands behind the input
+-- an error that is foretold stands after the input
 pub foretold_short : (mark : Mark) (text : List Bool) → Foretells (ahead_of mark text) → mark.short ≡ Read
 foretold_short mark text h =
     let c = some_contents mark text in

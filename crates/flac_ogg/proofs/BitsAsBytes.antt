@@ -30,7 +30,7 @@ number_back (b ∷ bs) =
     let low : unsigned n v ≡ bs = unsigned_low n (bit_value b) n (number bs) (omega arith) ∙ number_back bs in
     ap (λ (h : Bool). h ∷ unsigned n v) top ∙ ap (λ (l : List Bool). b ∷ l) low
 
--- so many bytes of these bits
+-- n bytes of these bits
 abbrev pub bytes_in : ℕ → List Bool → List ℕ
 bytes_in zero t = []
 bytes_in (suc n) t = number (take 8 t) ∷ bytes_in n (drop 8 t)
@@ -38,8 +38,8 @@ bytes_in (suc n) t = number (take 8 t) ∷ bytes_in n (drop 8 t)
 first_eight : (n : ℕ) (t : List Bool) → length t ≡ 8 * suc n → length (take 8 t) ≡ 8
 first_eight n t e = length-take-le 8 t (omega (arith, e))
 
-behind_eight : (n : ℕ) (t : List Bool) → length t ≡ 8 * suc n → length (drop 8 t) ≡ 8 * n
-behind_eight n t e = omega (arith, e, length-drop 8 t)
+after_eight : (n : ℕ) (t : List Bool) → length t ≡ 8 * suc n → length (drop 8 t) ≡ 8 * n
+after_eight n t e = omega (arith, e, length-drop 8 t)
 
 -- so long, these bytes have these bits
 pub bytes_back : (n : ℕ) (t : List Bool) → length t ≡ 8 * n → bits_of (bytes_in n t) ≡ t
@@ -48,8 +48,8 @@ bytes_back zero (b ∷ t) e = absurd (omega (arith, e))
 bytes_back (suc n) t e =
     let first = take 8 t in
     let here : unsigned 8 (number first) ≡ first = subst (λ k. unsigned k (number first) ≡ first) (first_eight n t e) (number_back first) in
-    ap (λ (l : List Bool). l ++ bits_of (bytes_in n (drop 8 t))) here ∙ ap (λ (l : List Bool). first ++ l) (bytes_back n (drop 8 t) (behind_eight n t e)) ∙ take-append-drop 8 t
+    ap (λ (l : List Bool). l ++ bits_of (bytes_in n (drop 8 t))) here ∙ ap (λ (l : List Bool). first ++ l) (bytes_back n (drop 8 t) (after_eight n t e)) ∙ take-append-drop 8 t
 
 pub bytes_small : (n : ℕ) (t : List Bool) → length t ≡ 8 * n → AreBytes (bytes_in n t)
 bytes_small zero t e = tt
-bytes_small (suc n) t e = (subst (λ k. number (take 8 t) < 2 ^ k) (first_eight n t e) (number_small (take 8 t)), bytes_small n (drop 8 t) (behind_eight n t e))
+bytes_small (suc n) t e = (subst (λ k. number (take 8 t) < 2 ^ k) (first_eight n t e) (number_small (take 8 t)), bytes_small n (drop 8 t) (after_eight n t e))

@@ -1,7 +1,7 @@
 -- A byte in front of those that a source gives.
 use Rattle.std.proofs.Common.{◌≡◌, ℕ, ◌<◌, Bool, true, false, List, [], ◌∷◌, ◌++◌, length, take, slice_set, Option, Some, None, inl, inr, refl, ap, arith}
 use Rattle.flac_bits.specs.State.{Mark}
-use Rattle.flac_bits.specs.Handing.{Reading, Hands, Decides}
+use Rattle.flac_bits.specs.Handing.{InputReading, Hands, Decides}
 use Rattle.flac_bits.specs.declared.why.Why.{Why}
 use Rattle.flac_bits.specs.declared.why.Why.TheVariants.{Read}
 use Rattle.flac_native.specs.Stream.{Piece}
@@ -28,8 +28,8 @@ begins_nothing : (profile : Profile) (is_ogg : Bool) (mark : Mark) (text : List 
 begins_nothing profile true mark text = (goes_begins profile mark text [] (start profile) (ahead_of mark text) (refl, refl)).begins
 begins_nothing profile false mark text = ([], text, refl, refl)
 
--- a call that pulls the first byte alone hands out the same
-pub hands_by_byte : {K : Type 0} (r : Reading Piece Place) (takes : K → Piece → K → Type 0) (errors : K → ℕ) (calm : Type 0) (old new : K) (outcome : Option (Place × Why)) → Hands r takes errors calm old new outcome → Hands (by_first_byte r) takes errors calm old new outcome
+-- a call that pulls the first byte alone yields the same
+pub hands_by_byte : {K : Type 0} (r : InputReading Piece Place) (takes : K → Piece → K → Type 0) (errors : K → ℕ) (calm : Type 0) (old new : K) (outcome : Option (Place × Why)) → Hands r takes errors calm old new outcome → Hands (by_first_byte r) takes errors calm old new outcome
 hands_by_byte r takes errors calm old new outcome h = record {
   done = h.done;
   refused = h.refused;
@@ -39,7 +39,7 @@ hands_by_byte r takes errors calm old new outcome h = record {
 }
 
 -- and decides the same
-pub decides_by_byte : (r : Reading Piece Place) (outcome : Option (Place × Why)) → Decides r outcome → Decides (by_first_byte r) outcome
+pub decides_by_byte : (r : InputReading Piece Place) (outcome : Option (Place × Why)) → Decides r outcome → Decides (by_first_byte r) outcome
 decides_by_byte r outcome d = record { accepted = d.accepted; is_refused = d.is_refused; shown = d.shown }
 
 -- the source failed before the first item

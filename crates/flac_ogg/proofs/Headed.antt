@@ -15,7 +15,7 @@ use Rattle.flac_meta.specs.declared.block.Block.TheVariants as block_of
 use Rattle.flac_native.proofs.WholeBytes.{length-joined}
 use Rattle.flac_native.specs.Writing.{head_spelling, blocks_spelling}
 use Rattle.flac_pages.specs.declared.writing.PacketKind.TheVariants.{Header}
-use Rattle.flac_pages.specs.Placed.{Placed, IsPlaced, marks_of, sequence_behind}
+use Rattle.flac_pages.specs.Placed.{Placed, IsPlaced, marks_of, sequence_after}
 use Rattle.flac_pages.specs.Written.{packet_spelling}
 use Rattle.flac_ogg.specs.Headers.{AreHeaders}
 use Rattle.flac_ogg.specs.Listed.{texts_of, kinds_in}
@@ -38,7 +38,7 @@ one_good : (packet : List ℕ) → AreBytes packet → All IsPlaced (header pack
 one_good packet small = alone (header packet) (record { bytes = small; position = omega arith })
 
 pub first_header : (h : Headers) (packet : List ℕ) → AreBytes packet → bits_of h.sent.items ≡ [] → bits_of h.held.middle.items ≡ packet_spelling (marks_of h.serial 0 true false (header packet)) packet
-    → bits_of h.held.last.items ≡ packet_spelling (marks_of h.serial 0 true true (header packet)) packet → h.held.next ≡ sequence_behind 0 packet → AreHeaders (bits_of packet ∷ []) h
+    → bits_of h.held.last.items ≡ packet_spelling (marks_of h.serial 0 true true (header packet)) packet → h.held.next ≡ sequence_after 0 packet → AreHeaders (bits_of packet ∷ []) h
 first_header h packet small none middle last next = record {
   packets = header packet ∷ [];
   texts_are = refl;
@@ -49,7 +49,7 @@ first_header h packet small none middle last next = record {
 
 pub more_headers : (old new : Headers) (packet : List ℕ) → AreBytes packet → new.serial ≡ old.serial → bits_of new.sent.items ≡ bits_of old.sent.items ++ bits_of old.held.middle.items
     → bits_of new.held.middle.items ≡ packet_spelling (marks_of old.serial old.held.next false false (header packet)) packet
-    → bits_of new.held.last.items ≡ packet_spelling (marks_of old.serial old.held.next false true (header packet)) packet → new.held.next ≡ sequence_behind old.held.next packet
+    → bits_of new.held.last.items ≡ packet_spelling (marks_of old.serial old.held.next false true (header packet)) packet → new.held.next ≡ sequence_after old.held.next packet
     → (first : List Bool) (texts : List (List Bool)) → AreHeaders (first ∷ texts) old → AreHeaders ((first ∷ texts) ++ bits_of packet ∷ []) new
 more_headers old new packet small serial sent middle last next first texts h = go h.packets h.texts_are h.kinds_are h.good h.pages
   where
@@ -85,7 +85,7 @@ head_cut info list head is e =
     let same : length (bits_of (drop 42 head)) ≡ length rest = omega (arith, length-bits_of head, length-bits_of (drop 42 head), ap (λ (k : List Bool). length k) split, length-append front rest, long, length-drop 42 head) in
     (many, (same_parts (bits_of (take 42 head)) (bits_of (drop 42 head)) front rest parts same).0)
 
--- the mapping, and the marker with STREAMINFO behind it in place of the mapping's own marker
+-- the mapping, and the marker with STREAMINFO after it in place of the mapping's own marker
 pub first_text : (count : ℕ) (block : List Bool) → joined (unsigned 40 0x7F464C4143 ∷ unsigned 16 0x0100 ∷ unsigned 16 count ∷ (unsigned 32 0x664C6143 ++ block) ∷ []) ≡ mapping_spelling count ++ block
 first_text count block =
     let a = unsigned 40 0x7F464C4143 in

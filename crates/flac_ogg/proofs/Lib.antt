@@ -6,7 +6,7 @@ pub mod MeaningStreams
 pub mod MeaningReadings
 pub mod PageReasons
 pub mod MeaningErrors
-pub mod Wider
+pub mod LaxProfile
 pub mod Outside
 -- ---- the calls that read packets
 pub mod Packeted

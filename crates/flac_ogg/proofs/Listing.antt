@@ -13,7 +13,7 @@ use Rattle.flac_pages.specs.declared.writing.PacketMarks.{PacketMarks}
 use Rattle.flac_pages.specs.Written.{page_at, packet_spelling}
 use Rattle.flac_ogg.specs.Listed.{texts_of, kinds_in}
 
--- ---- packets behind others
+-- ---- packets after others
 
 pub texts_append : (ps qs : List Placed) → texts_of (ps ++ qs) ≡ texts_of ps ++ texts_of qs
 texts_append [] qs = refl

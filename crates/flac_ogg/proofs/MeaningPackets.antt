@@ -6,7 +6,7 @@ use Rattle.std.proofs.lemmas.List.{take-append-drop, length-take-le}
 use Rattle.flac_bits.specs.State.{Mark, past}
 use Rattle.flac_bits.specs.Forms.{AreBytes}
 use Rattle.flac_pages.specs.declared.page.Before.{Before}
-use Rattle.flac_pages.specs.Page.{Page, after}
+use Rattle.flac_pages.specs.Page.{Page, after_page}
 use Rattle.flac_pages.specs.Pages.{GoodPages}
 use Rattle.flac_pages.specs.Packets.{lacing_of}
 use Rattle.flac_pages.proofs.Stepping.{sum_more}
@@ -39,7 +39,7 @@ pub good_laced : (before : Option Before) (m : Mark) (pages : List Page) (text :
 good_laced before m [] text good = record { small = tt; many = refl }
 good_laced before m (p ∷ ps) text (front, rest, split, spelled, good) =
     let is = (pages_spelled before m front p).0 spelled in
-    let more = good_laced (Some (after before p)) (past front m) ps rest good in
+    let more = good_laced (Some (after_page before p)) (past front m) ps rest good in
     record { small = bytes_append p.lacing (lacing_in ps) is.0.lacing more.small; many = omega (arith, length-append p.body (bytes_in ps), is.0.whole, more.many, sum_append p.lacing (lacing_in ps)) }
 
 -- ---- and so they are packets

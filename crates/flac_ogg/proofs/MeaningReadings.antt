@@ -22,7 +22,7 @@ goes_more p a (y ∷ ys) q b x c (d, first, more) step = (d, first, goes_more (n
 
 -- ---- one way to go
 
--- behind this step there is none
+-- after this step there is none
 abbrev pub IsFinal : PacketStep → Type 0
 IsFinal (item x c) = ⊥
 IsFinal over = ⊤

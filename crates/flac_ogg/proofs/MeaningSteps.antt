@@ -3,7 +3,7 @@ use Rattle.std.proofs.Common.{◌≡◌, ◌≢◌, ℕ, zero, suc, ◌*◌, Boo
 use Rattle.std.specs.List.{flat_map}
 use Rattle.std.proofs.lemmas.List.{take_all}
 use Rattle.std.proofs.Math.Seq.{drop-append_seam}
-use Rattle.flac_bits.specs.State.{Behind, short_of}
+use Rattle.flac_bits.specs.State.{After, short_of}
 use Rattle.flac_bits.specs.Layout.{Rule}
 use Rattle.flac_bits.specs.Meaning.{AllKept, BreaksFirst}
 use Rattle.flac_bits.specs.declared.why.Why.{Why}
@@ -11,7 +11,7 @@ use Rattle.flac_bits.specs.declared.why.Why.TheVariants.{PacketLength}
 use Rattle.flac_native.specs.Stream.{Piece, Stand, Progress, grammar, room_in}
 use Rattle.flac_native.specs.declared.fault.Place.{Place}
 use Rattle.flac_native.specs.declared.fault.Place.TheVariants as place
-use Rattle.flac_pages.specs.Packets.{Ahead, size, ends, past_packet, lacing_of, left_in, rest_in, behind_in}
+use Rattle.flac_pages.specs.Packets.{Ahead, size, ends, past_packet, lacing_of, left_in, rest_in, after_in}
 use Rattle.flac_pages.specs.Items.{Packet, whole, end_in, end_of, IsItem, IsNoItem, TellsItem, item_in}
 use Rattle.flac_pages.specs.inner.Items.{short_at}
 use Rattle.flac_pages.specs.Given.{PacketsAhead}
@@ -19,10 +19,10 @@ use Rattle.flac_pages.proofs.PacketMeaning.{packet_closes, given_rest}
 use Rattle.flac_pages.proofs.ItemMeaning.{item_means, item_again, refused_again}
 use Rattle.flac_ogg.specs.Mapping.{packet_layout, packet_place, page_place}
 use Rattle.flac_ogg.specs.Stream.{packet_start, closed_packet, open_packet, last_fault, StopsAtPacket, packet_refused, part_refused, pages_refused, block_missing, end_refused}
-use Rattle.flac_ogg.specs.Steps.{PacketStep, item, over, refused, ahead_behind, next_packet, told, judged, without_packet, step_in, packet_step}
+use Rattle.flac_ogg.specs.Steps.{PacketStep, item, over, refused, ahead_after, next_packet, step_of_item, judged, without_packet, step_in, packet_step}
 use Rattle.flac_ogg.proofs.MeaningPackets.{bytes_of}
 
--- what reading one item of a packet gives, behind whose bytes this fault stands
+-- what reading one item of a packet gives, after whose bytes this fault stands
 abbrev pub read_of : Progress → Option (ℕ × Why) → Packet → Result Piece (Option ℕ × Why)
 read_of p fault packet = item_in (room_in p.stand.phase) (packet_layout p.stand) (packet_start fault) packet
 
@@ -32,8 +32,8 @@ IsThe p fault packet x = IsItem (room_in p.stand.phase) (packet_layout p.stand) 
 abbrev pub IsNone : Progress → Option (ℕ × Why) → Packet → Option ℕ × Why → Type 0
 IsNone p fault packet why = IsNoItem (room_in p.stand.phase) (packet_layout p.stand) (packet_start fault) packet why
 
-abbrev pub behind_next : Ahead → Ahead
-behind_next a = ahead_behind (behind_in 0 true a)
+abbrev pub after_next : Ahead → Ahead
+after_next a = ahead_after (after_in 0 true a)
 
 two : true ≡ false → ⊥
 two e = absurd cc
@@ -43,7 +43,7 @@ two e = absurd cc
 pub record IsFirst (a : Ahead) (x : List ℕ) (xs : List (List ℕ)) (s : List ℕ) : Type 0 where
   pub ended : ends a.lacing ≡ true
   pub rest : rest_in 0 true a ≡ x
-  pub others : PacketsAhead (behind_next a) xs s
+  pub others : PacketsAhead (after_next a) xs s
 
 pub first_is : (a : Ahead) (x : List ℕ) (xs : List (List ℕ)) (s : List ℕ) → PacketsAhead a (x ∷ xs) s → IsFirst a x xs s
 first_is a x xs s h =
@@ -81,24 +81,24 @@ last_is a s h =
 
 -- ---- the step at each
 
-some_step : (p : Progress) (a : Ahead) → a.lacing ≢ [] → packet_step p a ≡ told p.stand (behind_in 0 true a) (read_of p (behind_in 0 true a).fails (next_packet a))
+some_step : (p : Progress) (a : Ahead) → a.lacing ≢ [] → packet_step p a ≡ step_of_item p.stand (after_in 0 true a) (read_of p (after_in 0 true a).fails (next_packet a))
 unfolding packet_step
 some_step p a some = go a.lacing some
   where
-    go : (ls : List ℕ) → ls ≢ [] → step_in p a ls ≡ told p.stand (behind_in 0 true a) (read_of p (behind_in 0 true a).fails (next_packet a))
+    go : (ls : List ℕ) → ls ≢ [] → step_in p a ls ≡ step_of_item p.stand (after_in 0 true a) (read_of p (after_in 0 true a).fails (next_packet a))
     go [] some = absurd (some refl)
     go (v ∷ vs) some = refl
 
 -- a whole packet
-pub first_step : (p : Progress) (a : Ahead) (x : List ℕ) (xs : List (List ℕ)) (s : List ℕ) → PacketsAhead a (x ∷ xs) s → packet_step p a ≡ told p.stand (behind_in 0 true a) (read_of p None (closed_packet x))
+pub first_step : (p : Progress) (a : Ahead) (x : List ℕ) (xs : List (List ℕ)) (s : List ℕ) → PacketsAhead a (x ∷ xs) s → packet_step p a ≡ step_of_item p.stand (after_in 0 true a) (read_of p None (closed_packet x))
 first_step p a x xs s h =
     let first = first_is a x xs s h in
     let ended = first.ended in
     let rest = first.rest in
-    let fails : (behind_in 0 true a).fails ≡ None = rw ended refl in
-    let ends_so : end_of (behind_in 0 true a) ≡ whole = rw ended refl in
+    let fails : (after_in 0 true a).fails ≡ None = rw ended refl in
+    let ends_so : end_of (after_in 0 true a) ≡ whole = rw ended refl in
     let packet : next_packet a ≡ closed_packet x = rw (rest, ends_so) refl in
-    some_step p a (λ e. two (sym ended ∙ ap ends e)) ∙ ap (λ f. told p.stand (behind_in 0 true a) (read_of p f (next_packet a))) fails ∙ ap (λ k. told p.stand (behind_in 0 true a) (read_of p None k)) packet
+    some_step p a (λ e. two (sym ended ∙ ap ends e)) ∙ ap (λ f. step_of_item p.stand (after_in 0 true a) (read_of p f (next_packet a))) fails ∙ ap (λ k. step_of_item p.stand (after_in 0 true a) (read_of p None k)) packet
 
 no_size : (a : Ahead) (s : List ℕ) → PacketsAhead a [] s → a.lacing ≡ [] → length s ≡ 0
 no_size a s h e = h.part ∙ sym (full_size h.full) ∙ ap size (sym h.lacing ∙ e)
@@ -108,15 +108,15 @@ none_long [] e = refl
 none_long (x ∷ xs) e = absurd (omega (arith, e))
 
 -- one that goes on
-pub last_step : (p : Progress) (a : Ahead) (s : List ℕ) → PacketsAhead a [] s → s ≢ [] → packet_step p a ≡ told p.stand (behind_in 0 true a) (read_of p a.fault (open_packet s a.fault))
+pub last_step : (p : Progress) (a : Ahead) (s : List ℕ) → PacketsAhead a [] s → s ≢ [] → packet_step p a ≡ step_of_item p.stand (after_in 0 true a) (read_of p a.fault (open_packet s a.fault))
 last_step p a s h some =
     let last = last_is a s h in
     let goes_on = last.goes_on in
     let rest = last.rest in
-    let fails : (behind_in 0 true a).fails ≡ a.fault = rw goes_on refl in
-    let ends_so : end_of (behind_in 0 true a) ≡ end_in a.fault true = rw goes_on refl in
+    let fails : (after_in 0 true a).fails ≡ a.fault = rw goes_on refl in
+    let ends_so : end_of (after_in 0 true a) ≡ end_in a.fault true = rw goes_on refl in
     let packet : next_packet a ≡ open_packet s a.fault = rw (rest, ends_so) refl in
-    some_step p a (λ e. some (none_long s (no_size a s h e))) ∙ ap (λ f. told p.stand (behind_in 0 true a) (read_of p f (next_packet a))) fails ∙ ap (λ k. told p.stand (behind_in 0 true a) (read_of p a.fault k)) packet
+    some_step p a (λ e. some (none_long s (no_size a s h e))) ∙ ap (λ f. step_of_item p.stand (after_in 0 true a) (read_of p f (next_packet a))) fails ∙ ap (λ k. step_of_item p.stand (after_in 0 true a) (read_of p a.fault k)) packet
 
 no_lacing : (n : ℕ) → 0 ≡ 255 * n → replicate {A = ℕ} n 255 ≡ []
 no_lacing zero e = refl
@@ -152,16 +152,16 @@ same_refusal at to v w e = (let p : at ≡ to = cc in p, let q : v ≡ w = cc in
 abbrev answer : Result Piece (Option ℕ × Why) → Result Piece (Option ℕ × Why)
 answer r = r
 
-told_item : (s : Stand) (b : Behind) (r : Result Piece (Option ℕ × Why)) (x : Piece) (c : Ahead) → told s b r ≡ item x c → (r ≡ Ok x) × (c ≡ ahead_behind b)
-told_item s b (Ok y) x c e = let same = same_item y x (ahead_behind b) c e in (ap (λ z. answer (Ok z)) same.0, sym same.1)
+told_item : (s : Stand) (b : After) (r : Result Piece (Option ℕ × Why)) (x : Piece) (c : Ahead) → step_of_item s b r ≡ item x c → (r ≡ Ok x) × (c ≡ ahead_after b)
+told_item s b (Ok y) x c e = let same = same_item y x (ahead_after b) c e in (ap (λ z. answer (Ok z)) same.0, sym same.1)
 told_item s b (Err why) x c e = absurd (item_is_no_refusal x c (packet_place s why) why.1 (sym e))
 
-told_no_over : (s : Stand) (b : Behind) (r : Result Piece (Option ℕ × Why)) → told s b r ≡ over → ⊥
-told_no_over s b (Ok y) e = item_is_not_over y (ahead_behind b) e
+told_no_over : (s : Stand) (b : After) (r : Result Piece (Option ℕ × Why)) → step_of_item s b r ≡ over → ⊥
+told_no_over s b (Ok y) e = item_is_not_over y (ahead_after b) e
 told_no_over s b (Err why) e = over_is_no_refusal (packet_place s why) why.1 (sym e)
 
-told_refused : (s : Stand) (b : Behind) (r : Result Piece (Option ℕ × Why)) (at : Place) (why : Why) → told s b r ≡ refused at why → (own : Option ℕ) × (r ≡ Err (own, why)) × (at ≡ packet_place s (own, why))
-told_refused s b (Ok y) at why e = absurd (item_is_no_refusal y (ahead_behind b) at why e)
+told_refused : (s : Stand) (b : After) (r : Result Piece (Option ℕ × Why)) (at : Place) (why : Why) → step_of_item s b r ≡ refused at why → (own : Option ℕ) × (r ≡ Err (own, why)) × (at ≡ packet_place s (own, why))
+told_refused s b (Ok y) at why e = absurd (item_is_no_refusal y (ahead_after b) at why e)
 told_refused s b (Err w) at why e =
     let same = same_refusal (packet_place s w) at w.1 why e in
     (w.0, ap (λ v. answer (Err (w.0, v))) same.1, sym same.0 ∙ ap (λ v. packet_place s (w.0, v)) same.1)
@@ -261,8 +261,8 @@ open_is_not_whole : (fault : Option (ℕ × Why)) → end_in fault true ≡ whol
 open_is_not_whole None e = absurd cc
 open_is_not_whole (Some f) e = absurd cc
 
--- behind an item's packet
-pub record IsBehind (p : Progress) (a : Ahead) (packets : List (List ℕ)) (begun : List ℕ) (x : Piece) (c : Ahead) : Type 0 where
+-- after an item's packet
+pub record IsAfter (p : Progress) (a : Ahead) (packets : List (List ℕ)) (begun : List ℕ) (x : Piece) (c : Ahead) : Type 0 where
   pub packet : List ℕ
   pub others : List (List ℕ)
   pub split : packets ≡ packet ∷ others
@@ -271,14 +271,14 @@ pub record IsBehind (p : Progress) (a : Ahead) (packets : List (List ℕ)) (begu
   pub fault : c.fault ≡ a.fault
   pub stop : c.stop ≡ a.stop
 
-pub step_item : (p : Progress) (a : Ahead) (packets : List (List ℕ)) (begun : List ℕ) (x : Piece) (c : Ahead) → PacketsAhead a packets begun → packet_step p a ≡ item x c → IsBehind p a packets begun x c
+pub step_item : (p : Progress) (a : Ahead) (packets : List (List ℕ)) (begun : List ℕ) (x : Piece) (c : Ahead) → PacketsAhead a packets begun → packet_step p a ≡ item x c → IsAfter p a packets begun x c
 step_item p a [] [] x c h e = absurd (without_no_item p (last_fault p a.fault a.stop) x c (sym (none_step p a h) ∙ e))
 step_item p a [] (v ∷ vs) x c h e =
-    let same = told_item p.stand (behind_in 0 true a) (read_of p a.fault (open_packet (v ∷ vs) a.fault)) x c (sym (last_step p a (v ∷ vs) h (λ none. absurd cc)) ∙ e) in
+    let same = told_item p.stand (after_in 0 true a) (read_of p a.fault (open_packet (v ∷ vs) a.fault)) x c (sym (last_step p a (v ∷ vs) h (λ none. absurd cc)) ∙ e) in
     let is = open_means p (v ∷ vs) a.fault (Ok x) same.0 in
     absurd (open_is_not_whole a.fault is.ended)
 step_item p a (y ∷ ys) begun x c h e =
-    let same = told_item p.stand (behind_in 0 true a) (read_of p None (closed_packet y)) x c (sym (first_step p a y ys begun h) ∙ e) in
+    let same = told_item p.stand (after_in 0 true a) (read_of p None (closed_packet y)) x c (sym (first_step p a y ys begun h) ∙ e) in
     record {
       packet = y;
       others = ys;
@@ -301,23 +301,23 @@ pub step_over : (p : Progress) (a : Ahead) (packets : List (List ℕ)) (begun : 
 step_over p a [] [] h e =
     let w = without_over p (last_fault p a.fault a.stop) (sym (none_step p a h) ∙ e) in
     record { no_packet = refl; no_part = refl; no_fault = sym (may_stop p a.fault a.stop w.1) ∙ w.0; ends = w.1; kept = w.2 }
-step_over p a [] (v ∷ vs) h e = absurd (told_no_over p.stand (behind_in 0 true a) (read_of p a.fault (open_packet (v ∷ vs) a.fault)) (sym (last_step p a (v ∷ vs) h (λ none. absurd cc)) ∙ e))
-step_over p a (y ∷ ys) begun h e = absurd (told_no_over p.stand (behind_in 0 true a) (read_of p None (closed_packet y)) (sym (first_step p a y ys begun h) ∙ e))
+step_over p a [] (v ∷ vs) h e = absurd (told_no_over p.stand (after_in 0 true a) (read_of p a.fault (open_packet (v ∷ vs) a.fault)) (sym (last_step p a (v ∷ vs) h (λ none. absurd cc)) ∙ e))
+step_over p a (y ∷ ys) begun h e = absurd (told_no_over p.stand (after_in 0 true a) (read_of p None (closed_packet y)) (sym (first_step p a y ys begun h) ∙ e))
 
 pub step_refused : (p : Progress) (a : Ahead) (packets : List (List ℕ)) (begun : List ℕ) (at : Place) (why : Why) → PacketsAhead a packets begun → packet_step p a ≡ refused at why → StopsAtPacket p packets begun a.fault a.stop at why
 step_refused p a [] [] at why h e = without_refused p a.fault a.stop at why (sym (none_step p a h) ∙ e)
 step_refused p a [] (v ∷ vs) at why h e =
     let some : (v ∷ vs) ≢ [] = λ none. absurd cc in
-    let w = told_refused p.stand (behind_in 0 true a) (read_of p a.fault (open_packet (v ∷ vs) a.fault)) at why (sym (last_step p a (v ∷ vs) h some) ∙ e) in
+    let w = told_refused p.stand (after_in 0 true a) (read_of p a.fault (open_packet (v ∷ vs) a.fault)) at why (sym (last_step p a (v ∷ vs) h some) ∙ e) in
     part_refused w.0 refl some (open_means p (v ∷ vs) a.fault (Err (w.0, why)) w.1) w.2
 step_refused p a (y ∷ ys) begun at why h e =
-    let w = told_refused p.stand (behind_in 0 true a) (read_of p None (closed_packet y)) at why (sym (first_step p a y ys begun h) ∙ e) in
+    let w = told_refused p.stand (after_in 0 true a) (read_of p None (closed_packet y)) at why (sym (first_step p a y ys begun h) ∙ e) in
     packet_refused y ys w.0 refl (closed_means p y (Err (w.0, why)) w.1) w.2
 
 -- ---- and what the packets say of a step
 
-pub item_step : (p : Progress) (a : Ahead) (packet : List ℕ) (packets : List (List ℕ)) (begun : List ℕ) (x : Piece) → PacketsAhead a (packet ∷ packets) begun → IsThe p None (closed_packet packet) x → packet_step p a ≡ item x (behind_next a)
-item_step p a y ys begun x h is = first_step p a y ys begun h ∙ ap (λ r. told p.stand (behind_in 0 true a) r) (item_again (room_in p.stand.phase) (packet_layout p.stand) (packet_start None) (closed_packet y) x is)
+pub item_step : (p : Progress) (a : Ahead) (packet : List ℕ) (packets : List (List ℕ)) (begun : List ℕ) (x : Piece) → PacketsAhead a (packet ∷ packets) begun → IsThe p None (closed_packet packet) x → packet_step p a ≡ item x (after_next a)
+item_step p a y ys begun x h is = first_step p a y ys begun h ∙ ap (λ r. step_of_item p.stand (after_in 0 true a) r) (item_again (room_in p.stand.phase) (packet_layout p.stand) (packet_start None) (closed_packet y) x is)
 
 pub over_step : (p : Progress) (a : Ahead) → PacketsAhead a [] [] → a.stop ≡ None → grammar.may_end p ≡ true → AllKept (grammar.at_end p) → packet_step p a ≡ over
 over_step p a h stop ends kept =
@@ -334,11 +334,11 @@ pub refused_step : (p : Progress) (a : Ahead) (packets : List (List ℕ)) (begun
     → StopsAtPacket p packets begun fault stop at why → packet_step p a ≡ refused at why
 refused_step p a left begun fault stop at why h f s (packet_refused y ys own next none is) =
     first_step p a y ys begun (subst (λ (k : List (List ℕ)). PacketsAhead a k begun) next h)
-    ∙ ap (λ r. told p.stand (behind_in 0 true a) r) (refused_again (room_in p.stand.phase) (packet_layout p.stand) (packet_start None) (closed_packet y) (own, why) refl none)
+    ∙ ap (λ r. step_of_item p.stand (after_in 0 true a) r) (refused_again (room_in p.stand.phase) (packet_layout p.stand) (packet_start None) (closed_packet y) (own, why) refl none)
     ∙ ap (λ k. refusal k why) (sym is)
 refused_step p a left begun fault stop at why h f s (part_refused own next some none is) =
-    last_step p a begun (subst (λ (k : List (List ℕ)). PacketsAhead a k begun) next h) some ∙ ap (λ o. told p.stand (behind_in 0 true a) (read_of p o (open_packet begun o))) f
-    ∙ ap (λ r. told p.stand (behind_in 0 true a) r) (refused_again (room_in p.stand.phase) (packet_layout p.stand) (packet_start fault) (open_packet begun fault) (own, why) (open_short fault) none)
+    last_step p a begun (subst (λ (k : List (List ℕ)). PacketsAhead a k begun) next h) some ∙ ap (λ o. step_of_item p.stand (after_in 0 true a) (read_of p o (open_packet begun o))) f
+    ∙ ap (λ r. step_of_item p.stand (after_in 0 true a) r) (refused_again (room_in p.stand.phase) (packet_layout p.stand) (packet_start fault) (open_packet begun fault) (own, why) (open_short fault) none)
     ∙ ap (λ k. refusal k why) (sym is)
 refused_step p a left begun fault stop at why h f s (pages_refused n next nothing stops is) =
     none_step p a (none_ahead a left begun next nothing h) ∙ ap (λ o. without_packet p o) (ap (λ o. last_fault p o a.stop) f ∙ ap (λ o. last_fault p fault o) s ∙ stops) ∙ ap (λ k. refusal k why) (sym is)

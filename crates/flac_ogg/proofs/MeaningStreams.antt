@@ -3,7 +3,7 @@ use Rattle.std.proofs.Common.{◌≡◌, ℕ, Bool, true, List, [], ◌∷◌, �
 use Rattle.std.proofs.lemmas.List.{append-nil}
 use Rattle.flac_bits.specs.State.{Mark}
 use Rattle.flac_bits.specs.Meaning.{AllKept}
-use Rattle.flac_bits.specs.Items.{after}
+use Rattle.flac_bits.specs.Items.{state_after}
 use Rattle.flac_bits.specs.declared.why.Why.{Why}
 use Rattle.flac_native.specs.Stream.{Piece, Progress, grammar, next}
 use Rattle.flac_native.specs.declared.fault.Place.{Place}
@@ -13,18 +13,18 @@ use Rattle.flac_ogg.specs.Stream.{start, AreItems, Contents, fault_in, stop_in, 
 use Rattle.flac_ogg.specs.Steps.{PacketStep, over, refused, packet_step, Goes}
 use Rattle.flac_ogg.specs.Decoding.{BeginsWith}
 use Rattle.flac_ogg.proofs.MeaningContents.{ahead_of, some_contents, contents_ahead, contents_fault, contents_stop}
-use Rattle.flac_ogg.proofs.MeaningSteps.{first_is, behind_next, step_item, step_over, step_refused, item_step, over_step, refused_step}
+use Rattle.flac_ogg.proofs.MeaningSteps.{first_is, after_next, step_item, step_over, step_refused, item_step, over_step, refused_step}
 use Rattle.flac_header.specs.declared.subset.Profile.{Profile}
 
 -- ---- what was read
 
--- the packets that were taken, the others, and what is ahead behind these items
+-- the packets that were taken, the others, and what is ahead after these items
 pub record IsFar (p : Progress) (a : Ahead) (packets : List (List ℕ)) (begun : List ℕ) (items : List Piece) (q : Progress) (b : Ahead) : Type 0 where
   pub taken : List (List ℕ)
   pub left : List (List ℕ)
   pub split : packets ≡ taken ++ left
   pub spelled : AreItems p taken items
-  pub state : q ≡ after grammar p items
+  pub state : q ≡ state_after grammar p items
   pub ahead : PacketsAhead b left begun
   pub fault : b.fault ≡ a.fault
   pub stop : b.stop ≡ a.stop
@@ -54,15 +54,15 @@ goes_far p a packets begun (x ∷ xs) q b h (c, step, more) =
       stop = far.stop ∙ one.stop;
     }
 
--- where a reader of an input stands behind these items
-pub record StandsBehind (profile : Profile) (mark : Mark) (text : List Bool) (items : List Piece) (p : Progress) (a : Ahead) : Type 0 where
+-- where a reader of an input stands after these items
+pub record StandsAfter (profile : Profile) (mark : Mark) (text : List Bool) (items : List Piece) (p : Progress) (a : Ahead) : Type 0 where
   pub begins : BeginsWith profile mark items text
-  pub state : p ≡ after grammar (start profile) items
+  pub state : p ≡ state_after grammar (start profile) items
   pub ahead : PacketsAhead a begins.left begins.contents.begun
   pub fault : a.fault ≡ fault_in begins.contents
   pub stop : a.stop ≡ stop_in begins.contents
 
-pub goes_begins : (profile : Profile) (mark : Mark) (text : List Bool) (items : List Piece) (p : Progress) (a : Ahead) → Goes (start profile) (ahead_of mark text) items p a → StandsBehind profile mark text items p a
+pub goes_begins : (profile : Profile) (mark : Mark) (text : List Bool) (items : List Piece) (p : Progress) (a : Ahead) → Goes (start profile) (ahead_of mark text) items p a → StandsAfter profile mark text items p a
 goes_begins profile mark text items p a g =
     let c : Contents mark text = some_contents mark text in
     let far = goes_far (start profile) (ahead_of mark text) c.packets c.begun items p a (contents_ahead c) g in
@@ -97,21 +97,21 @@ goes_refused profile mark text items p a at why g e =
     let b = s.begins in
     let first : StopsAtPacket p b.left b.contents.begun a.fault a.stop at why = step_refused p a b.left b.contents.begun at why s.ahead e in
     let second = subst (λ (k : Progress). StopsAtPacket k b.left b.contents.begun a.fault a.stop at why) s.state first in
-    let third = subst (λ (f : Option (ℕ × Why)). StopsAtPacket (after grammar (start profile) items) b.left b.contents.begun f a.stop at why) s.fault second in
+    let third = subst (λ (f : Option (ℕ × Why)). StopsAtPacket (state_after grammar (start profile) items) b.left b.contents.begun f a.stop at why) s.fault second in
     record {
       contents = b.contents;
       taken = b.taken;
       left = b.left;
       split = b.split;
       spelled = b.spelled;
-      stops = subst (λ (f : Option (ℕ × Why)). StopsAtPacket (after grammar (start profile) items) b.left b.contents.begun (fault_in b.contents) f at why) s.stop third;
+      stops = subst (λ (f : Option (ℕ × Why)). StopsAtPacket (state_after grammar (start profile) items) b.left b.contents.begun (fault_in b.contents) f at why) s.stop third;
     }
 
 -- ---- what the input is, is read
 
 pub record IsReached (p : Progress) (a : Ahead) (items : List Piece) (left : List (List ℕ)) (begun : List ℕ) : Type 0 where
   pub end : Ahead
-  pub goes : Goes p a items (after grammar p items) end
+  pub goes : Goes p a items (state_after grammar p items) end
   pub ahead : PacketsAhead end left begun
   pub fault : end.fault ≡ a.fault
   pub stop : end.stop ≡ a.stop
@@ -121,10 +121,10 @@ items_go p a [] left begun [] h are = record { end = a; goes = (refl, refl); ahe
 items_go p a [] left begun (x ∷ xs) h are = absurd are
 items_go p a (y ∷ ys) left begun [] h are = absurd are
 items_go p a (y ∷ ys) left begun (x ∷ xs) h are =
-    let more = items_go (next p x) (behind_next a) ys left begun xs (first_is a y (ys ++ left) begun h).others are.1 in
+    let more = items_go (next p x) (after_next a) ys left begun xs (first_is a y (ys ++ left) begun h).others are.1 in
     record {
       end = more.end;
-      goes = (behind_next a, item_step p a y (ys ++ left) begun x h are.0, more.goes);
+      goes = (after_next a, item_step p a y (ys ++ left) begun x h are.0, more.goes);
       ahead = more.ahead;
       fault = more.fault;
       stop = more.stop;
@@ -143,7 +143,7 @@ stream_goes profile mark text items s =
     let given : PacketsAhead (ahead_of mark text) (c.packets ++ []) [] = subst (λ (k : List ℕ). PacketsAhead (ahead_of mark text) (c.packets ++ []) k) s.no_part
     (subst (λ (k : List (List ℕ)). PacketsAhead (ahead_of mark text) k c.begun) (sym (append-nil c.packets)) (contents_ahead c)) in
     let r = items_go (start profile) (ahead_of mark text) c.packets [] [] items given s.spelled in
-    record { state = after grammar (start profile) items; ahead = r.end; goes = r.goes; step = over_step (after grammar (start profile) items) r.end r.ahead (r.stop ∙ contents_stop c ∙ s.no_fault) s.ends s.kept }
+    record { state = state_after grammar (start profile) items; ahead = r.end; goes = r.goes; step = over_step (state_after grammar (start profile) items) r.end r.ahead (r.stop ∙ contents_stop c ∙ s.no_fault) s.ends s.kept }
 
 pub refused_goes : (profile : Profile) (mark : Mark) (text : List Bool) (items : List Piece) (at : Place) (why : Why) → OggRefused profile mark items text at why → IsReadTo profile mark text items (refused at why)
 refused_goes profile mark text items at why s =
@@ -151,8 +151,8 @@ refused_goes profile mark text items at why s =
     let given : PacketsAhead (ahead_of mark text) (s.taken ++ s.left) c.begun = subst (λ (k : List (List ℕ)). PacketsAhead (ahead_of mark text) k c.begun) s.split (contents_ahead c) in
     let r = items_go (start profile) (ahead_of mark text) s.taken s.left c.begun items given s.spelled in
     record {
-      state = after grammar (start profile) items;
+      state = state_after grammar (start profile) items;
       ahead = r.end;
       goes = r.goes;
-      step = refused_step (after grammar (start profile) items) r.end s.left c.begun (fault_in c) (stop_in c) at why r.ahead (r.fault ∙ contents_fault c) (r.stop ∙ contents_stop c) s.stops;
+      step = refused_step (state_after grammar (start profile) items) r.end s.left c.begun (fault_in c) (stop_in c) at why r.ahead (r.fault ∙ contents_fault c) (r.stop ∙ contents_stop c) s.stops;
     }

@@ -9,22 +9,22 @@ use Rattle.flac_bits.specs.declared.why.Why.{Why}
 use Rattle.flac_info.specs.Info.{Info}
 use Rattle.flac_meta.specs.Header.{nothing_seen}
 use Rattle.flac_meta.specs.Block.{seen_after}
-use Rattle.flac_meta.specs.Listed.{came, block_fault, fault_behind, or_else, list_fault, info_seen}
+use Rattle.flac_meta.specs.Listed.{came, block_fault, fault_after, or_else, list_fault, info_seen}
 use Rattle.flac_meta.specs.Spelling.{block_spelling}
 use Rattle.flac_meta.specs.Valid.{AllAre, FitsFields, IsInfo, IsBlock}
 use Rattle.flac_meta.specs.declared.block.Seen.{Seen}
 use Rattle.flac_meta.specs.declared.block.Block.{Block}
 use Rattle.flac_meta.specs.declared.block.Block.TheVariants as blocks
 use Rattle.flac_header.specs.declared.subset.Profile.{Profile}
-use Rattle.flac_native.specs.Stream.{Piece, block, Progress, layout, next, raised, phase_behind, room_in}
+use Rattle.flac_native.specs.Stream.{Piece, block, Progress, layout, next, raised, phase_after, room_in}
 use Rattle.flac_native.specs.Given.{closing}
 use Rattle.flac_native.specs.declared.track.Phase.TheVariants.{Blocks}
-use Rattle.flac_native.proofs.Streams.{block_here}
+use Rattle.flac_native.proofs.Streams.{block_by_layout}
 use Rattle.flac_pages.specs.Items.{whole, IsItem}
 use Rattle.flac_ogg.specs.Mapping.{mapping, is_first_block, packet_layout}
 use Rattle.flac_ogg.specs.Stream.{start, packet_start, AreItems}
 use Rattle.flac_ogg.specs.Native.{mapping_spelling, block_spellings, packet_spellings}
-use Rattle.flac_ogg.proofs.NativeItems.{later_layout, behind_block}
+use Rattle.flac_ogg.proofs.NativeItems.{later_layout, after_block}
 
 -- ---- items, each spelled by the bits of a packet
 
@@ -65,21 +65,21 @@ both_none : (x y : Option Why) → or_else x y ≡ None → (x ≡ None) × (y �
 both_none None y e = (refl, e)
 both_none (Some w) y e = absurd cc
 
-listed : (seen : Seen) (b : Block) → seen.stream_info ≡ true → fault_behind seen b ≡ None → FitsFields b → IsBlock seen b
+listed : (seen : Seen) (b : Block) → seen.stream_info ≡ true → fault_after seen b ≡ None → FitsFields b → IsBlock seen b
 listed seen b first e fits =
     let k = first_none (came seen b) _ (block_fault b) e in
     record { first = λ h. absurd (two seen.stream_info first h); once = k.0; written = k.1; fits = fits }
 
--- ---- the blocks behind STREAMINFO
+-- ---- the blocks after STREAMINFO
 
 module _ (profile : Profile) (i : Info) where
   abbrev at_block : ℕ → Seen → Progress
   at_block index seen = record { stand = record { profile = profile; phase = Blocks; index = index; seen = seen; info = Some i; before = None }; samples = 0; message = [] }
 
-  abbrev pub behind : Bool → ℕ → Seen → Progress
-  behind last index seen = record { stand = record { profile = profile; phase = phase_behind last; index = cond last 0 (raised index); seen = seen; info = Some i; before = None }; samples = 0; message = [] }
+  abbrev pub after : Bool → ℕ → Seen → Progress
+  after last index seen = record { stand = record { profile = profile; phase = phase_after last; index = cond last 0 (raised index); seen = seen; info = Some i; before = None }; samples = 0; message = [] }
 
-  goes_on : (last : Bool) (b : Block) (index : ℕ) (seen : Seen) → seen.stream_info ≡ true → came seen b ≡ false → (next (at_block index seen) (block last b) ≡ behind last index (seen_after seen b)) × ((seen_after seen b).stream_info ≡ true)
+  goes_on : (last : Bool) (b : Block) (index : ℕ) (seen : Seen) → seen.stream_info ≡ true → came seen b ≡ false → (next (at_block index seen) (block last b) ≡ after last index (seen_after seen b)) × ((seen_after seen b).stream_info ≡ true)
   goes_on last (blocks.StreamInfo info) index seen first e = absurd (two seen.stream_info first e)
   goes_on last (blocks.Padding n) index seen first e = (refl, first)
   goes_on last (blocks.Application id bytes) index seen first e = (refl, first)
@@ -90,22 +90,22 @@ module _ (profile : Profile) (i : Info) where
   goes_on last (blocks.Other kind bytes) index seen first e = (refl, first)
 
   -- where what follows them is there
-  module _ (items : List Piece) (texts : List (List Bool)) (there : (seen : Seen) → ArePacked (behind true 0 seen) texts items) where
+  module _ (items : List Piece) (texts : List (List Bool)) (there : (seen : Seen) → ArePacked (after true 0 seen) texts items) where
     blocks_packed : (b : Block) (bs : List Block) (index : ℕ) (seen : Seen) → seen.stream_info ≡ true → is_first_block Blocks index ≡ false → list_fault seen (b ∷ bs) ≡ None → AllAre FitsFields (b ∷ bs)
         → ArePacked (at_block index seen) (block_spellings (b ∷ bs) ++ texts) (closing (b ∷ bs) ++ items)
     blocks_packed b [] index seen first later e fits =
-        let faults = both_none (fault_behind seen b) None e in
+        let faults = both_none (fault_after seen b) None e in
         let is = listed seen b first faults.0 fits.0 in
         let on = goes_on true b index seen first is.once in (
-          packed_later (at_block index seen) (block_spelling true b) (block true b) later (block_here (at_block index seen).stand (packet_start None) true b refl is) tt,
+          packed_later (at_block index seen) (block_spelling true b) (block true b) later (block_by_layout (at_block index seen).stand (packet_start None) true b refl is) tt,
           subst (λ s. ArePacked s texts items) (sym on.0) (there (seen_after seen b)),
         )
     blocks_packed b (c ∷ cs) index seen first later e fits =
-        let faults = both_none (fault_behind seen b) _ e in
+        let faults = both_none (fault_after seen b) _ e in
         let is = listed seen b first faults.0 fits.0 in
         let on = goes_on false b index seen first is.once in
-        let more = blocks_packed c cs (raised index) (seen_after seen b) on.1 (behind_block false index) faults.1 fits.1 in (
-          packed_later (at_block index seen) (block_spelling false b) (block false b) later (block_here (at_block index seen).stand (packet_start None) false b refl is) tt,
+        let more = blocks_packed c cs (raised index) (seen_after seen b) on.1 (after_block false index) faults.1 fits.1 in (
+          packed_later (at_block index seen) (block_spelling false b) (block false b) later (block_by_layout (at_block index seen).stand (packet_start None) false b refl is) tt,
           subst (λ s. ArePacked s (block_spellings (c ∷ cs) ++ texts) (closing (c ∷ cs) ++ items)) (sym on.0) more,
         )
 
@@ -132,7 +132,7 @@ module _ (profile : Profile) (i : Info) where
         let front = mapping_spelling count in
         let valid : IsBlock nothing_seen b = record { first = λ h. refl; once = refl; written = refl; fits = is } in
         record {
-          spelled = (tt, front, block_spelling last b, refl, mapping_here count (packet_start None) small, block_here (start profile).stand (past front (packet_start None)) last b refl valid);
+          spelled = (tt, front, block_spelling last b, refl, mapping_here count (packet_start None) small, block_by_layout (start profile).stand (past front (packet_start None)) last b refl valid);
           fits = tt;
           ended = refl;
         }
@@ -140,4 +140,4 @@ module _ (profile : Profile) (i : Info) where
     pub head_packed : (count : ℕ) (list : List Block) → count < 2 ^ 16 → IsInfo i → list_fault info_seen list ≡ None → AllAre FitsFields list
         → ArePacked (start profile) (packet_spellings count i list texts) (closing (blocks.StreamInfo i ∷ list) ++ items)
     head_packed count [] small is e fits = (first_here count true small is, there info_seen)
-    head_packed count (c ∷ cs) small is e fits = (first_here count false small is, blocks_packed c cs (raised 0) info_seen refl (behind_block false 0) e fits)
+    head_packed count (c ∷ cs) small is e fits = (first_here count false small is, blocks_packed c cs (raised 0) info_seen refl (after_block false 0) e fits)

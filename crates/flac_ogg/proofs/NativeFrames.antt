@@ -9,7 +9,7 @@ use Rattle.flac_bits.specs.Fence.{InRoom}
 use Rattle.flac_bits.specs.Meaning.{Spells, AllKept}
 use Rattle.flac_bits.specs.Items.{Joined}
 use Rattle.flac_bits.specs.declared.why.Why.TheVariants.{Truncated}
-use Rattle.flac_bits.proofs.ItemSpellings.{behind_whole}
+use Rattle.flac_bits.proofs.ItemSpellings.{after_whole}
 use Rattle.flac_info.specs.Info.{Info, KeepsRules}
 use Rattle.flac_meta.specs.Valid.{IsInfo}
 use Rattle.flac_meta.specs.declared.block.Seen.{Seen}
@@ -22,7 +22,7 @@ use Rattle.flac_frame.proofs.Encodings.{encodings_are_frames}
 use Rattle.flac_frame.proofs.FrameTie.{frames_spelled, frames_bytes}
 use Rattle.flac_native.specs.Decoding.{beginning}
 use Rattle.flac_native.specs.Message.{rows_bytes, sample_width}
-use Rattle.flac_native.specs.Stream.{framed, Stand, Progress, grammar, layout, layout_in, frame_behind, next, room_in}
+use Rattle.flac_native.specs.Stream.{framed, Stand, Progress, grammar, layout, layout_in, frame_after, next, room_in}
 use Rattle.flac_native.specs.declared.track.Phase.{Phase}
 use Rattle.flac_native.specs.declared.track.Phase.TheVariants.{Frames}
 use Rattle.flac_native.specs.Given.{Cut, info_of, sound_message, size_of, frame_of, frames_from, frames_of, closing}
@@ -35,27 +35,27 @@ use Rattle.flac_ogg.specs.Mapping.{is_first_block}
 use Rattle.flac_ogg.specs.Stream.{start, packet_start, AreItems}
 use Rattle.flac_ogg.specs.Native.{packet_spellings, EncodedAreOggItems}
 use Rattle.flac_ogg.proofs.NativeItems.{AtByte, at_fresh}
-use Rattle.flac_ogg.proofs.NativeBlocks.{ArePacked, are_items, packed_later, behind, head_packed}
+use Rattle.flac_ogg.proofs.NativeBlocks.{ArePacked, are_items, packed_later, after, head_packed}
 
 -- ---- one frame
 
 -- where a frame comes
-frame_in : (s : Stand) (m : Mark) (text : List Bool) (x : Frame) → Spells (layout_in Frames s) m text (framed x) → Spells (frame_behind s.profile s.info s.before) m text x
+frame_in : (s : Stand) (m : Mark) (text : List Bool) (x : Frame) → Spells (layout_in Frames s) m text (framed x) → Spells (frame_after s.profile s.info s.before) m text x
 frame_in s m text x (y, front, rest, split, spelled, (none, same)) =
     let whole : front ≡ text = sym (split ∙ ap (λ k. front ++ k) none ∙ append-nil front) in
     let is : y ≡ x = cc in
-    subst (λ k. Spells (frame_behind s.profile s.info s.before) m k x) whole (subst (λ z. Spells (frame_behind s.profile s.info s.before) m front z) is spelled)
+    subst (λ k. Spells (frame_after s.profile s.info s.before) m k x) whole (subst (λ z. Spells (frame_after s.profile s.info s.before) m front z) is spelled)
 
 from_part : (s : Stand) (info : Info) (m : Mark) (text : List Bool) (x : Frame) → s.phase ≡ Frames → s.info ≡ Some info → Spells (layout s) m text (framed x) → Spells (frame s.profile info s.before) m text x
-unfolding layout frame_behind
+unfolding layout frame_after
 from_part s info m text x phase told h =
     let there = frame_in s m text x (subst (λ (k : Phase). Spells (layout_in k s) m text (framed x)) phase h) in
-    subst (λ (o : Option Info). Spells (frame_behind s.profile o s.before) m text x) told there
+    subst (λ (o : Option Info). Spells (frame_after s.profile o s.before) m text x) told there
 
 as_part : (s : Stand) (info : Info) (m : Mark) (text : List Bool) (x : Frame) → s.phase ≡ Frames → s.info ≡ Some info → Spells (frame s.profile info s.before) m text x → Spells (layout s) m text (framed x)
-unfolding layout frame_behind
+unfolding layout frame_after
 as_part s info m text x phase told h =
-    let there : Spells (frame_behind s.profile s.info s.before) m text x = subst (λ (o : Option Info). Spells (frame_behind s.profile o s.before) m text x) (sym told) h in
+    let there : Spells (frame_after s.profile s.info s.before) m text x = subst (λ (o : Option Info). Spells (frame_after s.profile o s.before) m text x) (sym told) h in
     subst (λ (k : Phase). Spells (layout_in k s) m text (framed x)) (sym phase) (x, text, [], sym (append-nil text), there, (refl, refl))
 
 -- the rules of sequence and size see only the number, the size and the strategy
@@ -135,7 +135,7 @@ module _ (p : Cut) (a : Sound) (least greatest : ℕ) (q : Planned p) (f : Fit p
       let first = subst (λ k. Spells (frame k info s.stand.before) (fresh m) front x) judged (from_part s.stand info (fresh m) front x phase told spelled) in
       let there = subst (λ k. Spells (frame k info s.stand.before) (packet_start None) t x) (sym judged) (encoding_here number s.stand.before (fresh m) front t at first here) in (
         packed_later s t (framed x) (not_first s.stand phase) (as_part s.stand info (packet_start None) t x phase told there) (frame_fits s.stand t phase here.short),
-        frames_packed ts (number + 1) (next s (framed x)) (past front (fresh m)) rest judged phase told (behind_whole front (fresh m) at.unread (front_whole s.stand.before (fresh m) front x at first)) others
+        frames_packed ts (number + 1) (next s (framed x)) (past front (fresh m)) rest judged phase told (after_whole front (fresh m) at.unread (front_whole s.stand.before (fresh m) front x at first)) others
             (λ j h. subst (λ n. SpellsFrame a (at_ n) (slice_index_or ts j [])) (let e : number + suc j ≡ number + 1 + j = omega arith in e) (each (suc j) (omega (arith, h)))),
       )
 
@@ -164,9 +164,9 @@ encoded_are_ogg_items p list a least greatest count frames packets planned_is fi
     let items = map framed (frames_from b a (length frames) 0) in
     let m = beginning Truncated in
     let each : (j : ℕ) → j < length frames → SpellsFrame a (frame_of b a (0 + j)) (slice_index_or frames j []) = λ j h. subst (λ n. SpellsFrame a (frame_of b a n) (slice_index_or frames j [])) (let e : j ≡ 0 + j = omega arith in e) (f.each j h) in
-    let there : (seen : Seen) → ArePacked (behind a.profile i true 0 seen) frames items = λ seen.
+    let there : (seen : Seen) → ArePacked (after a.profile i true 0 seen) frames items = λ seen.
     let run = frames_run p a least greatest q k small.0 small.1 frames 0 0 0 seen None [] m refl (omega (arith, f.many)) (λ more. inl refl) (sym (no_samples b (samples_each a.channels))) (sym (ap (λ n. rows_bytes width a.channels n 0) (no_samples b (samples_each a.channels)))) each in
-    frames_packed p a least greatest q k small.0 small.1 frames 0 (behind a.profile i true 0 seen) m (joined frames) refl refl refl refl run.0 each in
+    frames_packed p a least greatest q k small.0 small.1 frames 0 (after a.profile i true 0 seen) m (joined frames) refl refl refl refl run.0 each in
     let all = head_packed a.profile i items frames there count list few is listed_is fields in
     let stream = encoded_are_streams p list a least greatest frames planned_is fits listed_is fields f s in
     let packed = subst (λ n. ArePacked (start a.profile) (packet_spellings count i list frames) (closing (blocks.StreamInfo i ∷ list) ++ map framed (frames_from b a n 0))) f.many all in

@@ -1,4 +1,4 @@
--- The items in the packets of an Ogg stream, one after another behind a marker, are a native stream.
+-- The items in the packets of an Ogg stream, one after another after a marker, are a native stream.
 use Rattle.std.proofs.Common.{◌≡◌, ◌≢◌, ◌%◌, ◌≤◌, ℕ, Bool, true, false, cond, nat_eq, List, [], ◌∷◌, ◌++◌, length, length-append, take, drop, map, Option, Some, None, refl, sym, ap, subst, ◌∙◌, arith}
 use Rattle.std.proofs.lemmas.Bool.Decides.{nat_tests}
 use Rattle.std.proofs.lemmas.List.{length-drop, take-append-drop}
@@ -8,9 +8,9 @@ use Rattle.flac_bits.specs.Layout.{Layout}
 use Rattle.flac_bits.specs.Forms.{joined}
 use Rattle.flac_bits.specs.Fence.{InRoom}
 use Rattle.flac_bits.specs.Meaning.{Spells}
-use Rattle.flac_bits.specs.Items.{Joined, after}
+use Rattle.flac_bits.specs.Items.{Joined, state_after}
 use Rattle.flac_bits.specs.declared.why.Why.TheVariants.{Truncated}
-use Rattle.flac_bits.proofs.ItemSpellings.{fresh_unread, fresh_check8, fresh_check16, behind_whole}
+use Rattle.flac_bits.proofs.ItemSpellings.{fresh_unread, fresh_check8, fresh_check16, after_whole}
 use Rattle.flac_bits.proofs.Words.{length-unsigned}
 use Rattle.flac_bits.proofs.Holding.{length-bits_of, bits_of-append}
 use Rattle.flac_bits.proofs.Back.{same_parts}
@@ -25,7 +25,7 @@ use Rattle.flac_frame.specs.Frame.{Frame}
 use Rattle.flac_frame.specs.declared.before.Before.{Before}
 use Rattle.flac_frame.proofs.FrameTie.{frames_spelled}
 use Rattle.flac_native.specs.Decoding.{beginning}
-use Rattle.flac_native.specs.Stream.{Piece, marked, Stand, Progress, opening, grammar, layout, layout_in, frame_behind, next, stand_after, info_after, phase_behind, raised, room_in}
+use Rattle.flac_native.specs.Stream.{Piece, marked, Stand, Progress, opening, grammar, layout, layout_in, frame_after, next, stand_after, info_after, phase_after, raised, room_in}
 use Rattle.flac_native.specs.declared.track.Phase.{Phase}
 use Rattle.flac_native.specs.declared.track.Phase.TheVariants.{Opening, Blocks, Frames}
 use Rattle.flac_native.proofs.Streams.{marker_here}
@@ -35,7 +35,7 @@ use Rattle.flac_ogg.specs.Native.{native_text, OggStreamsAreStreams}
 
 -- ---- one item, at another mark
 
--- behind the marker, and what STREAMINFO tells keeps the rules
+-- after the marker, and what STREAMINFO tells keeps the rules
 pub record Begun (s : Stand) : Type 0 where
   pub opened : s.phase ≢ Opening
   pub rules : (i : Info) → s.info ≡ Some i → KeepsRules i
@@ -49,7 +49,7 @@ pub record AtByte (m : Mark) : Type 0 where
 pub at_fresh : (m : Mark) → m.unread ≡ 0 → AtByte (fresh m)
 at_fresh m z = record { unread = fresh_unread m z; check8 = fresh_check8 m z; check16 = fresh_check16 m z }
 
--- What is spelled at one such mark is spelled at each. Behind it the rules are kept, and comes no first block.
+-- What is spelled at one such mark is spelled at each. After it the rules are kept, and comes no first block.
 pub record Moved (s : Stand) (m : Mark) (text : List Bool) (x : Piece) : Type 0 where
   pub spelled : Spells (layout s) m text x
   pub begun : Begun (stand_after s x)
@@ -65,19 +65,19 @@ info_kept info (blocks.CueSheet found) h seen is i e = h i e
 info_kept info (blocks.Picture found) h seen is i e = h i e
 info_kept info (blocks.Other kind bytes) h seen is i e = h i e
 
-not_opening : (last : Bool) → phase_behind last ≢ Opening
+not_opening : (last : Bool) → phase_after last ≢ Opening
 not_opening true e = absurd cc
 not_opening false e = absurd cc
 
 not_zero : (n : ℕ) → nat_eq (raised n) 0 ≡ false
 not_zero n = grind (arith, nat_tests)
 
-pub behind_block : (last : Bool) (n : ℕ) → is_first_block (phase_behind last) (cond last 0 (raised n)) ≡ false
-behind_block true n = refl
-behind_block false n = not_zero n
+pub after_block : (last : Bool) (n : ℕ) → is_first_block (phase_after last) (cond last 0 (raised n)) ≡ false
+after_block true n = refl
+after_block false n = not_zero n
 
-frame_moved : (profile : Profile) (info : Option Info) (before : Option Before) (m k : Mark) (text : List Bool) (x : Frame) → ((i : Info) → info ≡ Some i → KeepsRules i) → AtByte m → AtByte k → Spells (frame_behind profile info before) m text x → Spells (frame_behind profile info before) k text x
-unfolding frame_behind
+frame_moved : (profile : Profile) (info : Option Info) (before : Option Before) (m k : Mark) (text : List Bool) (x : Frame) → ((i : Info) → info ≡ Some i → KeepsRules i) → AtByte m → AtByte k → Spells (frame_after profile info before) m text x → Spells (frame_after profile info before) k text x
+unfolding frame_after
 frame_moved profile None before m k text x h a b s = absurd s
 frame_moved profile (Some i) before m k text x h a b s =
     let rules = h i refl in
@@ -97,7 +97,7 @@ moved s m k text x begun a b h = go s.phase refl h
         record {
           spelled = subst (λ (z : Phase). Spells (layout_in z s) k text x) (sym e) (y, front, rest, split, there, (none, same));
           begun = subst (λ z. Begun (stand_after s z)) same (record { opened = not_opening y.0; rules = info_kept s.info y.1 begun.rules s.seen is.0 });
-          later = subst (λ z. is_first_block (stand_after s z).phase (stand_after s z).index ≡ false) same (behind_block y.0 s.index);
+          later = subst (λ z. is_first_block (stand_after s z).phase (stand_after s z).index ≡ false) same (after_block y.0 s.index);
         }
     go Frames e (f, front, rest, split, spelled, (none, same)) = record {
       spelled = subst (λ (z : Phase). Spells (layout_in z s) k text x) (sym e) (f, front, rest, split, frame_moved s.profile s.info s.before m k front f begun.rules (a e) (b e) spelled, (none, same));
@@ -145,9 +145,9 @@ mapping_long m text (name, a, p, cut_a, (lt_a, is_a), (version, b, q, cut_b, (lt
       length-unsigned 32 marker,
     )
 
--- the bits behind 13 bytes are those of the further bytes
-pub behind_mapping : (packet : List ℕ) (front rest : List Bool) → bits_of packet ≡ front ++ rest → length front ≡ 104 → rest ≡ bits_of (drop 13 packet)
-behind_mapping packet front rest split long =
+-- the bits after 13 bytes are those of the further bytes
+pub after_mapping : (packet : List ℕ) (front rest : List Bool) → bits_of packet ≡ front ++ rest → length front ≡ 104 → rest ≡ bits_of (drop 13 packet)
+after_mapping packet front rest split long =
     let parts : front ++ rest ≡ bits_of (take 13 packet) ++ bits_of (drop 13 packet) = sym split ∙ ap bits_of (sym (take-append-drop 13 packet)) ∙ bits_of-append (take 13 packet) (drop 13 packet) in
     let many : 13 ≤ length packet = omega (arith, length-bits_of packet, ap (λ (k : List Bool). length k) split, length-append front rest, long) in
     let short : length (bits_of (drop 13 packet)) ≡ length rest = omega (arith, length-bits_of packet, length-bits_of (drop 13 packet), ap (λ (k : List Bool). length k) split, length-append front rest, long, length-drop 13 packet) in
@@ -162,7 +162,7 @@ no_frames_yet profile m e = absurd cc
 pub first_moved : (profile : Profile) (packet : List ℕ) (k : Mark) (x : Piece) → Spells (packet_layout (start profile).stand) (packet_start None) (bits_of packet) x → Moved (start profile).stand k (bits_of (drop 13 packet)) x
 unfolding packet_layout
 first_moved profile packet k x (u, front, rest, split, map, spelled) =
-    let e = behind_mapping packet front rest split (mapping_long (packet_start None) front map) in
+    let e = after_mapping packet front rest split (mapping_long (packet_start None) front map) in
     subst (λ t. Moved (start profile).stand k t x) e (moved (start profile).stand (past front (packet_start None)) k rest x (begun_at_start profile) (no_frames_yet profile (past front (packet_start None))) (no_frames_yet profile k) spelled)
 
 -- ---- all of them
@@ -180,17 +180,17 @@ packets_join p m (packet ∷ packets) (x ∷ xs) begun later z (is, others) =
       refl,
       there.spelled,
       room_moved (room_in p.stand.phase) (packet_start None) (fresh m) (bits_of packet) refl at.unread is.fits,
-      packets_join (next p x) (past (bits_of packet) (fresh m)) packets xs there.begun there.later (behind_whole (bits_of packet) (fresh m) at.unread (bytes_whole packet)) others,
+      packets_join (next p x) (past (bits_of packet) (fresh m)) packets xs there.begun there.later (after_whole (bits_of packet) (fresh m) at.unread (bytes_whole packet)) others,
     )
 
-all_join : (profile : Profile) (packets : List (List ℕ)) (items : List Piece) → grammar.may_end (after grammar (start profile) items) ≡ true → AreItems (start profile) packets items → Joined grammar (opening profile) (beginning Truncated) (marked ∷ items) (native_text packets)
+all_join : (profile : Profile) (packets : List (List ℕ)) (items : List Piece) → grammar.may_end (state_after grammar (start profile) items) ≡ true → AreItems (start profile) packets items → Joined grammar (opening profile) (beginning Truncated) (marked ∷ items) (native_text packets)
 all_join profile [] [] ends are = absurd cc
 all_join profile [] (x ∷ xs) ends are = absurd are
 all_join profile (packet ∷ packets) [] ends are = absurd are
 all_join profile (packet ∷ packets) (x ∷ xs) ends (is, others) =
     let marker = unsigned 32 0x664C6143 in
     let m = past marker (fresh (beginning Truncated)) in
-    let z : m.unread ≡ 0 = behind_whole marker (fresh (beginning Truncated)) refl refl in
+    let z : m.unread ≡ 0 = after_whole marker (fresh (beginning Truncated)) refl refl in
     let first = bits_of (drop 13 packet) in
     let rest = joined (map bits_of packets) in
     let there = first_moved profile packet (fresh m) x is.spelled in (
@@ -205,7 +205,7 @@ all_join profile (packet ∷ packets) (x ∷ xs) ends (is, others) =
         refl,
         there.spelled,
         tt,
-        packets_join (next (start profile) x) (past first (fresh m)) packets xs there.begun there.later (behind_whole first (fresh m) (fresh_unread m z) (bytes_whole (drop 13 packet))) others,
+        packets_join (next (start profile) x) (past first (fresh m)) packets xs there.begun there.later (after_whole first (fresh m) (fresh_unread m z) (bytes_whole (drop 13 packet))) others,
       ),
     )
 

@@ -5,7 +5,7 @@ use Rattle.flac_bits.specs.State.{Mark, past}
 use Rattle.flac_bits.specs.Layout.{Layout, choose}
 use Rattle.flac_bits.specs.Fence.{InRoom}
 use Rattle.flac_bits.specs.Meaning.{BreaksFirst, Shows, Spells}
-use Rattle.flac_bits.specs.Items.{after}
+use Rattle.flac_bits.specs.Items.{state_after}
 use Rattle.flac_bits.specs.declared.why.Why.{Why}
 use Rattle.flac_bits.specs.declared.why.Why.TheVariants.{NotSubset, BadMapping, NotStreamInfoFirst, ForbiddenType, RepeatedBlock, BlockLength, BadStreamInfo, Read, Truncated, FrameTooLong, PacketLength}
 use Rattle.flac_info.specs.Info.{Info}
@@ -21,7 +21,7 @@ use Rattle.flac_native.proofs.Outside.{nothing_is_outside}
 use Rattle.flac_pages.specs.Items.{PacketEnd, whole, unended, cut_at, Packet, cut_off, in_packet, IsNoItem, breaks_rule, bits_missing, too_many_bytes, bits_left, not_ended}
 use Rattle.flac_ogg.specs.Mapping.{mapping, is_first_block, packet_layout}
 use Rattle.flac_ogg.specs.Stream.{start, packet_start, closed_packet, open_packet, AreItems, StopsAtPacket, packet_refused, part_refused, pages_refused, block_missing, end_refused, fault_in, stop_in}
-use Rattle.flac_ogg.specs.Wider.{NothingIsOutsideLaxInOgg}
+use Rattle.flac_ogg.specs.LaxProfile.{NothingIsOutsideLaxInOgg}
 use Rattle.flac_ogg.proofs.NativeItems.{Begun, moved, first_moved, later_layout, packet_at}
 use Rattle.flac_ogg.proofs.PageReasons.{Tells, some_fault, none_breaks, Never, never_shown, never_list, IsForeign, fault_for, stop_for}
 
@@ -97,7 +97,7 @@ first_clean m front (inr (u, part, rest, split, map, inr (b, x, y, z, own, shows
 
 -- it is not the first, in the state after these items
 later : (p : Progress) (packets : List (List ℕ)) (items : List Piece) → Begun p.stand → is_first_block p.stand.phase p.stand.index ≡ false → AreItems p packets items
-    → is_first_block (after grammar p items).stand.phase (after grammar p items).stand.index ≡ false
+    → is_first_block (state_after grammar p items).stand.phase (state_after grammar p items).stand.index ≡ false
 later p [] [] begun e are = e
 later p [] (x ∷ xs) begun e are = absurd are
 later p (packet ∷ packets) [] begun e are = absurd are
@@ -134,13 +134,13 @@ later_clean p fault front judged e shows fits =
 abbrev Clean : Progress → Type 0
 Clean p = (fault : Option (ℕ × Why)) (front : List Bool) → Shows (packet_layout p.stand) (packet_start fault) front NotSubset → InRoom (room_in p.stand.phase) (packet_start fault) front → ⊥
 
-all_clean : (packets : List (List ℕ)) (items : List Piece) → AreItems (start Lax) packets items → Clean (after grammar (start Lax) items)
+all_clean : (packets : List (List ℕ)) (items : List Piece) → AreItems (start Lax) packets items → Clean (state_after grammar (start Lax) items)
 all_clean [] [] are = λ fault front shows fits. first_clean (packet_start fault) front shows
 all_clean [] (x ∷ xs) are = absurd are
 all_clean (packet ∷ packets) [] are = absurd are
 all_clean (packet ∷ packets) (x ∷ xs) (is, others) =
     let on = first_moved Lax packet (packet_start None) x is.spelled in
-    λ fault front shows fits. later_clean (after grammar (start Lax) (x ∷ xs)) fault front (after_profile (start Lax) (x ∷ xs)) (later (next (start Lax) x) packets xs on.begun on.later others) shows fits
+    λ fault front shows fits. later_clean (state_after grammar (start Lax) (x ∷ xs)) fault front (after_profile (start Lax) (x ∷ xs)) (later (next (start Lax) x) packets xs on.begun on.later others) shows fits
 
 cut_outside : (e : PacketEnd) → NotSubset ≡ (cut_off e).1 → (k : ℕ) × (e ≡ cut_at k NotSubset)
 cut_outside whole is = absurd (not_length (sym is))
@@ -194,9 +194,9 @@ stops_outside p left begun fault stop at clean (block_missing follows nothing no
 stops_outside p left begun fault stop at clean (end_refused follows nothing none may is first) = absurd (end_outside p.stand.info p.samples p.message first)
 
 pub nothing_is_outside_ogg : NothingIsOutsideLaxInOgg
-nothing_is_outside_ogg m items text at why own r e = own (go (subst (λ (w : Why). StopsAtPacket (after grammar (start Lax) items) r.left r.contents.begun (fault_in r.contents) (stop_in r.contents) at w) e r.stops))
+nothing_is_outside_ogg m items text at why own r e = own (go (subst (λ (w : Why). StopsAtPacket (state_after grammar (start Lax) items) r.left r.contents.begun (fault_in r.contents) (stop_in r.contents) at w) e r.stops))
   where
-    go : StopsAtPacket (after grammar (start Lax) items) r.left r.contents.begun (fault_in r.contents) (stop_in r.contents) at NotSubset → m.short ≡ NotSubset
+    go : StopsAtPacket (state_after grammar (start Lax) items) r.left r.contents.begun (fault_in r.contents) (stop_in r.contents) at NotSubset → m.short ≡ NotSubset
     go stops =
         let run = r.contents.is_run in
         elim (stops_outside _ r.left r.contents.begun (fault_in r.contents) (stop_in r.contents) at (all_clean r.taken items r.spelled) stops) [

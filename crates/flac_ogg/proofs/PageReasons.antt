@@ -12,7 +12,7 @@ use Rattle.flac_bits.specs.declared.why.Why.{Why}
 use Rattle.flac_bits.specs.declared.why.Why.TheVariants.{Truncated, NoEndPage, PageOrder, BadPage, PageCheck, OtherStream, BadMapping}
 use Rattle.flac_bits.proofs.Meaning.{past-short}
 use Rattle.flac_pages.specs.declared.page.Before.{Before}
-use Rattle.flac_pages.specs.Page.{Page, page, page_behind, head_behind, end_rules}
+use Rattle.flac_pages.specs.Page.{Page, page, page_after, head_after, end_rules}
 use Rattle.flac_pages.specs.Pages.{Stop, closed, broken, between, unless_over, end_fault}
 use Rattle.flac_pages.specs.Packets.{page_index, at_page, fault_of, stop_of}
 use Rattle.flac_pages.specs.Runs.{left_by, IsNoPage, EndsSo}
@@ -76,8 +76,8 @@ never_64 w = (never_32 w, λ low. (never_32 w, λ high. tt))
 pattern_rule : (w : Why) (b : Bool) → IsForeign w → BreaksFirst (record { broken = b; why = BadPage } ∷ []) w → ⊥
 pattern_rule w b f = none_breaks w (record { broken = b; why = BadPage } ∷ []) (f.page, tt)
 
-never_head : (w : Why) (first : ℕ) → IsForeign w → Never w (head_behind first)
-unfolding head_behind
+never_head : (w : Why) (first : ℕ) → IsForeign w → Never w (head_after first)
+unfolding head_after
 never_head w first f =
     (tt, λ pattern. (pattern_rule w _ f, λ good. (tt, λ version. (pattern_rule w _ f, λ known. (tt, λ flags. (never_64 w, λ granule. (never_32 w, λ serial. (never_32 w, λ sequence. (never_32 w, λ sum. tt)))))))))
 
@@ -86,7 +86,7 @@ unfolding end_rules
 page_rules w before p f = none_breaks w (end_rules before p) (f.check, (f.stream, (f.order, (f.mapping, tt))))
 
 never_page : (w : Why) (before : Option Before) → IsForeign w → Never w (page before)
-unfolding page page_behind
+unfolding page page_after
 never_page w before f =
     (tt, λ first. (never_head w first f, λ head. (tt, λ count. (never_list w count, λ lacing. (never_list w (sum lacing), λ body. (page_rules w before (record { head = head; lacing = lacing; body = body }) f, λ good. tt))))))
 
@@ -122,9 +122,9 @@ broken_for w before m text rest n k why f is e =
     let same : why ≡ w = ap (λ (t : ℕ × Why). t.1) (same_told (k, why) (n, w) e) in
     sym (past-short text m) ∙ no_page_for w before (past text m) rest f (subst (λ (v : Why). IsNoPage before (past text m) rest v) same is)
 
-byte_behind : (w : Why) (d : Cursor) → IsForeign w → end_fault d ≡ reason w → d.mark.short ≡ w
+byte_after : (w : Why) (d : Cursor) → IsForeign w → end_fault d ≡ reason w → d.mark.short ≡ w
 unfolding end_fault
-byte_behind w d f e = go d.left e
+byte_after w d f e = go d.left e
   where
     same_reason : (u v : Why) → reason u ≡ reason v → u ≡ v
     same_reason u v e = cc
@@ -142,7 +142,7 @@ fault_for w before m pages text rest (closed d) n f ends (k, e) = absurd (none_t
 fault_for w before m pages text rest (broken why) n f ends (k, e) = broken_for w (left_by before pages) m text rest k (page_index n) why f ends.1 e
 
 pub stop_for : (w : Why) (before : Option Before) (m : Mark) (pages : List Page) (text rest : List Bool) (stop : Stop) (n : ℕ) → IsForeign w → EndsSo before m pages text rest stop → Tells w (stop_of n stop) → m.short ≡ w
-stop_for w before m pages text rest (closed d) n f ends (k, e) = sym (past-short text m) ∙ ap (λ (c : Cursor). c.mark.short) (sym ends.1) ∙ byte_behind w d f (go (end_fault d) e)
+stop_for w before m pages text rest (closed d) n f ends (k, e) = sym (past-short text m) ∙ ap (λ (c : Cursor). c.mark.short) (sym ends.1) ∙ byte_after w d f (go (end_fault d) e)
   where
     go : (o : Option Why) → at_page n o ≡ some_fault (k, w) → o ≡ reason w
     go None e = absurd (none_told (k, w) e)

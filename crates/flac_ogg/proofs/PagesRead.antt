@@ -11,7 +11,7 @@ use Rattle.flac_bits.specs.declared.why.Why.{Why}
 use Rattle.flac_bits.proofs.Laws.{at_}
 use Rattle.flac_native.specs.Stream.{Piece, Progress, next}
 use Rattle.flac_pages.specs.declared.page.Before.{Before}
-use Rattle.flac_pages.specs.Page.{Page, after}
+use Rattle.flac_pages.specs.Page.{Page, after_page}
 use Rattle.flac_pages.specs.Pages.{Run, GoodPages, pages_of}
 use Rattle.flac_pages.specs.Packets.{Place as Stands, Ahead, OnPage, lacing_of, size, ends, past_packet, page_index, on_page, coming, read_since, ReadsPages, PassesPacket, open_in, BreaksAt, Begins}
 use Rattle.flac_pages.specs.Items.{HasItsPage, TellsPages}
@@ -82,8 +82,8 @@ passed_all pages s [] left (x ∷ xs) rest c d are known all steps = absurd are
 passed_all pages s (packet ∷ taken) left [] rest c d are known all steps = absurd are
 passed_all pages s (packet ∷ taken) left (x ∷ xs) rest c d are known all (mid, first, steps) =
     let one = first known in
-    let behind : List ℕ = flat_map lacing_of (taken ++ left) in
-    let others : coming (on_page (pages mid)) ≡ behind ++ rest = one.1.passed ∙ ap past_packet (all ∙ append_assoc (lacing_of packet) behind rest) ∙ (packet_closes packet (behind ++ rest)).past in
+    let after : List ℕ = flat_map lacing_of (taken ++ left) in
+    let others : coming (on_page (pages mid)) ≡ after ++ rest = one.1.passed ∙ ap past_packet (all ∙ append_assoc (lacing_of packet) after rest) ∙ (packet_closes packet (after ++ rest)).past in
     let more = passed_all pages (next s x) taken left xs rest mid d are.1 one.0 others steps in
     record { known = more.known; pages = reads_then (on_page (pages c)) (on_page (pages mid)) (on_page (pages d)) one.1.pages more.pages; others = more.others }
 
@@ -178,7 +178,7 @@ each_long (p ∷ ps) = ap suc (each_long ps)
 good_front : (before : Option Before) (m : Mark) (xs ys : List Page) (text : List Bool) → GoodPages before m (xs ++ ys) text → (front : List Bool) × GoodPages before m xs front
 good_front before m [] ys text good = ([], refl)
 good_front before m (x ∷ xs) ys text (front, rest, split, spelled, good) =
-    let more = good_front (Some (after before x)) (past front m) xs ys rest good in
+    let more = good_front (Some (after_page before x)) (past front m) xs ys rest good in
     (front ++ more.0, (front, more.0, refl, spelled, more.1))
 
 same_front : (xs ys r : List ℕ) → xs ++ r ≡ ys ++ r → xs ≡ ys
@@ -203,18 +203,18 @@ same_packets (x ∷ xs) (y ∷ ys) f g r s l b =
 
 -- ---- of the whole input
 
--- so many pages were read in all
+-- n pages were read in all
 counted_in_all : (c j n : ℕ) → page_index c ≡ page_index (0 + j) → page_index n ≡ n → c ≤ n → n ≡ page_index (j + (n - c))
 counted_in_all c j n read small from = omega (arith, read, small, from)
 
 record FrontPages (p : Stands) (pages : List Page) : Type 0 where
   count : (on_page p).count ≡ 0
   lacing : (on_page p).lacing ≡ []
-  behind : (on_page p).behind ≡ lacing_each pages
+  after : (on_page p).after ≡ lacing_each pages
 
 front_pages : (mark : Mark) (text : List Bool) (p : Stands) → p.lacing ≡ [] → p.last ≡ false → p.before ≡ None → p.count ≡ 0 → p.cursor ≡ record { left = text; mark = mark } → FrontPages p (pages_of None (at_ text mark)).pages
 unfolding on_page
-front_pages mark text p lacing last before count cursor = record { count = count; lacing = lacing; behind = rw (last, before, cursor) refl }
+front_pages mark text p lacing last before count cursor = record { count = count; lacing = lacing; after = rw (last, before, cursor) refl }
 
 pub reads_to : {C : Type 0} (pages : C → Stands) (profile : Profile) (mark : Mark) (text : List Bool) (items : List Piece) (first there : C) (n : ℕ)
     → (pages first).known ≡ true → (pages first).lacing ≡ [] → (pages first).last ≡ false → (pages first).before ≡ None → (pages first).count ≡ 0 → (pages first).cursor ≡ record { left = text; mark = mark }
@@ -228,21 +228,21 @@ reads_to {C} pages profile mark text items first there n known lacing last befor
     let fills : List ℕ = replicate c.packed.full 255 in
     let taken : List ℕ = flat_map lacing_of begins.taken in
     let come : coming p ≡ flat_map lacing_of (begins.taken ++ begins.left) ++ fills =
-    ap (λ l. l ++ flat p.behind) front.lacing ∙ ap flat front.behind ∙ flat_each all ∙ c.packed.lacing ∙ ap (λ (ps : List (List ℕ)). flat_map lacing_of ps ++ fills) begins.split in
+    ap (λ l. l ++ flat p.after) front.lacing ∙ ap flat front.after ∙ flat_each all ∙ c.packed.lacing ∙ ap (λ (ps : List (List ℕ)). flat_map lacing_of ps ++ fills) begins.split in
     let past : IsPast begins.left fills (pages first) (pages there) = passed_all pages (start profile) begins.taken begins.left items fills first there begins.spelled known come steps in
     let at : BreaksAt q n = broke past.known in
     let j : ℕ = read_since p q in
     let k : ℕ = n - q.count in
-    let unended : (k ≤ length q.behind) × (ends (q.lacing ++ flat (take k q.behind)) ≡ false) = open_front q.lacing q.behind k (omega (arith, at.from, at.below)) in
-    let last_part : List ℕ = q.lacing ++ flat (take k q.behind) in
-    let before_there : flat (take j p.behind) ≡ taken ++ q.lacing =
-    same_front (flat (take j p.behind)) (taken ++ q.lacing) (flat q.behind)
-    (ap (λ ls. flat (take j p.behind) ++ flat ls) past.pages.behind ∙ sym (flat_split j p.behind) ∙ sym (ap (λ l. l ++ flat p.behind) front.lacing) ∙ come ∙ ap (λ k. k ++ fills) (flat_map-append lacing_of begins.taken begins.left)
-    ∙ append_assoc taken (flat_map lacing_of begins.left) fills ∙ ap (λ k. taken ++ k) (sym past.others) ∙ sym (append_assoc taken q.lacing (flat q.behind))) in
+    let unended : (k ≤ length q.after) × (ends (q.lacing ++ flat (take k q.after)) ≡ false) = open_front q.lacing q.after k (omega (arith, at.from, at.below)) in
+    let last_part : List ℕ = q.lacing ++ flat (take k q.after) in
+    let before_there : flat (take j p.after) ≡ taken ++ q.lacing =
+    same_front (flat (take j p.after)) (taken ++ q.lacing) (flat q.after)
+    (ap (λ ls. flat (take j p.after) ++ flat ls) past.pages.after ∙ sym (flat_split j p.after) ∙ sym (ap (λ l. l ++ flat p.after) front.lacing) ∙ come ∙ ap (λ k. k ++ fills) (flat_map-append lacing_of begins.taken begins.left)
+    ∙ append_assoc taken (flat_map lacing_of begins.left) fills ∙ ap (λ k. taken ++ k) (sym past.others) ∙ sym (append_assoc taken q.lacing (flat q.after))) in
     let read : List Page = take (j + k) all in
     let lacing_read : lacing_in read ≡ taken ++ replicate (length last_part) 255 =
-    sym (each_taken (j + k) all) ∙ ap (λ ls. flat (take (j + k) ls)) (sym front.behind) ∙ flat_parts j k p.behind ∙ ap (λ l. l ++ flat (take k (drop j p.behind))) before_there ∙ ap (λ ls. (taken ++ q.lacing) ++ flat (take k ls)) (sym past.pages.behind)
-    ∙ append_assoc taken q.lacing (flat (take k q.behind)) ∙ ap (λ l. taken ++ l) (all_full last_part unended.1) in
+    sym (each_taken (j + k) all) ∙ ap (λ ls. flat (take (j + k) ls)) (sym front.after) ∙ flat_parts j k p.after ∙ ap (λ l. l ++ flat (take k (drop j p.after))) before_there ∙ ap (λ ls. (taken ++ q.lacing) ++ flat (take k ls)) (sym past.pages.after)
+    ∙ append_assoc taken q.lacing (flat (take k q.after)) ∙ ap (λ l. taken ++ l) (all_full last_part unended.1) in
     let split : all ≡ read ++ drop (j + k) all = sym (take-append-drop (j + k) all) in
     let good = good_front None mark read (drop (j + k) all) c.is_run.text (subst (λ (ps : List Page). GoodPages None mark ps c.is_run.text) split c.is_run.good) in
     let parts = cut (lacing_in read) (bytes_in read) (good_laced None mark read good.0 good.1) in
@@ -250,7 +250,7 @@ reads_to {C} pages profile mark text items first there n known lacing last befor
     sym (append_assoc (bytes_of parts.packets) parts.begun (bytes_in (drop (j + k) all))) ∙ ap (λ l. l ++ bytes_in (drop (j + k) all)) (sym parts.bytes) ∙ sym (flat_map-append (λ (q : Page). q.body) read (drop (j + k) all)) ∙ ap bytes_in (sym split) ∙ c.packed.bytes
     ∙ ap (λ (ps : List (List ℕ)). bytes_of ps ++ c.begun) begins.split ∙ ap (λ l. l ++ c.begun) (flat_map-append (λ (l : List ℕ). l) begins.taken begins.left) ∙ append_assoc (bytes_of begins.taken) (bytes_of begins.left) c.begun in
     let same : parts.packets ≡ begins.taken = same_packets parts.packets begins.taken parts.full (length last_part) _ _ (sym parts.lacing ∙ lacing_read) bytes in
-    let few : j + k ≤ length all = omega (arith, unended.0, past.pages.fewer, ap length front.behind, each_long all) in
+    let few : j + k ≤ length all = omega (arith, unended.0, past.pages.fewer, ap length front.after, each_long all) in
     record {
       contents = c;
       read = read;

@@ -6,7 +6,7 @@ use Rattle.flac_bits.specs.Bits.{unsigned, bits_of, is_nil}
 use Rattle.flac_bits.specs.Items.{Stream}
 use Rattle.flac_bits.specs.State.{Cursor}
 use Rattle.flac_bits.specs.Forms.{AreBytes}
-use Rattle.flac_bits.specs.Handing.{Reading, ReadsOnce, by_grammar}
+use Rattle.flac_bits.specs.Handing.{InputReading, ReadsOnce, by_grammar}
 use Rattle.flac_bits.specs.Layout.{Reason, number_at}
 use Rattle.flac_bits.specs.declared.why.Why.TheVariants.{Truncated}
 use Rattle.flac_bits.proofs.Laws.{at_, number_again}
@@ -22,7 +22,7 @@ use Rattle.flac_native.proofs.Deciding.{one_answer}
 use Rattle.flac_pages.specs.Page as page_of
 use Rattle.flac_pages.specs.Page.{Page}
 use Rattle.flac_pages.specs.Placed as placed
-use Rattle.flac_pages.specs.Placed.{Placed, pages_from, marks_of, sequence_behind}
+use Rattle.flac_pages.specs.Placed.{Placed, pages_from, marks_of, sequence_after}
 use Rattle.flac_pages.specs.Written.{pages_of_packet, page_at}
 use Rattle.flac_pages.specs.declared.writing.PacketMarks.{PacketMarks}
 use Rattle.flac_ogg.specs.Decoding.{ogg_reading}
@@ -36,7 +36,7 @@ use Rattle.flac_ogg.proofs.MeaningReadings.{one_ogg_reading}
 -- ---- read as nothing else
 
 -- where an input has one reading, a stream of some items is one of just these
-pub is_just : (r : Reading Piece Place) (items : List Piece) → ReadsOnce r → r.whole items → IsJust r items
+pub is_just : (r : InputReading Piece Place) (items : List Piece) → ReadsOnce r → r.whole items → IsJust r items
 is_just r items once whole = record {
   whole = whole;
   only = λ others o. once.streams others items o whole;
@@ -86,7 +86,7 @@ packet_front m packet ps =
 -- and so does an Ogg stream
 stream_front : (serial : ℕ) (q : Placed) (qs : List Placed) → (rest : List Bool) × (placed.stream_spelling serial (q ∷ qs) ≡ unsigned 8 79 ++ rest)
 unfolding placed.stream_spelling
-stream_front serial q qs = packet_front (marks_of serial 0 true (is_nil qs) q) q.packet (pages_from serial (sequence_behind 0 q.packet) false qs)
+stream_front serial q qs = packet_front (marks_of serial 0 true (is_nil qs) q) q.packet (pages_from serial (sequence_after 0 q.packet) false qs)
 
 begins_ogg : (serial : ℕ) (p : Cut) (list : List Block) (a : Sound) (bytes : List ℕ) (packets : List Placed) → AreBytes bytes → ArePackets p list a packets → bits_of bytes ≡ placed.stream_spelling serial packets → begins_page bytes ≡ true
 begins_ogg serial p list a bytes [] small are is = absurd (omega (arith, ap (λ (x : List (List Bool)). length x) are.texts))
@@ -95,7 +95,7 @@ begins_ogg serial p list a bytes (q ∷ qs) small are is =
     first_byte bytes 79 small (omega arith) (record { rest = f.0; text = is ∙ f.1 })
 
 -- the first byte changes no items
-just_by_byte : (r : Reading Piece Place) (items : List Piece) → IsJust r items → IsJust (by_first_byte r) items
+just_by_byte : (r : InputReading Piece Place) (items : List Piece) → IsJust r items → IsJust (by_first_byte r) items
 just_by_byte r items just = record { whole = just.whole; only = just.only; accepted = just.accepted }
 
 -- ---- in memory

@@ -1,4 +1,4 @@
--- A whole stream that is sent: header packets, and frames behind them.
+-- A whole stream that is sent: header packets, and frames after them.
 use Rattle.std.proofs.Common.{◌≡◌, ℕ, zero, suc, ◌+◌, ◌^◌, ◌<◌, ◌≤◌, Bool, true, false, List, [], ◌∷◌, ◌++◌, length, map, None, refl, sym, ap, subst, ◌∙◌, arith, append_assoc, Result, Err, ◌⊎◌, inl, inr, replicate}
 use Rattle.std.specs.List.{All, flat_map}
 use Rattle.std.proofs.lemmas.List.{append-nil, length-map}
@@ -26,14 +26,14 @@ use Rattle.flac_pages.specs.Placed.{Placed, IsPlaced, pages_from, stream_spellin
 use Rattle.flac_ogg.specs.Headers.{AreHeaders}
 use Rattle.flac_ogg.specs.Listed.{texts_of, kinds_in}
 use Rattle.flac_ogg.specs.Native.{mapping_spelling, block_spellings, packet_spellings}
-use Rattle.flac_ogg.specs.Held.{open_from, number_behind}
+use Rattle.flac_ogg.specs.Held.{open_from, number_after}
 use Rattle.flac_ogg.specs.Writing.{header_count, frames_to, ArePackets, EncodesOgg}
 use Rattle.flac_ogg.specs.inner.Writing.{SendsPackets, SendsOgg}
 use Rattle.flac_ogg.specs.declared.headers.Headers.{Headers}
 use Rattle.flac_ogg.proofs.Listing.{texts_append, kinds_append}
 use Rattle.flac_ogg.proofs.OpenPages.{is_first}
 use Rattle.flac_ogg.proofs.Packing.{count_blocks}
-use Rattle.flac_ogg.proofs.SentPackets.{behind_open, packed, texts_packed, kinds_packed, good_packed, spelled_whole}
+use Rattle.flac_ogg.proofs.SentPackets.{after_open, packed, texts_packed, kinds_packed, good_packed, spelled_whole}
 use Rattle.flac_ogg.proofs.Whole.{encodes_ogg}
 use Rattle.flac_native.specs.Sent.{SendsBits}
 
@@ -53,21 +53,21 @@ module _ (h : Headers) (first : List Bool) (texts : List (List Bool)) (are : Are
   abbrev last : List Bool
   last = bits_of h.held.last.items
 
-  abbrev behind : List Placed → List Bool
-  behind ps = flat_map page_spelling (pages_from h.serial h.held.next false ps)
+  abbrev after : List Placed → List Bool
+  after ps = flat_map page_spelling (pages_from h.serial h.held.next false ps)
 
   not_none : (ps : List Placed) → texts_of ps ≡ first ∷ texts → is_first true ps ≡ false
   not_none [] e = absurd (omega (arith, ap (λ (x : List (List Bool)). length x) e))
   not_none (p ∷ ps) e = refl
 
-  -- with frames behind them
-  some_pages : (ps : List Placed) → 0 < length ps → (written ++ middle) ++ behind ps ≡ stream_spelling h.serial (are.packets ++ ps)
+  -- with frames after them
+  some_pages : (ps : List Placed) → 0 < length ps → (written ++ middle) ++ after ps ≡ stream_spelling h.serial (are.packets ++ ps)
   unfolding stream_spelling
   some_pages [] some = absurd (omega (arith, some))
   some_pages (q ∷ qs) some =
       let front : List Bool = open_from h.serial 0 true are.packets in
-      ap (λ t. t ++ behind (q ∷ qs)) are.pages.middle_is ∙ ap (λ k. front ++ flat_map page_spelling (pages_from h.serial k false (q ∷ qs))) are.pages.next
-      ∙ sym (behind_open h.serial 0 true are.packets q qs ∙ ap (λ f. front ++ flat_map page_spelling (pages_from h.serial (number_behind 0 are.packets) f (q ∷ qs))) (not_none are.packets are.texts_are))
+      ap (λ t. t ++ after (q ∷ qs)) are.pages.middle_is ∙ ap (λ k. front ++ flat_map page_spelling (pages_from h.serial k false (q ∷ qs))) are.pages.next
+      ∙ sym (after_open h.serial 0 true are.packets q qs ∙ ap (λ f. front ++ flat_map page_spelling (pages_from h.serial (number_after 0 are.packets) f (q ∷ qs))) (not_none are.packets are.texts_are))
 
   -- alone
   no_pages : written ++ last ≡ stream_spelling h.serial (are.packets ++ [])
@@ -135,14 +135,14 @@ module _ (h : Headers) (first : List Bool) (texts : List (List Bool)) (are : Are
       -- the last of the header packets was not sent whole
       pub middle_failed : {X Y : Type 0} (old one new : S) (e f : Why) → 0 < blocks_in p.block_size total → SendsBits g written old one came_out → SendsBits {X = X} g middle one new (Err e) → SendsOgg {X = Y} g h.serial p a are.packets old new (Err f)
       middle_failed {Y = Y} old one new e f some s1 s2 =
-          of_others old new (Err f) (subst (λ k. SendsBits {X = Y} g k old new (Err f)) (some_pages packets (omega (arith, same_long, some))) (bits_fault g (behind packets) (bits_then g (Err e) s1 s2)))
+          of_others old new (Err f) (subst (λ k. SendsBits {X = Y} g k old new (Err f)) (some_pages packets (omega (arith, same_long, some))) (bits_fault g (after packets) (bits_then g (Err e) s1 s2)))
 
       -- the others were not
       pub written_failed : {X Y : Type 0} (old new : S) (e f : Why) → SendsBits {X = X} g written old new (Err e) → SendsOgg {X = Y} g h.serial p a are.packets old new (Err f)
       written_failed {Y = Y} old new e f sends = elim (none_or_some (blocks_in p.block_size total)) [
         | inl none ↦ of_others old new (Err f) (subst (λ k. SendsBits {X = Y} g k old new (Err f)) (no_pages ∙ ap (λ ps. stream_spelling h.serial (are.packets ++ ps)) (sym (none_packed none))) (bits_fault g last sends))
         | inr some ↦
-            of_others old new (Err f) (subst (λ k. SendsBits {X = Y} g k old new (Err f)) (sym (append_assoc written middle (behind packets)) ∙ some_pages packets (omega (arith, same_long, some))) (bits_fault g (middle ++ behind packets) sends))
+            of_others old new (Err f) (subst (λ k. SendsBits {X = Y} g k old new (Err f)) (sym (append_assoc written middle (after packets)) ∙ some_pages packets (omega (arith, same_long, some))) (bits_fault g (middle ++ after packets) sends))
       ]
 
 -- ---- what it is

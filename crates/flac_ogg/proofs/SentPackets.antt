@@ -30,10 +30,10 @@ use Rattle.flac_pages.specs.declared.writing.PacketKind.TheVariants.{Frame}
 use Rattle.flac_pages.specs.declared.writing.PacketMarks.{PacketMarks}
 use Rattle.flac_pages.specs.Packets.{lacing_of}
 use Rattle.flac_pages.specs.Page.{Page, page_spelling}
-use Rattle.flac_pages.specs.Placed.{Placed, IsPlaced, marks_of, sequence_behind, pages_from}
+use Rattle.flac_pages.specs.Placed.{Placed, IsPlaced, marks_of, sequence_after, pages_from}
 use Rattle.flac_pages.specs.Written.{page_at, pages_of_packet, packet_spelling}
 use Rattle.flac_ogg.specs.Listed.{texts_of, kinds_in}
-use Rattle.flac_ogg.specs.Held.{open_from, number_behind}
+use Rattle.flac_ogg.specs.Held.{open_from, number_after}
 use Rattle.flac_ogg.specs.Writing.{frames_to}
 use Rattle.flac_ogg.specs.inner.Writing.{SendsPackets}
 use Rattle.flac_ogg.proofs.BitsAsBytes.{bytes_in, bytes_back, bytes_small}
@@ -41,14 +41,14 @@ use Rattle.flac_ogg.proofs.Listing.{texts_append, kinds_append}
 use Rattle.flac_ogg.proofs.OpenPages.{packet_joined, is_first, later, open_packet, next_number}
 use Rattle.flac_native.specs.Sent.{SendsBits}
 
--- ---- pages of packets behind others
+-- ---- pages of packets after others
 
--- the first packet, and those behind it
+-- the first packet, and those after it
 pub first_packet : (serial n : ℕ) (first : Bool) (q : Placed) (qs : List Placed)
-    → flat_map page_spelling (pages_from serial n first (q ∷ qs)) ≡ packet_spelling (marks_of serial n first (is_nil qs) q) q.packet ++ flat_map page_spelling (pages_from serial (sequence_behind n q.packet) false qs)
+    → flat_map page_spelling (pages_from serial n first (q ∷ qs)) ≡ packet_spelling (marks_of serial n first (is_nil qs) q) q.packet ++ flat_map page_spelling (pages_from serial (sequence_after n q.packet) false qs)
 first_packet serial n first q qs =
     let m = marks_of serial n first (is_nil qs) q in
-    let others = pages_from serial (sequence_behind n q.packet) false qs in
+    let others = pages_from serial (sequence_after n q.packet) false qs in
     flat_map-append page_spelling (pages_of_packet m q.packet) others ∙ ap (λ t. t ++ flat_map page_spelling others) (packet_joined m q.packet)
 
 more_follow : (ps : List Placed) (q : Placed) (qs : List Placed) → is_nil (ps ++ q ∷ qs) ≡ false
@@ -56,16 +56,16 @@ more_follow [] q qs = refl
 more_follow (p ∷ ps) q qs = refl
 
 -- packets that more follow, and these
-pub behind_open : (serial n : ℕ) (first : Bool) (ps : List Placed) (q : Placed) (qs : List Placed)
-    → flat_map page_spelling (pages_from serial n first (ps ++ q ∷ qs)) ≡ open_from serial n first ps ++ flat_map page_spelling (pages_from serial (number_behind n ps) (is_first first ps) (q ∷ qs))
-behind_open serial n first [] q qs = refl
-behind_open serial n first (p ∷ ps) q qs =
-    let k = sequence_behind n p.packet in
+pub after_open : (serial n : ℕ) (first : Bool) (ps : List Placed) (q : Placed) (qs : List Placed)
+    → flat_map page_spelling (pages_from serial n first (ps ++ q ∷ qs)) ≡ open_from serial n first ps ++ flat_map page_spelling (pages_from serial (number_after n ps) (is_first first ps) (q ∷ qs))
+after_open serial n first [] q qs = refl
+after_open serial n first (p ∷ ps) q qs =
+    let k = sequence_after n p.packet in
     let front = packet_spelling (marks_of serial n first false p) p.packet in
-    let end = flat_map page_spelling (pages_from serial (number_behind k ps) false (q ∷ qs)) in
+    let end = flat_map page_spelling (pages_from serial (number_after k ps) false (q ∷ qs)) in
     let one : packet_spelling (marks_of serial n first (is_nil (ps ++ q ∷ qs)) p) p.packet ≡ front = ap (λ l. packet_spelling (marks_of serial n first l p) p.packet) (more_follow ps q qs) in
     let rest : flat_map page_spelling (pages_from serial k false (ps ++ q ∷ qs)) ≡ open_from serial k false ps ++ end =
-    behind_open serial k false ps q qs ∙ ap (λ f. open_from serial k false ps ++ flat_map page_spelling (pages_from serial (number_behind k ps) f (q ∷ qs))) (later ps) in
+    after_open serial k false ps q qs ∙ ap (λ f. open_from serial k false ps ++ flat_map page_spelling (pages_from serial (number_after k ps) f (q ∷ qs))) (later ps) in
     first_packet serial n first p (ps ++ q ∷ qs) ∙ ap (λ t. t ++ flat_map page_spelling (pages_from serial k false (ps ++ q ∷ qs))) one ∙ ap (λ t. front ++ t) rest ∙ sym (append_assoc front (open_from serial k false ps) end)
 
 -- ---- frames as packets
@@ -144,7 +144,7 @@ drop_rest n left long many e f lt = omega arith
 
 -- ---- frames so far
 
--- so many frames were sent, in pages from one of a number on
+-- n frames were sent, in pages from one of a number on
 pub record SentPackets {S : Type 0} (g : target.Ghosts S) (serial from : ℕ) (p : Cut) (a : Sound) (number sequence : ℕ) (old new : S) : Type 0 where
   pub frames : List (List Bool)
   pub packets : List Placed
@@ -154,7 +154,7 @@ pub record SentPackets {S : Type 0} (g : target.Ghosts S) (serial from : ℕ) (p
   pub texts : texts_of packets ≡ frames
   pub kinds : kinds_in packets ≡ frames_to p.block_size (samples_each a.channels) number
   pub good : All IsPlaced packets
-  pub next : sequence ≡ number_behind from packets
+  pub next : sequence ≡ number_after from packets
   pub sends : SendsBits g (open_from serial from false packets) old new came_out
 
 module _ {S : Type 0} (g : target.Ghosts S) (serial from : ℕ) (p : Cut) (a : Sound) where
@@ -169,14 +169,14 @@ module _ {S : Type 0} (g : target.Ghosts S) (serial from : ℕ) (p : Cut) (a : S
 
   -- one more frame, that others follow
   pub packets_more : (number sequence : ℕ) (old mid new : S) (packet : List ℕ) → total < 2 ^ 64 → AreBytes packet → SentPackets g serial from p a number sequence old mid → IsSpelled p a number (bits_of packet)
-      → SendsBits g (packet_spelling (marks_of serial sequence false false (frame_packet number packet)) packet) mid new came_out → SentPackets g serial from p a (number + 1) (sequence_behind sequence packet) old new
+      → SendsBits g (packet_spelling (marks_of serial sequence false false (frame_packet number packet)) packet) mid new came_out → SentPackets g serial from p a (number + 1) (sequence_after sequence packet) old new
   packets_more number sequence old mid new packet few small s is sends =
       let q = frame_packet number packet in
       let t = bits_of packet in
       let position : min total (p.block_size * suc number) < 2 ^ 64 = position_fits total (p.block_size * suc number) few in
       let up = one_more number in
       let pages : open_from serial from false (s.packets ++ q ∷ []) ≡ open_from serial from false s.packets ++ packet_spelling (marks_of serial sequence false false q) packet =
-      open_packet serial from false s.packets q ∙ ap (λ f. open_from serial from false s.packets ++ packet_spelling (marks_of serial (number_behind from s.packets) f false q) packet) (later s.packets)
+      open_packet serial from false s.packets q ∙ ap (λ f. open_from serial from false s.packets ++ packet_spelling (marks_of serial (number_after from s.packets) f false q) packet) (later s.packets)
       ∙ ap (λ k. open_from serial from false s.packets ++ packet_spelling (marks_of serial k false false q) packet) (sym s.next) in
       record {
         frames = snoc s.frames t;
@@ -187,11 +187,11 @@ module _ {S : Type 0} (g : target.Ghosts S) (serial from : ℕ) (p : Cut) (a : S
         texts = texts_append s.packets (q ∷ []) ∙ ap (λ (l : List (List Bool)). l ++ t ∷ []) s.texts;
         kinds = kinds_append s.packets (q ∷ []) ∙ ap (λ (l : List PacketKind). l ++ q.kind ∷ []) s.kinds ∙ ap (frames_to p.block_size total) up;
         good = All-append IsPlaced s.packets (q ∷ []) s.good (All-cons IsPlaced q [] (record { bytes = small; position = position }) (All-nil IsPlaced));
-        next = ap (λ k. sequence_behind k packet) s.next ∙ sym (next_number from s.packets q);
+        next = ap (λ k. sequence_after k packet) s.next ∙ sym (next_number from s.packets q);
         sends = subst (λ k. SendsBits g k old new came_out) (sym pages) (bits_then g came_out s.sends sends);
       }
 
-  -- The packet of a number, and frames behind it.
+  -- The packet of a number, and frames after it.
   pub packets_end : {X E : Type 0} (number sequence : ℕ) (old mid new : S) (packet : List ℕ) (last : Bool) (rest : List (List Bool)) (r : Result X E) → total < 2 ^ 64 → AreBytes packet → (s : SentPackets g serial from p a number sequence old mid)
       → IsSpelled p a number (bits_of packet) → number + 1 + length rest ≡ blocks_in p.block_size total → is_nil rest ≡ last
       → ((j : ℕ) → j < length rest → SpellsFrame a (frame_of p.block_size a (number + 1 + j)) (nth rest j)) → ((j : ℕ) → j < length rest → SpellsLeast (tried p (number + 1 + j)) a (frame_of p.block_size a (number + 1 + j)) (nth rest j))
@@ -202,20 +202,20 @@ module _ {S : Type 0} (g : target.Ghosts S) (serial from : ℕ) (p : Cut) (a : S
       let q = frame_packet number packet in
       let t = bits_of packet in
       let front = snoc s.frames t in
-      let behind : List Placed = packed b total (suc number) rest in
+      let after : List Placed = packed b total (suc number) rest in
       let so_far = open_from serial from false s.packets in
       let here = packet_spelling (marks_of serial sequence false last q) packet in
-      let tail = flat_map page_spelling (pages_from serial (sequence_behind sequence packet) false behind) in
+      let tail = flat_map page_spelling (pages_from serial (sequence_after sequence packet) false after) in
       let position : min total (b * suc number) < 2 ^ 64 = position_fits total (b * suc number) few in
       let long : length front ≡ number + 1 = length-snoc s.frames t ∙ ap (λ n. n + 1) s.many in
       let count : suc number + length rest ≡ blocks_in b total = ap (λ n. n + length rest) (one_more number) ∙ all in
       let whole = spelled_whole p a rest (number + 1) each_rest in
-      let none : rest ≡ [] → tail ≡ [] = λ e. ap (λ (l : List (List Bool)). flat_map page_spelling (pages_from serial (sequence_behind sequence packet) false (packed b total (suc number) l))) e in
-      let pages : flat_map page_spelling (pages_from serial from false (s.packets ++ q ∷ behind)) ≡ (so_far ++ here) ++ tail =
-      behind_open serial from false s.packets q behind
-      ∙ ap (λ f. so_far ++ flat_map page_spelling (pages_from serial (number_behind from s.packets) f (q ∷ behind))) (later s.packets)
-      ∙ ap (λ k. so_far ++ flat_map page_spelling (pages_from serial k false (q ∷ behind))) (sym s.next)
-      ∙ ap (λ (k : List Bool). so_far ++ k) (first_packet serial sequence false q behind)
+      let none : rest ≡ [] → tail ≡ [] = λ e. ap (λ (l : List (List Bool)). flat_map page_spelling (pages_from serial (sequence_after sequence packet) false (packed b total (suc number) l))) e in
+      let pages : flat_map page_spelling (pages_from serial from false (s.packets ++ q ∷ after)) ≡ (so_far ++ here) ++ tail =
+      after_open serial from false s.packets q after
+      ∙ ap (λ f. so_far ++ flat_map page_spelling (pages_from serial (number_after from s.packets) f (q ∷ after))) (later s.packets)
+      ∙ ap (λ k. so_far ++ flat_map page_spelling (pages_from serial k false (q ∷ after))) (sym s.next)
+      ∙ ap (λ (k : List Bool). so_far ++ k) (first_packet serial sequence false q after)
       ∙ ap (λ l. so_far ++ (packet_spelling (marks_of serial sequence false l q) packet ++ tail)) (same_end b total (suc number) rest ∙ end)
       ∙ sym (append_assoc so_far here tail) in
       let each_front = each_more (λ i k. SpellsFrame a (frame_of b a i) k) s.frames t s.each (subst (λ n. SpellsFrame a (frame_of b a n) t) (sym s.many) is.frame) in
@@ -227,12 +227,12 @@ module _ {S : Type 0} (g : target.Ghosts S) (serial from : ℕ) (p : Cut) (a : S
           each = each_append (λ i k. SpellsFrame a (frame_of b a i) k) front rest each_front (λ j h. subst (λ n. SpellsFrame a (frame_of b a (n + j)) (nth rest j)) (sym long) (each_rest j h));
         };
         are_least = each_append (λ i k. SpellsLeast (tried p i) a (frame_of b a i) k) front rest least_front (λ j h. subst (λ n. SpellsLeast (tried p (n + j)) a (frame_of b a (n + j)) (nth rest j)) (sym long) (least_rest j h));
-        packets = s.packets ++ q ∷ behind;
-        texts = texts_append s.packets (q ∷ behind) ∙ ap (λ (l : List (List Bool)). l ++ (t ∷ texts_of behind)) s.texts ∙ ap (λ (l : List (List Bool)). s.frames ++ (t ∷ l)) (texts_packed b total (suc number) rest whole)
+        packets = s.packets ++ q ∷ after;
+        texts = texts_append s.packets (q ∷ after) ∙ ap (λ (l : List (List Bool)). l ++ (t ∷ texts_of after)) s.texts ∙ ap (λ (l : List (List Bool)). s.frames ++ (t ∷ l)) (texts_packed b total (suc number) rest whole)
             ∙ sym (append_assoc s.frames (t ∷ []) rest);
-        kinds = kinds_append s.packets (q ∷ behind) ∙ ap (λ (l : List PacketKind). l ++ (q.kind ∷ kinds_in behind)) s.kinds ∙ sym (append_assoc (frames_to b total number) (q.kind ∷ []) (kinds_in behind))
+        kinds = kinds_append s.packets (q ∷ after) ∙ ap (λ (l : List PacketKind). l ++ (q.kind ∷ kinds_in after)) s.kinds ∙ sym (append_assoc (frames_to b total number) (q.kind ∷ []) (kinds_in after))
             ∙ kinds_packed b total (suc number) rest ∙ ap (frames_to b total) count;
-        good = All-append IsPlaced s.packets (q ∷ behind) s.good (All-cons IsPlaced q behind (record { bytes = small; position = position }) (good_packed b total (suc number) rest few whole));
+        good = All-append IsPlaced s.packets (q ∷ after) s.good (All-cons IsPlaced q after (record { bytes = small; position = position }) (good_packed b total (suc number) rest few whole));
         sends = subst (λ k. SendsBits g k old new r) (sym pages) (sends tail none);
       }
 
@@ -245,7 +245,7 @@ module _ {S : Type 0} (g : target.Ghosts S) (serial from : ℕ) (p : Cut) (a : S
       (λ more none. let here = packet_spelling (marks_of serial sequence false true (frame_packet number packet)) packet in
       subst (λ k. SendsBits {E = Why} g k old new (Ok x)) (sym (ap (λ (l : List Bool). (open_from serial from false s.packets ++ here) ++ l) (none refl) ∙ append-nil (open_from serial from false s.packets ++ here))) (bits_then g (Ok x) s.sends sends))
 
-  -- one was not sent whole, and others would stand behind it
+  -- one was not sent whole, and others would stand after it
   pub packets_fail : {X Y : Type 0} (number sequence : ℕ) (old mid new : S) (packet : List ℕ) (last : Bool) (others : List (List Bool)) (e f : Why) → total < 2 ^ 64 → AreBytes packet → SentPackets g serial from p a number sequence old mid
       → IsSpelled p a number (bits_of packet) → number < blocks_in p.block_size total → nat_eq (number + 1) (blocks_in p.block_size total) ≡ last → AreFrames p a others → AreLeastFrames p a others
       → SendsBits {X = X} g (packet_spelling (marks_of serial sequence false last (frame_packet number packet)) packet) mid new (Err e) → SendsPackets {X = Y} g serial from p a old new (Err f)
@@ -293,7 +293,7 @@ range_long : (from n : ℕ) → length (range_with_len from n) ≡ n
 range_long from zero = refl
 range_long from (suc n) = ap suc (range_long (from + 1) n)
 
--- the pages of a packet of so many bytes
+-- the pages of a packet of n bytes
 pub pages_long : (m : PacketMarks) (packet : List ℕ) → length (packet_spelling m packet) ≤ 8 * (65307 * (length packet / 65025 + 1))
 unfolding packet_spelling
 pages_long m packet =

@@ -1,4 +1,4 @@
--- The first block is STREAMINFO, so that frames come only behind one.
+-- The first block is STREAMINFO, so that frames come only after one.
 use Rattle.std.proofs.Common.{◌≡◌, ◌≢◌, ℕ, Bool, true, false, cond, List, Option, None, refl, ap, subst, ◌∙◌, inl, inr, ◌⊎◌, arith}
 use Rattle.std.specs.Prelude.{is_some}
 use Rattle.flac_bits.specs.State.{Mark, past}
@@ -10,7 +10,7 @@ use Rattle.flac_meta.specs.Spelling.{kind_of}
 use Rattle.flac_meta.specs.declared.block.Block.{Block}
 use Rattle.flac_meta.specs.declared.block.Block.TheVariants as block_of
 use Rattle.flac_header.specs.declared.subset.Profile.{Profile}
-use Rattle.flac_native.specs.Stream.{Piece, marked, block, framed, Stand, Progress, layout, next, phase_behind, info_after}
+use Rattle.flac_native.specs.Stream.{Piece, marked, block, framed, Stand, Progress, layout, next, phase_after, info_after}
 use Rattle.flac_native.specs.declared.track.Phase.TheVariants.{Opening, Blocks}
 use Rattle.flac_native.proofs.Blocks.{block_there}
 use Rattle.flac_ogg.specs.Mapping.{mapping, is_first_block, packet_layout}
@@ -50,10 +50,10 @@ first_info o (block_of.CueSheet found) e none = absurd (omega (arith, e))
 first_info o (block_of.Picture found) e none = absurd (omega (arith, e))
 first_info o (block_of.Other kind bytes) e none = absurd (forbidden kind bytes e none)
 
--- the block behind the mapping, or without it
-behind_mapping : (s : Stand) (m : Mark) (text : List Bool) (x : Piece) → Spells (packet_layout s) m text x → (n : Mark) × (rest : List Bool) × Spells (layout s) n rest x
+-- the block after the mapping, or without it
+after_mapping : (s : Stand) (m : Mark) (text : List Bool) (x : Piece) → Spells (packet_layout s) m text x → (n : Mark) × (rest : List Bool) × Spells (layout s) n rest x
 unfolding packet_layout
-behind_mapping s m text x h = go (is_first_block s.phase s.index) h
+after_mapping s m text x h = go (is_first_block s.phase s.index) h
   where
     go : (b : Bool) → Spells (cond b (mapping >>= λ _. layout s) (layout s)) m text x → (n : Mark) × (rest : List Bool) × Spells (layout s) n rest x
     go true (u, front, rest, split, first, others) = (past front m, rest, others)
@@ -62,18 +62,18 @@ behind_mapping s m text x h = go (is_first_block s.phase s.index) h
 same_block : (a b : Bool) (c d : Block) → block a c ≡ block b d → c ≡ d
 same_block a b c d e = cc
 
-begun_behind : (last : Bool) → phase_behind last ≢ Opening
-begun_behind true e = absurd cc
-begun_behind false e = absurd cc
+begun_after : (last : Bool) → phase_after last ≢ Opening
+begun_after true e = absurd cc
+begun_after false e = absurd cc
 
--- ---- behind each item
+-- ---- after each item
 
 pub next_begun : (p : Progress) (x : Piece) → p.stand.phase ≢ Opening → (next p x).stand.phase ≢ Opening
 next_begun p marked begun = differ
   where
     differ : Blocks ≡ Opening → ⊥
     differ e = absurd cc
-next_begun p (block last b) begun = begun_behind last
+next_begun p (block last b) begun = begun_after last
 next_begun p (framed f) begun = begun
 
 pub goes_on : (p : Progress) (m : Mark) (text : List Bool) (x : Piece) → IsUnderWay p.stand → Spells (packet_layout p.stand) m text x → IsUnderWay (next p x).stand
@@ -86,12 +86,12 @@ goes_on p m text marked way h = record { begun = differ; told = go way.told }
     go (inl e) = inl e
     go (inr (phase, none)) = inr (refl, none)
 goes_on p m text (framed f) way h = record { begun = way.begun; told = way.told }
-goes_on p m text (block last b) way h = record { begun = begun_behind last; told = inl (go way.told) }
+goes_on p m text (block last b) way h = record { begun = begun_after last; told = inl (go way.told) }
   where
     go : (is_some p.stand.info ≡ true) ⊎ ((p.stand.phase ≡ Blocks) × (p.stand.seen.stream_info ≡ false)) → is_some (info_after p.stand.info b) ≡ true
     go (inl e) = kept_info p.stand.info b e
     go (inr (phase, none)) =
-        let at = behind_mapping p.stand m text (block last b) h in
+        let at = after_mapping p.stand m text (block last b) h in
         let t = block_there p.stand at.0 at.1 (block last b) phase at.2 in
         let same : b ≡ t.is = same_block last t.last b t.is t.part in
         first_info p.stand.info b (ap kind_of same ∙ t.valid.first none) (ap block_fault same ∙ t.valid.written)

@@ -23,9 +23,9 @@ pub record ItemsCome (p : Progress) (a : Ahead) (items : List Piece) (end : Opti
   pub begun : List ℕ
   pub given : PacketsAhead a packets begun
   pub state : Progress
-  pub behind : Ahead
-  pub goes : Goes p a items state behind
-  pub ends : packet_step state behind ≡ final end
+  pub after : Ahead
+  pub goes : Goes p a items state after
+  pub ends : packet_step state after ≡ final end
 
 -- this fault is one of reading
 abbrev pub TellsRead : Option (ℕ × Why) → Type 0

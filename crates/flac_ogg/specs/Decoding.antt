@@ -2,8 +2,8 @@
 use Rattle.std.specs.Prelude.{◌≡◌, ◌≢◌, ◌⊎◌, ℕ, Bool, true, false, List, [], ◌++◌, length, None}
 use Rattle.flac_bits.specs.Bits.{bits_of}
 use Rattle.flac_bits.specs.State.{Mark}
-use Rattle.flac_bits.specs.Items.{after}
-use Rattle.flac_bits.specs.Handing.{Reading}
+use Rattle.flac_bits.specs.Items.{state_after}
+use Rattle.flac_bits.specs.Handing.{InputReading}
 use Rattle.flac_bits.specs.declared.source.Source as source
 use Rattle.flac_bits.specs.declared.why.Why.{Why}
 use Rattle.flac_bits.specs.declared.why.Why.TheVariants.{Read, Memory}
@@ -47,24 +47,24 @@ IsBrokenAt n p at why = (why ≡ Read → at ≡ place.Page n) × (why ≡ Memor
 -- Reading ended early after these items, when n pages of the input had been read; an error of the device is reported at
 -- the page after those of the items.
 abbrev pub BreaksAtPage : Profile → Mark → List Piece → List Bool → Place → Why → Type 0
-BreaksAtPage profile mark items text at why = (n : ℕ) × IsBrokenAt n (after grammar (start profile) items) at why × (why ≡ Read → ReadsTo profile mark items text n)
+BreaksAtPage profile mark items text at why = (n : ℕ) × IsBrokenAt n (state_after grammar (start profile) items) at why × (why ≡ Read → ReadsTo profile mark items text n)
 
 -- It is an Ogg stream of these items, or is refused after them, or its first packets are these items; the place of the
 -- next one is that in a native stream. An error of the device is reported at the page after those that were read, which
 -- are the pages of these items. Before the first item memory may run out at the marker too: the room for a page is
 -- allocated before anything is read.
-abbrev pub ogg_reading : Profile → Mark → List Bool → Reading Piece Place
+abbrev pub ogg_reading : Profile → Mark → List Bool → InputReading Piece Place
 ogg_reading profile mark text = record {
   whole = λ items. OggStream profile mark items text;
   refused = λ items at why. OggRefused profile mark items text at why;
   begins = λ items. BeginsWith profile mark items text;
-  place = λ items. grammar.place (after grammar (start profile) items);
+  place = λ items. grammar.place (state_after grammar (start profile) items);
   breaks = λ items at why. BreaksAtPage profile mark items text at why ⊎ ((items ≡ []) × (at ≡ place.Marker) × (why ≡ Memory));
 }
 
 -- how what a source has to come is read as an Ogg stream
-abbrev pub ogg_reading_of : {R : Type 0} → source.Ghosts R → Profile → R → Reading Piece Place
-ogg_reading_of g profile s = ogg_reading profile (start_mark (g.behind s)) (bits_of (g.coming s))
+abbrev pub ogg_reading_of : {R : Type 0} → source.Ghosts R → Profile → R → InputReading Piece Place
+ogg_reading_of g profile s = ogg_reading profile (start_mark (g.after s)) (bits_of (g.coming s))
 
 -- ---- where pages begin
 

@@ -16,5 +16,5 @@ pub mod Writing
 pub mod RoundTrip
 pub mod Held
 pub mod Headers
-pub mod Wider
+pub mod LaxProfile
 pub mod inner

@@ -4,7 +4,7 @@ use Rattle.flac_bits.specs.Bits.{unsigned, bits_of, is_nil}
 use Rattle.flac_bits.specs.State.{Mark}
 use Rattle.flac_bits.specs.Forms.{joined}
 use Rattle.flac_bits.specs.Meaning.{AllKept}
-use Rattle.flac_bits.specs.Items.{Stream, after}
+use Rattle.flac_bits.specs.Items.{Stream, state_after}
 use Rattle.flac_bits.specs.declared.why.Why.TheVariants.{Truncated}
 use Rattle.flac_info.specs.Info.{Info}
 use Rattle.flac_meta.specs.Listed.{list_fault, info_seen}
@@ -53,8 +53,8 @@ packet_spellings count info list frames = (mapping_spelling count ++ block_spell
 -- the packets are exactly these items, and a stream of the profile may end after them
 pub record AreStream (profile : Profile) (packets : List (List ℕ)) (items : List Piece) : Type 0 where
   pub spelled : AreItems (start profile) packets items
-  pub ends : grammar.may_end (after grammar (start profile) items) ≡ true
-  pub kept : AllKept (grammar.at_end (after grammar (start profile) items))
+  pub ends : grammar.may_end (state_after grammar (start profile) items) ≡ true
+  pub kept : AllKept (grammar.at_end (state_after grammar (start profile) items))
 
 -- Packets of what is encoded are the items of a stream of what was given, and of the plan's profile, for samples that a
 -- plan was made for and blocks that may follow STREAMINFO.

@@ -22,14 +22,14 @@ its_pages d = (stage_of d).container.pages
 
 -- they are before all that this source has to come, if its bytes are known
 abbrev pub IsFrontOf : {R : Type 0} → source.Ghosts R → R → Stands → Type 0
-IsFrontOf g s p = g.known s ≡ true → IsFront (start_mark (g.behind s)) (bits_of (g.coming s)) p
+IsFrontOf g s p = g.known s ≡ true → IsFront (start_mark (g.after s)) (bits_of (g.coming s)) p
 
 -- if this source has an Ogg stream to come, its items are what the pages still have
 abbrev pub StreamComes : {R : Type 0} → source.Ghosts R → Profile → R → Stands → Type 0
-StreamComes g profile s p = (items : List Piece) → OggStream profile (start_mark (g.behind s)) items (bits_of (g.coming s)) → ItemsCome (start profile) (ahead p) items None
+StreamComes g profile s p = (items : List Piece) → OggStream profile (start_mark (g.after s)) items (bits_of (g.coming s)) → ItemsCome (start profile) (ahead p) items None
 
 -- and if what it has to come is refused, so is what the pages still have
 abbrev pub RefusalComes : {R : Type 0} → source.Ghosts R → Profile → R → Stands → Type 0
 RefusalComes g profile s p =
-    (items : List Piece) (at : Place) (why : Why) → OggRefused profile (start_mark (g.behind s)) items (bits_of (g.coming s)) at why
+    (items : List Piece) (at : Place) (why : Why) → OggRefused profile (start_mark (g.after s)) items (bits_of (g.coming s)) at why
     → ItemsCome (start profile) (ahead p) items (Some (at, why))

@@ -1,7 +1,7 @@
 -- What is encoded, and read again.
 use Rattle.std.specs.Prelude.{◌≡◌, ℕ, Bool, true, false, not, List, [], ◌∷◌, ◌++◌, map, Option, Some, None}
 use Rattle.flac_bits.specs.Bits.{bits_of}
-use Rattle.flac_bits.specs.Handing.{Reading}
+use Rattle.flac_bits.specs.Handing.{InputReading}
 use Rattle.flac_bits.specs.declared.why.Why.{Why}
 use Rattle.flac_bits.specs.declared.why.Why.TheVariants.{Truncated}
 use Rattle.flac_meta.specs.declared.block.Block.{Block}
@@ -20,7 +20,7 @@ use Rattle.flac_ogg.specs.Verifying.{bytes_reading}
 use Rattle.flac_ogg.specs.Writing.{EncodesOgg, may_be_ogg}
 
 -- An input is a stream of exactly these items: of these, and of no others; and it is not refused.
-pub record IsJust (r : Reading Piece Place) (items : List Piece) : Type 0 where
+pub record IsJust (r : InputReading Piece Place) (items : List Piece) : Type 0 where
   pub whole : r.whole items
   pub only : (others : List Piece) → r.whole others → others ≡ items
   pub accepted : (before : List Piece) (at : Place) (why : Why) → r.refused before at why → ⊥

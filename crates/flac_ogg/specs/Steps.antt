@@ -1,14 +1,14 @@
 -- What a reader of an Ogg stream does with one packet, as a function of what good pages still have.
 use Rattle.std.specs.Prelude.{◌≡◌, ℕ, true, cond, List, [], ◌∷◌, Option, Some, None, Result, Ok, Err}
 use Rattle.flac_bits.specs.Bits.{bits_of}
-use Rattle.flac_bits.specs.State.{Behind}
+use Rattle.flac_bits.specs.State.{After}
 use Rattle.flac_bits.specs.Layout.{Rule}
 use Rattle.flac_bits.specs.declared.why.Why.{Why}
 use Rattle.flac_bits.specs.declared.why.Why.TheVariants.{PacketLength}
 use Rattle.flac_native.specs.Stream.{Piece, Stand, Progress, grammar, next, room_in}
 use Rattle.flac_native.specs.declared.fault.Place.{Place}
 use Rattle.flac_native.specs.declared.fault.Place.TheVariants as place
-use Rattle.flac_pages.specs.Packets.{Ahead, rest_in, behind_in}
+use Rattle.flac_pages.specs.Packets.{Ahead, rest_in, after_in}
 use Rattle.flac_pages.specs.Items.{Packet, end_of, item_in}
 use Rattle.flac_ogg.specs.Mapping.{packet_layout, packet_place, page_place}
 use Rattle.flac_ogg.specs.Stream.{packet_start, last_fault}
@@ -20,16 +20,16 @@ pub data PacketStep : Type 0 where
   refused : Place → Why → PacketStep
 
 -- after a whole packet
-abbrev pub ahead_behind : Behind → Ahead
-ahead_behind b = record { lacing = b.pieces; bytes = b.bytes; fault = b.fault; stop = b.stop }
+abbrev pub ahead_after : After → Ahead
+ahead_after b = record { lacing = b.pieces; bytes = b.bytes; fault = b.fault; stop = b.stop }
 
 -- the next packet, of which good pages have a lacing value
 abbrev pub next_packet : Ahead → Packet
-next_packet a = record { bits = bits_of (rest_in 0 true a); ends = end_of (behind_in 0 true a) }
+next_packet a = record { bits = bits_of (rest_in 0 true a); ends = end_of (after_in 0 true a) }
 
-abbrev pub told : Stand → Behind → Result Piece (Option ℕ × Why) → PacketStep
-told s b (Ok x) = item x (ahead_behind b)
-told s b (Err why) = refused (packet_place s why) why.1
+abbrev pub step_of_item : Stand → After → Result Piece (Option ℕ × Why) → PacketStep
+step_of_item s b (Ok x) = item x (ahead_after b)
+step_of_item s b (Err why) = refused (packet_place s why) why.1
 
 -- if the stream may end
 abbrev pub judged : List Rule → PacketStep
@@ -43,7 +43,7 @@ without_packet p None = cond (grammar.may_end p) (judged (grammar.at_end p)) (re
 
 abbrev pub step_in : Progress → Ahead → List ℕ → PacketStep
 step_in p a [] = without_packet p (last_fault p a.fault a.stop)
-step_in p a (v ∷ vs) = told p.stand (behind_in 0 true a) (item_in (room_in p.stand.phase) (packet_layout p.stand) (packet_start (behind_in 0 true a).fails) (next_packet a))
+step_in p a (v ∷ vs) = step_of_item p.stand (after_in 0 true a) (item_in (room_in p.stand.phase) (packet_layout p.stand) (packet_start (after_in 0 true a).fails) (next_packet a))
 
 unfoldable pub packet_step : Progress → Ahead → PacketStep
 packet_step p a = step_in p a a.lacing

@@ -4,7 +4,7 @@ use Rattle.std.specs.Prelude.{◌≡◌, ◌≢◌, ℕ, length, Bool, true, fal
 use Rattle.flac_bits.specs.Bits.{bits_of}
 use Rattle.flac_bits.specs.State.{Mark, short_of}
 use Rattle.flac_bits.specs.Meaning.{AllKept, BreaksFirst}
-use Rattle.flac_bits.specs.Items.{after}
+use Rattle.flac_bits.specs.Items.{state_after}
 use Rattle.flac_bits.specs.declared.why.Why.{Why}
 use Rattle.flac_bits.specs.declared.why.Why.TheVariants.{PacketLength}
 use Rattle.flac_native.specs.Stream.{Piece, marked, Progress, opening, grammar, next, room_in}
@@ -64,8 +64,8 @@ pub record OggStream (profile : Profile) (mark : Mark) (items : List Piece) (tex
   pub no_fault : stop_in contents ≡ None
   pub no_part : contents.begun ≡ []
   pub spelled : AreItems (start profile) contents.packets items
-  pub ends : grammar.may_end (after grammar (start profile) items) ≡ true
-  pub kept : AllKept (grammar.at_end (after grammar (start profile) items))
+  pub ends : grammar.may_end (state_after grammar (start profile) items) ≡ true
+  pub kept : AllKept (grammar.at_end (state_after grammar (start profile) items))
 
 -- The fault if no packet is left. After the page marked last a byte is one only if the stream may end; else a block is
 -- missing.
@@ -102,4 +102,4 @@ pub record OggRefused (profile : Profile) (mark : Mark) (items : List Piece) (te
   pub left : List (List ℕ)
   pub split : contents.packets ≡ taken ++ left
   pub spelled : AreItems (start profile) taken items
-  pub stops : StopsAtPacket (after grammar (start profile) items) left contents.begun (fault_in contents) (stop_in contents) at why
+  pub stops : StopsAtPacket (state_after grammar (start profile) items) left contents.begun (fault_in contents) (stop_in contents) at why

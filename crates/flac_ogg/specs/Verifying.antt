@@ -1,7 +1,7 @@
 -- Whether bytes are a stream.
 use Rattle.std.specs.Prelude.{◌≢◌, ℕ, List, Option, Some, None}
 use Rattle.flac_bits.specs.Bits.{bits_of}
-use Rattle.flac_bits.specs.Handing.{Reading}
+use Rattle.flac_bits.specs.Handing.{InputReading}
 use Rattle.flac_bits.specs.declared.why.Why.{Why}
 use Rattle.flac_bits.specs.declared.why.Why.TheVariants.{Truncated, Memory}
 use Rattle.flac_native.specs.Stream.{Piece}
@@ -11,7 +11,7 @@ use Rattle.flac_ogg.specs.Either.{begins_page, read_any}
 use Rattle.flac_header.specs.declared.subset.Profile.{Profile}
 
 -- how bytes are read in the container that the first of them names; after the last one the input ends
-abbrev pub bytes_reading : Profile → List ℕ → Reading Piece Place
+abbrev pub bytes_reading : Profile → List ℕ → InputReading Piece Place
 bytes_reading profile bytes = read_any profile (begins_page bytes) (beginning Truncated) (bits_of bytes)
 
 -- the bytes are a stream if nothing is reported, and else are refused at this place and for this reason, unless memory

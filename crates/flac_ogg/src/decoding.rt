@@ -15,8 +15,8 @@ ghost use Rattle.flac_ogg.specs.Either.{begins_page};
 
 use crate::packets::OggPackets;
 use flac_bits::{Source, Why};
-use flac_native::{Decoder, Fault, Place, Profile, Refused, Sink, Track, decode, hand_out};
-use flac_pages::{CAPTURE_PATTERN, PageRoom, Pages};
+use flac_native::{Decoder, Fault, Place, Profile, Refused, Sink, Track, decode, decode_into};
+use flac_pages::{CAPTURE_PATTERN, PageBuffer, Pages};
 use std::alloc::Global;
 use std::io;
 
@@ -26,7 +26,7 @@ fn pages_of<R: Source>(alloc: Global, source: R) -> Result<Pages<R>, Refused<R>>
     ensures memory { IfErr result (λ x. x.fault ≡ record { at = Place.Marker; why = Why.Memory }) }
     ensures left { IfErr result (λ x. x.left ≡ source) }
 {
-    match PageRoom::new(alloc) {
+    match PageBuffer::new(alloc) {
         Ok(room) => Ok(Pages::over(room, source)),
         Err(why) => Err(Refused {
             fault: Fault {
@@ -60,7 +60,7 @@ pub fn ogg_decoder_returning<R: Source>(
     // No page was read.
     ensures front { IfOk result (λ d. IsFrontOf R.Source source (its_pages d)) }
     // Read is returned only if the source returns an error in the call, unless one is announced.
-    ensures clear { IfOk result (λ d. (R.behind source).fails ≡ None → IsClear (its_pages d) (stage_of d).track) }
+    ensures clear { IfOk result (λ d. (R.after source).fails ≡ None → IsClear (its_pages d) (stage_of d).track) }
     ensures memory { IfErr result (λ x. x.fault ≡ record { at = Place.Marker; why = Why.Memory }) }
     ensures left { IfErr result (λ x. x.left ≡ source) }
 {
@@ -102,7 +102,7 @@ pub fn ogg_decoder<R: Source + Drop>(
     // No page was read.
     ensures front { IfOk result (λ d. IsFrontOf R.Source source (its_pages d)) }
     // Read is returned only if the source returns an error in the call, unless one is announced.
-    ensures clear { IfOk result (λ d. (R.behind source).fails ≡ None → IsClear (its_pages d) (stage_of d).track) }
+    ensures clear { IfOk result (λ d. (R.after source).fails ≡ None → IsClear (its_pages d) (stage_of d).track) }
     ensures memory { IfErr result (λ f. f.why ≡ Why.Memory) }
     ensures place { IfErr result (λ f. f.at ≡ Place.Marker) }
 {
@@ -154,7 +154,7 @@ pub fn decode_ogg<R: Source, S: Sink>(
     ensures names { S.names sink.new ≡ S.names sink.old }
     ensures source_names { R.names source.new ≡ R.names source.old }
 {
-    let room = match PageRoom::new(alloc) {
+    let room = match PageBuffer::new(alloc) {
         Ok(room) => room,
         Err(why) => {
             return Err(Fault {
@@ -165,7 +165,7 @@ pub fn decode_ogg<R: Source, S: Sink>(
     };
     let mut track = Track::new(alloc, profile);
     let mut packets = OggPackets::over(Pages::over(room, source));
-    let outcome = hand_out(&mut packets, &mut track, sink);
+    let outcome = decode_into(&mut packets, &mut track, sink);
     let pages = packets.into_pages();
     let _source = pages.into_source(); // for its clauses alone
     outcome
@@ -195,7 +195,7 @@ impl<S: Source> Source for Fronted<S> {
 
     ghost coming = { λ s. front_bytes s.front ++ S.coming s.source };
 
-    ghost behind = { λ s. S.behind s.source };
+    ghost after = { λ s. S.after s.source };
 
     ghost errors = { λ s. S.errors s.source };
 
@@ -240,7 +240,7 @@ pub fn pull_front<R: Source>(source: &mut R) -> Result<Option<u8>, Fault>
     ensures end { result ≡ Ok None → R.known source.old ≡ true → R.coming source.old ≡ [] }
     ensures counted { OnOk result (HadNoError R.Source source.old source.new) }
     ensures kept { R.errors source.old ≤ R.errors source.new }
-    ensures behind { KeepsEnd R.Source source.old source.new }
+    ensures after { KeepsEnd R.Source source.old source.new }
     ensures place { IfErr result (λ f. f.at ≡ Place.Marker) }
     ensures why { IfErr result (λ f. f.why ≡ Why.Read) }
     ensures rises { IfErr result (λ f. R.known source.old ≡ true → R.raised source.old < R.raised source.new) }

@@ -10,7 +10,7 @@ ghost use Rattle.flac_ogg.specs.Headers.{AreHeadersOf};
 ghost use Rattle.flac_ogg.specs.Writing.{begins_with_comment, may_be_ogg, HasSentOgg, BeganOgg, HasWriteError, CountsWriteError};
 ghost use Rattle.flac_ogg.specs.inner.Writing.{CountsFrames, info_with, SendsFrames, SendsWhole};
 ghost use Rattle.flac_frame.specs.Audio.{samples_each};
-ghost use Rattle.flac_pages.specs.Placed.{sequence_behind};
+ghost use Rattle.flac_pages.specs.Placed.{sequence_after};
 ghost use Rattle.flac_pages.specs.Written.{packet_spelling};
 
 use crate::bytes::bytes_fit;
@@ -18,7 +18,7 @@ use crate::headers::{Headers, header_packets};
 use flac_bits::{BitWriter, Target, Why, send_all};
 use flac_frame::{Audio, EncodeBuffers};
 use flac_meta::{Block, BlockList};
-use flac_native::{ChosenFrames, EncodeFault, Plan, Room};
+use flac_native::{ChosenFrames, EncodeFault, FixedBuffer, Plan};
 use flac_pages::{MOST_BODY, MOST_PAGE, PacketKind, PacketMarks, write_packet};
 use std::alloc::Global;
 
@@ -106,8 +106,8 @@ pub fn encode_ogg<W: Target>(
 struct Prepared {
     frames: ChosenFrames,
     headers: Headers,
-    room: Room,
-    pages: Room,
+    room: FixedBuffer,
+    pages: FixedBuffer,
 }
 
 /// Chooses the frames, and makes what is needed to send them. Its only error is `Memory`: an allocation failed.
@@ -174,12 +174,12 @@ fn send_prepared<W: Target>(
 
 /// A place for the pages of a packet of `packet` bytes, of which each but the last is as long as a page can be (RFC
 /// 3533, sections 5 and 6). Its only error is `Memory`: an allocation failed.
-pub(crate) fn page_room(alloc: Global, packet: u32) -> Result<Room, Why>
+pub(crate) fn page_room(alloc: Global, packet: u32) -> Result<FixedBuffer, Why>
     requires { packet ≤ 16777215 }
     ensures places { IfOk result (λ room. 65307 * (packet / 65025 + 1) ≤ room.places) }
     ensures memory { IfErr result (λ e. e ≡ Why.Memory) }
 {
-    Room::new(alloc, MOST_PAGE * (packet as usize / MOST_BODY + 1))
+    FixedBuffer::new(alloc, MOST_PAGE * (packet as usize / MOST_BODY + 1))
 }
 
 /// Writes the pages of a packet, and sends what the writer holds. Returns the number of the page after them.
@@ -190,7 +190,7 @@ fn write_pages<W: Target>(
 ) -> Result<u32, Why>
     requires { writer.old.mark.unread ≡ 0 }
     ensures wrote { WritesAll (packet_spelling marks packet.now) writer.old writer.new result }
-    ensures next { IfOk result (λ n. n ≡ sequence_behind marks.sequence packet.now) }
+    ensures next { IfOk result (λ n. n ≡ sequence_after marks.sequence packet.now) }
 {
     let next = write_packet(marks, packet, writer)?;
     writer.finish()?;
@@ -198,11 +198,11 @@ fn write_pages<W: Target>(
 }
 
 /// The pages of a packet, in a place that has room for them, and the number of the page after them.
-fn paged(marks: PacketMarks, packet: &[u8], place: Room) -> (Room, u32)
+fn paged(marks: PacketMarks, packet: &[u8], place: FixedBuffer) -> (FixedBuffer, u32)
     requires { 65307 * (length packet.now / 65025 + 1) ≤ place.places }
     ensures places { result.0.places ≡ place.places }
     ensures pages { bits_of result.0.bytes.items ≡ packet_spelling marks packet.now }
-    ensures next { result.1 ≡ sequence_behind marks.sequence packet.now }
+    ensures next { result.1 ≡ sequence_after marks.sequence packet.now }
 {
     let mut writer = BitWriter::new(place.emptied());
     let outcome = write_pages(marks, packet, &mut writer);
@@ -227,8 +227,8 @@ fn send_frames<W: Target>(
     headers: &Headers,
     planned: &Planned<'_>,
     buffers: &mut EncodeBuffers,
-    room: Room,
-    pages: Room,
+    room: FixedBuffer,
+    pages: FixedBuffer,
     target: &mut W,
 ) -> Result<(), Why>
     requires fits { fits_plan planned.now.plan.now planned.now.audio.now ≡ true }
@@ -279,8 +279,8 @@ fn send_stream<W: Target>(
     headers: &Headers,
     planned: &Planned<'_>,
     buffers: &mut EncodeBuffers,
-    room: Room,
-    pages: Room,
+    room: FixedBuffer,
+    pages: FixedBuffer,
     target: &mut W,
 ) -> Result<(), Why>
     requires fits { fits_plan planned.now.plan.now planned.now.audio.now ≡ true }

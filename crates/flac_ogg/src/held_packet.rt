@@ -2,7 +2,7 @@
 
 ghost use Rattle.std.specs.Prelude.{◌≡◌, true, false, IfOk, IfErr};
 ghost use Rattle.flac_bits.specs.Bits.{bits_of};
-ghost use Rattle.flac_pages.specs.Placed.{sequence_behind};
+ghost use Rattle.flac_pages.specs.Placed.{sequence_after};
 ghost use Rattle.flac_pages.specs.Written.{packet_spelling};
 ghost use Rattle.flac_ogg.specs.Held.{pages_marked};
 
@@ -20,7 +20,7 @@ struct PacketPages {
 /// The pages of a packet, in memory (RFC 3533, sections 5 and 6). Its only error is `Memory`: an allocation failed.
 fn packet_pages(alloc: Global, marks: PacketMarks, packet: &[u8]) -> Result<PacketPages, Why>
     ensures pages { IfOk result (λ p. bits_of p.bytes.items ≡ packet_spelling marks packet.now) }
-    ensures next { IfOk result (λ p. p.next ≡ sequence_behind marks.sequence packet.now) }
+    ensures next { IfOk result (λ p. p.next ≡ sequence_after marks.sequence packet.now) }
     ensures memory { IfErr result (λ e. e ≡ Why.Memory) }
 {
     let mut writer = BitWriter::new(Collected::new(alloc));
@@ -60,7 +60,7 @@ impl HeldPacket {
     pub fn new(alloc: Global, marks: PacketMarks, packet: &[u8]) -> Result<HeldPacket, Why>
         ensures middle { IfOk result (λ h. bits_of h.middle.items ≡ pages_marked marks false packet.now) }
         ensures last { IfOk result (λ h. bits_of h.last.items ≡ pages_marked marks true packet.now) }
-        ensures next { IfOk result (λ h. h.next ≡ sequence_behind marks.sequence packet.now) }
+        ensures next { IfOk result (λ h. h.next ≡ sequence_after marks.sequence packet.now) }
         ensures memory { IfErr result (λ e. e ≡ Why.Memory) }
     {
         let middle = PacketMarks {

@@ -3,7 +3,7 @@
 ghost use Rattle.flac_ogg.specs.Laws.{OggIsReadOnce, OggIsRead, CallsBreakAtPages};
 ghost use Rattle.flac_ogg.specs.Native.{OggStreamsAreStreams, EncodedAreOggItems};
 ghost use Rattle.flac_ogg.specs.RoundTrip.{EncodedOggIsRead};
-ghost use Rattle.flac_ogg.specs.Wider.{SubsetOggIsLax, NothingIsOutsideLaxInOgg};
+ghost use Rattle.flac_ogg.specs.LaxProfile.{SubsetOggIsLax, NothingIsOutsideLaxInOgg};
 
 use crate::packets::OggPackets;
 use flac_bits::Source;

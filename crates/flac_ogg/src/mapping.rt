@@ -51,7 +51,7 @@ pub(crate) fn is_first_block(track: &Track) -> bool
 }
 
 /// What [`Track::next_block`] does, proved by the reading of the layout.
-fn block_here<R: Source>(bits: &mut BitReader<R>, track: &mut Track) -> Result<(), Why>
+fn block_by_layout<R: Source>(bits: &mut BitReader<R>, track: &mut Track) -> Result<(), Why>
     ensures reading { ReadsBlock track.new (stand_of track.old) bits.old bits.new result }
     // proof only
     ensures next { OnOk result (TrackGoesOn track.old track.new (kept track.new)) }
@@ -70,7 +70,7 @@ pub(crate) fn read_block<R: Source>(bits: &mut BitReader<R>, track: &mut Track) 
     ensures ordered { IfOk result (λ part. BlockInOrder part track.old track.new) }
     ensures next { IfOk result (λ part. TrackGoesOn track.old track.new (piece_of track.new part)) }
 {
-    block_here(bits, track)?;
+    block_by_layout(bits, track)?;
     Ok(Part::Block)
 }
 

@@ -70,7 +70,7 @@ pub(crate) fn packet_fault(at: Place, told: PacketFault) -> Fault
 }
 
 /// What [`Track::next_frame`] does, proved by the reading of the layout.
-fn frame_here<R: Source>(bits: &mut BitReader<R>, track: &mut Track) -> Result<(), Why>
+fn frame_by_layout<R: Source>(bits: &mut BitReader<R>, track: &mut Track) -> Result<(), Why>
     ensures reading { ReadsFrame track.new (stand_of track.old) bits.old bits.new result }
     // proof only
     ensures next { OnOk result (TrackGoesOn track.old track.new (framed (shown track.new))) }
@@ -93,7 +93,7 @@ fn read_frame<R: Source>(bits: &mut BitReader<R>, track: &mut Track) -> Result<P
     ensures ordered { IfOk result (λ part. FrameInOrder part track.old track.new) }
     ensures next { IfOk result (λ part. TrackGoesOn track.old track.new (piece_of track.new part)) }
 {
-    frame_here(bits, track)?;
+    frame_by_layout(bits, track)?;
     Ok(Part::Frame)
 }
 
@@ -167,7 +167,7 @@ fn block_due(track: &Track) -> Fault
 ///
 /// # Errors
 /// `PacketLength` if a metadata block is missing, else those of [`Track::end`].
-fn end_here(track: &mut Track) -> Result<(), Fault>
+fn judge_end(track: &mut Track) -> Result<(), Fault>
     ensures memory { IfErr result (λ f. f.why ≢ Why.Memory) }
     ensures quiet { IfErr result (λ f. f.why ≢ Why.Read) }
     ensures output { IfErr result (λ f. of_output f.why ≡ false) }
@@ -187,7 +187,7 @@ fn end_here(track: &mut Track) -> Result<(), Fault>
 }
 
 /// The error if a byte follows the page marked last: a missing metadata block comes first.
-fn behind_last(track: &Track, page: u64, why: Why) -> Fault
+fn after_last(track: &Track, page: u64, why: Why) -> Fault
     ensures memory { why ≢ Why.Memory → result.why ≢ Why.Memory }
     ensures met { (old new : ℕ) → Met why old new → Met result.why old new }
     ensures page { IsOutside result.why → result.at ≡ Place.Page page }
@@ -207,7 +207,7 @@ fn page_fault(track: &Track, is_last: bool, page: u64, why: Why) -> Fault
     ensures fault { IsLastFault track.now (cond is_last None (Some (page, why))) (Some (page, why)) result }
 {
     if is_last {
-        return behind_last(track, page, why);
+        return after_last(track, page, why);
     }
     refused_page(page, why)
 }
@@ -247,7 +247,7 @@ pub(crate) fn advance<R: Source>(
                 Err(told) => Err(packet_fault(at, told)),
             }
         }
-        Ok(false) => match end_here(track) {
+        Ok(false) => match judge_end(track) {
             Ok(()) => Ok(None),
             Err(fault) => Err(fault),
         },
@@ -302,7 +302,7 @@ impl<R: Source> Container for OggPackets<R> {
 
     ghost met = { λ c. c.pages.raised };
 
-    ghost behind = { λ _. the_end };
+    ghost after = { λ _. the_end };
 
     ghost clear = { λ c t. IsClear c.pages t };
 

@@ -2,7 +2,7 @@
 
 ghost use Rattle.std.specs.Prelude.{◌≢◌, ⊤, [], true, IfErr, ◌≡◌, ◌↔◌, List, false, IfOk, Err};
 ghost use Rattle.flac_bits.specs.Handing.{outcome_of};
-ghost use Rattle.flac_native.specs.Item.{told};
+ghost use Rattle.flac_native.specs.Item.{fault_pair};
 ghost use Rattle.flac_ogg.specs.Verifying.{Verifies, bytes_reading};
 ghost use Rattle.flac_native.specs.Given.{fits_plan};
 ghost use Rattle.flac_native.specs.Numbers.{is_of_whole};
@@ -54,7 +54,7 @@ impl Sink for Anything {
 /// The place and the reason for which the stream is refused: those of [`crate::decode_ogg`] or of [`crate::decode`]. Or
 /// [`Why::Memory`] if an allocation fails; no device is read.
 pub fn verify(alloc: Global, bytes: &[u8], profile: Profile) -> Result<(), Fault>
-    ensures verifies { Verifies profile bytes.now (outcome_of told result) }
+    ensures verifies { Verifies profile bytes.now (outcome_of fault_pair result) }
     // No device is read, so none fails.
     ensures read { IfErr result (λ f. f.why ≢ Why.Read) }
     ensures sink { IfErr result (λ f. f.why ≢ Why.Sink) }

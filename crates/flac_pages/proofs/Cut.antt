@@ -11,10 +11,10 @@ use Rattle.flac_pages.specs.Page.{Page, page_spelling}
 use Rattle.flac_pages.specs.Packets.{lacing_of}
 use Rattle.flac_pages.specs.Written.{page_at, head_at, summed, PagesHavePackets}
 
--- where no more than whole pages are taken off, the lacing values behind them
-behind_full : (packet : List ℕ) (k : ℕ) → k ≤ length packet / 65025 → drop (255 * k) (lacing_of packet) ≡ replicate (length packet / 255 - 255 * k) 255 ++ (length packet % 255) ∷ []
+-- where no more than whole pages are taken off, the lacing values after them
+after_full : (packet : List ℕ) (k : ℕ) → k ≤ length packet / 65025 → drop (255 * k) (lacing_of packet) ≡ replicate (length packet / 255 - 255 * k) 255 ++ (length packet % 255) ∷ []
 unfolding lacing_of
-behind_full packet k h =
+after_full packet k h =
     let n = length packet in
     let q : ℕ = n / 255 in
     let room : 255 * k ≤ q = omega (arith, h) in
@@ -25,7 +25,7 @@ full_lacing packet k h =
     let n = length packet in
     let m : ℕ = n / 255 - 255 * k in
     let room : 255 ≤ m = omega (arith, h) in
-    rw (behind_full packet k (omega (arith, h))) (take-append-le 255 (replicate m 255) ((n % 255) ∷ []) (omega (arith, length-replicate {A = ℕ} m 255, room)) ∙ take-replicate 255 m 255 room)
+    rw (after_full packet k (omega (arith, h))) (take-append-le 255 (replicate m 255) ((n % 255) ∷ []) (omega (arith, length-replicate {A = ℕ} m 255, room)) ∙ take-replicate 255 m 255 room)
 
 module _ (packet : List ℕ) where
   abbrev last : ℕ
@@ -48,7 +48,7 @@ module _ (packet : List ℕ) where
       let whole : length rest / 255 ≡ m = omega (arith, rest_long) in
       let part : length rest % 255 ≡ n % 255 = omega (arith, rest_long) in
       let room : m + 1 ≤ 255 = omega (arith, rest_long) in
-      rw (behind_full packet last (omega arith), whole, part) (take_all 255 (replicate m 255 ++ (n % 255) ∷ []) (omega (arith, length-append (replicate m 255) ((n % 255) ∷ []), length-replicate {A = ℕ} m 255, room)))
+      rw (after_full packet last (omega arith), whole, part) (take_all 255 (replicate m 255 ++ (n % 255) ∷ []) (omega (arith, length-append (replicate m 255) ((n % 255) ∷ []), length-replicate {A = ℕ} m 255, room)))
 
   pub last_body : take 65025 rest ≡ rest
   last_body = take_all 65025 rest (omega (arith, rest_short))
@@ -76,7 +76,7 @@ last_page m packet h body head_is body_is = rw (body_is, last_lacing packet, las
 pub rest_is : (packet : List ℕ) (from : ℕ) → take (length packet - from) (drop from packet) ≡ drop from packet
 rest_is packet from = take_all (length packet - from) (drop from packet) (omega (arith, length-drop from packet))
 
--- one page, and those behind it
+-- one page, and those after it
 pub page_more : (f : ℕ → List Bool) (k last : ℕ) → k ≤ last → flat_map f (range_with_len k (last + 1 - k)) ≡ f k ++ flat_map f (range_with_len (k + 1) (last + 1 - (k + 1)))
 page_more f k last h = let e : last + 1 - k ≡ suc (last + 1 - (k + 1)) = omega (arith, h) in rw e (flat_map-cons f k (range_with_len (k + 1) (last + 1 - (k + 1))))
 
@@ -91,9 +91,9 @@ chunks {X = X} c xs a (suc j) =
     let f : ℕ → List X = λ k. take c (drop (c * k) xs) in
     let more : c * suc j ≡ c + c * j = omega (arith, mul_comm c (suc j), suc-mul j c, mul_comm j c) in
     let next : c * a + c ≡ c * (a + 1) = omega (arith, mul_comm c (a + 1), suc-mul a c, mul_comm a c) in
-    let behind : drop c (drop (c * a) xs) ≡ drop (c * (a + 1)) xs = drop-drop c (c * a) xs ∙ ap (λ n. drop n xs) next in
+    let after : drop c (drop (c * a) xs) ≡ drop (c * (a + 1)) xs = drop-drop c (c * a) xs ∙ ap (λ n. drop n xs) next in
     flat_map-cons f a (range_with_len (a + 1) j) ∙ ap (λ l. f a ++ l) (chunks c xs (a + 1) j)
-    ∙ rw (more, ← behind) (sym (take-add c (c * j) (drop (c * a) xs)))
+    ∙ rw (more, ← after) (sym (take-add c (c * j) (drop (c * a) xs)))
 
 whole : {X : Type 0} (c : ℕ) (xs : List X) (j : ℕ) → length xs ≤ c * j → flat_map (λ k. take c (drop (c * k) xs)) (range_with_len 0 j) ≡ xs
 whole c xs j enough = let none : c * 0 ≡ 0 = omega arith in chunks c xs 0 j ∙ rw none (take_all (c * j) xs enough)

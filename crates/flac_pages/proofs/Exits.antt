@@ -35,7 +35,7 @@ segment_step old new (v ∷ vs) r m some eq e =
       raised = refl;
       names = refl;
       bytes = λ known. same.bytes;
-      behind = λ known. same.behind;
+      after = λ known. same.after;
       room = omega arith;
       spends = omega (arith, ap length eq);
       follows = follows_segment old v vs m eq;
@@ -53,7 +53,7 @@ step_turned old new r l t =
       raised = t.raised;
       names = t.names;
       bytes = λ known. (same known).bytes;
-      behind = λ known. (same known).behind;
+      after = λ known. (same known).after;
       room = omega (arith, t.room);
       spends = omega (arith, t.spends);
       follows = record { known = t.known; more = λ more. sym t.more ∙ more; pages = t.pages; breaks = λ known more. t.breaks known };
@@ -66,7 +66,7 @@ step_refused old new why r m t = record {
   names = t.names;
   count = t.count;
   bytes = λ known same. (broken_ahead old (old.count, why) r m (t.ahead known same)).bytes;
-  behind = λ known same. (broken_ahead old (old.count, why) r m (t.ahead known same)).behind;
+  after = λ known same. (broken_ahead old (old.count, why) r m (t.ahead known same)).after;
   breaks = (m, t.breaks);
 }
 
@@ -118,7 +118,7 @@ waits_begun old now w some = record {
   some = some;
   room = omega (arith, w.room);
   ahead = w.ahead;
-  pages = λ known. let p = w.pages known in record { fewer = p.fewer; behind = p.behind; count = p.count };
+  pages = λ known. let p = w.pages known in record { fewer = p.fewer; after = p.after; count = p.count };
   breaks = λ known n at. w.breaks known n (record { index = at.index; from = at.from; below = at.below });
 }
 
@@ -159,7 +159,7 @@ pub met_at : (o : Option Why) (old mid new : ℕ) → mid ≡ old → IfSome o (
 met_at None old mid new same met = tt
 met_at (Some why) old mid new same met = met_then why old mid new same met
 
--- behind the last page
+-- after the last page
 pub closes : (old new : Place) (o : Option Why) (result : Result Bool (ℕ × Why)) → result ≡ ended old.count o → old.count < 2 ^ 64 → old.lacing ≡ [] → old.last ≡ true → new.last ≡ true → old.errors ≤ new.errors → new.names ≡ old.names
     → (o ≡ None → (old.known ≡ true → new.known ≡ true) × (new.errors ≡ old.errors) × (new.raised ≡ old.raised)) → IfSome o (λ why. Met why old.raised new.raised) → (old.known ≡ true → new.errors ≡ old.errors → o ≡ end_fault old.cursor) → Begins old new result
 closes old new o result e small l la nla errors names over met fault = subst (λ (r : Result Bool (ℕ × Why)). Begins old new r) (sym e) (go o over met fault)

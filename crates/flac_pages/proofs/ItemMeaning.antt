@@ -10,7 +10,7 @@ use Rattle.flac_bits.specs.declared.why.Why.{Why}
 use Rattle.flac_bits.specs.declared.why.Why.TheVariants.{FrameTooLong}
 use Rattle.flac_bits.proofs.Laws.{at_}
 use Rattle.flac_bits.proofs.Fences.{again_in, stops_in, takes_in, refuses_in}
-use Rattle.flac_pages.specs.Items.{PacketEnd, whole, unended, cut_at, Packet, cut_off, in_packet, IsItem, IsNoItem, breaks_rule, bits_missing, too_many_bytes, bits_left, not_ended, TellsItem, at_last_bit, behind_item, judged, item_in}
+use Rattle.flac_pages.specs.Items.{PacketEnd, whole, unended, cut_at, Packet, cut_off, in_packet, IsItem, IsNoItem, breaks_rule, bits_missing, too_many_bytes, bits_left, not_ended, TellsItem, at_last_bit, after_item, judged, item_in}
 use Rattle.flac_pages.specs.inner.Items.{short_at}
 
 abbrev refusal : (A : Type 0) → Option ℕ × Why → Result A (Option ℕ × Why)
@@ -53,13 +53,13 @@ closed room l m p x spelled fits (cut_at n why) is = not_ended x spelled fits (�
     differ : cut_at n why ≡ whole → ⊥
     differ e = absurd cc
 
--- behind an item that the packet's bits begin with
-pub told_behind : {A : Type 0} (room : Option ℕ) (l : Layout A) (m : Mark) (p : Packet) (x : A) (text rest : List Bool) → p.bits ≡ text ++ rest → Spells l m text x → InRoom room m text
-    → (b : Bool) → is_nil rest ≡ b → TellsItem (λ x. x) room l m p (behind_item p.ends b x)
-told_behind room l m p x text rest split spelled fits true e =
+-- after an item that the packet's bits begin with
+pub told_after : {A : Type 0} (room : Option ℕ) (l : Layout A) (m : Mark) (p : Packet) (x : A) (text rest : List Bool) → p.bits ≡ text ++ rest → Spells l m text x → InRoom room m text
+    → (b : Bool) → is_nil rest ≡ b → TellsItem (λ x. x) room l m p (after_item p.ends b x)
+told_after room l m p x text rest split spelled fits true e =
     let all : text ≡ p.bits = sym (split ∙ ap (λ r. text ++ r) (is_nil_is rest e) ∙ append-nil text) in
     closed room l m p x (subst (λ t. Spells l m t x) all spelled) (subst (λ t. InRoom room m t) all fits) p.ends refl
-told_behind room l m p x text rest split spelled fits false e = bits_left x text rest split (some_is rest e) spelled fits refl
+told_after room l m p x text rest split spelled fits false e = bits_left x text rest split (some_is rest e) spelled fits refl
 
 pub stopped : {A : Type 0} (room : Option ℕ) (l : Layout A) (m : Mark) (p : Packet) (why : Why) → m.short ≡ short_at p.ends → StopsIn room l m p.bits why → IsNoItem room l m p (in_packet p.ends why)
 stopped room l m p why short (inl (front, rest, split, shows, fits)) = breaks_rule why front rest split shows fits refl
@@ -72,7 +72,7 @@ unfolding item_in
 item_means {A = A} room l m p short = go (read_in room l (at_ p.bits m)) refl
   where
     go : (r : Result (A × Cursor) Reason) → read_in room l (at_ p.bits m) ≡ r → TellsItem (λ x. x) room l m p (judged p.ends r)
-    go (Ok x) e = let t = takes_in room l p.bits m x.0 x.1 e in told_behind room l m p x.0 t.0 x.1.left t.1 t.2 t.3 (is_nil x.1.left) refl
+    go (Ok x) e = let t = takes_in room l p.bits m x.0 x.1 e in told_after room l m p x.0 t.0 x.1.left t.1 t.2 t.3 (is_nil x.1.left) refl
     go (Err reason) e = stopped room l m p reason.why short (refuses_in room l p.bits m reason.why e)
 
 -- ---- what is meant is read
@@ -99,7 +99,7 @@ refused_again {A = A} room l m p why short (bits_missing cut leaves is) =
     ap (judged p.ends) (stops_in room l m p.bits m.short (inr (inl (refl, cut, leaves)))) ∙ ap (refusal A) (ap (in_packet p.ends) short ∙ short_told p.ends ∙ sym is)
 refused_again {A = A} room l m p why short (too_many_bytes fills is) = ap (judged p.ends) (stops_in room l m p.bits FrameTooLong (inr (inr (refl, fills)))) ∙ ap (refusal A) (sym is)
 refused_again {A = A} room l m p why short (bits_left x text rest split some spelled fits is) =
-    ap (judged p.ends) (ap (λ t. read_in room l (at_ t m)) split ∙ again_in room l m text rest x spelled fits) ∙ ap (λ b. behind_item p.ends b x) (not_nil rest some) ∙ ap (refusal A) (sym is)
+    ap (judged p.ends) (ap (λ t. read_in room l (at_ t m)) split ∙ again_in room l m text rest x spelled fits) ∙ ap (λ b. after_item p.ends b x) (not_nil rest some) ∙ ap (refusal A) (sym is)
 refused_again {A = A} room l m p why short (not_ended x spelled fits other is) = spelled_whole room l m p x spelled fits ∙ ends_otherwise x p.ends other ∙ ap (refusal A) (sym is)
 
 -- so no packet is two items, nor an item and none, nor refused for two reasons

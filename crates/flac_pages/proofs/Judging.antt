@@ -1,24 +1,24 @@
--- What a judged packet is, by what stands behind its bits.
+-- What a judged packet is, by what stands after its bits.
 use Rattle.std.proofs.Common.{◌≡◌, ◌≢◌, ℕ, ◌<◌, ◌-◌, ◌^◌, Bool, true, false, ◌∷◌, ◌++◌, Option, Some, None, Result, Ok, Err, OnOk, refl, sym, ap, subst, ◌∙◌, arith}
 use Rattle.std.specs.Prelude.{⊤, ◌&&◌, IfSome}
 use Rattle.std.specs.Borrow.{GName}
 use Rattle.std.specs.Option.{ForSome}
 use Rattle.flac_bits.specs.Bits.{is_nil}
-use Rattle.flac_bits.specs.State.{State, Behind, Rises, short_of, without_fence}
+use Rattle.flac_bits.specs.State.{State, After, Rises, short_of, without_fence}
 use Rattle.flac_bits.specs.Reasons.{of_output}
 use Rattle.flac_bits.specs.declared.why.Why.{Why}
 use Rattle.flac_bits.specs.declared.why.Why.TheVariants.{Read, Memory, Truncated, PacketLength}
-use Rattle.flac_pages.specs.Packets.{Place, OnPage, Met, ahead, behind_of, behind_in, behind_left, on_page, BreaksAt}
+use Rattle.flac_pages.specs.Packets.{Place, OnPage, Met, ahead, after_of, after_in, after_left, on_page, BreaksAt}
 use Rattle.flac_pages.specs.inner.Packets.{Follows}
-use Rattle.flac_pages.specs.Items.{PacketEnd, whole, unended, cut_at, end_of, in_packet, behind_item, HasItsPage, CountsSo, numbers_of, GivesBack, JudgesPacket, GoesBehind}
+use Rattle.flac_pages.specs.Items.{PacketEnd, whole, unended, cut_at, end_of, in_packet, after_item, HasItsPage, CountsSo, numbers_of, GivesBack, JudgesPacket, GoesAfter}
 use Rattle.flac_pages.specs.inner.Items.{why_in, EndsPacket}
 use Rattle.flac_pages.proofs.Paged.{reads_then, broke_since, passes_there}
 use Rattle.flac_pages.proofs.Stepping.{met_then}
 
--- ---- behind a packet that is one item
+-- ---- after a packet that is one item
 
--- no fault stands behind, so none was met
-unmet : (fault : Option (ℕ × Why)) (p : Place) → (behind_left fault p).fails ≡ None → behind_left fault p ≡ behind_of p
+-- no fault stands after, so none was met
+unmet : (fault : Option (ℕ × Why)) (p : Place) → (after_left fault p).fails ≡ None → after_left fault p ≡ after_of p
 unmet None p e = refl
 unmet (Some f) p e = absurd (differ e)
   where
@@ -32,24 +32,24 @@ calm : (o : Option (ℕ × Why)) → (short_of o ≡ Read → ⊥) → o ≡ Non
 calm None h = refl
 calm (Some f) h = absurd (h refl)
 
-pub goes_behind : (s : State) (fault : Option (ℕ × Why)) (pages old new : Place) (result : Result ⊤ (Option ℕ × Why)) → old ≡ pages → (s.known ≡ true → pages.known ≡ true) → pages.errors ≡ s.errors
-    → (s.known ≡ true → s.cursor.mark.short ≡ Read → ⊥) → (s.known ≡ true → without_fence (behind_left fault pages) ≡ without_fence s.behind) → EndsPacket old new result → OnOk result (GoesBehind s new)
-unfolding behind_of
-goes_behind s fault pages old new (Err why) is known errors short behind ends = tt
-goes_behind s fault pages old new (Ok x) is known errors short behind ends =
-    let tells : s.known ≡ true → s.cursor.mark.short ≡ short_of s.behind.fails → behind_in 0 false (ahead new) ≡ without_fence s.behind = λ k reason.
-    let none : s.behind.fails ≡ None = calm s.behind.fails (λ e. short k (reason ∙ e)) in
-    let same : behind_left fault pages ≡ behind_of pages = unmet fault pages (ap (λ (b : Behind). b.fails) (behind k) ∙ none) in
-    let left : behind_of new ≡ behind_of pages = ends.behind (ap (λ (p : Place). p.known) is ∙ known k) ∙ ap behind_of is in
-    ap (λ r. behind_in r false (ahead new)) (sym ends.stands.0) ∙ ap (λ b. behind_in new.rest b (ahead new)) (sym ends.stands.1) ∙ left ∙ ap without_fence (sym same) ∙ behind k in
+pub goes_after : (s : State) (fault : Option (ℕ × Why)) (pages old new : Place) (result : Result ⊤ (Option ℕ × Why)) → old ≡ pages → (s.known ≡ true → pages.known ≡ true) → pages.errors ≡ s.errors
+    → (s.known ≡ true → s.cursor.mark.short ≡ Read → ⊥) → (s.known ≡ true → without_fence (after_left fault pages) ≡ without_fence s.after) → EndsPacket old new result → OnOk result (GoesAfter s new)
+unfolding after_of
+goes_after s fault pages old new (Err why) is known errors short after ends = tt
+goes_after s fault pages old new (Ok x) is known errors short after ends =
+    let tells : s.known ≡ true → s.cursor.mark.short ≡ short_of s.after.fails → after_in 0 false (ahead new) ≡ without_fence s.after = λ k reason.
+    let none : s.after.fails ≡ None = calm s.after.fails (λ e. short k (reason ∙ e)) in
+    let same : after_left fault pages ≡ after_of pages = unmet fault pages (ap (λ (b : After). b.fails) (after k) ∙ none) in
+    let left : after_of new ≡ after_of pages = ends.after (ap (λ (p : Place). p.known) is ∙ known k) ∙ ap after_of is in
+    ap (λ r. after_in r false (ahead new)) (sym ends.stands.0) ∙ ap (λ b. after_in new.rest b (ahead new)) (sym ends.stands.1) ∙ left ∙ ap without_fence (sym same) ∙ after k in
     record {
       stands = ends.stands;
       known = λ k. ends.known (ap (λ (p : Place). p.known) is ∙ known k);
       errors = ends.errors ∙ ap (λ (p : Place). p.errors) is ∙ errors;
-      lacing = λ k reason. ap (λ (b : Behind). b.pieces) (tells k reason);
-      bytes = λ k reason. ap (λ (b : Behind). b.bytes) (tells k reason);
-      fault = λ k reason. ap (λ (b : Behind). b.fault) (tells k reason);
-      stop = λ k reason. ap (λ (b : Behind). b.stop) (tells k reason);
+      lacing = λ k reason. ap (λ (b : After). b.pieces) (tells k reason);
+      bytes = λ k reason. ap (λ (b : After). b.bytes) (tells k reason);
+      fault = λ k reason. ap (λ (b : After). b.fault) (tells k reason);
+      stop = λ k reason. ap (λ (b : After). b.stop) (tells k reason);
     }
 
 -- ---- why an item's packet is refused
@@ -64,22 +64,22 @@ with_item x (Err why) = Err why
 abbrev nothing : ⊤
 nothing = tt
 
-same_item : {X : Type 0} (x : X) (e : PacketEnd) (b : Bool) → with_item x (behind_item e b nothing) ≡ behind_item e b x
+same_item : {X : Type 0} (x : X) (e : PacketEnd) (b : Bool) → with_item x (after_item e b nothing) ≡ after_item e b x
 unfolding with_item
 same_item x whole true = refl
 same_item x unended true = refl
 same_item x (cut_at n why) true = refl
 same_item x e false = refl
 
-same_refusal : {X : Type 0} (x : X) (e : PacketEnd) (b : Bool) (r : Result ⊤ (Option ℕ × Why)) (why : Option ℕ × Why) → r ≡ Err why → r ≡ behind_item e b nothing → refusal X why ≡ behind_item e b x
+same_refusal : {X : Type 0} (x : X) (e : PacketEnd) (b : Bool) (r : Result ⊤ (Option ℕ × Why)) (why : Option ℕ × Why) → r ≡ Err why → r ≡ after_item e b nothing → refusal X why ≡ after_item e b x
 unfolding with_item
 same_refusal x e b r why is told = ap (with_item x) (sym is ∙ told) ∙ same_item x e b
 
--- the page's fault that was met is the one behind the packet's bytes
-met : (s : State) (fault : Option (ℕ × Why)) (errors : ℕ) (pages : Place) → (fault ≡ None → errors ≡ 0) → 0 < errors → without_fence (behind_left fault pages) ≡ without_fence s.behind
-    → (f : ℕ × Why) × (fault ≡ Some f) × (end_of s.behind ≡ cut_at f.0 f.1)
-met s None errors pages quiet some behind = absurd (omega (arith, quiet refl, some))
-met s (Some f) errors pages quiet some behind = (f, refl, ap (λ (b : Behind). end_of b) (sym behind))
+-- the page's fault that was met is the one after the packet's bytes
+met : (s : State) (fault : Option (ℕ × Why)) (errors : ℕ) (pages : Place) → (fault ≡ None → errors ≡ 0) → 0 < errors → without_fence (after_left fault pages) ≡ without_fence s.after
+    → (f : ℕ × Why) × (fault ≡ Some f) × (end_of s.after ≡ cut_at f.0 f.1)
+met s None errors pages quiet some after = absurd (omega (arith, quiet refl, some))
+met s (Some f) errors pages quiet some after = (f, refl, ap (λ (b : After). end_of b) (sym after))
 
 why_told : (fault : Option (ℕ × Why)) (e : PacketEnd) (why : Why) → (why ≡ Read → (f : ℕ × Why) × (fault ≡ Some f) × (e ≡ cut_at f.0 f.1)) → why_in fault why ≡ in_packet e why
 why_told fault e Truncated h = refl
@@ -87,16 +87,16 @@ why_told fault e Read h = let (f, is, ends) = h refl in rw (is, ends) refl
 why_told fault e why h = refl
 
 pub judged_why : {X : Type 0} (s : State) (fault seen : Option (ℕ × Why)) (errors : ℕ) (pages new : Place) (read : Result X Why) (why : Why) (told : Option ℕ × Why) → read ≡ Err why → told ≡ why_in seen why → seen ≡ fault → (fault ≡ None → errors ≡ 0) → errors ≡ s.raised
-    → without_fence (behind_left fault pages) ≡ without_fence s.behind → JudgesPacket s new read (Err told)
-judged_why {X = X} s fault seen errors pages new read why told is tells same quiet raised behind =
+    → without_fence (after_left fault pages) ≡ without_fence s.after → JudgesPacket s new read (Err told)
+judged_why {X = X} s fault seen errors pages new read why told is tells same quiet raised after =
     subst (λ (r : Result X Why). JudgesPacket s new r (Err told)) (sym is)
-    (λ some. ap (refusal X) (tells ∙ ap (λ o. why_in o why) same ∙ why_told fault (end_of s.behind) why (λ e. met s fault errors pages quiet (subst (λ n. 0 < n) (sym raised) (some e)) behind)))
+    (λ some. ap (refusal X) (tells ∙ ap (λ o. why_in o why) same ∙ why_told fault (end_of s.after) why (λ e. met s fault errors pages quiet (subst (λ n. 0 < n) (sym raised) (some e)) after)))
 
 pub judged_end : {X : Type 0} (s : State) (new : Place) (read : Result X Why) (x : X) (r : Result ⊤ (Option ℕ × Why)) (why : Option ℕ × Why) → read ≡ Ok x → r ≡ Err why
-    → (s.known ≡ true → new.errors ≡ s.errors → s.cursor.mark.short ≡ short_of s.behind.fails → r ≡ behind_item (end_of s.behind) (is_nil s.cursor.left) nothing) → JudgesPacket s new read (Err why)
+    → (s.known ≡ true → new.errors ≡ s.errors → s.cursor.mark.short ≡ short_of s.after.fails → r ≡ after_item (end_of s.after) (is_nil s.cursor.left) nothing) → JudgesPacket s new read (Err why)
 judged_end {X = X} s new read x r why is refused judges =
     subst (λ (r : Result X Why). JudgesPacket s new r (Err why)) (sym is)
-    (λ known same short. same_refusal x (end_of s.behind) (is_nil s.cursor.left) r why refused (judges known same short))
+    (λ known same short. same_refusal x (end_of s.after) (is_nil s.cursor.left) r why refused (judges known same short))
 
 -- ---- the pages are given back
 
@@ -110,11 +110,11 @@ pub known_there : (p : Place) → (on_page p).known ≡ true → p.known ≡ tru
 unfolding on_page
 known_there p known = known
 
--- behind a whole item, where the packet's end is judged
+-- after a whole item, where the packet's end is judged
 pub end_back : (s : State) (name : GName) (start : Place) (fault : Option (ℕ × Why)) (errors : ℕ) (pages old new : Place) (result : Result ⊤ (Option ℕ × Why)) → s.names ≡ name ∷ start.raised ∷ (numbers_of (on_page start) ++ pages.names) → old ≡ pages → errors ≡ s.raised
-    → (errors ≡ 0 → fault ≡ None) → (fault ≡ None → pages.raised ≡ start.raised) → (fault ≡ None → Follows start pages) → (fault ≡ None → start.known ≡ true → behind_of pages ≡ behind_of start)
+    → (errors ≡ 0 → fault ≡ None) → (fault ≡ None → pages.raised ≡ start.raised) → (fault ≡ None → Follows start pages) → (fault ≡ None → start.known ≡ true → after_of pages ≡ after_of start)
     → EndsPacket old new result → GivesBack s name new (Ok nothing) result
-end_back s name start fault errors pages old new (Ok x) names is raised none calm follows behind ends = record {
+end_back s name start fault errors pages old new (Ok x) names is raised none calm follows after ends = record {
   lent = start.raised;
   page = on_page start;
   names = same_names s name start.raised (on_page start) pages old new names is ends.names;
@@ -124,10 +124,10 @@ end_back s name start fault errors pages old new (Ok x) names is raised none cal
       let f = follows_there start pages old is (follows calm) in
       let there = known_there start known in
       let read = reads_then (on_page start) (on_page old) (on_page new) (f.pages there) (ends.pages (f.known there)) in
-      let same : behind_of old ≡ behind_of start = ap behind_of is ∙ behind calm there in
-      passes_there start new read more ends.stands.1 (ap (λ (b : Behind). end_of b) (sym same) ∙ ends.ended (f.known there)) (ends.behind (f.known there) ∙ same);
+      let same : after_of old ≡ after_of start = ap after_of is ∙ after calm there in
+      passes_there start new read more ends.stands.1 (ap (λ (b : After). end_of b) (sym same) ∙ ends.ended (f.known there)) (ends.after (f.known there) ∙ same);
 }
-end_back s name start fault errors pages old new (Err why) names is raised none calm follows behind ends = record {
+end_back s name start fault errors pages old new (Err why) names is raised none calm follows after ends = record {
   lent = start.raised;
   page = on_page start;
   names = same_names s name start.raised (on_page start) pages old new names is ends.names;
@@ -172,7 +172,7 @@ why_back {X = X} s name lent page fault seen errors pages new read why told is t
     let so : CountsSo {X = X} (Err why) s.raised = subst (λ (r : Result X Why). CountsSo r s.raised) is counts in
     (λ e. subst (λ n. 0 < n) (sym raised) (so.0 e), so.1))
 
--- where bits are left behind the item
+-- where bits are left after the item
 pub left_back : (s : State) (name : GName) (lent : ℕ) (page : OnPage) (pages new : Place) → s.names ≡ name ∷ lent ∷ (numbers_of page ++ pages.names) → new ≡ pages → GivesBack s name new (Ok nothing) (Err (None, PacketLength))
 left_back s name lent page pages new names at = record {
   lent = lent;

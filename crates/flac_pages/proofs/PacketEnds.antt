@@ -1,10 +1,10 @@
--- How a packet ends, told by where a reader of packets stands behind its last byte.
+-- How a packet ends, told by where a reader of packets stands after its last byte.
 use Rattle.std.proofs.Common.{◌≡◌, ◌≢◌, ◌≤◌, ◌+◌, ℕ, length, Bool, true, false, List, [], Option, Some, None, Result, Ok, Err, refl, sym, ap, ◌∙◌, arith}
 use Rattle.std.specs.Prelude.{⊤}
-use Rattle.flac_bits.specs.State.{Behind}
+use Rattle.flac_bits.specs.State.{After}
 use Rattle.flac_bits.specs.declared.why.Why.{Why}
 use Rattle.flac_bits.specs.declared.why.Why.TheVariants.{PacketLength, Read, Memory}
-use Rattle.flac_pages.specs.Packets.{Place, ahead, behind_of, behind_in, broken_off}
+use Rattle.flac_pages.specs.Packets.{Place, ahead, after_of, after_in, broken_off}
 use Rattle.flac_pages.specs.inner.Packets.{Follows, Finds, Copies}
 use Rattle.flac_pages.specs.Items.{whole, unended, cut_at, end_in, end_of, cut_off, HasItsPage}
 use Rattle.flac_pages.specs.inner.Items.{EndsPacket}
@@ -18,7 +18,7 @@ pub record Passes (old now : Place) : Type 0 where
   pub raised : now.raised ≡ old.raised
   pub names : now.names ≡ old.names
   pub room : now.most + length now.body ≤ old.most + length old.body
-  pub behind : old.known ≡ true → behind_of now ≡ behind_of old
+  pub after : old.known ≡ true → after_of now ≡ after_of old
   pub follows : Follows old now
 
 abbrev ends_ok : Result ⊤ (Option ℕ × Why)
@@ -40,14 +40,14 @@ passed_more old now mid new out n p f c = record {
   raised = c.raised ∙ f.raised ∙ p.raised;
   names = c.names ∙ f.names ∙ p.names;
   room = omega (arith, p.room, f.room, c.room);
-  behind = λ known. c.behind ∙ f.behind (p.known known) ∙ p.behind known;
+  after = λ known. c.after ∙ f.after (p.known known) ∙ p.after known;
   follows = follows_then old mid new (follows_then old now mid p.follows f.follows) c.follows;
 }
 
 pub ends_between : (old now new : Place) → Passes old now → Finds now new (found false) → (new.rest ≡ 0) × (new.more ≡ false) → EndsPacket old new ends_ok
-unfolding behind_of
+unfolding after_of
 ends_between old now new p f stands =
-    let behind : old.known ≡ true → behind_of new ≡ behind_of old = λ known. f.behind (p.known known) ∙ p.behind known in
+    let after : old.known ≡ true → after_of new ≡ after_of old = λ known. f.after (p.known known) ∙ p.after known in
     record {
       known = λ known. f.known (p.known known);
       errors = f.errors ∙ p.errors;
@@ -55,13 +55,13 @@ ends_between old now new p f stands =
       names = f.names ∙ p.names;
       stands = stands;
       room = omega (arith, p.room, f.room);
-      ended = λ known. ap (λ (b : Behind). end_of b) (sym (behind known)) ∙ ap (λ b. end_of (behind_in new.rest b (ahead new))) stands.1;
-      behind = behind;
+      ended = λ known. ap (λ (b : After). end_of b) (sym (after known)) ∙ ap (λ b. end_of (after_in new.rest b (ahead new))) stands.1;
+      after = after;
       pages = (follows_then old now new p.follows f.follows).pages;
     }
 
 pub ends_inside : (old now new : Place) → Passes old now → Finds now new (found false) → ((new.rest ≡ 0) × (new.more ≡ false) → ⊥) → EndsPacket old new (ends_err (None, PacketLength))
-unfolding behind_of ahead
+unfolding after_of ahead
 ends_inside old now new p f inside =
     let goes_on : new.more ≡ true = go new.more refl in
     record {
@@ -69,11 +69,11 @@ ends_inside old now new p f inside =
       met = (λ e. absurd (read_not e), refl);
       names = f.names ∙ p.names;
       fault = λ known same.
-          let behind : behind_of new ≡ behind_of old = f.behind (p.known known) ∙ p.behind known in
-          let calm : (behind_of old).fails ≡ None = ap (λ (b : Behind). b.fails) (sym (p.behind known)) ∙ (f.over refl (p.known known)).1 in
+          let after : after_of new ≡ after_of old = f.after (p.known known) ∙ p.after known in
+          let calm : (after_of old).fails ≡ None = ap (λ (b : After). b.fails) (sym (p.after known)) ∙ (f.over refl (p.known known)).1 in
           let none : (ahead new).lacing ≡ [] = (f.stands refl).1 goes_on in
-          let cut : (behind_of old).cut ≡ true = ap (λ (b : Behind). b.cut) (sym behind) ∙ rw (goes_on, none) refl in
-          let is : end_of (behind_of old) ≡ unended = ap (λ o. end_in o (behind_of old).cut) calm ∙ ap (λ b. end_in None b) cut in
+          let cut : (after_of old).cut ≡ true = ap (λ (b : After). b.cut) (sym after) ∙ rw (goes_on, none) refl in
+          let is : end_of (after_of old) ≡ unended = ap (λ o. end_in o (after_of old).cut) calm ∙ ap (λ b. end_in None b) cut in
           (λ e. differ (sym is ∙ e), ap cut_off (sym is));
       breaks = λ known. tt;
     }
@@ -94,8 +94,8 @@ ends_broken old now new why p f = record {
   met = met_then why old.raised now.raised new.raised p.raised f.met;
   names = f.names ∙ p.names;
   fault = λ known same.
-      let behind : behind_of old ≡ broken_off (new.count, why) = sym (p.behind known) ∙ f.behind (p.known known) (same ∙ sym p.errors) in
-      let is : end_of (behind_of old) ≡ cut_at new.count why = ap (λ (b : Behind). end_of b) behind in
+      let after : after_of old ≡ broken_off (new.count, why) = sym (p.after known) ∙ f.after (p.known known) (same ∙ sym p.errors) in
+      let is : end_of (after_of old) ≡ cut_at new.count why = ap (λ (b : After). end_of b) after in
       (λ e. differ (sym is ∙ e), ap cut_off (sym is));
   breaks = λ known. let broke = f.breaks (p.known known) in (p.follows.more broke.0, p.follows.breaks known broke.0 new.count broke.1);
 }

@@ -3,11 +3,11 @@ use Rattle.std.proofs.Common.{◌≡◌, ℕ, zero, suc, ◌+◌, ◌*◌, ◌/�
 use Rattle.std.specs.List.{flat_map}
 use Rattle.std.proofs.Math.Seq.{take-append_seam, drop-append_seam}
 use Rattle.flac_pages.specs.Page.{Page}
-use Rattle.flac_pages.specs.Packets.{Place, Ahead, Packets, ahead, size, ends, past_packet, left_in, lacing_of, rest_of, behind_of, rest_in, behind_in, to_come}
+use Rattle.flac_pages.specs.Packets.{Place, Ahead, Packets, ahead, size, ends, past_packet, left_in, lacing_of, rest_of, after_of, rest_in, after_in, to_come}
 use Rattle.flac_pages.specs.Given.{whole_packet}
-use Rattle.flac_pages.proofs.Stepping.{rest_same, behind_same, behind_is}
+use Rattle.flac_pages.proofs.Stepping.{rest_same, after_same, after_is}
 
--- lacing values that end a packet: so many full ones, and one below 255
+-- lacing values that end a packet: n full ones, and one below 255
 pub record Closes (vs ls : List ℕ) (bytes : ℕ) : Type 0 where
   pub size : size vs ≡ bytes
   pub ends : ends vs ≡ true
@@ -33,21 +33,21 @@ given_rest a packet ls bs l b =
     let n : left_in 0 true a.lacing ≡ length packet = omega (arith, ap size l, c.size) in
     ap (λ k. take k a.bytes) n ∙ ap (take (length packet)) b ∙ take-append_seam packet bs
 
-given_behind : (a : Ahead) (packet ls bs : List ℕ) → a.lacing ≡ lacing_of packet ++ ls → a.bytes ≡ packet ++ bs → behind_in 0 true a ≡ whole_packet ls bs a.fault a.stop
-given_behind a packet ls bs l b =
+given_after : (a : Ahead) (packet ls bs : List ℕ) → a.lacing ≡ lacing_of packet ++ ls → a.bytes ≡ packet ++ bs → after_in 0 true a ≡ whole_packet ls bs a.fault a.stop
+given_after a packet ls bs l b =
     let c = packet_closes packet ls in
     let n : left_in 0 true a.lacing ≡ length packet = omega (arith, ap size l, c.size) in
     let e : ends a.lacing ≡ true = ap ends l ∙ c.ends in
-    behind_is _ _ _ _ _ _ _ _ _ _ _ _ (rw e refl) (rw e refl) (ap past_packet l ∙ c.past) (ap (λ k. drop k a.bytes) n ∙ ap (drop (length packet)) b ∙ drop-append_seam packet bs) refl refl
+    after_is _ _ _ _ _ _ _ _ _ _ _ _ (rw e refl) (rw e refl) (ap past_packet l ∙ c.past) (ap (λ k. drop k a.bytes) n ∙ ap (drop (length packet)) b ∙ drop-append_seam packet bs) refl refl
 
 pub begun_packet : (p : Place) (packet ls bs : List ℕ) → p.rest ≡ 0 → p.more ≡ true → (ahead p).lacing ≡ lacing_of packet ++ ls → (ahead p).bytes ≡ packet ++ bs
-    → (rest_of p ≡ packet) × (behind_of p ≡ whole_packet ls bs (ahead p).fault (ahead p).stop)
-unfolding rest_of behind_of
+    → (rest_of p ≡ packet) × (after_of p ≡ whole_packet ls bs (ahead p).fault (ahead p).stop)
+unfolding rest_of after_of
 begun_packet p packet ls bs r m l b =
-    (rest_same p.rest 0 p.more true (ahead p) (ahead p) r m refl ∙ given_rest (ahead p) packet ls bs l b, behind_same p.rest 0 p.more true (ahead p) (ahead p) r m refl ∙ given_behind (ahead p) packet ls bs l b)
+    (rest_same p.rest 0 p.more true (ahead p) (ahead p) r m refl ∙ given_rest (ahead p) packet ls bs l b, after_same p.rest 0 p.more true (ahead p) (ahead p) r m refl ∙ given_after (ahead p) packet ls bs l b)
 
 pub page_packet : (p : Place) (packet : List ℕ) (packets : List (List ℕ)) (part : List ℕ) (given : Packets (to_come p).pages (packet ∷ packets) part) → p.rest ≡ 0 → p.more ≡ true → p.lacing ≡ [] → p.body ≡ []
-    → (rest_of p ≡ packet) × (behind_of p ≡ whole_packet (flat_map lacing_of packets ++ replicate given.full 255) (flat_map (λ packet. packet) packets ++ part) (ahead p).fault (ahead p).stop)
+    → (rest_of p ≡ packet) × (after_of p ≡ whole_packet (flat_map lacing_of packets ++ replicate given.full 255) (flat_map (λ packet. packet) packets ++ part) (ahead p).fault (ahead p).stop)
 unfolding ahead
 page_packet p packet packets part given r m l b =
     let pages = (to_come p).pages in

@@ -8,7 +8,7 @@ use Rattle.flac_bits.specs.declared.why.Why.{Why}
 use Rattle.flac_bits.proofs.Laws.{at_}
 use Rattle.flac_bits.proofs.Meaning.{takes, is_ok_of, why_is, differ}
 use Rattle.flac_pages.specs.declared.page.Before.{Before}
-use Rattle.flac_pages.specs.Page.{Page, page, page_behind}
+use Rattle.flac_pages.specs.Page.{Page, page, page_after}
 use Rattle.flac_pages.specs.Pages.{between, page_or_end, next_page}
 use Rattle.flac_pages.specs.Runs.{DecodesPage, MeansPage}
 use Rattle.flac_pages.proofs.Anew.{anew_is, anew_err}
@@ -40,10 +40,10 @@ decodes_page view before old new (Err why) answers =
 pub means_page : {X : Type 0} (view : X → Page) (before : Option Before) (old new : State) (result : Result X Why) → Gives view (begun_anew (next_page before old.cursor)) old new result → MeansPage view before old new result
 means_page view before old new result reads known same = decodes_page view before old.cursor new.cursor result (reads known same)
 
--- behind the page's first byte
-pub next_behind : (before : Option Before) (c d : Cursor) (first : ℕ) (r : Result (Page × Cursor) Reason) → number_at 8 c ≡ Ok (first, d) → begun_anew (run (page_behind before first) d) ≡ r → begun_anew (next_page before c) ≡ r
+-- after the page's first byte
+pub next_after_byte : (before : Option Before) (c d : Cursor) (first : ℕ) (r : Result (Page × Cursor) Reason) → number_at 8 c ≡ Ok (first, d) → begun_anew (run (page_after before first) d) ≡ r → begun_anew (next_page before c) ≡ r
 unfolding next_page
-next_behind before c d first r e read = ap (λ b. begun_anew (page_or_end before b)) e ∙ read
+next_after_byte before c d first r e read = ap (λ b. begun_anew (page_or_end before b)) e ∙ read
 
 -- without a first byte
 pub next_cut : (before : Option Before) (c : Cursor) (why told : Why) → number_at 8 c ≡ Err (because why) → told ≡ between why → begun_anew (next_page before c) ≡ Err (because told)

@@ -9,8 +9,8 @@ use Rattle.flac_bits.specs.declared.why.Why.{Why}
 use Rattle.flac_bits.proofs.Laws.{at_, past-append}
 use Rattle.flac_bits.proofs.Meaning.{again, shown, cut_short, takes, refuses, past-short, why_is}
 use Rattle.flac_pages.specs.declared.page.Before.{Before}
-use Rattle.flac_pages.specs.Page.{Page, page, page_behind, is_last, after}
-use Rattle.flac_pages.specs.Pages.{GoodPages, Run, Stop, closed, broken, one, none, between, page_or_end, next_page, pages_of, pages_behind}
+use Rattle.flac_pages.specs.Page.{Page, page, page_after, is_last, after_page}
+use Rattle.flac_pages.specs.Pages.{GoodPages, Run, Stop, closed, broken, one, none, between, page_or_end, next_page, pages_of, pages_after}
 use Rattle.flac_pages.specs.Runs.{left_by, IsNoPage, EndsSo, IsRun, PagesAreRuns}
 use Rattle.flac_pages.proofs.Turns.{is_page, shorter, good_turn, bad_turn}
 
@@ -24,11 +24,11 @@ page_next : (before : Option Before) (c d : Cursor) (p : Page) → run (page bef
 unfolding next_page page
 page_next before c d p e = go (number_at 8 c) e
   where
-    go : (r : Result (ℕ × Cursor) Reason) → and_then r (λ x k. run (page_behind before x) k) ≡ Ok (p, d) → page_or_end before r ≡ Ok (p, d)
+    go : (r : Result (ℕ × Cursor) Reason) → and_then r (λ x k. run (page_after before x) k) ≡ Ok (p, d) → page_or_end before r ≡ Ok (p, d)
     go (Ok x) e = e
     go (Err w) e = absurd cc
 
--- the first byte, and what is behind it
+-- the first byte, and what is after it
 abbrev page_at : Option Before → Result (ℕ × Cursor) Reason → Result (Page × Cursor) Reason
 page_at before r = page_or_end before r
 
@@ -37,14 +37,14 @@ unfolding next_page page
 no_page_read before m left why (inl (front, rest, split, inl shows)) = absurd shows
 no_page_read before m left why (inl (front, rest, split, inr (x, part, more, parts, spelled, shows))) =
     let all : left ≡ part ++ (more ++ rest) = split ∙ ap (λ t. t ++ rest) parts ∙ append_assoc part more rest in
-    ap (page_at before) (ap (λ t. number_at 8 (at_ t m)) all ∙ again (bits 8) m part (more ++ rest) x spelled) ∙ shown (page_behind before x) (past part m) more rest why shows
+    ap (page_at before) (ap (λ t. number_at 8 (at_ t m)) all ∙ again (bits 8) m part (more ++ rest) x spelled) ∙ shown (page_after before x) (past part m) more rest why shows
 no_page_read before m left why (inr (inl (short, is))) = ap (page_at before) (cut_short (bits 8) left m short) ∙ ap (λ (w : Why). refused w) (sym is)
   where
     refused : Why → Result (Page × Cursor) Reason
     refused w = Err (because w)
 no_page_read before m left why (inr (inr (long, inl short, is))) = absurd (omega (arith, long, short))
 no_page_read before m left why (inr (inr (long, inr (x, part, rest, split, spelled, cut), is))) =
-    ap (page_at before) (ap (λ t. number_at 8 (at_ t m)) split ∙ again (bits 8) m part rest x spelled) ∙ cut_short (page_behind before x) rest (past part m) cut ∙ ap (λ (w : Why). refused w) (past-short part m ∙ sym is)
+    ap (page_at before) (ap (λ t. number_at 8 (at_ t m)) split ∙ again (bits 8) m part rest x spelled) ∙ cut_short (page_after before x) rest (past part m) cut ∙ ap (λ (w : Why). refused w) (past-short part m ∙ sym is)
   where
     refused : Why → Result (Page × Cursor) Reason
     refused w = Err (because w)
@@ -59,13 +59,13 @@ read_no_page before m left why e = go (number_at 8 (at_ left m)) refl e
     go : (r : Result (ℕ × Cursor) Reason) → number_at 8 (at_ left m) ≡ r → page_or_end before r ≡ Err (because why) → IsNoPage before m left why
     go (Ok x) ran e =
         let t = takes (bits 8) left m x.0 x.1 ran in
-        elim (refuses (page_behind before x.0) x.1.left x.1.mark why e) [
+        elim (refuses (page_after before x.0) x.1.left x.1.mark why e) [
           | inl (front, rest, split, shows) ↦
-              inl (t.0 ++ front, rest, t.1 ∙ ap (λ r. t.0 ++ r) split ∙ sym (append_assoc t.0 front rest), inr (x.0, t.0, front, refl, t.2, subst (λ (k : Mark). Shows (page_behind before x.0) k front why) t.3 shows))
+              inl (t.0 ++ front, rest, t.1 ∙ ap (λ r. t.0 ++ r) split ∙ sym (append_assoc t.0 front rest), inr (x.0, t.0, front, refl, t.2, subst (λ (k : Mark). Shows (page_after before x.0) k front why) t.3 shows))
           | inr (is, cut) ↦
               inr (inr (
                 eight x.0 t.0 x.1.left left t.2.1 t.1,
-                inr (x.0, t.0, x.1.left, t.1, t.2, subst (λ (k : Mark). IsCut (page_behind before x.0) k x.1.left) t.3 cut),
+                inr (x.0, t.0, x.1.left, t.1, t.2, subst (λ (k : Mark). IsCut (page_after before x.0) k x.1.left) t.3 cut),
                 is ∙ ap (λ (k : Mark). k.short) t.3 ∙ past-short t.0 m,
               ))
         ]
@@ -86,18 +86,18 @@ one_page before c d p text split spelled mark final = record {
 }
 
 more_ends : (before : Option Before) (m k : Mark) (p : Page) (pages : List Page) (stop : Stop) (front text rest : List Bool) → k ≡ past front m → is_last p.head.flags ≡ false
-    → EndsSo (Some (after before p)) k pages text rest stop → EndsSo before m (p ∷ pages) (front ++ text) rest stop
+    → EndsSo (Some (after_page before p)) k pages text rest stop → EndsSo before m (p ∷ pages) (front ++ text) rest stop
 more_ends before m k p pages (closed d) front text rest mark more ends = (inr (more, ends.0), ends.1 ∙ ap (λ k. at_ rest (past text k)) mark ∙ ap (λ k. at_ rest k) (sym (past-append front text m)))
 more_ends before m k p pages (broken why) front text rest mark more ends =
-    ((more, ends.0), subst (λ (k : Mark). IsNoPage (left_by (Some (after before p)) pages) k rest why) (ap (λ k. past text k) mark ∙ sym (past-append front text m)) ends.1)
+    ((more, ends.0), subst (λ (k : Mark). IsNoPage (left_by (Some (after_page before p)) pages) k rest why) (ap (λ k. past text k) mark ∙ sym (past-append front text m)) ends.1)
 
 more_pages : (before : Option Before) (c d : Cursor) (p : Page) (front : List Bool) (r : Run) → c.left ≡ front ++ d.left → Spells (page before) c.mark front p → d.mark ≡ past front c.mark → is_last p.head.flags ≡ false
-    → IsRun (Some (after before p)) d r → IsRun before c (one p r)
+    → IsRun (Some (after_page before p)) d r → IsRun before c (one p r)
 more_pages before c d p front r split spelled mark more i = record {
   text = front ++ i.text;
   rest = i.rest;
   stands = split ∙ ap (λ t. front ++ t) i.stands ∙ sym (append_assoc front i.text i.rest);
-  good = (front, i.text, refl, spelled, subst (λ (k : Mark). GoodPages (Some (after before p)) k r.pages i.text) mark i.good);
+  good = (front, i.text, refl, spelled, subst (λ (k : Mark). GoodPages (Some (after_page before p)) k r.pages i.text) mark i.good);
   ends = more_ends before c.mark d.mark p r.pages r.stop front i.text i.rest mark more i.ends;
 }
 
@@ -108,17 +108,17 @@ run_within : (n : ℕ) (before : Option Before) (c : Cursor) → length c.left <
 run_within zero before c lt = absurd (omega arith)
 run_within (suc n) before c lt = go (next_page before c) refl (λ k d fewer. run_within n k d fewer)
   where
-    behind : (d : Cursor) (p : Page) (text : List Bool) → c.left ≡ text ++ d.left → Spells (page before) c.mark text p → d.mark ≡ past text c.mark → (IsRun (Some (after before p)) d (pages_of (Some (after before p)) d))
-        → (b : Bool) → is_last p.head.flags ≡ b → IsRun before c (one p (pages_behind b (Some (after before p)) d))
-    behind d p text split spelled mark others true e = one_page before c d p text split spelled mark e
-    behind d p text split spelled mark others false e = more_pages before c d p text (pages_of (Some (after before p)) d) split spelled mark e others
+    after : (d : Cursor) (p : Page) (text : List Bool) → c.left ≡ text ++ d.left → Spells (page before) c.mark text p → d.mark ≡ past text c.mark → (IsRun (Some (after_page before p)) d (pages_of (Some (after_page before p)) d))
+        → (b : Bool) → is_last p.head.flags ≡ b → IsRun before c (one p (pages_after b (Some (after_page before p)) d))
+    after d p text split spelled mark others true e = one_page before c d p text split spelled mark e
+    after d p text split spelled mark others false e = more_pages before c d p text (pages_of (Some (after_page before p)) d) split spelled mark e others
 
     go : (r : Result (Page × Cursor) Reason) → next_page before c ≡ r → ((k : Option Before) (d : Cursor) → length d.left < n → IsRun k d (pages_of k d)) → IsRun before c (pages_of before c)
     go (Ok x) e others =
         let t = takes (page before) c.left c.mark x.0 x.1 (is_page before c x.0 x.1 e) in
         let fewer : length x.1.left < n = omega (arith, shorter before c x.0 x.1 e, lt) in
         subst (λ (r : Run). IsRun before c r) (sym (good_turn before c x.0 x.1 e))
-        (behind x.1 x.0 t.0 t.1 t.2 t.3 (others (Some (after before x.0)) x.1 fewer) (is_last x.0.head.flags) refl)
+        (after x.1 x.0 t.0 t.1 t.2 t.3 (others (Some (after_page before x.0)) x.1 fewer) (is_last x.0.head.flags) refl)
     go (Err w) e others = subst (λ (r : Run). IsRun before c r) (sym (bad_turn before c w e)) (no_pages before c w.why (read_no_page before c.mark c.left w.why e))
 
 -- ---- a run is what is read
@@ -135,24 +135,24 @@ read_again before m (p ∷ ps) stop text rest (front, more, split, spelled, good
     let d : Cursor = at_ (more ++ rest) (past front m) in
     let all : text ++ rest ≡ front ++ (more ++ rest) = ap (λ t. t ++ rest) split ∙ append_assoc front more rest in
     ap (λ t. pages_of before (at_ t m)) all ∙ good_turn before (at_ (front ++ (more ++ rest)) m) p d (next_again before m front (more ++ rest) p spelled)
-    ∙ go stop ends (λ s e. read_again (Some (after before p)) (past front m) ps s more rest good e)
+    ∙ go stop ends (λ s e. read_again (Some (after_page before p)) (past front m) ps s more rest good e)
   where
     mark : past text m ≡ past more (past front m)
     mark = ap (λ t. past t m) split ∙ past-append front more m
 
     go : (stop : Stop) → EndsSo before m (p ∷ ps) text rest stop
-        → ((s : Stop) → EndsSo (Some (after before p)) (past front m) ps more rest s → pages_of (Some (after before p)) (at_ (more ++ rest) (past front m)) ≡ run_of ps s)
-        → one p (pages_behind (is_last p.head.flags) (Some (after before p)) (at_ (more ++ rest) (past front m))) ≡ run_of (p ∷ ps) stop
+        → ((s : Stop) → EndsSo (Some (after_page before p)) (past front m) ps more rest s → pages_of (Some (after_page before p)) (at_ (more ++ rest) (past front m)) ≡ run_of ps s)
+        → one p (pages_after (is_last p.head.flags) (Some (after_page before p)) (at_ (more ++ rest) (past front m))) ≡ run_of (p ∷ ps) stop
     go (closed d) (inl (final, nil), is) others =
-        let nothing : more ≡ [] = subst (λ (qs : List Page). GoodPages (Some (after before p)) (past front m) qs more) nil good in
+        let nothing : more ≡ [] = subst (λ (qs : List Page). GoodPages (Some (after_page before p)) (past front m) qs more) nil good in
         let there : at_ (more ++ rest) (past front m) ≡ d = ap (λ t. at_ (t ++ rest) (past front m)) nothing ∙ ap (λ t. at_ rest (past t (past front m))) (sym nothing) ∙ ap (λ k. at_ rest k) (sym mark) ∙ sym is in
-        ap (λ b. one p (pages_behind b (Some (after before p)) (at_ (more ++ rest) (past front m)))) final ∙ ap (λ k. run_of (p ∷ []) (closed k)) there ∙ ap (λ qs. run_of (p ∷ qs) (closed d)) (sym nil)
+        ap (λ b. one p (pages_after b (Some (after_page before p)) (at_ (more ++ rest) (past front m)))) final ∙ ap (λ k. run_of (p ∷ []) (closed k)) there ∙ ap (λ qs. run_of (p ∷ qs) (closed d)) (sym nil)
     go (closed d) (inr (further, final), is) others =
-        ap (λ b. one p (pages_behind b (Some (after before p)) (at_ (more ++ rest) (past front m)))) further
+        ap (λ b. one p (pages_after b (Some (after_page before p)) (at_ (more ++ rest) (past front m)))) further
         ∙ ap (λ r. one p r) (others (closed d) (final, is ∙ ap (λ k. at_ rest k) mark))
     go (broken why) ((further, unmarked), is) others =
-        ap (λ b. one p (pages_behind b (Some (after before p)) (at_ (more ++ rest) (past front m)))) further
-        ∙ ap (λ r. one p r) (others (broken why) (unmarked, subst (λ (k : Mark). IsNoPage (left_by (Some (after before p)) ps) k rest why) mark is))
+        ap (λ b. one p (pages_after b (Some (after_page before p)) (at_ (more ++ rest) (past front m)))) further
+        ∙ ap (λ r. one p r) (others (broken why) (unmarked, subst (λ (k : Mark). IsNoPage (left_by (Some (after_page before p)) ps) k rest why) mark is))
 
 pub pages_are_runs : PagesAreRuns
 pages_are_runs before c r = (

@@ -1,4 +1,4 @@
--- A packet's pages may stand one behind another.
+-- A packet's pages may stand one after another.
 use Rattle.std.proofs.Common.{◌≡◌, ℕ, zero, suc, ◌+◌, ◌*◌, ◌/◌, ◌%◌, ◌^◌, ◌<◌, ◌≤◌, Bool, true, false, not, cond, ◌&&◌, ◌||◌, nat_eq, bit_xor, List, [], ◌∷◌, ◌++◌, length, take, drop, replicate, Option, Some, None, refl, sym, ap, ◌∙◌, arith, length-append}
 use Rattle.std.specs.Int.{bit_at}
 use Rattle.std.specs.List.{sum}
@@ -12,7 +12,7 @@ use Rattle.flac_pages.specs.declared.page.Before.{Before}
 use Rattle.flac_pages.specs.declared.writing.PacketKind.{PacketKind}
 use Rattle.flac_pages.specs.declared.writing.PacketKind.TheVariants.{Header, Frame}
 use Rattle.flac_pages.specs.declared.writing.PacketMarks.{PacketMarks}
-use Rattle.flac_pages.specs.Page.{Page, page_spelling, page_sum, with_sum, end_rules, goes_on_behind, went_on, after, is_first, is_continued, is_last}
+use Rattle.flac_pages.specs.Page.{Page, page_spelling, page_sum, with_sum, end_rules, goes_on_after, went_on, after_page, is_first, is_continued, is_last}
 use Rattle.flac_pages.specs.Packets.{lacing_of}
 use Rattle.flac_pages.specs.Written.{IsPage, granule_at, summed, page_at}
 use Rattle.flac_pages.proofs.Stepping.{sum_more}
@@ -72,11 +72,11 @@ sum_of : (n v : ℕ) → sum (replicate n 255 ++ v ∷ []) ≡ 255 * n + v
 sum_of zero v = omega arith
 sum_of (suc n) v = let e : 255 + (255 * n + v) ≡ 255 * suc n + v = omega arith in sum_more 255 (replicate n 255 ++ v ∷ []) ∙ ap (λ k. 255 + k) (sum_of n v) ∙ e
 
-goes_on : (g : Bool) (n : ℕ) → goes_on_behind g (replicate (suc n) 255) ≡ true
+goes_on : (g : Bool) (n : ℕ) → goes_on_after g (replicate (suc n) 255) ≡ true
 goes_on g zero = refl
 goes_on g (suc n) = goes_on true n
 
-ends_there : (g : Bool) (n v : ℕ) → v < 255 → goes_on_behind g (replicate n 255 ++ v ∷ []) ≡ false
+ends_there : (g : Bool) (n v : ℕ) → v < 255 → goes_on_after g (replicate n 255 ++ v ∷ []) ≡ false
 ends_there g zero v h = grind (arith, nat_tests, h)
 ends_there g (suc n) v h = ends_there true n v h
 
@@ -194,10 +194,10 @@ pub record Leaves (serial sequence : ℕ) (goes : Bool) (b : Before) : Type 0 wh
   pub number : (b.sequence + 1) % 2 ^ 32 ≡ sequence
   pub going : b.goes_on ≡ goes
 
--- a page behind another keeps the rules
-behind_kept : (b : Before) (p : Page) → p.head.serial ≡ b.serial → p.head.sequence ≡ (b.sequence + 1) % 2 ^ 32 → is_first p.head.flags ≡ false → is_continued p.head.flags ≡ b.goes_on → AllKept (end_rules (Some b) (summed p))
+-- a page after another keeps the rules
+after_kept : (b : Before) (p : Page) → p.head.serial ≡ b.serial → p.head.sequence ≡ (b.sequence + 1) % 2 ^ 32 → is_first p.head.flags ≡ false → is_continued p.head.flags ≡ b.goes_on → AllKept (end_rules (Some b) (summed p))
 unfolding end_rules
-behind_kept b p serial sequence first continued = (
+after_kept b p serial sequence first continued = (
   equal (page_sum p) (page_sum (summed p)) (sym (sum_stated p)),
   (
     equal p.head.serial b.serial serial,
@@ -218,7 +218,7 @@ start_kept : (p : Page) → is_continued p.head.flags ≡ false → is_first p.h
 unfolding end_rules
 start_kept p continued first one long = (equal (page_sum p) (page_sum (summed p)) (sym (sum_stated p)), (refl, (continued, (rw (first, one, long) refl, tt))))
 
--- ---- a packet's pages behind one another
+-- ---- a packet's pages after one another
 
 tests_same : (a b : ℕ) → a ≡ b → nat_eq a b ≡ true
 tests_same a b e = grind (arith, nat_tests, e)
@@ -229,12 +229,12 @@ tests_other a b h = grind (arith, nat_tests, h)
 not_zero : (k : ℕ) → nat_eq (suc k) 0 ≡ false
 not_zero k = grind (arith, nat_tests)
 
--- the first page, behind another packet or where a stream begins
-pub first_behind : (m : PacketMarks) (packet : List ℕ) (b : Before) → m.sequence < 2 ^ 32 → m.first ≡ false → Leaves m.serial m.sequence false b → AllKept (end_rules (Some b) (page_at m packet 0))
-first_behind m packet b small first leaves =
+-- the first page, after another packet or where a stream begins
+pub first_after_packet : (m : PacketMarks) (packet : List ℕ) (b : Before) → m.sequence < 2 ^ 32 → m.first ≡ false → Leaves m.serial m.sequence false b → AllKept (end_rules (Some b) (page_at m packet 0))
+first_after_packet m packet b small first leaves =
     let last : ℕ = length packet / 65025 in
     let number : (m.sequence + 0) % 2 ^ 32 ≡ (b.sequence + 1) % 2 ^ 32 = omega (arith, small, leaves.number) in
-    behind_kept b _ (sym leaves.serial_is) number (first_flag true m.first (nat_eq 0 last && m.last) ∙ first) (continued_flag true m.first (nat_eq 0 last && m.last) ∙ sym leaves.going)
+    after_kept b _ (sym leaves.serial_is) number (first_flag true m.first (nat_eq 0 last && m.last) ∙ first) (continued_flag true m.first (nat_eq 0 last && m.last) ∙ sym leaves.going)
 
 one_segment : (packet : List ℕ) → length packet ≡ 51 → take 255 (drop (255 * 0) (lacing_of packet)) ≡ 51 ∷ []
 unfolding lacing_of
@@ -246,32 +246,32 @@ first_starts m packet first long =
     start_kept _ (continued_flag true m.first (nat_eq 0 last && m.last)) (first_flag true m.first (nat_eq 0 last && m.last) ∙ first) (ap length (one_segment packet long)) (ap sum (one_segment packet long))
 
 -- a further page
-pub further_behind : (m : PacketMarks) (packet : List ℕ) (k : ℕ) (b : Before) → Leaves m.serial ((m.sequence + suc k) % 2 ^ 32) true b → AllKept (end_rules (Some b) (page_at m packet (suc k)))
-further_behind m packet k b leaves =
+pub further_after : (m : PacketMarks) (packet : List ℕ) (k : ℕ) (b : Before) → Leaves m.serial ((m.sequence + suc k) % 2 ^ 32) true b → AllKept (end_rules (Some b) (page_at m packet (suc k)))
+further_after m packet k b leaves =
     let last : ℕ = length packet / 65025 in
     let ends = nat_eq (suc k) last && m.last in
-    behind_kept b _ (sym leaves.serial_is) (sym leaves.number)
+    after_kept b _ (sym leaves.serial_is) (sym leaves.number)
     (ap (λ a. is_first (cond a (cond m.first 2 0) 1 + cond ends 4 0)) (not_zero k) ∙ first_flag false m.first ends)
     (ap (λ a. is_continued (cond a (cond m.first 2 0) 1 + cond ends 4 0)) (not_zero k) ∙ continued_flag false m.first ends ∙ sym leaves.going)
 
--- behind each page but the last the packet goes on
-pub left_open : (m : PacketMarks) (packet : List ℕ) (k : ℕ) (before : Option Before) → k < length packet / 65025 → Leaves m.serial ((m.sequence + (k + 1)) % 2 ^ 32) true (after before (page_at m packet k))
+-- after each page but the last the packet goes on
+pub left_open : (m : PacketMarks) (packet : List ℕ) (k : ℕ) (before : Option Before) → k < length packet / 65025 → Leaves m.serial ((m.sequence + (k + 1)) % 2 ^ 32) true (after_page before (page_at m packet k))
 left_open m packet k before lt = record {
   serial_is = refl;
   number = omega arith;
-  going = ap (goes_on_behind (went_on before)) (full_lacing packet k lt) ∙ goes_on (went_on before) 254;
+  going = ap (goes_on_after (went_on before)) (full_lacing packet k lt) ∙ goes_on (went_on before) 254;
 }
 
-lacing_ends : (g : Bool) (rest : List ℕ) → goes_on_behind g (lacing_of rest) ≡ false
+lacing_ends : (g : Bool) (rest : List ℕ) → goes_on_after g (lacing_of rest) ≡ false
 unfolding lacing_of
 lacing_ends g rest = ends_there g (length rest / 255) (length rest % 255) (omega arith)
 
--- behind the last one it does not
-pub left_ended : (m : PacketMarks) (packet : List ℕ) (k : ℕ) (before : Option Before) → k ≡ length packet / 65025 → Leaves m.serial ((m.sequence + (length packet / 65025 + 1)) % 2 ^ 32) false (after before (page_at m packet k))
+-- after the last one it does not
+pub left_ended : (m : PacketMarks) (packet : List ℕ) (k : ℕ) (before : Option Before) → k ≡ length packet / 65025 → Leaves m.serial ((m.sequence + (length packet / 65025 + 1)) % 2 ^ 32) false (after_page before (page_at m packet k))
 left_ended m packet k before is = record {
   serial_is = refl;
   number = omega (arith, is);
-  going = rw is (ap (goes_on_behind (went_on before)) (last_lacing packet) ∙ lacing_ends (went_on before) (drop (65025 * (length packet / 65025)) packet));
+  going = rw is (ap (goes_on_after (went_on before)) (last_lacing packet) ∙ lacing_ends (went_on before) (drop (65025 * (length packet / 65025)) packet));
 }
 
 -- whether a page is marked last

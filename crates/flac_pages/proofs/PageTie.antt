@@ -15,7 +15,7 @@ use Rattle.flac_bits.proofs.Meaning.{again}
 use Rattle.flac_bits.proofs.Ties.{tie, each_tied, some_tied, bytes_tie}
 use Rattle.flac_pages.specs.declared.page.Before.{Before}
 use Rattle.flac_pages.specs.declared.page.Head.{Head}
-use Rattle.flac_pages.specs.Page.{Page, page, page_behind, head_behind, page_spelling}
+use Rattle.flac_pages.specs.Page.{Page, page, page_after, head_after, page_spelling}
 use Rattle.flac_pages.specs.Written.{IsPage, PagesAreSpelled, PagesAreReadAgain}
 
 -- ---- numbers, the lowest byte first
@@ -93,9 +93,9 @@ both_are a b x y h = (grind (arith, nat_tests), grind (arith, nat_tests))
 is_zero : (a : ℕ) → not (nat_eq a 0) ≡ false → a ≡ 0
 is_zero a h = grind (arith, nat_tests)
 
-head_tie : (first : ℕ) (m : Mark) → Ties (head_behind first) m (IsHead first) head_bits
-unfolding head_behind
-head_tie first m = tie (head_behind first) m (IsHead first) head_bits
+head_tie : (first : ℕ) (m : Mark) → Ties (head_after first) m (IsHead first) head_bits
+unfolding head_after
+head_tie first m = tie (head_after first) m (IsHead first) head_bits
     (λ pattern a marks version b plain flags c.
     each_tied little_64 _ (λ v. v < 2 ^ 64) le64 _ (little_64_tie _) (λ granule g.
     each_tied little_32 _ (λ v. v < 2 ^ 32) le32 _ (little_32_tie _) (λ serial s.
@@ -139,10 +139,10 @@ abbrev page_of : Head → List ℕ → List ℕ → Page
 page_of h l b = record { head = h; lacing = l; body = b }
 
 pub page_tie : (before : Option Before) (m : Mark) → Ties (page before) m (IsPage before) page_spelling
-unfolding page page_behind
+unfolding page page_after
 page_tie before m = tie (page before) m (IsPage before) page_spelling
     (λ first a.
-    each_tied (head_behind first) _ (IsHead first) head_bits _ (head_tie first _) (λ h v count c.
+    each_tied (head_after first) _ (IsHead first) head_bits _ (head_tie first _) (λ h v count c.
     each_tied (list_of count (bits 8)) _ (IsBytes count) bits_of _ (bytes_tie count _) (λ l lacing.
     each_tied (list_of (sum l) (bits 8)) _ (IsBytes (sum l)) bits_of _ (bytes_tie (sum l) _) (λ b body kept. (
       record {
@@ -162,7 +162,7 @@ page_tie before m = tie (page before) m (IsPage before) page_spelling
     (λ p v. (
       0x4F,
       omega arith,
-      some_tied (head_behind 0x4F) _ (IsHead 0x4F) head_bits _ p.head (head_tie 0x4F _) (record { pattern = refl; flags = v.flags; granule = v.granule; serial = v.serial; sequence = v.sequence; sum = v.stated }) (
+      some_tied (head_after 0x4F) _ (IsHead 0x4F) head_bits _ p.head (head_tie 0x4F _) (record { pattern = refl; flags = v.flags; granule = v.granule; serial = v.serial; sequence = v.sequence; sum = v.stated }) (
         length p.lacing,
         v.few,
         some_tied (list_of (length p.lacing) (bits 8)) _ (IsBytes (length p.lacing)) bits_of _ p.lacing (bytes_tie (length p.lacing) _) (record { many = refl; small = v.lacing })

@@ -5,10 +5,10 @@ use Rattle.std.specs.List.{flat_map}
 use Rattle.std.proofs.lemmas.List.{drop_all}
 use Rattle.std.proofs.lemmas.List.Folds.{flat_map-map}
 use Rattle.flac_bits.specs.Bits.{bit_value}
-use Rattle.flac_bits.specs.State.{Behind}
+use Rattle.flac_bits.specs.State.{After}
 use Rattle.flac_bits.specs.declared.why.Why.{Why}
 use Rattle.flac_pages.specs.Page.{Page}
-use Rattle.flac_pages.specs.Packets.{Place, OnPage, on_page, coming, read_since, ReadsPages, PassesPacket, open_in, BreaksAt, to_come, ahead, ends, past_packet, behind_in, behind_of, page_index}
+use Rattle.flac_pages.specs.Packets.{Place, OnPage, on_page, coming, read_since, ReadsPages, PassesPacket, open_in, BreaksAt, to_come, ahead, ends, past_packet, after_in, after_of, page_index}
 use Rattle.flac_pages.specs.inner.Packets.{next_segment, Follows}
 use Rattle.flac_pages.specs.Items.{whole, end_in, end_of, counted, numbers_of}
 
@@ -28,11 +28,11 @@ since_self p = omega arith
 pub reads_none : (p : OnPage) → ReadsPages p p
 reads_none p = record {
   fewer = omega arith;
-  behind = ap (λ k. drop k p.behind) (sym (since_self p));
+  after = ap (λ k. drop k p.after) (sym (since_self p));
   count = let plain : p.count + read_since p p ≡ p.count = omega arith in ap page_index (sym plain);
 }
 
-since_then : (old mid new : OnPage) → length mid.behind ≤ length old.behind → length new.behind ≤ length mid.behind → read_since old new ≡ read_since old mid + read_since mid new
+since_then : (old mid new : OnPage) → length mid.after ≤ length old.after → length new.after ≤ length mid.after → read_since old new ≡ read_since old mid + read_since mid new
 since_then old mid new a b = omega (arith, a, b)
 
 joins : (a m n i j k : ℕ) → k ≡ i + j → page_index m ≡ page_index (a + i) → page_index n ≡ page_index (m + j) → page_index n ≡ page_index (a + k)
@@ -43,7 +43,7 @@ reads_then old mid new a b =
     let since = since_then old mid new a.fewer b.fewer in
     record {
       fewer = omega (arith, a.fewer, b.fewer);
-      behind = b.behind ∙ ap (drop (read_since mid new)) a.behind ∙ sym (drop_more old.behind (read_since old mid) (read_since mid new)) ∙ ap (λ k. drop k old.behind) (sym since);
+      after = b.after ∙ ap (drop (read_since mid new)) a.after ∙ sym (drop_more old.after (read_since old mid) (read_since mid new)) ∙ ap (λ k. drop k old.after) (sym since);
       count = joins old.count mid.count new.count (read_since old mid) (read_since mid new) (read_since old new) since a.count b.count;
     }
 
@@ -62,9 +62,9 @@ next_count c n k one e = omega (arith, one, e)
 -- the next page was read
 pub turned_pages : (old new : Place) (p : Page) → (to_come old).pages ≡ p ∷ (to_come new).pages → new.count ≡ page_index (old.count + 1) → ReadsPages (on_page old) (on_page new)
 unfolding on_page
-turned_pages old new p behind count =
-    let more = one_more (on_page old).behind (on_page new).behind p.lacing (ap lacing_each behind) in
-    record { fewer = more.0; behind = more.2; count = next_count old.count new.count (read_since (on_page old) (on_page new)) more.1 count }
+turned_pages old new p after count =
+    let more = one_more (on_page old).after (on_page new).after p.lacing (ap lacing_each after) in
+    record { fewer = more.0; after = more.2; count = next_count old.count new.count (read_since (on_page old) (on_page new)) more.1 count }
 
 open_more : (l : List ℕ) (ls : List (List ℕ)) → l ≡ [] → open_in (l ∷ ls) ≡ suc (open_in ls)
 open_more l ls none = ap (λ k. open_in (k ∷ ls)) none
@@ -74,16 +74,16 @@ within c k n i j small e s from below = (omega (arith, small, e, from), omega (a
 
 pub turned_breaks : (old new : Place) (p : Page) → old.count < 2 ^ 64 → old.lacing ≡ [] → (to_come old).pages ≡ p ∷ (to_come new).pages → new.lacing ≡ p.lacing → new.count ≡ page_index (old.count + 1) → (n : ℕ) → BreaksAt (on_page new) n → BreaksAt (on_page old) n
 unfolding on_page
-turned_breaks old new p small none behind lacing count n b =
-    let those : (on_page old).behind ≡ new.lacing ∷ (on_page new).behind = ap lacing_each behind ∙ ap (λ l. l ∷ (on_page new).behind) (sym lacing) in
-    let more : open_in (old.lacing ∷ (on_page old).behind) ≡ suc (open_in (new.lacing ∷ (on_page new).behind)) = open_more old.lacing (on_page old).behind none ∙ ap (λ ls. suc (open_in ls)) those in
-    let at = within old.count new.count n (open_in (new.lacing ∷ (on_page new).behind)) (open_in (old.lacing ∷ (on_page old).behind)) small count more b.from b.below in
+turned_breaks old new p small none after lacing count n b =
+    let those : (on_page old).after ≡ new.lacing ∷ (on_page new).after = ap lacing_each after ∙ ap (λ l. l ∷ (on_page new).after) (sym lacing) in
+    let more : open_in (old.lacing ∷ (on_page old).after) ≡ suc (open_in (new.lacing ∷ (on_page new).after)) = open_more old.lacing (on_page old).after none ∙ ap (λ ls. suc (open_in ls)) those in
+    let at = within old.count new.count n (open_in (new.lacing ∷ (on_page new).after)) (open_in (old.lacing ∷ (on_page old).after)) small count more b.from b.below in
     record { index = b.index; from = at.0; below = at.1 }
 
 -- no further page was read
 pub none_read : (p : Place) (n : ℕ) → p.count < 2 ^ 64 → p.lacing ≡ [] → n ≡ p.count → BreaksAt (on_page p) n
 unfolding on_page
-none_read p n small none same = let more = open_more p.lacing (on_page p).behind none in record { index = omega (arith, small, same); from = omega (arith, same); below = omega (arith, same, more) }
+none_read p n small none same = let more = open_more p.lacing (on_page p).after none in record { index = omega (arith, small, same); from = omega (arith, same); below = omega (arith, same, more) }
 
 -- ---- within a packet
 
@@ -102,14 +102,14 @@ follows_then old mid new a b = record {
 pub follows_segment : (old : Place) (v : ℕ) (vs : List ℕ) → old.more ≡ true → old.lacing ≡ v ∷ vs → Follows old (next_segment old (v ∷ vs))
 unfolding on_page
 follows_segment old v vs more lacing =
-    let behind = (on_page old).behind in
+    let after = (on_page old).after in
     let none = since_self (on_page old) in
     record {
       known = λ known. known;
       more = λ goes. more;
-      pages = λ known. record { fewer = omega arith; behind = ap (λ k. drop k behind) (sym none); count = let plain : old.count + (length behind - length behind) ≡ old.count = omega arith in ap page_index (sym plain) };
+      pages = λ known. record { fewer = omega arith; after = ap (λ k. drop k after) (sym none); count = let plain : old.count + (length after - length after) ≡ old.count = omega arith in ap page_index (sym plain) };
       breaks = λ known goes n b.
-          let same : open_in (old.lacing ∷ behind) ≡ open_in (vs ∷ behind) = ap (λ l. open_in (l ∷ behind)) lacing ∙ ap (λ k. cond (cond k (ends vs) true) 0 (suc (open_in behind))) goes in
+          let same : open_in (old.lacing ∷ after) ≡ open_in (vs ∷ after) = ap (λ l. open_in (l ∷ after)) lacing ∙ ap (λ k. cond (cond k (ends vs) true) 0 (suc (open_in after))) goes in
           record { index = b.index; from = b.from; below = omega (arith, b.below, same) };
     }
 
@@ -125,7 +125,7 @@ follows_same old new known more lacing last before count cursor =
       breaks = λ k goes n b. subst (λ (p : OnPage). BreaksAt p n) (sym same) b;
     }
 
--- the packet's end was passed, behind which the next one is to be begun
+-- the packet's end was passed, after which the next one is to be begun
 pub coming_ahead : (p : Place) → coming (on_page p) ≡ (ahead p).lacing
 unfolding on_page ahead
 coming_ahead p = ap (λ k. p.lacing ++ k) (flat_map-map (λ (l : List ℕ). l) (λ (q : Page). q.lacing) (to_come p).pages)
@@ -134,29 +134,29 @@ more_there : (p : Place) → (on_page p).more ≡ p.more
 unfolding on_page
 more_there p = refl
 
-ended_ahead : (p : Place) → p.more ≡ true → end_of (behind_of p) ≡ whole → ends (ahead p).lacing ≡ true
-unfolding behind_of
-ended_ahead p more is = go (ends (ahead p).lacing) refl (ap (λ m. end_of (behind_in p.rest m (ahead p))) (sym more) ∙ is)
+ended_ahead : (p : Place) → p.more ≡ true → end_of (after_of p) ≡ whole → ends (ahead p).lacing ≡ true
+unfolding after_of
+ended_ahead p more is = go (ends (ahead p).lacing) refl (ap (λ m. end_of (after_in p.rest m (ahead p))) (sym more) ∙ is)
   where
     unended_is : (o : Option (ℕ × Why)) → end_in o true ≡ whole → ⊥
     unended_is None e = absurd cc
     unended_is (Some f) e = absurd cc
 
-    go : (b : Bool) → ends (ahead p).lacing ≡ b → end_of (behind_in p.rest true (ahead p)) ≡ whole → ends (ahead p).lacing ≡ true
+    go : (b : Bool) → ends (ahead p).lacing ≡ b → end_of (after_in p.rest true (ahead p)) ≡ whole → ends (ahead p).lacing ≡ true
     go true e is = e
     go false e is = absurd (unended_is (ahead p).fault (ap (λ b. end_in (cond (not b) (ahead p).fault None) (not b)) (sym e) ∙ is))
 
-pieces_there : (p : Place) (m : Bool) → p.more ≡ m → (behind_of p).pieces ≡ cond m (past_packet (ahead p).lacing) (ahead p).lacing
-unfolding behind_of
+pieces_there : (p : Place) (m : Bool) → p.more ≡ m → (after_of p).pieces ≡ cond m (past_packet (ahead p).lacing) (ahead p).lacing
+unfolding after_of
 pieces_there p m e = ap (λ b. cond b (past_packet (ahead p).lacing) (ahead p).lacing) e
 
-pub passes_there : (old new : Place) → ReadsPages (on_page old) (on_page new) → (on_page old).more ≡ true → new.more ≡ false → end_of (behind_of old) ≡ whole → behind_of new ≡ behind_of old → PassesPacket (on_page old) (on_page new)
-passes_there old new pages goes_on over ended behind =
+pub passes_there : (old new : Place) → ReadsPages (on_page old) (on_page new) → (on_page old).more ≡ true → new.more ≡ false → end_of (after_of old) ≡ whole → after_of new ≡ after_of old → PassesPacket (on_page old) (on_page new)
+passes_there old new pages goes_on over ended after =
     let more : old.more ≡ true = sym (more_there old) ∙ goes_on in
     record {
       pages = pages;
       ended = ap ends (coming_ahead old) ∙ ended_ahead old more ended;
-      passed = coming_ahead new ∙ sym (pieces_there new false over) ∙ ap (λ (b : Behind). b.pieces) behind ∙ pieces_there old true more ∙ ap past_packet (sym (coming_ahead old));
+      passed = coming_ahead new ∙ sym (pieces_there new false over) ∙ ap (λ (b : After). b.pieces) after ∙ pieces_there old true more ∙ ap past_packet (sym (coming_ahead old));
     }
 
 -- ---- as numbers
@@ -197,27 +197,27 @@ same_flag true false e = absurd (omega (arith, e))
 same_flag false true e = absurd (omega (arith, e))
 
 abbrev the_page : Bool → Bool → ℕ → List ℕ → List (List ℕ) → OnPage
-the_page known more count lacing behind = record { known = known; more = more; count = count; lacing = lacing; behind = behind }
+the_page known more count lacing after = record { known = known; more = more; count = count; lacing = lacing; after = after }
 
 page_is : (k k' m m' : Bool) (n n' : ℕ) (l l' : List ℕ) (b b' : List (List ℕ)) → k ≡ k' → m ≡ m' → n ≡ n' → l ≡ l' → b ≡ b' → the_page k m n l b ≡ the_page k' m' n' l' b'
 page_is k k' m m' n n' l l' b b' e1 e2 e3 e4 e5 = rw (e1, e2, e3, e4, e5) refl
 
--- the numbers tell the page, and what stands behind them
+-- the numbers tell the page, and what stands after them
 pub numbers_same : (p q : OnPage) (r s : List ℕ) → numbers_of p ++ r ≡ numbers_of q ++ s → (p ≡ q) × (r ≡ s)
 unfolding numbers_of
 numbers_same p q r s e =
     let first = heads (bit_value p.known) (bit_value q.known) _ _ e in
     let goes_on = heads (bit_value p.more) (bit_value q.more) _ _ first.1 in
     let second = heads p.count q.count _ _ goes_on.1 in
-    let pages = λ (x : OnPage). length x.behind ∷ flat_map counted x.behind in
+    let pages = λ (x : OnPage). length x.after ∷ flat_map counted x.after in
     let third = counted_same p.lacing q.lacing (pages p ++ r) (pages q ++ s) (sym (append_assoc (counted p.lacing) (pages p) r) ∙ second.1 ∙ append_assoc (counted q.lacing) (pages q) s) in
-    let fourth = heads (length p.behind) (length q.behind) (flat_map counted p.behind ++ r) (flat_map counted q.behind ++ s) third.1 in
-    let fifth = lists_same p.behind q.behind r s fourth.0 fourth.1 in
-    (page_is p.known q.known p.more q.more p.count q.count p.lacing q.lacing p.behind q.behind (same_flag p.known q.known first.0) (same_flag p.more q.more goes_on.0) second.0 third.0 fifth.0, fifth.1)
+    let fourth = heads (length p.after) (length q.after) (flat_map counted p.after ++ r) (flat_map counted q.after ++ s) third.1 in
+    let fifth = lists_same p.after q.after r s fourth.0 fourth.1 in
+    (page_is p.known q.known p.more q.more p.count q.count p.lacing q.lacing p.after q.after (same_flag p.known q.known first.0) (same_flag p.more q.more goes_on.0) second.0 third.0 fifth.0, fifth.1)
 
 -- ---- what was answered of a packet
 
--- what breaks the packet off behind the calls that followed does so from the start
+-- what breaks the packet off after the calls that followed does so from the start
 pub broke_since : (start old : Place) (page : Option ℕ) → Follows start old → start.known ≡ true → IfSome page (λ n. (old.more ≡ true) × BreaksAt (on_page old) n) → IfSome page (λ n. BreaksAt (on_page start) n)
 broke_since start old None follows known broke = tt
 broke_since start old (Some n) follows known broke = follows.breaks known broke.0 n broke.1

@@ -1,4 +1,4 @@
--- Packets put one behind another in memory.
+-- Packets put one after another in memory.
 use Rattle.std.proofs.Common.{◌≡◌, ℕ, ◌-◌, ◌^◌, ◌<◌, ◌≤◌, true, List, [], ◌∷◌, ◌++◌, length, take, drop, refl, sym, ap, ◌∙◌, arith, length-append}
 use Rattle.std.proofs.lemmas.List.{drop-append-le, take-append-le, take_all, drop_at, length-drop}
 use Rattle.std.proofs.lemmas.List.Elements.{All-cons, All-tail}
@@ -8,7 +8,7 @@ use Rattle.flac_pages.specs.Placed.{AreInOrder, placed_in, end_of, IsPlaced, Pac
 use Rattle.flac_pages.specs.Written.{granule_at}
 use Rattle.flac_pages.proofs.PageStands.{bytes_take, bytes_drop}
 
--- the packet behind the last end
+-- the packet after the last end
 last_cut : (bytes packet : List ℕ) (from : ℕ) → from ≡ length bytes → take (length (bytes ++ packet) - from) (drop from (bytes ++ packet)) ≡ packet
 last_cut bytes packet from is =
     ap (λ l. take (length (bytes ++ packet) - from) l) (drop_at bytes packet from (sym is)) ∙ take_all (length (bytes ++ packet) - from) packet (omega (arith, length-append bytes packet, is))

@@ -12,22 +12,22 @@ use Rattle.flac_bits.specs.Meaning.{AllKept}
 use Rattle.flac_bits.specs.State.{Mark, past}
 use Rattle.flac_pages.specs.declared.page.Before.{Before}
 use Rattle.flac_pages.specs.declared.writing.PacketMarks.{PacketMarks}
-use Rattle.flac_pages.specs.Page.{Page, page_spelling, end_rules, after}
+use Rattle.flac_pages.specs.Page.{Page, page_spelling, end_rules, after_page}
 use Rattle.flac_pages.specs.Pages.{GoodPages, closed}
 use Rattle.flac_pages.specs.Packets.{Packets, lacing_of}
 use Rattle.flac_pages.specs.Written.{IsPage, page_at, pages_of_packet}
 use Rattle.flac_pages.specs.Runs.{FinalLast}
-use Rattle.flac_pages.specs.Placed.{Placed, IsPlaced, WrittenPagesAreGood, marks_of, sequence_behind, pages_from, stream_pages, stream_spelling}
+use Rattle.flac_pages.specs.Placed.{Placed, IsPlaced, WrittenPagesAreGood, marks_of, sequence_after, pages_from, stream_pages, stream_spelling}
 use Rattle.flac_pages.proofs.Cut.{pages_have_packets}
 use Rattle.flac_pages.proofs.PageRuns.{pages_are_runs}
 use Rattle.flac_pages.proofs.PageTie.{pages_spelled}
-use Rattle.flac_pages.proofs.PageStands.{MayBeWritten, Leaves, stands, first_behind, first_starts, further_behind, left_open, left_ended, marked_more, marked_last}
+use Rattle.flac_pages.proofs.PageStands.{MayBeWritten, Leaves, stands, first_after_packet, first_starts, further_after, left_open, left_ended, marked_more, marked_last}
 
--- ---- pages that may stand one behind another
+-- ---- pages that may stand one after another
 
 abbrev AllStand : Option Before → List Page → Type 0
 AllStand before [] = ⊤
-AllStand before (p ∷ ps) = IsPage before p × AllStand (Some (after before p)) ps
+AllStand before (p ∷ ps) = IsPage before p × AllStand (Some (after_page before p)) ps
 
 good_pages : (ps : List Page) (before : Option Before) (m : Mark) → AllStand before ps → GoodPages before m ps (flat_map page_spelling ps)
 good_pages [] before m all = refl
@@ -36,23 +36,23 @@ good_pages (p ∷ ps) before m all = (
   flat_map page_spelling ps,
   flat_map-cons page_spelling p ps,
   (pages_spelled before m (page_spelling p) p).1 (all.0, refl),
-  good_pages ps (Some (after before p)) (past (page_spelling p) m) all.1,
+  good_pages ps (Some (after_page before p)) (past (page_spelling p) m) all.1,
 )
 
--- ---- one packet's pages from a page on, and those behind them
+-- ---- one packet's pages from a page on, and those after them
 
 module _ (m : PacketMarks) (packet : List ℕ) (qs : List Page) where
   stand_from : (n k : ℕ) (before : Option Before) → MayBeWritten m packet → k + n ≡ length packet / 65025 → AllKept (end_rules before (page_at m packet k))
       → ((b : Before) → Leaves m.serial ((m.sequence + (length packet / 65025 + 1)) % 2 ^ 32) false b → AllStand (Some b) qs)
       → AllStand before (map (page_at m packet) (range_with_len k (suc n)) ++ qs)
-  stand_from zero k before may e kept others = (stands m packet k zero before may e kept, others (after before (page_at m packet k)) (left_ended m packet k before (omega (arith, e))))
+  stand_from zero k before may e kept others = (stands m packet k zero before may e kept, others (after_page before (page_at m packet k)) (left_ended m packet k before (omega (arith, e))))
   stand_from (suc n) k before may e kept others =
       let is : k + 1 ≡ suc k = omega arith in
       let more = left_open m packet k before (omega (arith, e)) in
-      let next = after before (page_at m packet k) in
+      let next = after_page before (page_at m packet k) in
       let due = subst (λ j. Leaves m.serial ((m.sequence + j) % 2 ^ 32) true next) is more in (
         stands m packet k (suc n) before may e kept,
-        subst (λ j. AllStand (Some next) (map (page_at m packet) (range_with_len j (suc n)) ++ qs)) (sym is) (stand_from n (suc k) (Some next) may (omega (arith, e)) (further_behind m packet k next due) others),
+        subst (λ j. AllStand (Some next) (map (page_at m packet) (range_with_len j (suc n)) ++ qs)) (sym is) (stand_from n (suc k) (Some next) may (omega (arith, e)) (further_after m packet k next due) others),
       )
 
   final_from : (n k : ℕ) → k + n ≡ length packet / 65025 → ((m.last ≡ true) × (qs ≡ [])) ⊎ ((m.last ≡ false) × FinalLast qs) → FinalLast (map (page_at m packet) (range_with_len k (suc n)) ++ qs)
@@ -81,19 +81,19 @@ module _ (serial : ℕ) (small : serial < 2 ^ 32) where
   all_stand [] sequence b low all leaves = tt
   all_stand (p ∷ ps) sequence b low all leaves =
       let m = marks_of serial sequence false (is_nil ps) p in
-      packet_stands m p.packet (pages_from serial (sequence_behind sequence p.packet) false ps) (Some b) (may_be serial sequence false (is_nil ps) p small (all 0 p (omega arith))) (first_behind m p.packet b low refl leaves)
-      (λ c then. all_stand ps (sequence_behind sequence p.packet) c (omega arith) (All-tail IsPlaced p ps all) then)
+      packet_stands m p.packet (pages_from serial (sequence_after sequence p.packet) false ps) (Some b) (may_be serial sequence false (is_nil ps) p small (all 0 p (omega arith))) (first_after_packet m p.packet b low refl leaves)
+      (λ c then. all_stand ps (sequence_after sequence p.packet) c (omega arith) (All-tail IsPlaced p ps all) then)
 
   stream_stands : (p : Placed) (ps : List Placed) → length p.packet ≡ 51 → All IsPlaced (p ∷ ps) → AllStand None (stream_pages serial (p ∷ ps))
   stream_stands p ps long all =
       let m = marks_of serial 0 true (is_nil ps) p in
-      packet_stands m p.packet (pages_from serial (sequence_behind 0 p.packet) false ps) None (may_be serial 0 true (is_nil ps) p small (all 0 p (omega arith))) (first_starts m p.packet refl long)
-      (λ c then. all_stand ps (sequence_behind 0 p.packet) c (omega arith) (All-tail IsPlaced p ps all) then)
+      packet_stands m p.packet (pages_from serial (sequence_after 0 p.packet) false ps) None (may_be serial 0 true (is_nil ps) p small (all 0 p (omega arith))) (first_starts m p.packet refl long)
+      (λ c then. all_stand ps (sequence_after 0 p.packet) c (omega arith) (All-tail IsPlaced p ps all) then)
 
 final_last : (serial sequence : ℕ) (first : Bool) (p : Placed) (ps : List Placed) → FinalLast (pages_from serial sequence first (p ∷ ps))
 final_last serial sequence first p [] = packet_final (marks_of serial sequence first true p) p.packet [] (inl (refl, refl))
 final_last serial sequence first p (q ∷ qs) =
-    packet_final (marks_of serial sequence first false p) p.packet (pages_from serial (sequence_behind sequence p.packet) false (q ∷ qs)) (inr (refl, final_last serial (sequence_behind sequence p.packet) false q qs))
+    packet_final (marks_of serial sequence first false p) p.packet (pages_from serial (sequence_after sequence p.packet) false (q ∷ qs)) (inr (refl, final_last serial (sequence_after sequence p.packet) false q qs))
 
 -- ---- the packets
 
@@ -117,8 +117,8 @@ joined_packets ps qs packet packets a b = record {
 just_packets : (serial sequence : ℕ) (first : Bool) (ps : List Placed) → Packets (pages_from serial sequence first ps) (map (λ q. q.packet) ps) []
 just_packets serial sequence first [] = record { full = 0; lacing = refl; bytes = refl; part = refl }
 just_packets serial sequence first (p ∷ ps) =
-    joined_packets _ (pages_from serial (sequence_behind sequence p.packet) false ps) p.packet (map (λ q. q.packet) ps)
-    (pages_have_packets (marks_of serial sequence first (is_nil ps) p) p.packet) (just_packets serial (sequence_behind sequence p.packet) false ps)
+    joined_packets _ (pages_from serial (sequence_after sequence p.packet) false ps) p.packet (map (λ q. q.packet) ps)
+    (pages_have_packets (marks_of serial sequence first (is_nil ps) p) p.packet) (just_packets serial (sequence_after sequence p.packet) false ps)
 
 -- ---- the law
 

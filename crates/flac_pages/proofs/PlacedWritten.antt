@@ -13,7 +13,7 @@ use Rattle.flac_pages.specs.declared.writing.PacketAt.{PacketAt}
 use Rattle.flac_pages.specs.declared.writing.PacketMarks.{PacketMarks}
 use Rattle.flac_pages.specs.Page.{page_spelling}
 use Rattle.flac_pages.specs.Written.{page_at, pages_of_packet, packet_spelling}
-use Rattle.flac_pages.specs.Placed.{Placed, AreInOrder, placed_in, marks_of, sequence_behind, pages_from}
+use Rattle.flac_pages.specs.Placed.{Placed, AreInOrder, placed_in, marks_of, sequence_after, pages_from}
 
 -- the bits of these packets
 abbrev pub bits_from : (serial sequence : ℕ) → (first : Bool) → List ℕ → (from : ℕ) → List PacketAt → List Bool
@@ -27,22 +27,22 @@ none_placed : (bytes : List ℕ) (from : ℕ) (packets : List PacketAt) → is_n
 none_placed bytes from [] = refl
 none_placed bytes from (p ∷ ps) = let e : nat_eq (suc (length ps)) 0 ≡ false = grind (arith, nat_tests) in sym e
 
--- the first packet, and those behind it
+-- the first packet, and those after it
 first_of_them : (serial sequence : ℕ) (first : Bool) (bytes : List ℕ) (from : ℕ) (p : PacketAt) (ps : List PacketAt) (last : Bool) → nat_eq (length ps) 0 ≡ last
     → bits_from serial sequence first bytes from (p ∷ ps)
     ≡ packet_spelling (record { serial = serial; sequence = sequence; kind = p.kind; first = first; last = last }) (take (p.end - from) (drop from bytes))
-    ++ bits_from serial (sequence_behind sequence (take (p.end - from) (drop from bytes))) false bytes p.end ps
+    ++ bits_from serial (sequence_after sequence (take (p.end - from) (drop from bytes))) false bytes p.end ps
 first_of_them serial sequence first bytes from p ps last is =
     let packet = take (p.end - from) (drop from bytes) in
     let q : Placed = record { packet = packet; kind = p.kind } in
     let m = marks_of serial sequence first (is_nil (placed_in bytes p.end ps)) q in
-    let others = pages_from serial (sequence_behind sequence packet) false (placed_in bytes p.end ps) in
+    let others = pages_from serial (sequence_after sequence packet) false (placed_in bytes p.end ps) in
     flat_map-append page_spelling (pages_of_packet m packet) others ∙ ap (λ t. t ++ flat_map page_spelling others) (packet_joined m packet)
     ∙ ap (λ l. packet_spelling (marks_of serial sequence first l q) packet ++ flat_map page_spelling others) (none_placed bytes p.end ps ∙ is)
 
 -- ---- the loop
 
--- before the packet of a number: those behind it are in order, and still to be written
+-- before the packet of a number: those after it are in order, and still to be written
 pub record StandsAt (serial sequence : ℕ) (bytes : List ℕ) (from i : ℕ) (packets : List PacketAt) (whole : List Bool) (old now : Written) : Type 0 where
   pub order : AreInOrder from (length bytes) (drop i packets)
   pub towards : Towards (bits_from serial sequence (nat_eq i 0) bytes from (drop i packets)) whole old now
@@ -64,7 +64,7 @@ pub in_order : (packets : List PacketAt) (i from most : ℕ) (p d : PacketAt) �
 in_order packets i from most p d lt is order = subst (λ l. AreInOrder from most l) (next_is packets i p d lt is) order
 
 pub step_is : (serial sequence next : ℕ) (bytes : List ℕ) (from i : ℕ) (packets : List PacketAt) (p d : PacketAt) → i < length packets → p ≡ get_or packets i d
-    → next ≡ sequence_behind sequence (take (p.end - from) (drop from bytes))
+    → next ≡ sequence_after sequence (take (p.end - from) (drop from bytes))
     → bits_from serial sequence (nat_eq i 0) bytes from (drop i packets)
     ≡ packet_spelling (record { serial = serial; sequence = sequence; kind = p.kind; first = nat_eq i 0; last = nat_eq (i + 1) (length packets) }) (take (p.end - from) (drop from bytes))
     ++ bits_from serial next (nat_eq (i + 1) 0) bytes p.end (drop (i + 1) packets)
@@ -74,5 +74,5 @@ step_is serial sequence next bytes from i packets p d lt is number =
     let further : nat_eq (i + 1) 0 ≡ false = grind (arith, nat_tests) in
     ap (λ l. bits_from serial sequence (nat_eq i 0) bytes from l) (next_is packets i p d lt is)
     ∙ first_of_them serial sequence (nat_eq i 0) bytes from p (drop (i + 1) packets) (nat_eq (i + 1) (length packets)) (last_is packets i lt)
-    ∙ ap (λ b. front ++ bits_from serial (sequence_behind sequence packet) b bytes p.end (drop (i + 1) packets)) (sym further)
+    ∙ ap (λ b. front ++ bits_from serial (sequence_after sequence packet) b bytes p.end (drop (i + 1) packets)) (sym further)
     ∙ ap (λ n. front ++ bits_from serial n (nat_eq (i + 1) 0) bytes p.end (drop (i + 1) packets)) (sym number)

@@ -12,8 +12,8 @@ use Rattle.flac_bits.proofs.Laws.{at_}
 use Rattle.flac_bits.proofs.Unchecked.{strip_fresh}
 use Rattle.flac_bits.specs.declared.why.Why.{Why}
 use Rattle.flac_pages.specs.declared.page.Before.{Before}
-use Rattle.flac_pages.specs.Page.{Page, page_behind, head_behind, is_last, after}
-use Rattle.flac_pages.specs.Pages.{Stop, Run, closed, broken, one, none, between, page_or_end, next_page, went_on, pages_in, pages_of, pages_behind, end_fault}
+use Rattle.flac_pages.specs.Page.{Page, page_after, head_after, is_last, after_page}
+use Rattle.flac_pages.specs.Pages.{Stop, Run, closed, broken, one, none, between, page_or_end, next_page, went_on, pages_in, pages_of, pages_after, end_fault}
 use Rattle.flac_pages.specs.Packets.{Place, ahead, to_come, fault_of, stop_of, page_index}
 use Rattle.flac_pages.specs.inner.Packets.{only_fault}
 use Rattle.flac_pages.proofs.Anew.{anew_is, anew_err}
@@ -93,12 +93,12 @@ plain_64 : Plain little_64
 unfolding little_64
 plain_64 = (plain_32, λ low. (plain_32, λ high. tt))
 
-plain_head : (first : ℕ) → Plain (head_behind first)
-unfolding head_behind
+plain_head : (first : ℕ) → Plain (head_after first)
+unfolding head_after
 plain_head first = (tt, λ pattern. (tt, λ _. (tt, λ version. (tt, λ _. (tt, λ flags. (plain_64, λ granule. (plain_32, λ serial. (plain_32, λ sequence. (plain_32, λ sum. tt)))))))))
 
-plain_page : (before : Option Before) (first : ℕ) → Plain (page_behind before first)
-unfolding page_behind
+plain_page : (before : Option Before) (first : ℕ) → Plain (page_after before first)
+unfolding page_after
 plain_page before first = (plain_head first, λ head. (tt, λ count. (plain_list count (bits 8) tt, λ lacing. (plain_list (sum lacing) (bits 8) tt, λ body. (tt, λ _. tt)))))
 
 -- ---- pages
@@ -108,7 +108,7 @@ unfolding next_page number_at
 plain_next before t m k e = go (number_at 8 (at_ t m)) (number_at 8 (at_ t k)) (plain_number 8 0 t m k e)
   where
     go : (r s : Result (ℕ × Cursor) Reason) → Same r s → Same (page_or_end before r) (page_or_end before s)
-    go (Ok x) (Ok y) same = moved (page_behind before) x y same.0 same.1.0 (plain_run (page_behind before x.0) (plain_page before x.0) x.1.left x.1.mark y.1.mark same.1.1)
+    go (Ok x) (Ok y) same = moved (page_after before) x y same.0 same.1.0 (plain_run (page_after before x.0) (plain_page before x.0) x.1.left x.1.mark y.1.mark same.1.1)
     go (Ok x) (Err w) same = absurd same
     go (Err w) (Ok y) same = absurd same
     go (Err w) (Err v) same = ap (λ (r : Reason). because (between r.why)) same
@@ -122,18 +122,18 @@ stops_alike (broken w) (broken v) = w ≡ v
 abbrev runs_alike : Run → Run → Type 0
 runs_alike r s = (r.pages ≡ s.pages) × stops_alike r.stop s.stop
 
--- all pages, in so many turns at most, are the same at both marks
+-- all pages, in n turns at most, are the same at both marks
 abbrev PagesAgree : ℕ → Type 0
 PagesAgree n = (before : Option Before) (t : List Bool) (m k : Mark) → m.short ≡ k.short → runs_alike (pages_in n before (at_ t m)) (pages_in n before (at_ t k))
 
 abbrev more_in : ℕ → Option Before → Page → Cursor → Run
-more_in n before p d = cond (is_last p.head.flags) (none (closed d)) (pages_in n (Some (after before p)) d)
+more_in n before p d = cond (is_last p.head.flags) (none (closed d)) (pages_in n (Some (after_page before p)) d)
 
 more_same : (n : ℕ) (before : Option Before) (b : Bool) (p : Page) (t : List Bool) (m k : Mark) → m.short ≡ k.short → PagesAgree n
-    → runs_alike (one p (cond b (none (closed (at_ t m))) (pages_in n (Some (after before p)) (at_ t m)))) (one p (cond b (none (closed (at_ t k))) (pages_in n (Some (after before p)) (at_ t k))))
+    → runs_alike (one p (cond b (none (closed (at_ t m))) (pages_in n (Some (after_page before p)) (at_ t m)))) (one p (cond b (none (closed (at_ t k))) (pages_in n (Some (after_page before p)) (at_ t k))))
 unfolding stops_alike
 more_same n before true p t m k e others = (refl, (refl, e))
-more_same n before false p t m k e others = let rest = others (Some (after before p)) t m k e in (ap (λ qs. p ∷ qs) rest.0, rest.1)
+more_same n before false p t m k e others = let rest = others (Some (after_page before p)) t m k e in (ap (λ qs. p ∷ qs) rest.0, rest.1)
 
 turn_same : (n : ℕ) (before : Option Before) (r s : Result (Page × Cursor) Reason) → Same r s → PagesAgree n → runs_alike (went_on r (more_in n before)) (went_on s (more_in n before))
 unfolding stops_alike
@@ -149,10 +149,10 @@ unfolding pages_in stops_alike
 plain_pages zero before t m k e = (refl, (refl, e))
 plain_pages (suc n) before t m k e = turn_same n before (next_page before (at_ t m)) (next_page before (at_ t k)) (plain_next before t m k e) (plain_pages n)
 
-plain_behind : (b : Bool) (before : Option Before) (t : List Bool) (m k : Mark) → m.short ≡ k.short → runs_alike (pages_behind b before (at_ t m)) (pages_behind b before (at_ t k))
+plain_after_pages : (b : Bool) (before : Option Before) (t : List Bool) (m k : Mark) → m.short ≡ k.short → runs_alike (pages_after b before (at_ t m)) (pages_after b before (at_ t k))
 unfolding pages_of stops_alike
-plain_behind true before t m k e = (refl, (refl, e))
-plain_behind false before t m k e = plain_pages (length t + 1) before t m k e
+plain_after_pages true before t m k e = (refl, (refl, e))
+plain_after_pages false before t m k e = plain_pages (length t + 1) before t m k e
 
 same_fault : (n : ℕ) (r s : Stop) → stops_alike r s → fault_of n r ≡ fault_of n s
 unfolding stops_alike
@@ -183,23 +183,23 @@ anew_alike c d e = (ap (λ (k : Cursor). k.left) e, ap (λ (k : Cursor). k.mark.
 
 -- the next page: what good pages give stays
 pub turned_anew : (old new : Place) (p : Page) → old.lacing ≡ [] → old.body ≡ [] → old.last ≡ false → begun_anew (next_page old.before old.cursor) ≡ Ok (p, new.cursor)
-    → new.lacing ≡ p.lacing → new.body ≡ p.body → new.last ≡ is_last p.head.flags → new.before ≡ Some (after old.before p) → new.count ≡ page_index (old.count + 1) → ahead new ≡ ahead old
+    → new.lacing ≡ p.lacing → new.body ≡ p.body → new.last ≡ is_last p.head.flags → new.before ≡ Some (after_page old.before p) → new.count ≡ page_index (old.count + 1) → ahead new ≡ ahead old
 turned_anew old new p l b la next nl nb nla nf nc =
     let read = anew_is (next_page old.before old.cursor) p new.cursor next in
     let mid : Place = record new { cursor = read.0 } in
     let same = anew_alike new.cursor read.0 read.2 in
-    let runs : runs_alike (to_come new) (to_come mid) = subst (λ (t : List Bool). runs_alike (to_come new) (pages_behind new.last new.before (at_ t read.0.mark))) same.0 (plain_behind new.last new.before new.cursor.left new.cursor.mark read.0.mark same.1) in
+    let runs : runs_alike (to_come new) (to_come mid) = subst (λ (t : List Bool). runs_alike (to_come new) (pages_after new.last new.before (at_ t read.0.mark))) same.0 (plain_after_pages new.last new.before new.cursor.left new.cursor.mark read.0.mark same.1) in
     ahead_same mid new refl refl refl runs ∙ turned old mid p l b la read.1 nl nb nla nf nc
 
 -- and it is the first of the pages to come
-pub turned_first : (old : Place) (last : Bool) (before : Option Before) (c : Cursor) (p : Page) → old.last ≡ false → begun_anew (next_page old.before old.cursor) ≡ Ok (p, c) → last ≡ is_last p.head.flags → before ≡ Some (after old.before p)
-    → (to_come old).pages ≡ p ∷ (pages_behind last before c).pages
+pub turned_first : (old : Place) (last : Bool) (before : Option Before) (c : Cursor) (p : Page) → old.last ≡ false → begun_anew (next_page old.before old.cursor) ≡ Ok (p, c) → last ≡ is_last p.head.flags → before ≡ Some (after_page old.before p)
+    → (to_come old).pages ≡ p ∷ (pages_after last before c).pages
 turned_first old last before c p la next nla nf =
     let read = anew_is (next_page old.before old.cursor) p c next in
     let same = anew_alike c read.0 read.2 in
-    let runs : runs_alike (pages_behind last before c) (pages_behind last before read.0) = subst (λ (t : List Bool). runs_alike (pages_behind last before c) (pages_behind last before (at_ t read.0.mark))) same.0 (plain_behind last before c.left c.mark read.0.mark same.1) in
-    let turn : pages_of old.before old.cursor ≡ one p (pages_behind last before read.0) = good_turn old.before old.cursor p read.0 read.1 ∙ rw (nla, nf) refl in
-    ap (λ b. (pages_behind b old.before old.cursor).pages) la ∙ ap (λ (r : Run). r.pages) turn ∙ ap (λ ps. p ∷ ps) (sym runs.0)
+    let runs : runs_alike (pages_after last before c) (pages_after last before read.0) = subst (λ (t : List Bool). runs_alike (pages_after last before c) (pages_after last before (at_ t read.0.mark))) same.0 (plain_after_pages last before c.left c.mark read.0.mark same.1) in
+    let turn : pages_of old.before old.cursor ≡ one p (pages_after last before read.0) = good_turn old.before old.cursor p read.0 read.1 ∙ rw (nla, nf) refl in
+    ap (λ b. (pages_after b old.before old.cursor).pages) la ∙ ap (λ (r : Run). r.pages) turn ∙ ap (λ ps. p ∷ ps) (sym runs.0)
 
 pub refused_anew : (old : Place) (why : Why) → old.count < 2 ^ 64 → old.lacing ≡ [] → old.body ≡ [] → old.last ≡ false → begun_anew (next_page old.before old.cursor) ≡ Err (because why) → ahead old ≡ only_fault (old.count, why)
 refused_anew old why small l b la next = refused old why small l b la (anew_err (next_page old.before old.cursor) (because why) next)

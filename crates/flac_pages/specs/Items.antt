@@ -4,7 +4,7 @@ use Rattle.std.specs.Prelude.{◌≡◌, ◌≢◌, ◌↔◌, ◌<◌, ◌+◌,
 use Rattle.std.specs.List.{flat_map}
 use Rattle.std.specs.Borrow.{GName}
 use Rattle.flac_bits.specs.Bits.{bits_of, bit_value, is_nil}
-use Rattle.flac_bits.specs.State.{Mark, Cursor, State, Behind, short_of, without_fence}
+use Rattle.flac_bits.specs.State.{Mark, Cursor, State, After, short_of, without_fence}
 use Rattle.flac_bits.specs.Layout.{Layout, bits, Reason}
 use Rattle.flac_bits.specs.Lists.{list_of}
 use Rattle.flac_bits.specs.Meaning.{Spells, Shows, IsCut}
@@ -12,7 +12,7 @@ use Rattle.flac_bits.specs.Fence.{InRoom, LeavesRoom, FillsRoom, read_in}
 use Rattle.flac_bits.specs.Reasons.{of_output}
 use Rattle.flac_bits.specs.declared.why.Why.{Why}
 use Rattle.flac_bits.specs.declared.why.Why.TheVariants.{Read, Memory, Truncated, FrameTooLong, PacketLength}
-use Rattle.flac_pages.specs.Packets.{Place, Met, ahead, rest_of, behind_of, OnPage, on_page, PassesPacket, BreaksAt}
+use Rattle.flac_pages.specs.Packets.{Place, Met, ahead, rest_of, after_of, OnPage, on_page, PassesPacket, BreaksAt}
 
 -- How a packet ends after the bytes that good pages have of it (RFC 3533, section 6).
 pub data PacketEnd : Type 0 where
@@ -33,16 +33,16 @@ end_in (Some f) cut = cut_at f.0 f.1
 end_in None true = unended
 end_in None false = whole
 
-abbrev pub end_of : Behind → PacketEnd
+abbrev pub end_of : After → PacketEnd
 end_of b = end_in b.fails b.cut
 
 -- the packet that a reader of packets has begun
 abbrev pub packet_of : Place → Packet
-packet_of p = record { bits = bits_of (rest_of p); ends = end_of (behind_of p) }
+packet_of p = record { bits = bits_of (rest_of p); ends = end_of (after_of p) }
 
 -- the mark at a packet's first bit
 abbrev pub packet_mark : Place → Mark
-packet_mark p = record { unread = 0; bytes = 0; check8 = 0; check16 = 0; short = short_of (behind_of p).fails }
+packet_mark p = record { unread = 0; bytes = 0; check8 = 0; check16 = 0; short = short_of (after_of p).fails }
 
 -- ---- what an item's packet is, apart from any reading
 
@@ -101,12 +101,12 @@ at_last_bit whole x = Ok x
 at_last_bit other x = Err (cut_off other)
 
 -- after the item's last bit, if a bit may be left
-abbrev pub behind_item : {A : Type 0} → PacketEnd → Bool → A → Result A (Option ℕ × Why)
-behind_item e true x = at_last_bit e x
-behind_item e false x = Err (None, PacketLength)
+abbrev pub after_item : {A : Type 0} → PacketEnd → Bool → A → Result A (Option ℕ × Why)
+after_item e true x = at_last_bit e x
+after_item e false x = Err (None, PacketLength)
 
 abbrev pub judged : {A : Type 0} → PacketEnd → Result (A × Cursor) Reason → Result A (Option ℕ × Why)
-judged e (Ok x) = behind_item e (is_nil x.1.left) x.0
+judged e (Ok x) = after_item e (is_nil x.1.left) x.0
 judged e (Err reason) = Err (in_packet e reason.why)
 
 -- what reading one item in one packet gives
@@ -131,7 +131,7 @@ counted xs = length xs ∷ xs
 
 -- The page that a reader of packets is on as numbers, which a list of names can hold.
 unfoldable pub numbers_of : OnPage → List ℕ
-numbers_of p = bit_value p.known ∷ bit_value p.more ∷ p.count ∷ (counted p.lacing ++ length p.behind ∷ flat_map counted p.behind)
+numbers_of p = bit_value p.known ∷ bit_value p.more ∷ p.count ∷ (counted p.lacing ++ length p.after ∷ flat_map counted p.after)
 
 -- What stays of pages that were lent, as names: the name under which they were lent, how many errors of the device they
 -- had met then, the page that they were on, and the references that they go through.
@@ -145,7 +145,7 @@ pub record IsAtPacket (name : GName) (lent : OnPage) (p : Place) (s : State) : T
   pub known : s.known ≡ p.known
   pub errors : s.errors ≡ p.errors
   pub raised : s.raised ≡ 0
-  pub behind : s.behind ≡ without_fence (behind_of p)
+  pub after : s.after ≡ without_fence (after_of p)
   pub most : s.most ≡ 8 * (p.most + length p.body)
   pub names : s.names ≡ name ∷ p.raised ∷ (numbers_of lent ++ p.names)
   pub cursor : s.cursor ≡ record { left = (packet_of p).bits; mark = packet_mark p }
@@ -178,24 +178,24 @@ pub record GivesBack {X : Type 0} (s : State) (name : GName) (new : Place) (read
 -- The result of an item's reader over a packet's bits, after which it is at `s`, and what follows those bits, as one
 -- result.
 abbrev pub JudgesPacket : {X : Type 0} → State → Place → Result X Why → Result X (Option ℕ × Why) → Type 0
-JudgesPacket s new (Ok x) result = s.known ≡ true → new.errors ≡ s.errors → s.cursor.mark.short ≡ short_of s.behind.fails → result ≡ behind_item (end_of s.behind) (is_nil s.cursor.left) x
-JudgesPacket s new (Err why) result = (why ≡ Read → 0 < s.raised) → result ≡ Err (in_packet (end_of s.behind) why)
+JudgesPacket s new (Ok x) result = s.known ≡ true → new.errors ≡ s.errors → s.cursor.mark.short ≡ short_of s.after.fails → result ≡ after_item (end_of s.after) (is_nil s.cursor.left) x
+JudgesPacket s new (Err why) result = (why ≡ Read → 0 < s.raised) → result ≡ Err (in_packet (end_of s.after) why)
 
 -- After a packet that is one item: the next packet is to be begun, and what good pages have stays.
-pub record GoesBehind (s : State) (new : Place) : Type 0 where
+pub record GoesAfter (s : State) (new : Place) : Type 0 where
   pub stands : (new.rest ≡ 0) × (new.more ≡ false)
   pub known : s.known ≡ true → new.known ≡ true
   pub errors : new.errors ≡ s.errors
-  pub lacing : s.known ≡ true → s.cursor.mark.short ≡ short_of s.behind.fails → (ahead new).lacing ≡ s.behind.pieces
-  pub bytes : s.known ≡ true → s.cursor.mark.short ≡ short_of s.behind.fails → (ahead new).bytes ≡ s.behind.bytes
-  pub fault : s.known ≡ true → s.cursor.mark.short ≡ short_of s.behind.fails → (ahead new).fault ≡ s.behind.fault
-  pub stop : s.known ≡ true → s.cursor.mark.short ≡ short_of s.behind.fails → (ahead new).stop ≡ s.behind.stop
+  pub lacing : s.known ≡ true → s.cursor.mark.short ≡ short_of s.after.fails → (ahead new).lacing ≡ s.after.pieces
+  pub bytes : s.known ≡ true → s.cursor.mark.short ≡ short_of s.after.fails → (ahead new).bytes ≡ s.after.bytes
+  pub fault : s.known ≡ true → s.cursor.mark.short ≡ short_of s.after.fails → (ahead new).fault ≡ s.after.fault
+  pub stop : s.known ≡ true → s.cursor.mark.short ≡ short_of s.after.fails → (ahead new).stop ≡ s.after.stop
 
 -- The next packet is to be begun, and good pages still have what was after the packet that was begun.
-pub record HasBehind (old new : Place) : Type 0 where
+pub record HasAfter (old new : Place) : Type 0 where
   pub known : new.known ≡ true
   pub errors : new.errors ≡ old.errors
-  pub lacing : (ahead new).lacing ≡ (behind_of old).pieces
-  pub bytes : (ahead new).bytes ≡ (behind_of old).bytes
-  pub fault : (ahead new).fault ≡ (behind_of old).fault
-  pub stop : (ahead new).stop ≡ (behind_of old).stop
+  pub lacing : (ahead new).lacing ≡ (after_of old).pieces
+  pub bytes : (ahead new).bytes ≡ (after_of old).bytes
+  pub fault : (ahead new).fault ≡ (after_of old).fault
+  pub stop : (ahead new).stop ≡ (after_of old).stop

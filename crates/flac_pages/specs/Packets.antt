@@ -3,14 +3,14 @@ use Rattle.std.specs.Prelude.{◌≡◌, ℕ, suc, ◌+◌, ◌-◌, ◌*◌, �
 use Rattle.std.specs.Borrow.{GName}
 use Rattle.std.specs.List.{flat_map}
 use Rattle.flac_bits.specs.Bits.{bits_of}
-use Rattle.flac_bits.specs.State.{Cursor, Behind, Rises, short_of}
+use Rattle.flac_bits.specs.State.{Cursor, After, Rises, short_of}
 use Rattle.flac_bits.specs.declared.source.Source as source
 use Rattle.flac_bits.specs.declared.why.Why.{Why}
 use Rattle.flac_bits.specs.Reasons.{of_output}
 use Rattle.flac_bits.specs.declared.why.Why.TheVariants.{Read}
 use Rattle.flac_pages.specs.declared.page.Before.{Before}
 use Rattle.flac_pages.specs.Page.{Page}
-use Rattle.flac_pages.specs.Pages.{Run, Stop, closed, broken, pages_behind, end_fault}
+use Rattle.flac_pages.specs.Pages.{Run, Stop, closed, broken, pages_after, end_fault}
 
 -- ---- packets, apart from any reading
 
@@ -80,7 +80,7 @@ at_front known errors raised most names text short = record {
 
 -- the same of this source: before its first byte
 abbrev pub at_front_of : {R : Type 0} → source.Ghosts R → R → Place
-at_front_of g s = at_front (g.known s) (g.errors s) (g.raised s) (8 * g.most s) (g.names s) (bits_of (g.coming s)) (short_of ((g.behind s).fails))
+at_front_of g s = at_front (g.known s) (g.errors s) (g.raised s) (8 * g.most s) (g.names s) (bits_of (g.coming s)) (short_of ((g.after s).fails))
 
 -- What good pages still have: lacing values and bytes; then the page, counted from 0, and its fault, if one ends them
 -- early; and the fault if no packet is left, such as a byte after the last page.
@@ -107,7 +107,7 @@ stop_of n (closed c) = at_page n (end_fault c)
 stop_of n (broken why) = Some (page_index n, why)
 
 abbrev pub to_come : Place → Run
-to_come p = pages_behind p.last p.before p.cursor
+to_come p = pages_after p.last p.before p.cursor
 
 unfoldable pub ahead : Place → Ahead
 ahead p = record {
@@ -127,8 +127,8 @@ rest_in rest more a = take (left_in rest more a.lacing) a.bytes
 
 -- after them: the page, and its fault, that cuts the packet off; whether no lacing value ends it; and all that good
 -- pages have after it
-abbrev pub behind_in : ℕ → Bool → Ahead → Behind
-behind_in rest more a = record {
+abbrev pub after_in : ℕ → Bool → Ahead → After
+after_in rest more a = record {
   fails = cond (more && not (ends a.lacing)) a.fault None;
   cut = more && not (ends a.lacing);
   pieces = cond more (past_packet a.lacing) a.lacing;
@@ -141,11 +141,11 @@ behind_in rest more a = record {
 unfoldable pub rest_of : Place → List ℕ
 rest_of p = rest_in p.rest p.more (ahead p)
 
-unfoldable pub behind_of : Place → Behind
-behind_of p = behind_in p.rest p.more (ahead p)
+unfoldable pub after_of : Place → After
+after_of p = after_in p.rest p.more (ahead p)
 
 -- if a page's fault cuts the packet off
-abbrev pub broken_off : ℕ × Why → Behind
+abbrev pub broken_off : ℕ × Why → After
 broken_off f = record { fails = Some f; cut = true; pieces = []; bytes = []; fault = Some f; stop = Some f; fenced = [] }
 
 -- ---- the page that a reader of packets is on
@@ -157,24 +157,24 @@ pub record OnPage : Type 0 where
   pub more : Bool
   pub count : ℕ
   pub lacing : List ℕ
-  pub behind : List (List ℕ)
+  pub after : List (List ℕ)
 
 unfoldable pub on_page : Place → OnPage
-on_page p = record { known = p.known; more = p.more; count = p.count; lacing = p.lacing; behind = map (λ q. q.lacing) (to_come p).pages }
+on_page p = record { known = p.known; more = p.more; count = p.count; lacing = p.lacing; after = map (λ q. q.lacing) (to_come p).pages }
 
 -- how many pages were read between
 abbrev pub read_since : (old new : OnPage) → ℕ
-read_since old new = length old.behind - length new.behind
+read_since old new = length old.after - length new.after
 
 -- further pages were read, which are counted up to the largest index
 pub record ReadsPages (old new : OnPage) : Type 0 where
-  pub fewer : length new.behind ≤ length old.behind
-  pub behind : new.behind ≡ drop (read_since old new) old.behind
+  pub fewer : length new.after ≤ length old.after
+  pub after : new.after ≡ drop (read_since old new) old.after
   pub count : page_index new.count ≡ page_index (old.count + read_since old new)
 
 -- all lacing values still to come
 abbrev pub coming : OnPage → List ℕ
-coming p = p.lacing ++ flat_map (λ lacing. lacing) p.behind
+coming p = p.lacing ++ flat_map (λ lacing. lacing) p.after
 
 -- the packet that was begun was passed, which ends among the lacing values to come
 pub record PassesPacket (old new : OnPage) : Type 0 where
@@ -191,7 +191,7 @@ open_in (page ∷ pages) = cond (ends page) 0 (suc (open_in pages))
 pub record BreaksAt (p : OnPage) (n : ℕ) : Type 0 where
   pub index : page_index n ≡ n
   pub from : p.count ≤ n
-  pub below : n < p.count + open_in (p.lacing ∷ p.behind)
+  pub below : n < p.count + open_in (p.lacing ∷ p.after)
 
 -- ---- what the calls of a reader do
 
@@ -238,6 +238,6 @@ abbrev pub left_of : Option (ℕ × Why) → Place → List ℕ
 left_of None p = rest_of p
 left_of (Some f) p = []
 
-abbrev pub behind_left : Option (ℕ × Why) → Place → Behind
-behind_left None p = behind_of p
-behind_left (Some f) p = broken_off f
+abbrev pub after_left : Option (ℕ × Why) → Place → After
+after_left None p = after_of p
+after_left (Some f) p = broken_off f

@@ -43,16 +43,16 @@ is_last flags = nat_eq (flags / 4 % 2) 1
 -- ---- the state after the pages before
 
 -- a packet goes on after these lacing values, of which each below 255 ends one
-abbrev pub goes_on_behind : Bool → List ℕ → Bool
-goes_on_behind going [] = going
-goes_on_behind going (v ∷ vs) = goes_on_behind (nat_eq v 255) vs
+abbrev pub goes_on_after : Bool → List ℕ → Bool
+goes_on_after going [] = going
+goes_on_after going (v ∷ vs) = goes_on_after (nat_eq v 255) vs
 
 abbrev pub went_on : Option Before → Bool
 went_on None = false
 went_on (Some b) = b.goes_on
 
-abbrev pub after : Option Before → Page → Before
-after before p = record { serial = p.head.serial; sequence = p.head.sequence; goes_on = goes_on_behind (went_on before) p.lacing }
+abbrev pub after_page : Option Before → Page → Before
+after_page before p = record { serial = p.head.serial; sequence = p.head.sequence; goes_on = goes_on_after (went_on before) p.lacing }
 
 -- ---- the checksum
 
@@ -96,8 +96,8 @@ end_rules before p =
 -- ---- the layout
 
 -- the fields after the page's first byte and before the number of lacing values
-unfoldable pub head_behind : ℕ → Layout Head
-head_behind first = do
+unfoldable pub head_after : ℕ → Layout Head
+head_after first = do
   pattern ← bits 24
   _ ← judge (record { broken = not (nat_eq first 0x4F) || not (nat_eq pattern 0x676753); why = BadPage } ∷ [])
   version ← bits 8
@@ -110,9 +110,9 @@ head_behind first = do
   done (record { flags = flags; granule = granule; serial = serial; sequence = sequence; sum = sum })
 
 -- a page after its first byte
-unfoldable pub page_behind : Option Before → ℕ → Layout Page
-page_behind before first = do
-  head ← head_behind first
+unfoldable pub page_after : Option Before → ℕ → Layout Page
+page_after before first = do
+  head ← head_after first
   count ← bits 8
   lacing ← list_of count (bits 8)
   body ← list_of (sum lacing) (bits 8)
@@ -124,4 +124,4 @@ page_behind before first = do
 unfoldable pub page : Option Before → Layout Page
 page before = do
   first ← bits 8
-  page_behind before first
+  page_after before first

@@ -7,14 +7,14 @@ use Rattle.flac_bits.specs.Meaning.{Spells}
 use Rattle.flac_bits.specs.declared.why.Why.{Why}
 use Rattle.flac_bits.specs.declared.why.Why.TheVariants.{NoEndPage, PageOrder, Truncated}
 use Rattle.flac_pages.specs.declared.page.Before.{Before}
-use Rattle.flac_pages.specs.Page.{Page, page, page_behind, is_last, after}
+use Rattle.flac_pages.specs.Page.{Page, page, page_after, is_last, after_page}
 
 -- ---- what good pages are
 
 -- these bits are good pages, one after another
 abbrev pub GoodPages : Option Before → Mark → List Page → List Bool → Type 0
 GoodPages before m [] text = text ≡ []
-GoodPages before m (p ∷ ps) text = (front : List Bool) × (rest : List Bool) × (text ≡ front ++ rest) × Spells (page before) m front p × GoodPages (Some (after before p)) (past front m) ps rest
+GoodPages before m (p ∷ ps) text = (front : List Bool) × (rest : List Bool) × (text ≡ front ++ rest) × Spells (page before) m front p × GoodPages (Some (after_page before p)) (past front m) ps rest
 
 -- ---- what reading gives
 
@@ -39,7 +39,7 @@ between Truncated = NoEndPage
 between other = other
 
 abbrev pub page_or_end : Option Before → Result (ℕ × Cursor) Reason → Result (Page × Cursor) Reason
-page_or_end before (Ok x) = run (page_behind before x.0) x.1
+page_or_end before (Ok x) = run (page_after before x.0) x.1
 page_or_end before (Err e) = Err (because (between e.why))
 
 -- the next page, or why there is none
@@ -53,16 +53,16 @@ went_on (Err e) more = none (broken e.why)
 -- in at most n turns
 unfoldable pub pages_in : ℕ → Option Before → Cursor → Run
 pages_in zero before c = none (closed c)
-pages_in (suc n) before c = went_on (next_page before c) (λ p d. cond (is_last p.head.flags) (none (closed d)) (pages_in n (Some (after before p)) d))
+pages_in (suc n) before c = went_on (next_page before c) (λ p d. cond (is_last p.head.flags) (none (closed d)) (pages_in n (Some (after_page before p)) d))
 
 -- all good pages, and how they end; each takes some bits, so that these are turns enough
 unfoldable pub pages_of : Option Before → Cursor → Run
 pages_of before c = pages_in (length c.left + 1) before c
 
 -- the pages after one, which may be marked last
-abbrev pub pages_behind : Bool → Option Before → Cursor → Run
-pages_behind true before c = none (closed c)
-pages_behind false before c = pages_of before c
+abbrev pub pages_after : Bool → Option Before → Cursor → Run
+pages_after true before c = none (closed c)
+pages_after false before c = pages_of before c
 
 -- the input's end is no fault there
 abbrev pub unless_over : Why → Option Why

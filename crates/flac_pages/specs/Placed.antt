@@ -23,13 +23,13 @@ abbrev pub marks_of : (serial sequence : ℕ) → (first last : Bool) → Placed
 marks_of serial sequence first last p = record { serial = serial; sequence = sequence; kind = p.kind; first = first; last = last }
 
 -- the number of the page after a packet's pages, of which the first has this number
-abbrev pub sequence_behind : ℕ → List ℕ → ℕ
-sequence_behind sequence packet = (sequence + (length packet / 65025 + 1)) % 2 ^ 32
+abbrev pub sequence_after : ℕ → List ℕ → ℕ
+sequence_after sequence packet = (sequence + (length packet / 65025 + 1)) % 2 ^ 32
 
 -- the pages of packets one after another, from the page of a number on: the final packet is the stream's last
 abbrev pub pages_from : (serial sequence : ℕ) → (first : Bool) → List Placed → List Page
 pages_from serial sequence first [] = []
-pages_from serial sequence first (p ∷ ps) = pages_of_packet (marks_of serial sequence first (is_nil ps) p) p.packet ++ pages_from serial (sequence_behind sequence p.packet) false ps
+pages_from serial sequence first (p ∷ ps) = pages_of_packet (marks_of serial sequence first (is_nil ps) p) p.packet ++ pages_from serial (sequence_after sequence p.packet) false ps
 
 -- all pages of a stream, whose numbers count from 0
 abbrev pub stream_pages : ℕ → List Placed → List Page

@@ -5,7 +5,7 @@ use Rattle.flac_bits.specs.Meaning.{Spells, Shows, IsCut}
 use Rattle.flac_bits.specs.Unchecked.{Passes}
 use Rattle.flac_bits.specs.declared.why.Why.{Why}
 use Rattle.flac_pages.specs.declared.page.Before.{Before}
-use Rattle.flac_pages.specs.Page.{Page, page, is_last, after}
+use Rattle.flac_pages.specs.Page.{Page, page, is_last, after_page}
 use Rattle.flac_pages.specs.Pages.{GoodPages, Run, Stop, closed, broken, between, pages_of}
 
 -- no page is marked last
@@ -21,7 +21,7 @@ FinalLast (p ∷ ps) = ((is_last p.head.flags ≡ true) × (ps ≡ [])) ⊎ ((is
 -- the state after these pages
 abbrev pub left_by : Option Before → List Page → Option Before
 left_by before [] = before
-left_by before (p ∷ ps) = left_by (Some (after before p)) ps
+left_by before (p ∷ ps) = left_by (Some (after_page before p)) ps
 
 -- there is no page, for this reason: a prefix shows the page's own; or the input ends before the page's first byte; or
 -- it ends inside

@@ -5,7 +5,7 @@ ghost use Rattle.flac_bits.specs.Bits.{is_nil};
 ghost use Rattle.flac_bits.specs.Layout.{bits as number};
 ghost use Rattle.flac_bits.specs.Lists.{list_of};
 ghost use Rattle.flac_bits.specs.Reading.{Counts};
-ghost use Rattle.flac_pages.specs.Items.{TellsPacket, Meets, TellsPages, GivesBack, JudgesPacket, GoesBehind, HasBehind, CountsSo, HasItsPage};
+ghost use Rattle.flac_pages.specs.Items.{TellsPacket, Meets, TellsPages, GivesBack, JudgesPacket, GoesAfter, HasAfter, CountsSo, HasItsPage};
 ghost use Rattle.flac_pages.specs.Bytes.{StartsAt, names_of};
 ghost use Rattle.flac_pages.specs.Packets.{on_page};
 ghost use Rattle.flac_pages.specs.inner.Items.{why_in, FailsAtEnd};
@@ -55,7 +55,7 @@ fn at_end<R: Source>(bits: &mut BitReader<R>) -> Result<bool, Why>
 }
 
 /// Checks that the packet ends after a whole item.
-fn end_behind<'a, R: Source>(
+fn end_after<'a, R: Source>(
     bits: BitReader<PacketBytes<'a, R>>,
 ) -> (Result<(), PacketFault>, &'a mut Pages<R>)
     ensures kept { bits.entry.errors ≤ result.1.now.errors }
@@ -65,7 +65,7 @@ fn end_behind<'a, R: Source>(
     ensures memory { IfErr result.0 (λ e. e.1 ≢ Why.Memory) }
     ensures page { bits.entry.raised ≡ 0 → IfErr result.0 (λ e. HasItsPage result.1.now.count e) }
     ensures judges { JudgesPacket bits.entry result.1.now (Ok tt) result.0 }
-    ensures behind { OnOk result.0 (GoesBehind bits.entry result.1.now) }
+    ensures after { OnOk result.0 (GoesAfter bits.entry result.1.now) }
 {
     let mut bits = bits;
     let over = at_end(&mut bits);
@@ -104,10 +104,10 @@ pub fn end_item<'a, R: Source, X: Drop>(
     ensures page { CountsSo read bits.entry.raised → IfErr result.0 (λ e. HasItsPage result.1.now.count e) }
     ensures same { IfOk result.0 (λ item. read ≡ Ok item) }
     ensures judges { JudgesPacket bits.entry result.1.now read result.0 }
-    ensures behind { OnOk result.0 (GoesBehind bits.entry result.1.now) }
+    ensures after { OnOk result.0 (GoesAfter bits.entry result.1.now) }
 {
     match read {
-        Ok(item) => match end_behind(bits) {
+        Ok(item) => match end_after(bits) {
             (Ok(()), pages) => (Ok(item), pages),
             (Err(why), pages) => (Err(why), pages),
         },
@@ -136,7 +136,7 @@ pub fn read_packet<R: Source>(pages: &mut Pages<R>, out: &mut [u8]) -> Result<()
     ensures pages { TellsPages (on_page pages.old) pages.new result }
     ensures tells { TellsPacket (λ _. out.new) None (list_of (length out.old) (number 8)) pages.old pages.new result }
     ensures stands { OnOk result ((pages.new.rest ≡ 0) × (pages.new.more ≡ false)) }
-    ensures ahead { OnOk result (pages.old.known ≡ true → HasBehind pages.old pages.new) }
+    ensures ahead { OnOk result (pages.old.known ≡ true → HasAfter pages.old pages.new) }
 {
     let mut bits = packet_bits(PacketBytes::over(pages));
     let read = read_bytes(&mut bits, out);

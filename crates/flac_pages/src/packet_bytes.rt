@@ -4,7 +4,7 @@ ghost use Rattle.std.specs.Prelude.{◌≡◌, ◌≢◌, ◌+◌, ◌^◌, ◌-
 ghost use Rattle.std.specs.Option.{ForSome};
 ghost use Rattle.flac_bits.specs.declared.why.Why.TheVariants.{Memory};
 ghost use Rattle.flac_pages.specs.Items.{numbers_of};
-ghost use Rattle.flac_pages.specs.Packets.{BreaksAt, Met, behind_of, left_of, behind_left, on_page};
+ghost use Rattle.flac_pages.specs.Packets.{BreaksAt, Met, after_of, left_of, after_left, on_page};
 ghost use Rattle.flac_pages.specs.inner.Packets.{Follows};
 
 use crate::page::PageFault;
@@ -29,7 +29,7 @@ pub struct PacketBytes<'a, R: Source> {
     ghost memory: { ForSome fault (λ f. f.1 ≢ Memory) },
     ghost page: { ForSome fault (λ f. f.0 ≡ pages.now.count) },
     ghost follows: { fault ≡ None → Follows lent.value pages.now },
-    ghost same: { fault ≡ None → lent.value.known ≡ true → behind_of pages.now ≡ behind_of lent.value },
+    ghost same: { fault ≡ None → lent.value.known ≡ true → after_of pages.now ≡ after_of lent.value },
     ghost breaks: { ForSome fault (λ f. lent.value.known ≡ true → BreaksAt (on_page lent.value) f.0) },
 }
 
@@ -78,7 +78,7 @@ impl<R: Source> Source for PacketBytes<'_, R> {
 
     ghost coming = { λ p. left_of p.fault p.pages.now };
 
-    ghost behind = { λ p. behind_left p.fault p.pages.now };
+    ghost after = { λ p. after_left p.fault p.pages.now };
 
     ghost errors = { λ p. p.pages.now.errors };
 

@@ -2,7 +2,7 @@
 
 ghost use Rattle.std.specs.Prelude.{◌≡◌, ◌≢◌, [], ◌≤◌, ◌<◌, ◌+◌, true, false, length, IfOk, IfErr, IfSome, None};
 ghost use Rattle.flac_pages.specs.Pages.{unless_over, end_fault};
-ghost use Rattle.flac_pages.specs.Page.{went_on, goes_on_behind};
+ghost use Rattle.flac_pages.specs.Page.{went_on, goes_on_after};
 ghost use Rattle.flac_pages.specs.Items.{HasItsPage};
 ghost use Rattle.flac_pages.specs.inner.Items.{EndsPacket};
 ghost use Rattle.flac_pages.specs.Packets.{at_front_of, Met, Begins};
@@ -10,7 +10,7 @@ ghost use Rattle.flac_pages.specs.inner.Reading.{IfKnown, StaysCalm};
 ghost use Rattle.flac_pages.specs.inner.Packets.{next_segment, Turns, Steps, Finds, Copies, ended};
 
 use crate::page::{Before, PacketFault, PageFault};
-use crate::room::{PageRoom, next_page_here};
+use crate::page_buffer::{PageBuffer, next_page_by_layout};
 use flac_bits::{BitReader, Source, Why};
 use std::alloc::Global;
 use std::marker::Model;
@@ -22,7 +22,7 @@ use std::marker::Model;
 #[derive(Drop)]
 pub struct Pages<R: Source> {
     reader: BitReader<R>,
-    page: PageRoom,
+    page: PageBuffer,
     before: Option<Before>,
     /// Whether the page is marked last.
     last: bool,
@@ -85,7 +85,7 @@ impl<R: Source + Drop> Pages<R> {
         ensures ok { IfOk result (λ p. p ≡ at_front_of R.Source source) }
         ensures err { IfErr result (λ e. e ≡ Why.Memory) }
     {
-        let page = PageRoom::new(alloc)?;
+        let page = PageBuffer::new(alloc)?;
         Ok(Pages::over(page, source))
     }
 }
@@ -93,7 +93,7 @@ impl<R: Source + Drop> Pages<R> {
 impl<R: Source> Pages<R> {
     /// Makes a reader of the pages of a source, from its first byte on, with this room for one page, which must be
     /// empty.
-    pub fn over(page: PageRoom, source: R) -> Pages<R>
+    pub fn over(page: PageBuffer, source: R) -> Pages<R>
         requires { (page.lacing ≡ []) × (page.body ≡ []) }
         ensures { result ≡ at_front_of R.Source source }
     {
@@ -180,10 +180,10 @@ impl<R: Source> Pages<R> {
         ensures turns { Turns self.old self.new result }
     {
         let went_on = went_on(self.before);
-        match next_page_here(&mut self.reader, &mut self.page, self.before) {
+        match next_page_by_layout(&mut self.reader, &mut self.page, self.before) {
             Ok(()) => {
                 let head = self.page.head();
-                let goes_on = goes_on_behind(went_on, self.page.lacing());
+                let goes_on = goes_on_after(went_on, self.page.lacing());
                 self.before = Some(Before {
                     serial: head.serial,
                     sequence: head.sequence,
@@ -414,8 +414,8 @@ fn went_on(before: Option<Before>) -> bool
 }
 
 /// Whether a packet goes on after these segments.
-fn goes_on_behind(before: bool, lacing: &[u8]) -> bool
-    ensures { result ≡ goes_on_behind before lacing.now }
+fn goes_on_after(before: bool, lacing: &[u8]) -> bool
+    ensures { result ≡ goes_on_after before lacing.now }
 {
     let mut goes_on = before;
     for i in 0..lacing.len() {

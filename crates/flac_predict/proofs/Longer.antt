@@ -6,7 +6,7 @@ use Rattle.flac_subframe.specs.format.Chosen.{fixed_below, offered}
 use Rattle.flac_subframe.specs.format.Family.{Stands}
 use Rattle.flac_subframe.specs.format.Subframe.{Form}
 use Rattle.flac_frame.specs.Audio.{Sound}
-use Rattle.flac_frame.specs.Encoding.{partition_limit, EachStands, IsOfWidened}
+use Rattle.flac_frame.specs.Encoding.{partition_limit, EachStands, IsOfFamilyWith}
 use Rattle.flac_frame.specs.Spelling.{FrameForm}
 use Rattle.flac_frame.specs.Stereo.{kept_as}
 use Rattle.flac_predict.specs.Found.{IsPrefixOf, MoreShorten}
@@ -36,9 +36,9 @@ module _ (front ps : List LinearPredictor) (begins : IsPrefixOf front ps) (most 
   each_more (f ∷ fs) [] h = absurd h
   each_more (f ∷ fs) (s ∷ ss) h = (stands_more f s h.0, each_more fs ss h.1)
 
-pub widened_more : (front ps : List LinearPredictor) (sound : Sound) (size number : ℕ) (block : List (List ℤ)) (f : FrameForm) → IsPrefixOf front ps → IsOfWidened front sound size number block f → IsOfWidened ps sound size number block f
-widened_more front ps sound size number block f begins h =
+pub family_with_more : (front ps : List LinearPredictor) (sound : Sound) (size number : ℕ) (block : List (List ℤ)) (f : FrameForm) → IsPrefixOf front ps → IsOfFamilyWith front sound size number block f → IsOfFamilyWith ps sound size number block f
+family_with_more front ps sound size number block f begins h =
     record { encoding = h.encoding; stand = each_more front ps begins (partition_limit sound) f.subframes (kept_as f.header.channel_code block) h.stand }
 
 pub more_shorten : MoreShorten
-more_shorten front ps sound size number block f g begins few more = more.least.least f (widened_more front ps sound size number block f begins few.least.member)
+more_shorten front ps sound size number block f g begins few more = more.least.least f (family_with_more front ps sound size number block f begins few.least.member)

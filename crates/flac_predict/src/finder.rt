@@ -18,7 +18,7 @@ use std::marker::Model;
 const LEAST_BLOCK: usize = 64;
 
 /// The slopes of the windows: a fourth and a twelfth of a block, at each end.
-const WIDE: usize = 4;
+const BROAD: usize = 4;
 
 const NARROW: usize = 12;
 
@@ -33,7 +33,7 @@ pub struct Finder {
     block_size: usize,
     /// The size of the blocks for which there are weights.
     weighed: usize,
-    wide: Vec<f64>,
+    broad: Vec<f64>,
     narrow: Vec<f64>,
     first: Vec<f64>,
     second: Vec<f64>,
@@ -44,7 +44,7 @@ impl Drop for Finder {
         let Finder {
             block_size: _,
             weighed: _,
-            wide: _,
+            broad: _,
             narrow: _,
             first: _,
             second: _,
@@ -60,7 +60,7 @@ impl Model for Finder {
     ghost view = { λ f. f.block_size };
 
     ghost invariant = { λ f. record {
-      wide : vec_len f.wide ≡ f.block_size;
+      broad : vec_len f.broad ≡ f.block_size;
       narrow : vec_len f.narrow ≡ f.block_size;
       first : vec_len f.first ≡ f.block_size + 16;
       second : vec_len f.second ≡ f.block_size + 16;
@@ -81,7 +81,7 @@ impl Finder {
         Ok(Finder {
             block_size,
             weighed: 0,
-            wide: vec![in alloc; 0.0f64; block_size]?,
+            broad: vec![in alloc; 0.0f64; block_size]?,
             narrow: vec![in alloc; 0.0f64; block_size]?,
             first: vec![in alloc; 0.0f64; block_size + 16]?,
             second: vec![in alloc; 0.0f64; block_size + 16]?,
@@ -94,7 +94,7 @@ impl Finder {
         ensures { self.new ≡ self.old }
     {
         if self.weighed != size {
-            put_window(&mut self.wide[..size], size / WIDE);
+            put_window(&mut self.broad[..size], size / BROAD);
             put_window(&mut self.narrow[..size], size / NARROW);
             self.weighed = size;
         }
@@ -115,8 +115,8 @@ impl Finder {
         ensures memory { IfErr result (λ e. e ≡ Why.Memory) }
         ensures room { self.new ≡ self.old }
     {
-        let wide = &self.wide[..left.len()];
-        let sums = pair_sums(left, right, wide, &mut self.first, &mut self.second);
+        let broad = &self.broad[..left.len()];
+        let sums = pair_sums(left, right, broad, &mut self.first, &mut self.second);
         let stored = block.likely_stored(&sums);
         block.push_stored(&sums, &stored, list)?;
         if search == Search::Full {
@@ -140,8 +140,8 @@ impl Finder {
         ensures memory { IfErr result (λ e. e ≡ Why.Memory) }
         ensures room { self.new ≡ self.old }
     {
-        let wide = &self.wide[..samples.len()];
-        block.push_one(samples, wide, &mut self.first, list)?;
+        let broad = &self.broad[..samples.len()];
+        block.push_one(samples, broad, &mut self.first, list)?;
         if search == Search::Full {
             let narrow = &self.narrow[..samples.len()];
             block.push_one(samples, narrow, &mut self.first, list)?;

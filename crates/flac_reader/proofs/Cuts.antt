@@ -4,7 +4,7 @@ use Rattle.std.proofs.lemmas.List.{append-nil, take-append-drop}
 use Rattle.flac_bits.specs.Bits.{bits_of}
 use Rattle.flac_bits.specs.State.{Mark}
 use Rattle.flac_bits.specs.Handing.{by_grammar}
-use Rattle.flac_bits.specs.Items.{Joined, Stream, after}
+use Rattle.flac_bits.specs.Items.{Joined, Stream, state_after}
 use Rattle.flac_bits.specs.declared.why.Why.{Why}
 use Rattle.flac_bits.specs.declared.why.Why.TheVariants.{Truncated}
 use Rattle.flac_bits.proofs.Holding.{bits_of-append}
@@ -12,7 +12,7 @@ use Rattle.flac_info.specs.Info.{Info, without_totals}
 use Rattle.flac_header.specs.declared.subset.Profile.{Profile}
 use Rattle.flac_frame.specs.Frame.{Frame}
 use Rattle.flac_native.specs.Decoding.{beginning}
-use Rattle.flac_native.specs.Item.{frame, told}
+use Rattle.flac_native.specs.Item.{frame, fault_pair}
 use Rattle.flac_native.specs.Giving.{items_of, Stage}
 use Rattle.flac_native.specs.Stream.{framed, grammar, opening}
 use Rattle.flac_native.specs.Resuming.{resumed}
@@ -36,7 +36,7 @@ split at stream = ap bits_of (sym (take-append-drop at stream)) ∙ bits_of-appe
 abbrev Rest : Profile → List ℕ → ℕ → Info → List Frame → Type 0
 Rest profile stream at info frames = Stream grammar (resumed profile info) first (map framed frames) (bits_of (drop at stream))
 
--- what is behind the cut is a stream of these frames, read from the state in which a frame comes
+-- what is after the cut is a stream of these frames, read from the state in which a frame comes
 rest_is : (profile : Profile) (stream : List ℕ) (info : Info) (at : ℕ) (frames : List Frame) → Cuts profile stream info at frames → Rest profile stream at info frames
 rest_is profile stream info at [] c =
     let all : Joined grammar (opening profile) first c.front (bits_of stream) = subst (λ k. Joined grammar (opening profile) first k (bits_of stream)) (append-nil c.front) c.whole.spelled in
@@ -45,7 +45,7 @@ rest_is profile stream info at [] c =
 rest_is profile stream info at (f ∷ more) c =
     let r = frames_are_resumed profile first first c.front (map framed more) f (bits_of stream) refl refl c.whole in
     let here : bits_of (drop at stream) ≡ r.rest = r.only (bits_of (take at stream)) (bits_of (drop at stream)) (split at stream) c.before in
-    let same : r.info ≡ info = same_info info r.info (after grammar (opening profile) c.front).stand.info c.known r.told in
+    let same : r.info ≡ info = same_info info r.info (state_after grammar (opening profile) c.front).stand.info c.known r.told in
     subst (λ i. Rest profile stream at i (f ∷ more)) same (subst (λ t. Stream grammar (resumed profile r.info) first (framed f ∷ map framed more) t) (sym here) r.stream)
 
 pub cut_read : (profile : Profile) (stream : List ℕ) (info : Info) (at : ℕ) (frames : List Frame) → Cuts profile stream info at frames → IsReadAs (by_grammar grammar (resumed profile info) first (bits_of (drop at stream))) [] frames None
@@ -65,8 +65,8 @@ cut_found profile stream info sample at frames ahead s found c = found frames No
 
 -- and is not refused
 pub cut_refused : (profile : Profile) (stream : List ℕ) (info : Info) (sample at : ℕ) (frames : List Frame) (f : Fault)
-    → ((others : List Frame) (end : Option (Place × Why)) → FromCut profile stream at info others end → PassedBy info sample others × (end ≡ Some (told f))) → Cuts profile stream info at frames → ⊥
-cut_refused profile stream info sample at frames f refused c = no_end (told f) (refused frames None (cut_read profile stream info at frames c)).1
+    → ((others : List Frame) (end : Option (Place × Why)) → FromCut profile stream at info others end → PassedBy info sample others × (end ≡ Some (fault_pair f))) → Cuts profile stream info at frames → ⊥
+cut_refused profile stream info sample at frames f refused c = no_end (fault_pair f) (refused frames None (cut_read profile stream info at frames c)).1
   where
     no_end : (x : Place × Why) → none ≡ Some x → ⊥
     no_end x e = absurd cc

@@ -139,7 +139,7 @@ module _ (p : Cut) (a : Sound) (info : Info) (same : info.greatest_block ≡ p.b
 
 -- ---- where a search begins
 
--- the offset of a frame that does not begin behind the sample
+-- the offset of a frame that does not begin after the sample
 record IsFrameBefore {p : Cut} {list : List Block} {a : Sound} {stream : List ℕ} (e : IsEncoded p list a stream) (sample offset : ℕ) : Type 0 where
   number : ℕ
   among : number ≤ frame_count e
@@ -200,18 +200,18 @@ no_points_kept (block_of.CueSheet found ∷ bs) = no_points_kept bs
 no_points_kept (block_of.Picture found ∷ bs) = no_points_kept bs
 no_points_kept (block_of.Other kind bytes ∷ bs) = no_points_kept bs
 
--- behind blocks without a table
-points_behind : (list bs : List Block) → has_table list ≡ false → first_points (list ++ bs) ≡ first_points bs
+-- after blocks without a table
+points_after : (list bs : List Block) → has_table list ≡ false → first_points (list ++ bs) ≡ first_points bs
 unfolding first_points
-points_behind [] bs none = refl
-points_behind (block_of.StreamInfo info ∷ list) bs none = points_behind list bs none
-points_behind (block_of.Padding n ∷ list) bs none = points_behind list bs none
-points_behind (block_of.Application id bytes ∷ list) bs none = points_behind list bs none
-points_behind (block_of.SeekTable points ∷ list) bs none = absurd cc
-points_behind (block_of.VorbisComment found ∷ list) bs none = points_behind list bs none
-points_behind (block_of.CueSheet found ∷ list) bs none = points_behind list bs none
-points_behind (block_of.Picture found ∷ list) bs none = points_behind list bs none
-points_behind (block_of.Other kind bytes ∷ list) bs none = points_behind list bs none
+points_after [] bs none = refl
+points_after (block_of.StreamInfo info ∷ list) bs none = points_after list bs none
+points_after (block_of.Padding n ∷ list) bs none = points_after list bs none
+points_after (block_of.Application id bytes ∷ list) bs none = points_after list bs none
+points_after (block_of.SeekTable points ∷ list) bs none = absurd cc
+points_after (block_of.VorbisComment found ∷ list) bs none = points_after list bs none
+points_after (block_of.CueSheet found ∷ list) bs none = points_after list bs none
+points_after (block_of.Picture found ∷ list) bs none = points_after list bs none
+points_after (block_of.Other kind bytes ∷ list) bs none = points_after list bs none
 
 points_in_table : (points : List SeekPoint) → first_points (table_of points) ≡ points
 unfolding first_points
@@ -229,7 +229,7 @@ unfolding first_points
 points_kept p list a stream e Tags none = subst (AllAre (NamesFrame p e.written.frames)) (sym (no_points_kept (all_blocks e))) tt
 points_kept p list a stream e All none =
     let points = points_of p e.written.frames in
-    let is : first_points (filter (keeps All) (all_blocks e)) ≡ points = ap first_points (all_kept (all_blocks e)) ∙ points_behind list (table_of points) none ∙ points_in_table points in
+    let is : first_points (filter (keeps All) (all_blocks e)) ≡ points = ap first_points (all_kept (all_blocks e)) ∙ points_after list (table_of points) none ∙ points_in_table points in
     subst (AllAre (NamesFrame p e.written.frames)) (sym is) (points_named p list a stream e)
 
 -- ---- the laws
@@ -257,7 +257,7 @@ searches_are_cut g p list a stream e keep reader sample none opens =
     subst (λ i. IsSoughtFrom e i reader.start sample (first_points reader.blocks.items)) (info_is p list a stream e keep reader opens)
     (subst (λ n. IsSoughtFrom e (stream_info e) n sample (first_points reader.blocks.items)) (sym start) (subst (λ k. IsSoughtFrom e (stream_info e) (frames_start (all_blocks e)) sample (first_points k)) (sym blocks) found))
 
--- what is left behind the frames that were passed by
+-- what is left after the frames that were passed by
 left_is : (p : Cut) (list : List Block) (a : Sound) (stream : List ℕ) (e : IsEncoded p list a stream) (sample number : ℕ) (passed left : List Frame) → number ≤ frame_count e → p.block_size * number ≤ sample
     → frames_at e number ≡ passed ++ left → PassedBy (stream_info e) sample passed → HoldsFirst (stream_info e) sample left → left ≡ frames_holding e sample
 left_is p list a stream e sample number passed left among from split by first = go (nat_lt sample p.total) refl

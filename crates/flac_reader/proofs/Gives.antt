@@ -58,7 +58,7 @@ gives_shown {g = g} old new view seen x y same h = record {
   memory = λ k. tt;
   past = h.past;
   ahead = h.ahead;
-  samples = (h.samples.0, h.samples.1 ∙ ap (λ k. min (old.behind + size_of k) 18446744073709551615) (sym same));
+  samples = (h.samples.0, h.samples.1 ∙ ap (λ k. min (old.after + size_of k) 18446744073709551615) (sym same));
   blocks = h.blocks;
   info = h.info;
   start = h.start;

@@ -13,7 +13,7 @@ use Rattle.flac_native.specs.declared.fault.Place.{Place}
 use Rattle.flac_native.specs.declared.fault.Fault.{Fault}
 use Rattle.flac_native.specs.declared.container.Container as container
 use Rattle.flac_reader.specs.Kept.{keeps}
-use Rattle.flac_reader.specs.Coming.{Comes, IsCalm, HadRoom, Counted, HeadIs, HeadOf, stream_items}
+use Rattle.flac_reader.specs.Coming.{Comes, IsCalm, HadMemory, Counted, HeadIs, HeadOf, stream_items}
 use Rattle.flac_reader.specs.inner.Taking.{Took}
 use Rattle.flac_reader.specs.Starting.{and_block, and_blocks, frames_start}
 use Rattle.flac_reader.specs.declared.keep.Keep.{Keep}
@@ -59,13 +59,13 @@ head_starts g s keep kept from none = record {
   passed = λ known blocks frames end comes. record { taken = []; left = blocks; split = refl; wanted = none; counted = sym (and_none from); comes = comes };
 }
 
-pub room : {X : Type 0} → (x : X) → HadRoom {X = X} (Ok x)
+pub room : {X : Type 0} → (x : X) → HadMemory {X = X} (Ok x)
 room x e = absurd cc
 
 abbrev wrong : {X : Type 0} → Why → Result X Why
 wrong w = Err w
 
-pub same_room : {X Y : Type 0} (f : Fault) → HadRoom {X = X} (Err f) → HadRoom {X = Y} (Err f)
+pub same_room : {X Y : Type 0} (f : Fault) → HadMemory {X = X} (Err f) → HadMemory {X = Y} (Err f)
 same_room {X} {Y} f roomy e = roomy (ap (λ k. wrong {X = X} k) (inside e))
   where
     inside : wrong {X = Y} f.why ≡ Err Memory → f.why ≡ Memory
@@ -73,7 +73,7 @@ same_room {X} {Y} f roomy e = roomy (ap (λ k. wrong {X = X} k) (inside e))
 
 -- one block more
 pub head_more : {C : Type 0} (g : container.Ghosts C) (old now new : Stage C) (keep : Keep) (kept more : List Block) (from before size : ℕ) → HeadSoFar g old now keep kept from before → Counted {X = Bool} g now new (Ok true)
-    → (IsCalm g now new → HadRoom {X = Bool} (Ok true) → (blocks : List Block) (frames : List Frame) (end : Option (Place × Why)) → Comes g now (stream_items blocks frames) end → Took g keep blocks frames end kept more before size (Ok true) new)
+    → (IsCalm g now new → HadMemory {X = Bool} (Ok true) → (blocks : List Block) (frames : List Frame) (end : Option (Place × Why)) → Comes g now (stream_items blocks frames) end → Took g keep blocks frames end kept more before size (Ok true) new)
     → HeadSoFar g old new keep more from size
 head_more g old now new keep kept more from before size far counts took = record {
   known = λ k. counts.met.0 (far.known k);
@@ -115,7 +115,7 @@ head_err g old now new keep kept from size f far counts = record {
 
 -- no block is left
 pub head_over : {C : Type 0} (g : container.Ghosts C) (old now new : Stage C) (keep : Keep) (kept more : List Block) (from before size : ℕ) (x : ⊤) → HeadSoFar g old now keep kept from before
-    → (IsCalm g now new → HadRoom {X = Bool} (Ok false) → (blocks : List Block) (frames : List Frame) (end : Option (Place × Why)) → Comes g now (stream_items blocks frames) end → Took g keep blocks frames end kept more before size (Ok false) new)
+    → (IsCalm g now new → HadMemory {X = Bool} (Ok false) → (blocks : List Block) (frames : List Frame) (end : Option (Place × Why)) → Comes g now (stream_items blocks frames) end → Took g keep blocks frames end kept more before size (Ok false) new)
     → IsCalm g old new → (blocks : List Block) (frames : List Frame) (end : Option (Place × Why)) → Comes g old (stream_items blocks frames) end → HeadIs g keep blocks frames end more (Ok x) new × (size ≡ and_blocks from blocks)
 head_over g old now new keep kept more from before size x far took calm blocks frames end comes =
     let p = far.passed calm.0 blocks frames end comes in
@@ -125,15 +125,15 @@ head_over g old now new keep kept more from before size x far took calm blocks f
 
 -- the stream is refused before its first frame
 pub head_refused : {C : Type 0} (g : container.Ghosts C) (old now new : Stage C) (keep : Keep) (kept more : List Block) (from before size : ℕ) (f : Fault) → HeadSoFar g old now keep kept from before
-    → (IsCalm g now new → HadRoom {X = Bool} (Err f) → (blocks : List Block) (frames : List Frame) (end : Option (Place × Why)) → Comes g now (stream_items blocks frames) end → Took g keep blocks frames end kept more before size (Err f) new)
-    → IsCalm g old new → HadRoom {X = ⊤} (Err f) → (blocks : List Block) (frames : List Frame) (end : Option (Place × Why)) → Comes g old (stream_items blocks frames) end → HeadIs g keep blocks frames end more (Err f) new
+    → (IsCalm g now new → HadMemory {X = Bool} (Err f) → (blocks : List Block) (frames : List Frame) (end : Option (Place × Why)) → Comes g now (stream_items blocks frames) end → Took g keep blocks frames end kept more before size (Err f) new)
+    → IsCalm g old new → HadMemory {X = ⊤} (Err f) → (blocks : List Block) (frames : List Frame) (end : Option (Place × Why)) → Comes g old (stream_items blocks frames) end → HeadIs g keep blocks frames end more (Err f) new
 head_refused g old now new keep kept more from before size f far took calm roomy blocks frames end comes =
     let p = far.passed calm.0 blocks frames end comes in
     let t = took (far.known calm.0, calm.1 ∙ sym far.errors, calm.2 ∙ sym far.raised) (same_room f roomy) p.left frames end p.comes in
     (t.1, t.2)
 
 -- memory ran out
-pub no_room : {X : Type 0} (at : Place) (why : Why) → why ≡ Memory → HadRoom {X = X} (Err (record { at = at; why = why })) → ⊥
+pub no_room : {X : Type 0} (at : Place) (why : Why) → why ≡ Memory → HadMemory {X = X} (Err (record { at = at; why = why })) → ⊥
 no_room at why is roomy = roomy (ap (λ k. Err k) is)
 
 -- an error's count is the same for every kind of answer
@@ -148,7 +148,7 @@ same_counts g s x = record { met = (λ k. k, refl, refl, refl); kept = omega ari
 
 -- the metadata was read
 pub head_read : {C : Type 0} (g : container.Ghosts C) (old new : Stage C) (keep : Keep) (kept : List Block) (start : ℕ) (x : ⊤) → Counted {X = ⊤} g old new (Ok x)
-    → (IsCalm g old new → HadRoom {X = ⊤} (Ok x) → (blocks : List Block) (frames : List Frame) (end : Option (Place × Why)) → Comes g old (stream_items blocks frames) end → HeadIs g keep blocks frames end kept (Ok x) new)
+    → (IsCalm g old new → HadMemory {X = ⊤} (Ok x) → (blocks : List Block) (frames : List Frame) (end : Option (Place × Why)) → Comes g old (stream_items blocks frames) end → HeadIs g keep blocks frames end kept (Ok x) new)
     → (IsCalm g old new → (blocks : List Block) (frames : List Frame) (end : Option (Place × Why)) → Comes g old (stream_items blocks frames) end → start ≡ frames_start blocks)
     → HeadOf g old new keep kept true start
 head_read g old new keep kept start x counts head size = record {

@@ -4,7 +4,7 @@ use Rattle.std.specs.Prelude.{is_some, unwrap_or}
 use Rattle.std.proofs.lemmas.Bool.Decides.{nat_tests}
 use Rattle.flac_bits.specs.Bits.{bits_of}
 use Rattle.flac_bits.specs.State.{Rises}
-use Rattle.flac_bits.specs.Handing.{Reading, by_grammar}
+use Rattle.flac_bits.specs.Handing.{InputReading, by_grammar}
 use Rattle.flac_bits.specs.declared.why.Why.TheVariants.{Truncated}
 use Rattle.flac_info.specs.Info.{Info}
 use Rattle.flac_header.specs.declared.subset.Profile.{Profile}
@@ -80,7 +80,7 @@ one_kept true e = λ _. omega arith
 one_kept false e = absurd cc
 
 -- the errors that were counted, by the last of them
-pub by_the_last : (info : Info) (sample : ℕ) (r : Reading Piece Place) (known : Bool) (errors : ℕ) (f : Fault) (is : Bool) → is ≡ nat_lt 0 errors → RefusesSeek info sample r known 0 0 errors errors f
+pub by_the_last : (info : Info) (sample : ℕ) (r : InputReading Piece Place) (known : Bool) (errors : ℕ) (f : Fault) (is : Bool) → is ≡ nat_lt 0 errors → RefusesSeek info sample r known 0 0 errors errors f
     → RefusesSeek info sample r known 0 0 (cond is 1 0) (cond is 1 0) f
 by_the_last info sample r known errors f is e x = record {
   kept = omega arith;

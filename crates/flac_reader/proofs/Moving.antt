@@ -8,9 +8,9 @@ use Rattle.flac_bits.specs.declared.why.Why.{Why}
 use Rattle.flac_bits.specs.declared.why.Why.TheVariants.{Memory, Read, Spent}
 use Rattle.flac_meta.specs.declared.block.Block.{Block}
 use Rattle.flac_frame.specs.Frame.{Frame}
-use Rattle.flac_native.specs.Item.{Item, metadata, frame, told}
+use Rattle.flac_native.specs.Item.{Item, metadata, frame, fault_pair}
 use Rattle.flac_native.specs.Stream.{Progress}
-use Rattle.flac_native.specs.Track.{IsAt, is_behind_blocks, is_going}
+use Rattle.flac_native.specs.Track.{IsAt, is_after_blocks, is_going}
 use Rattle.flac_native.specs.Giving.{StillGives, ComesInOrder, Stage, held, seen_by, Goes, MovesFrom, Moves, IsFirst as First}
 use Rattle.flac_native.specs.declared.fault.Place.{Place}
 use Rattle.flac_native.specs.declared.fault.Fault.{Fault}
@@ -21,7 +21,7 @@ use Rattle.flac_native.specs.declared.track.Track.{Track}
 use Rattle.flac_native.specs.declared.decoder.Course.{Course}
 use Rattle.flac_native.specs.declared.decoder.Course.TheVariants as course
 use Rattle.flac_native.specs.declared.container.Container as container
-use Rattle.flac_reader.specs.Coming.{ComesBehind, Comes, IsFirst, IsCalm, IsPast, HadRoom, Counted, stream_items, only_frame}
+use Rattle.flac_reader.specs.Coming.{ComesAfter, Comes, IsFirst, IsCalm, IsPast, HadMemory, Counted, stream_items, only_frame}
 
 abbrev answer : Option Item → Result (Option Item) Fault
 answer h = Ok h
@@ -50,13 +50,13 @@ same_block b c e = cc
 block_frame : (b : Block) (f : Frame) → metadata b ≡ frame f → ⊥
 block_frame b f e = absurd cc
 
--- ---- behind the end, and behind a refusal
+-- ---- after the end, and after a refusal
 
 pub over_comes : {C : Type 0} (g : container.Ghosts C) (s : Stage C) → s.course ≡ course.Over → Comes g s [] None
-over_comes g s e = subst (λ k. ComesBehind g k s [] None) (sym e) (refl, refl)
+over_comes g s e = subst (λ k. ComesAfter g k s [] None) (sym e) (refl, refl)
 
 pub spent_comes : {C : Type 0} (g : container.Ghosts C) (s : Stage C) (at : Place) → s.course ≡ course.Spent at → Comes g s [] (Some (at, Spent))
-spent_comes g s at e = subst (λ k. ComesBehind g k s [] (Some (at, Spent))) (sym e) (refl, refl)
+spent_comes g s at e = subst (λ k. ComesAfter g k s [] (Some (at, Spent))) (sym e) (refl, refl)
 
 -- ---- one call
 
@@ -73,7 +73,7 @@ read_at P view (Ok y) x h e = go (view y) h e
 read_at P view (Err w) x h e = absurd (ok_err (Some x) w (sym e))
 
 went : {C X : Type 0} (g : container.Ghosts C) (old new : Stage C) (view : X → Option Item) (result : Result X Fault)
-    → Goes g old new view result → IsCalm g old new → HadRoom result → (items : List Item) (end : Option (Place × Why)) → (p : Progress) → IsAt old.track p → StillGives (g.gives old.container) p items end → IsFirst g items end (seen_by view result) new
+    → Goes g old new view result → IsCalm g old new → HadMemory result → (items : List Item) (end : Option (Place × Why)) → (p : Progress) → IsAt old.track p → StillGives (g.gives old.container) p items end → IsFirst g items end (seen_by view result) new
 went {C} g old new view result h calm room items end p at still = go items end (h.gives p at calm.0 calm.1 calm.2 room items end still)
   where
     go : (items : List Item) (end : Option (Place × Why)) → First (g.gives new.container) items end (seen_by view result) new.track → IsFirst g items end (seen_by view result) new
@@ -81,10 +81,10 @@ went {C} g old new view result h calm room items end p at still = go items end (
     go [] (Some f) first = (first, spent_comes g new f.0 (refused_at (λ w. new.course ≡ course.Spent w.at) view result _ h.refused first))
     go (x ∷ xs) end (is, q, there, rest) =
         let read : (part : Part) × (new.course ≡ course.Read part) = read_at ((part : Part) × (new.course ≡ course.Read part)) view result x h.going is in
-        (is, subst (λ k. ComesBehind g k new xs end) (sym read.1) (q, there, rest))
+        (is, subst (λ k. ComesAfter g k new xs end) (sym read.1) (q, there, rest))
 
 pub moves_first : {C X : Type 0} (g : container.Ghosts C) (old new : Stage C) (view : X → Option Item) (result : Result X Fault)
-    → Moves g old new view result → IsCalm g old new → HadRoom result → (items : List Item) (end : Option (Place × Why)) → Comes g old items end → IsFirst g items end (seen_by view result) new
+    → Moves g old new view result → IsCalm g old new → HadMemory result → (items : List Item) (end : Option (Place × Why)) → Comes g old items end → IsFirst g items end (seen_by view result) new
 moves_first {C} {X} g old new view result moves calm room items end comes = go old.course refl moves comes
   where
     over : (items : List Item) (end : Option (Place × Why)) → items ≡ [] → end ≡ None → seen_by view result ≡ Ok None → new.course ≡ course.Over → IsFirst g items end (seen_by view result) new
@@ -93,7 +93,7 @@ moves_first {C} {X} g old new view result moves calm room items end comes = go o
     spent : (items : List Item) (end : Option (Place × Why)) (at : Place) → items ≡ [] → end ≡ Some (at, Spent) → seen_by view result ≡ Err (record { at = at; why = Spent }) → new.course ≡ course.Spent at → IsFirst g items end (seen_by view result) new
     spent items end at none stop seen k = rw (none, stop) (seen, spent_comes g new at k)
 
-    go : (k : Course) → old.course ≡ k → MovesFrom g k old new view result → ComesBehind g k old items end → IsFirst g items end (seen_by view result) new
+    go : (k : Course) → old.course ≡ k → MovesFrom g k old new view result → ComesAfter g k old items end → IsFirst g items end (seen_by view result) new
     go course.Begun e h (p, at, still) = went g old new view result h calm room items end p at still
     go (course.Read part) e h (p, at, still) = went g old new view result h calm room items end p at still
     go course.Over e h (none, stop) = over items end none stop h.0 (ap (λ (s : Stage C). s.course) h.1 ∙ e)
@@ -160,9 +160,9 @@ moves_memory {C} {X} g old new view f moves past = go old.course moves
     go course.Over h = absurd (ok_err None f (sym h.0))
     go (course.Spent place) h = spent place h.0
 
-not_before : (k : Phase) → is_behind_blocks k ≡ false → k ≡ Frames → ⊥
+not_before : (k : Phase) → is_after_blocks k ≡ false → k ≡ Frames → ⊥
 not_before k e is =
-    let behind : is_behind_blocks k ≡ true = ap is_behind_blocks is in
+    let after : is_after_blocks k ≡ true = ap is_after_blocks is in
     absurd cc
 
 -- what comes after the last block is no block
@@ -217,9 +217,9 @@ past_kept g old new (Err f) moves past = tt
 -- ---- what was given first
 
 pub took_refused : {C : Type 0} (g : container.Ghosts C) (blocks : List Block) (frames : List Frame) (end : Option (Place × Why)) (f : Fault) (s : Stage C)
-    → IsFirst g (stream_items blocks frames) end (Err f) s → (blocks ≡ []) × (frames ≡ []) × (end ≡ Some (told f))
+    → IsFirst g (stream_items blocks frames) end (Err f) s → (blocks ≡ []) × (frames ≡ []) × (end ≡ Some (fault_pair f))
 took_refused g [] [] None f s first = absurd (ok_err None f (sym first.0))
-took_refused g [] [] (Some r) f s first = (refl, refl, ap (λ w. Some (told w)) (sym (same_fault f _ first.0)))
+took_refused g [] [] (Some r) f s first = (refl, refl, ap (λ w. Some (fault_pair w)) (sym (same_fault f _ first.0)))
 took_refused g [] (x ∷ xs) end f s first = absurd (ok_err _ f (sym first.0))
 took_refused g (b ∷ bs) frames end f s first = absurd (ok_err _ f (sym first.0))
 

@@ -10,19 +10,19 @@ use Rattle.flac_reader.specs.Places.{samples_from}
 abbrev sample : List (List ℤ) → ℕ → ℕ → ℤ
 sample channels c i = slice_index_or (slice_index_or channels c []) i (pos 0)
 
-drop_row : (channels : List (List ℤ)) (behind : List ℤ) (i c : ℕ) → c < length channels → drop c (row channels i ++ behind) ≡ sample channels c i ∷ drop (c + 1) (row channels i ++ behind)
+drop_row : (channels : List (List ℤ)) (after : List ℤ) (i c : ℕ) → c < length channels → drop c (row channels i ++ after) ≡ sample channels c i ∷ drop (c + 1) (row channels i ++ after)
 unfolding row
-drop_row [] behind i c lt = absurd (omega (arith, lt))
-drop_row (x ∷ xs) behind i zero lt = refl
-drop_row (x ∷ xs) behind i (suc c) lt =
-    let more = drop_row xs behind i c (omega (arith, lt)) in
+drop_row [] after i c lt = absurd (omega (arith, lt))
+drop_row (x ∷ xs) after i zero lt = refl
+drop_row (x ∷ xs) after i (suc c) lt =
+    let more = drop_row xs after i c (omega (arith, lt)) in
     let e : suc c + 1 ≡ suc (c + 1) = omega arith in
     rw e more
 
-drop_whole_row : (channels : List (List ℤ)) (behind : List ℤ) (i : ℕ) → drop (length channels) (row channels i ++ behind) ≡ behind
+drop_whole_row : (channels : List (List ℤ)) (after : List ℤ) (i : ℕ) → drop (length channels) (row channels i ++ after) ≡ after
 unfolding row
-drop_whole_row [] behind i = refl
-drop_whole_row (x ∷ xs) behind i = drop_whole_row xs behind i
+drop_whole_row [] after i = refl
+drop_whole_row (x ∷ xs) after i = drop_whole_row xs after i
 
 -- the samples from an index on, where there is one
 rows_here : (channels : List (List ℤ)) (size i : ℕ) → i < size → rows channels (size - i) i ≡ row channels i ++ rows channels (size - (i + 1)) (i + 1)

@@ -5,7 +5,7 @@ use Rattle.std.proofs.Common.{inl, inr}
 use Rattle.flac_bits.specs.Bits.{bits_of}
 use Rattle.flac_bits.specs.Reasons.{of_output}
 use Rattle.flac_bits.specs.State.{Rises, Mark}
-use Rattle.flac_bits.specs.Handing.{Reading}
+use Rattle.flac_bits.specs.Handing.{InputReading}
 use Rattle.flac_bits.specs.declared.why.Why.{Why}
 use Rattle.flac_bits.specs.declared.why.Why.TheVariants.{Memory, Read, NotStreamInfoFirst}
 use Rattle.flac_meta.specs.declared.block.Block.{Block}
@@ -15,7 +15,7 @@ use Rattle.flac_frame.specs.Frame.{Frame}
 use Rattle.flac_native.specs.Stream.{Piece, Progress}
 use Rattle.flac_native.specs.Track.{IsAt}
 use Rattle.flac_native.specs.Coming.{ReadAs}
-use Rattle.flac_native.specs.Item.{told}
+use Rattle.flac_native.specs.Item.{fault_pair}
 use Rattle.flac_native.specs.Giving.{Stage}
 use Rattle.flac_native.specs.declared.decoder.Course.TheVariants as course
 use Rattle.flac_native.specs.declared.fault.Place.{Place}
@@ -25,7 +25,7 @@ use Rattle.flac_native.specs.declared.container.Container as container
 use Rattle.flac_ogg.specs.Fronts.{front_bytes}
 use Rattle.flac_ogg.specs.Either.{begins_page, read_either}
 use Rattle.flac_reader.specs.Kept.{keeps, first_info, or_info}
-use Rattle.flac_reader.specs.Coming.{Comes, IsCalm, HadRoom, Counted, HeadIs, stream_items}
+use Rattle.flac_reader.specs.Coming.{Comes, IsCalm, HadMemory, Counted, HeadIs, stream_items}
 use Rattle.flac_reader.specs.Opening.{IsReadAs}
 use Rattle.flac_reader.specs.Refusing.{RefusedHead, RefusesInput}
 use Rattle.flac_reader.specs.declared.keep.Keep.{Keep}
@@ -51,7 +51,7 @@ first_kept Tags (blocks.Other k d ∷ bs) = first_kept Tags bs
 abbrev reason : {X : Type 0} → Why → Result X Why
 reason w = Err w
 
-pub had_room : {X : Type 0} (f : Fault) → f.why ≢ Memory → HadRoom {X = X} (Err f)
+pub had_room : {X : Type 0} (f : Fault) → f.why ≢ Memory → HadMemory {X = X} (Err f)
 had_room {X} f other e = other (inside e)
   where
     inside : reason {X = X} f.why ≡ Err Memory → f.why ≡ Memory
@@ -59,7 +59,7 @@ had_room {X} f other e = other (inside e)
 
 -- the blocks were refused
 pub blocks_refused : {C : Type 0} (g : container.Ghosts C) (old last : Stage C) (keep : Keep) (kept : List Block) (f : Fault) → Counted {X = ⊤} g old last (Err f)
-    → (IsCalm g old last → HadRoom {X = ⊤} (Err f) → (blocks : List Block) (frames : List Frame) (end : Option (Place × Why)) → Comes g old (stream_items blocks frames) end → HeadIs g keep blocks frames end kept (Err f) last)
+    → (IsCalm g old last → HadMemory {X = ⊤} (Err f) → (blocks : List Block) (frames : List Frame) (end : Option (Place × Why)) → Comes g old (stream_items blocks frames) end → HeadIs g keep blocks frames end kept (Err f) last)
     → RefusedHead g old last f
 blocks_refused g old last keep kept f counts head = record {
   kept = counts.kept;
@@ -71,7 +71,7 @@ blocks_refused g old last keep kept f counts head = record {
 
 -- the blocks were read, and STREAMINFO is none of them
 pub no_info_refused : {C : Type 0} (g : container.Ghosts C) (old last : Stage C) (keep : Keep) (kept : List Block) (x : ⊤) → Counted {X = ⊤} g old last (Ok x) → first_info kept ≡ None
-    → (IsCalm g old last → HadRoom {X = ⊤} (Ok x) → (blocks : List Block) (frames : List Frame) (end : Option (Place × Why)) → Comes g old (stream_items blocks frames) end → HeadIs g keep blocks frames end kept (Ok x) last)
+    → (IsCalm g old last → HadMemory {X = ⊤} (Ok x) → (blocks : List Block) (frames : List Frame) (end : Option (Place × Why)) → Comes g old (stream_items blocks frames) end → HeadIs g keep blocks frames end kept (Ok x) last)
     → RefusedHead g old last (record { at = place.Block 0; why = NotStreamInfoFirst })
 no_info_refused g old last keep kept x counts none head = record {
   kept = counts.kept;
@@ -87,7 +87,7 @@ no_info_refused g old last keep kept x counts none head = record {
     other e = absurd cc
 
 -- where the decoder was to give what the input is
-pub refuses_input : {C : Type 0} {g : container.Ghosts C} (r : Reading Piece Place) (s last : Stage C) (p : Progress) (f : Fault) (known : Bool) (errors raised errors_left raised_left : ℕ)
+pub refuses_input : {C : Type 0} {g : container.Ghosts C} (r : InputReading Piece Place) (s last : Stage C) (p : Progress) (f : Fault) (known : Bool) (errors raised errors_left raised_left : ℕ)
     → s.course ≡ course.Begun → IsAt s.track p → ((parts : List Piece) (end : Option (Place × Why)) → ReadAs r parts end → g.gives s.container p parts end)
     → g.known s.container ≡ known → g.errors s.container ≡ errors → g.met s.container ≡ raised → g.errors last.container ≡ errors_left → g.met last.container ≡ raised_left
     → (errors_left ≡ errors → raised_left ≡ raised → g.raised last.container ≡ g.raised s.container)
@@ -102,7 +102,7 @@ refuses_input {g = g} r s last p f known errors raised errors_left raised_left b
 }
 
 -- of an input that is known and is read so too, or is not known
-pub refuses_as : (r q : Reading Piece Place) (known knows : Bool) (errors raised now_errors now_raised errors_left raised_left : ℕ) (f : Fault) → now_errors ≡ errors → now_raised ≡ raised → (knows ≡ true → known ≡ true)
+pub refuses_as : (r q : InputReading Piece Place) (known knows : Bool) (errors raised now_errors now_raised errors_left raised_left : ℕ) (f : Fault) → now_errors ≡ errors → now_raised ≡ raised → (knows ≡ true → known ≡ true)
     → (knows ≡ true → q ≡ r) → RefusesInput r known now_errors now_raised errors_left raised_left f → RefusesInput q knows errors raised errors_left raised_left f
 refuses_as r q known knows errors raised now_errors now_raised errors_left raised_left f e n told same h = record {
   kept = omega (arith, h.kept, e);
@@ -112,7 +112,7 @@ refuses_as r q known knows errors raised now_errors now_raised errors_left raise
 }
 
 -- of an input whose first byte could not be read
-pub refuses_unread : (r : Reading Piece Place) (known : Bool) (errors raised errors_left raised_left : ℕ) (f : Fault) → errors ≤ errors_left → Rises raised raised_left → of_output f.why ≡ false → (known ≡ true → raised < raised_left) → RefusesInput r known errors raised errors_left raised_left f
+pub refuses_unread : (r : InputReading Piece Place) (known : Bool) (errors raised errors_left raised_left : ℕ) (f : Fault) → errors ≤ errors_left → Rises raised raised_left → of_output f.why ≡ false → (known ≡ true → raised < raised_left) → RefusesInput r known errors raised errors_left raised_left f
 refuses_unread r known errors raised errors_left raised_left f kept risen output more = record {
   kept = kept;
   risen = λ is. risen;
@@ -121,7 +121,7 @@ refuses_unread r known errors raised errors_left raised_left f kept risen output
 }
 
 -- of which nothing was read, since memory ran out
-pub refuses_memory : (r : Reading Piece Place) (known : Bool) (errors raised : ℕ) (f : Fault) → f.why ≡ Memory → RefusesInput r known errors raised errors raised f
+pub refuses_memory : (r : InputReading Piece Place) (known : Bool) (errors raised : ℕ) (f : Fault) → f.why ≡ Memory → RefusesInput r known errors raised errors raised f
 refuses_memory r known errors raised f e = record {
   kept = omega arith;
   risen = λ is. absurd (other (sym e ∙ is));

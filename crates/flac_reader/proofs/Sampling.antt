@@ -14,7 +14,7 @@ use Rattle.flac_native.specs.declared.container.Container as container
 use Rattle.flac_reader.specs.Coming.{FramesCome, IsFirst, IsCalm, IsPast, Counted, size_of}
 use Rattle.flac_reader.specs.Giving.{last_frame, Gives}
 use Rattle.flac_reader.specs.Places.{all_samples, samples_from, left_at, is_over}
-use Rattle.flac_reader.specs.Sampling.{SamplesLeft, ComeBehind, SamplesCome, IsFirstSample, count_after, first_after, Enters, Steps, calls_left, GivesSample}
+use Rattle.flac_reader.specs.Sampling.{SamplesLeft, ComeAfter, SamplesCome, IsFirstSample, count_after, first_after, Enters, Steps, calls_left, GivesSample}
 use Rattle.flac_reader.specs.inner.Stepping.{TakesSample, EntersFrame}
 use Rattle.flac_reader.specs.declared.reader.Reader.{Reader}
 use Rattle.flac_reader.specs.declared.samples.Samples.{Samples}
@@ -31,7 +31,7 @@ not_over (spot.Inside c i) going is = absurd cc
 not_over spot.Over going is = absurd cc
 
 -- what comes is what is left of a frame, and what the reader has still to give
-apart : {C : Type 0} {g : container.Ghosts C} (s : Spot) (r : Reader C g) (samples : List ℤ) (end : Option (Place × Why)) → is_over s ≡ false → ComeBehind s r samples end → SamplesLeft r (left_at s (last_frame r)) samples end
+apart : {C : Type 0} {g : container.Ghosts C} (s : Spot) (r : Reader C g) (samples : List ℤ) (end : Option (Place × Why)) → is_over s ≡ false → ComeAfter s r samples end → SamplesLeft r (left_at s (last_frame r)) samples end
 apart spot.Next r samples end going come = come
 apart (spot.Inside c i) r samples end going come = come
 apart spot.Over r samples end going come = absurd cc
@@ -43,8 +43,8 @@ pub record EnteredSo {C : Type 0} {g : container.Ghosts C} (old now : Samples C 
   pub empty : all_samples passed ≡ []
   pub held : last_frame now.reader ≡ Some (frame f)
   pub at : now.spot ≡ spot.Inside 0 0
-  pub first : now.reader.first ≡ count_after old.reader.behind passed
-  pub next : now.reader.behind ≡ min (now.reader.first + f.size) 18446744073709551615
+  pub first : now.reader.first ≡ count_after old.reader.after passed
+  pub next : now.reader.after ≡ min (now.reader.first + f.size) 18446744073709551615
   pub left : old.left ≡ now.left + length passed + 1
 
 -- none so far, or these
@@ -54,8 +54,8 @@ ReadSo old now = ((now.reader ≡ old.reader) × (now.left ≡ old.left)) ⊎ ((
 -- all of these have no samples
 record PassedSo {C : Type 0} {g : container.Ghosts C} (old now : Samples C g) (passed : List Frame) : Type 0 where
   pub empty : all_samples passed ≡ []
-  pub first : now.reader.first ≡ first_after old.reader.first old.reader.behind passed
-  pub next : now.reader.behind ≡ count_after old.reader.behind passed
+  pub first : now.reader.first ≡ first_after old.reader.first old.reader.after passed
+  pub next : now.reader.after ≡ count_after old.reader.after passed
   pub left : old.left ≡ now.left + length passed
 
 -- so it is if nothing is left of the frame that was read last
@@ -63,7 +63,7 @@ passed_so : {C : Type 0} {g : container.Ghosts C} (old now : Samples C g) → Re
 unfolding all_samples count_after
 passed_so {g = g} old now (inl (same, left)) none = (
   [],
-  record { empty = refl; first = ap (λ (r : Reader _ g). r.first) same; next = ap (λ (r : Reader _ g). r.behind) same; left = omega (arith, left) },
+  record { empty = refl; first = ap (λ (r : Reader _ g). r.first) same; next = ap (λ (r : Reader _ g). r.after) same; left = omega (arith, left) },
 )
 passed_so old now (inr (passed, f, e)) none =
     let left : samples_from f 0 0 ≡ [] = subst (λ o. left_at (spot.Inside 0 0) o ≡ []) e.held (subst (λ s. left_at s (last_frame now.reader) ≡ []) e.at none) in (
@@ -112,10 +112,10 @@ samples_start s going = record {
 -- ---- a sample of the frame that was read last
 
 over_comes : {C : Type 0} {g : container.Ghosts C} (s : Samples C g) → s.spot ≡ spot.Over → SamplesCome s [] None
-over_comes s is = subst (λ k. ComeBehind k s.reader [] None) (sym is) (refl, refl)
+over_comes s is = subst (λ k. ComeAfter k s.reader [] None) (sym is) (refl, refl)
 
 inside_comes : {C : Type 0} {g : container.Ghosts C} (s : Samples C g) (c i : ℕ) (samples : List ℤ) (end : Option (Place × Why)) → s.spot ≡ spot.Inside c i → SamplesLeft s.reader (left_at s.spot (last_frame s.reader)) samples end → SamplesCome s samples end
-inside_comes s c i samples end is left = subst (λ k. ComeBehind k s.reader samples end) (sym is) (subst (λ k. SamplesLeft s.reader (left_at k (last_frame s.reader)) samples end) is left)
+inside_comes s c i samples end is left = subst (λ k. ComeAfter k s.reader samples end) (sym is) (subst (λ k. SamplesLeft s.reader (left_at k (last_frame s.reader)) samples end) is left)
 
 first_is : {C : Type 0} {g : container.Ghosts C} (samples xs : List ℤ) (x : ℤ) (end : Option (Place × Why)) (s : Samples C g) → samples ≡ x ∷ xs → SamplesCome s xs end → IsFirstSample samples end (Ok (Some x)) s
 first_is {g = g} samples xs x end s is come = subst (λ k. IsFirstSample {g = g} k end (Ok (Some x)) s) (sym is) (refl, come)
@@ -134,10 +134,10 @@ gave {g = g} now new x samples end going same takes come =
 abbrev answer : Option Item → Result (Option Item) Fault
 answer h = Ok h
 
--- what comes behind a frame of which nothing is left
-behind : {C : Type 0} {g : container.Ghosts C} (now next : Samples C g) (samples : List ℤ) (end : Option (Place × Why)) → is_over now.spot ≡ false → next.reader ≡ now.reader → left_at now.spot (last_frame now.reader) ≡ [] → SamplesCome now samples end
+-- what comes after a frame of which nothing is left
+after : {C : Type 0} {g : container.Ghosts C} (now next : Samples C g) (samples : List ℤ) (end : Option (Place × Why)) → is_over now.spot ≡ false → next.reader ≡ now.reader → left_at now.spot (last_frame now.reader) ≡ [] → SamplesCome now samples end
     → SamplesLeft next.reader [] samples end
-behind {g = g} now next samples end going same none come =
+after {g = g} now next samples end going same none come =
     let q = apart now.spot now.reader samples end going come in
     record { frames = q.frames; split = q.split ∙ ap (λ k. k ++ all_samples q.frames) none; come = subst (λ (r : Reader _ g). FramesCome g r.ahead (stage_of r.decoder) q.frames end) (sym same) q.come }
 
@@ -219,8 +219,8 @@ turn {g = g} old now next new far same fewer none gives left enters =
           empty = p.1.empty;
           held = enters.1;
           at = enters.2;
-          first = gives.samples.0 ∙ ap (λ (r : Reader _ g). r.behind) same ∙ p.1.next;
-          next = gives.samples.1 ∙ ap (λ k. min (next.reader.behind + size_of k) 18446744073709551615) enters.1 ∙ ap (λ n. min (n + f.size) 18446744073709551615) (sym gives.samples.0);
+          first = gives.samples.0 ∙ ap (λ (r : Reader _ g). r.after) same ∙ p.1.next;
+          next = gives.samples.1 ∙ ap (λ k. min (next.reader.after + size_of k) 18446744073709551615) enters.1 ∙ ap (λ n. min (n + f.size) 18446744073709551615) (sym gives.samples.0);
           left = omega (arith, left, fewer, p.1.left);
         },
       );
@@ -230,7 +230,7 @@ turn {g = g} old now next new far same fewer none gives left enters =
       left = omega (arith, left, fewer, far.left);
       going = rw enters.2 refl;
       same = λ known samples end come.
-          let q = behind now next samples end far.going same none.0 (far.same known samples end come) in
+          let q = after now next samples end far.going same none.0 (far.same known samples end come) in
           let calm = subst (λ (r : Reader _ g). IsCalm g (stage_of r.decoder) (stage_of new.reader.decoder)) (sym same) (far.known known, met.met.1, met.met.2) in
           frame_comes new enters.0 q.frames samples end q.split enters.1 enters.2 gives.ahead (gives.frame calm (room true) q.frames end q.come);
     }
@@ -269,7 +269,7 @@ give_over {g = g} s is = record {
     at spot.Next is = absurd cc
     at (spot.Inside c i) is = absurd cc
 
-    go : (k : Spot) → s.spot ≡ k → is_over k ≡ true → (samples : List ℤ) (end : Option (Place × Why)) → ComeBehind k s.reader samples end → IsFirstSample {g = g} samples end (Ok None) s
+    go : (k : Spot) → s.spot ≡ k → is_over k ≡ true → (samples : List ℤ) (end : Option (Place × Why)) → ComeAfter k s.reader samples end → IsFirstSample {g = g} samples end (Ok None) s
     go spot.Over e is samples end come = rw (come.0, come.1) (refl, over_comes s e)
     go spot.Next e is samples end come = absurd cc
     go (spot.Inside c i) e is samples end come = absurd cc
@@ -277,11 +277,11 @@ give_over {g = g} s is = record {
 -- the frame that was read last, without a further one
 entered : {C : Type 0} {g : container.Ghosts C} (old now new : Samples C g) (passed : List Frame) (f : Frame) (steps : ℕ) → EnteredSo old now passed f → new.reader ≡ now.reader → old.left ≡ new.left + length passed + 1 + steps → Enters old new passed steps
 entered {g = g} old now new passed f steps e same left =
-    let next : now.reader.behind ≡ min (now.reader.first + size_of (last_frame now.reader)) 18446744073709551615 = e.next ∙ ap (λ o. min (now.reader.first + size_of o) 18446744073709551615) (sym e.held) in
+    let next : now.reader.after ≡ min (now.reader.first + size_of (last_frame now.reader)) 18446744073709551615 = e.next ∙ ap (λ o. min (now.reader.first + size_of o) 18446744073709551615) (sym e.held) in
     record {
       empty = e.empty;
       first = ap (λ (r : Reader _ g). r.first) same ∙ e.first;
-      next = subst (λ (r : Reader _ g). r.behind ≡ min (r.first + size_of (last_frame r)) 18446744073709551615) (sym same) next;
+      next = subst (λ (r : Reader _ g). r.after ≡ min (r.first + size_of (last_frame r)) 18446744073709551615) (sym same) next;
       left = left;
     }
 
@@ -325,7 +325,7 @@ give_end {g = g} old now next new going far same fewer none gives enters =
     let p = passed_so old now far.reads none.0 in
     record {
       sample = λ calm roomy samples end come.
-          let q = behind now next samples end far.going same none.0 (far.same calm.0 samples end come) in
+          let q = after now next samples end far.going same none.0 (far.same calm.0 samples end come) in
           let still = subst (λ (r : Reader _ g). IsCalm g (stage_of r.decoder) (stage_of new.reader.decoder)) (sym same) (far.known calm.0, met.met.1, met.met.2) in
           end_comes new q.frames samples end (stage_of new.reader.decoder) q.split enters.1
           (subst (λ k. IsFirst g (map frame q.frames) end (answer k) (stage_of new.reader.decoder)) enters.0 (gives.frame still (room false) q.frames end q.come));
@@ -340,7 +340,7 @@ give_end {g = g} old now next new going far same fewer none gives enters =
         p.0,
         record {
           empty = p.1.empty;
-          first = gives.samples.0 ∙ ap (λ (r : Reader _ g). r.behind) same ∙ p.1.next;
+          first = gives.samples.0 ∙ ap (λ (r : Reader _ g). r.after) same ∙ p.1.next;
           next = gives.samples.1 ∙ ap (λ n. min (n + size_of (last_frame new.reader)) 18446744073709551615) (sym gives.samples.0);
           left = omega (arith, fewer, p.1.left);
         },
@@ -363,7 +363,7 @@ give_refusal {g = g} old now next new f going far same none gives over =
     let p = passed_so old now far.reads none.0 in
     record {
       sample = λ calm roomy samples end come.
-          let q = behind now next samples end far.going same none.0 (far.same calm.0 samples end come) in
+          let q = after now next samples end far.going same none.0 (far.same calm.0 samples end come) in
           let still = subst (λ (r : Reader _ g). IsCalm g (stage_of r.decoder) (stage_of new.reader.decoder)) (sym same) (far.known calm.0, calm.1 ∙ sym far.errors, calm.2 ∙ sym far.raised) in
           refusal_comes new q.frames samples end f (stage_of new.reader.decoder) q.split over (gives.frame still (same_room f roomy) q.frames end q.come);
       counts = record {
@@ -378,7 +378,7 @@ give_refusal {g = g} old now next new f going far same none gives over =
         record {
           empty = p.1.empty;
           first = gives.samples.0 ∙ ap (λ (r : Reader _ g). r.first) same ∙ p.1.first;
-          next = gives.samples.1 ∙ ap (λ (r : Reader _ g). r.behind) same ∙ p.1.next;
+          next = gives.samples.1 ∙ ap (λ (r : Reader _ g). r.after) same ∙ p.1.next;
           memory = λ k. gives.memory (subst (λ (r : Reader _ g). IsPast (stage_of r.decoder)) (sym same) (far.past k));
         },
       );

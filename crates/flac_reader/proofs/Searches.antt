@@ -6,7 +6,7 @@ use Rattle.std.proofs.lemmas.List.{append-nil}
 use Rattle.std.proofs.lemmas.List.Folds.{list_any-append}
 use Rattle.flac_bits.specs.Reasons.{of_output}
 use Rattle.flac_bits.specs.State.{Rises}
-use Rattle.flac_bits.specs.Handing.{Reading}
+use Rattle.flac_bits.specs.Handing.{InputReading}
 use Rattle.flac_bits.specs.declared.why.Why.{Why}
 use Rattle.flac_bits.specs.declared.why.Why.TheVariants.{Memory, Read}
 use Rattle.flac_info.specs.Info.{Info}
@@ -15,13 +15,13 @@ use Rattle.flac_native.specs.Stream.{Piece, Progress}
 use Rattle.flac_native.specs.Track.{IsAt}
 use Rattle.flac_native.specs.Coming.{ReadAs}
 use Rattle.flac_native.specs.declared.decoder.Course.TheVariants as course
-use Rattle.flac_native.specs.Item.{Item, frame, told}
+use Rattle.flac_native.specs.Item.{Item, frame, fault_pair}
 use Rattle.flac_native.specs.Giving.{Stage, stage_of, held}
 use Rattle.flac_native.specs.declared.decoder.Decoder.{Decoder}
 use Rattle.flac_native.specs.declared.fault.Place.{Place}
 use Rattle.flac_native.specs.declared.fault.Fault.{Fault}
 use Rattle.flac_native.specs.declared.container.Container as container
-use Rattle.flac_reader.specs.Coming.{Comes, IsFirst, IsCalm, IsPast, HadRoom, Counted, only_frame}
+use Rattle.flac_reader.specs.Coming.{Comes, IsFirst, IsCalm, IsPast, HadMemory, Counted, only_frame}
 use Rattle.flac_reader.specs.Opening.{IsReadAs, IsOver}
 use Rattle.flac_reader.specs.Seeking.{holds, PassedBy, HoldsFirst, Finds, RefusesSeek}
 use Rattle.flac_reader.specs.inner.Seeking.{FirstIfHeld, Passes}
@@ -100,7 +100,7 @@ search_starts g s info sample = record {
 
 -- what a call that passes a frame by says
 abbrev pub Passing : {C : Type 0} → container.Ghosts C → Info → ℕ → Stage C → Stage C → Result (Option ℕ) Fault → Type 0
-Passing g info sample now new result = IsCalm g now new → HadRoom result → (frames : List Frame) (end : Option (Place × Why)) → Comes g now (map frame frames) end → Passes g info sample frames end result new
+Passing g info sample now new result = IsCalm g now new → HadMemory result → (frames : List Frame) (end : Option (Place × Why)) → Comes g now (map frame frames) end → Passes g info sample frames end result new
 
 -- one more
 pub search_more : {C : Type 0} (g : container.Ghosts C) (old now new : Stage C) (info : Info) (sample : ℕ) → SearchSoFar g old now info sample → Counted {X = Option ℕ} g now new (Ok None) → Passing g info sample now new (Ok None) → (IsPast now → IsPast new) → SearchSoFar g old new info sample
@@ -131,9 +131,9 @@ search_ends g old now new info sample n far passes calm frames end comes =
     let t = passes (far.known calm.0, calm.1 ∙ sym far.errors, calm.2 ∙ sym far.raised) (room (Some n)) p.left end p.comes in
     record { passed = p.taken; left = p.left; split = p.split; by = p.by; holds = t.0; come = t.1 }
 
--- the stream is refused behind the frames that were passed by
+-- the stream is refused after the frames that were passed by
 pub search_refused : {C X : Type 0} (g : container.Ghosts C) (old now new : Stage C) (info : Info) (sample : ℕ) (f : Fault) → SearchSoFar g old now info sample → Passing g info sample now new (Err f)
-    → IsCalm g old new → HadRoom {X = X} (Err f) → (frames : List Frame) (end : Option (Place × Why)) → Comes g old (map frame frames) end → PassedBy info sample frames × (end ≡ Some (told f))
+    → IsCalm g old new → HadMemory {X = X} (Err f) → (frames : List Frame) (end : Option (Place × Why)) → Comes g old (map frame frames) end → PassedBy info sample frames × (end ≡ Some (fault_pair f))
 search_refused g old now new info sample f far passes calm roomy frames end comes =
     let p = far.passed calm.0 frames end comes in
     let t = passes (far.known calm.0, calm.1 ∙ sym far.errors, calm.2 ∙ sym far.raised) (same_room f roomy) p.left end p.comes in
@@ -176,22 +176,22 @@ none_passes g info sample frames end s n none first = (none_first g info sample 
 -- ---- over an input
 
 -- a decoder that was to give what the input is
-input_comes : {C : Type 0} (g : container.Ghosts C) (r : Reading Piece Place) (s : Stage C) (p : Progress) → s.course ≡ course.Begun → IsAt s.track p → ((parts : List Piece) (end : Option (Place × Why)) → ReadAs r parts end → g.gives s.container p parts end)
+input_comes : {C : Type 0} (g : container.Ghosts C) (r : InputReading Piece Place) (s : Stage C) (p : Progress) → s.course ≡ course.Begun → IsAt s.track p → ((parts : List Piece) (end : Option (Place × Why)) → ReadAs r parts end → g.gives s.container p parts end)
     → (frames : List Frame) (end : Option (Place × Why)) → IsReadAs r [] frames end → Comes g s (map frame frames) end
 input_comes g r s p begun at gives frames end is = begun_comes g s p (map frame frames) end begun at (is.parts, sym is.items, gives is.parts end is.read)
 
-pub seek_finds : {C : Type 0} (g : container.Ghosts C) (r : Reading Piece Place) (info : Info) (sample n : ℕ) (s new : Stage C) (p : Progress) → s.course ≡ course.Begun → IsAt s.track p
+pub seek_finds : {C : Type 0} (g : container.Ghosts C) (r : InputReading Piece Place) (info : Info) (sample n : ℕ) (s new : Stage C) (p : Progress) → s.course ≡ course.Begun → IsAt s.track p
     → ((parts : List Piece) (end : Option (Place × Why)) → ReadAs r parts end → g.gives s.container p parts end) → IsCalm g s new
-    → (IsCalm g s new → HadRoom {X = ℕ} (Ok n) → (frames : List Frame) (end : Option (Place × Why)) → Comes g s (map frame frames) end → Finds g info sample frames end true new)
+    → (IsCalm g s new → HadMemory {X = ℕ} (Ok n) → (frames : List Frame) (end : Option (Place × Why)) → Comes g s (map frame frames) end → Finds g info sample frames end true new)
     → (frames : List Frame) (end : Option (Place × Why)) → IsReadAs r [] frames end → Finds g info sample frames end true new
 seek_finds g r info sample n s new p begun at gives calm finds frames end is = finds calm (room n) frames end (input_comes g r s p begun at gives frames end is)
 
-pub seek_refuses : {C : Type 0} {g : container.Ghosts C} (r : Reading Piece Place) (info : Info) (sample : ℕ) (d new : Decoder C g) (p : Progress) (f : Fault) (known : Bool) (errors raised errors_left raised_left : ℕ)
+pub seek_refuses : {C : Type 0} {g : container.Ghosts C} (r : InputReading Piece Place) (info : Info) (sample : ℕ) (d new : Decoder C g) (p : Progress) (f : Fault) (known : Bool) (errors raised errors_left raised_left : ℕ)
     → (stage_of d).course ≡ course.Begun → IsAt (stage_of d).track p → ((parts : List Piece) (end : Option (Place × Why)) → ReadAs r parts end → g.gives (stage_of d).container p parts end)
     → g.known (stage_of d).container ≡ known → g.errors (stage_of d).container ≡ errors → g.raised (stage_of d).container ≡ raised → g.met (stage_of d).container ≡ raised
     → g.errors (stage_of new).container ≡ errors_left → g.raised (stage_of new).container ≡ raised_left → g.met (stage_of new).container ≡ raised_left
     → Counted {X = ℕ} g (stage_of d) (stage_of new) (Err f)
-    → (IsCalm g (stage_of d) (stage_of new) → HadRoom {X = ℕ} (Err f) → (frames : List Frame) (end : Option (Place × Why)) → Comes g (stage_of d) (map frame frames) end → PassedBy info sample frames × (end ≡ Some (told f)))
+    → (IsCalm g (stage_of d) (stage_of new) → HadMemory {X = ℕ} (Err f) → (frames : List Frame) (end : Option (Place × Why)) → Comes g (stage_of d) (map frame frames) end → PassedBy info sample frames × (end ≡ Some (fault_pair f)))
     → RefusesSeek info sample r known errors raised errors_left raised_left f
 seek_refuses {g = g} r info sample d new p f known errors raised errors_left raised_left begun at gives is_known e r0 m e' r' m' counts refused = record {
   kept = omega (arith, counts.kept, e, e');
@@ -219,7 +219,7 @@ pub past_at : {C : Type 0} {g : container.Ghosts C} (reader : Reader C g) (d : D
 past_at {g = g} reader d is past = subst (λ (x : Decoder _ g). IsPast (stage_of x)) (sym is) past
 
 -- memory ran out before anything was read
-pub seek_unread : (info : Info) (sample : ℕ) (r : Reading Piece Place) (known : Bool) (errors raised : ℕ) (f : Fault) → f.why ≡ Memory → RefusesSeek info sample r known errors raised errors raised f
+pub seek_unread : (info : Info) (sample : ℕ) (r : InputReading Piece Place) (known : Bool) (errors raised : ℕ) (f : Fault) → f.why ≡ Memory → RefusesSeek info sample r known errors raised errors raised f
 seek_unread info sample r known errors raised f e = record {
   kept = omega arith;
   risen = λ is. absurd (other (sym e ∙ is));

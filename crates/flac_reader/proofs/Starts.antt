@@ -7,7 +7,7 @@ use Rattle.std.proofs.lemmas.List.Elements.{All-head, All-tail}
 use Rattle.flac_bits.specs.Bits.{unsigned, bits_of, bit_value}
 use Rattle.flac_bits.specs.LittleEndian.{little_bits}
 use Rattle.flac_bits.specs.State.{Mark, past, fresh}
-use Rattle.flac_bits.specs.Items.{Joined, Stream, after}
+use Rattle.flac_bits.specs.Items.{Joined, Stream, state_after}
 use Rattle.flac_bits.specs.declared.why.Why.TheVariants.{Truncated}
 use Rattle.flac_bits.proofs.Words.{length-unsigned}
 use Rattle.flac_bits.proofs.Holding.{length-bits_of, bits_of-append}
@@ -175,7 +175,7 @@ block_long last b text valid (content, spelled, is) =
 
 -- ---- and all blocks
 
--- behind so many bytes, as long as these can be counted
+-- after n bytes, as long as these can be counted
 blocks_long : (n : ℕ) (list : List MarkedBlock) (text : List Bool) → All IsValid (without_marks list) → AreSpelled list text → 8 * n + length text < 8 * 2 ^ 64 → 8 * and_blocks n (without_marks list) ≡ 8 * n + length text
 unfolding and_blocks
 blocks_long n [] text all spelled few = omega (arith, ap bits_in spelled)
@@ -243,7 +243,7 @@ same_items (b ∷ bs) (c ∷ cs) fs gs e =
     tail : (xs ys : List Item) → cons (metadata b) xs ≡ cons (metadata c) ys → xs ≡ ys
     tail xs ys e = cc
 
--- and the parts of a stream hand out its blocks and its frames
+-- and the parts of a stream yield its blocks and its frames
 frames_handed : (fs : List Frame) → items_of (map framed fs) ≡ map frame fs
 frames_handed [] = refl
 frames_handed (f ∷ fs) = ap (λ k. frame f ∷ k) (frames_handed fs)
@@ -263,7 +263,7 @@ head_long profile info list head (front, rest, split, spelled, fits, more) few =
     let c = closed (block_of.StreamInfo info) list in
     let over = closing_ends (next (opening profile) marked) (block_of.StreamInfo info) list in
     let joins = subst (λ k. Joined grammar (next (opening profile) marked) (past front (fresh first)) k rest) c.parts more in
-    let ends = subst (λ k. (after grammar (next (opening profile) marked) k).stand.phase ≡ (after grammar (next (opening profile) marked) (closing blocks)).stand.phase) c.parts refl ∙ over in
+    let ends = subst (λ k. (state_after grammar (next (opening profile) marked) k).stand.phase ≡ (state_after grammar (next (opening profile) marked) (closing blocks)).stand.phase) c.parts refl ∙ over in
     let o = are_ordered profile (past front (fresh first)) c.list rest (record { spelled = joins; over = ends }) in
     let four = (marker_there (opening profile).stand (fresh first) front marked refl spelled).1 in
     let whole : length head ≡ length front + length rest = ap bits_in split ∙ length-append front rest in

@@ -8,11 +8,11 @@ use Rattle.flac_bits.specs.declared.why.Why.{Why}
 use Rattle.flac_bits.specs.declared.why.Why.TheVariants.{Memory, Read, Spent}
 use Rattle.flac_meta.specs.declared.block.Block.{Block}
 use Rattle.flac_frame.specs.Frame.{Frame}
-use Rattle.flac_frame.specs.Lent.{frame_of}
+use Rattle.flac_frame.specs.Viewed.{frame_of}
 use Rattle.flac_frame.specs.declared.view.FrameView.{FrameView}
 use Rattle.flac_native.specs.Stream.{Progress}
 use Rattle.flac_native.specs.Track.{IsAt, stand_of}
-use Rattle.flac_native.specs.Item.{Item, metadata, frame, told}
+use Rattle.flac_native.specs.Item.{Item, metadata, frame, fault_pair}
 use Rattle.flac_native.specs.Giving.{StillGives, EndsBy, Stage, stage_of, held, seen_by}
 use Rattle.flac_native.specs.declared.fault.Place.{Place}
 use Rattle.flac_native.specs.declared.fault.Fault.{Fault}
@@ -33,14 +33,14 @@ item_in s = held s.course s.track
 
 -- A decoder still has to return these items, and then the end of the stream, or its refusal. After the end each call
 -- returns the end again, and after a refusal it reports that it is spent, at the place of that refusal.
-abbrev pub ComesBehind : {C : Type 0} → container.Ghosts C → Course → Stage C → List Item → Option (Place × Why) → Type 0
-ComesBehind g course.Begun s items end = (p : Progress) × IsAt s.track p × StillGives (g.gives s.container) p items end
-ComesBehind g (course.Read part) s items end = (p : Progress) × IsAt s.track p × StillGives (g.gives s.container) p items end
-ComesBehind g course.Over s items end = (items ≡ []) × (end ≡ None)
-ComesBehind g (course.Spent at) s items end = (items ≡ []) × (end ≡ Some (at, Spent))
+abbrev pub ComesAfter : {C : Type 0} → container.Ghosts C → Course → Stage C → List Item → Option (Place × Why) → Type 0
+ComesAfter g course.Begun s items end = (p : Progress) × IsAt s.track p × StillGives (g.gives s.container) p items end
+ComesAfter g (course.Read part) s items end = (p : Progress) × IsAt s.track p × StillGives (g.gives s.container) p items end
+ComesAfter g course.Over s items end = (items ≡ []) × (end ≡ None)
+ComesAfter g (course.Spent at) s items end = (items ≡ []) × (end ≡ Some (at, Spent))
 
 abbrev pub Comes : {C : Type 0} → container.Ghosts C → Stage C → List Item → Option (Place × Why) → Type 0
-Comes g s items end = ComesBehind g s.course s items end
+Comes g s items end = ComesAfter g s.course s items end
 
 -- what comes once this end was returned
 abbrev pub again : Option (Place × Why) → Option (Place × Why)
@@ -57,8 +57,8 @@ abbrev pub IsCalm : {C : Type 0} → container.Ghosts C → Stage C → Stage C 
 IsCalm g old new = (g.known old.container ≡ true) × (g.errors new.container ≡ g.errors old.container) × (g.raised new.container ≡ g.raised old.container)
 
 -- memory did not run out
-abbrev pub HadRoom : {X : Type 0} → Result X Fault → Type 0
-HadRoom result = reason_of told result ≡ Err Memory → ⊥
+abbrev pub HadMemory : {X : Type 0} → Result X Fault → Type 0
+HadMemory result = reason_of fault_pair result ≡ Err Memory → ⊥
 
 -- Errors of the device are counted: a call that returns a value met none, and one that returns Read raises the count,
 -- if it can rise. No call returns an error of the output. The references that the container goes through stay.
@@ -106,7 +106,7 @@ size_of (Some (frame f)) = f.size
 -- the result of a call, seen by view, is the first of the frames that were still to come, or else the end
 abbrev pub GivesFrame : {C X : Type 0} → container.Ghosts C → (ahead : Bool) → Stage C → Stage C → (X → Option Item) → Result X Fault → Type 0
 GivesFrame g ahead old new view result =
-    IsCalm g old new → HadRoom result → (frames : List Frame) (end : Option (Place × Why)) → FramesCome g ahead old frames end → IsFirst g (map frame frames) end (seen_by view result) new
+    IsCalm g old new → HadMemory result → (frames : List Frame) (end : Option (Place × Why)) → FramesCome g ahead old frames end → IsFirst g (map frame frames) end (seen_by view result) new
 
 -- the same of a call that reads one frame, which the decoder holds then
 abbrev pub ReadsFrame : {C X : Type 0} → container.Ghosts C → (ahead : Bool) → Stage C → Stage C → Result X Fault → Type 0
@@ -121,11 +121,11 @@ OfItems g s holds = (blocks : List Block) (frames : List Frame) (end : Option (P
 -- a call read all blocks, and the wanted ones are kept, unless the stream was refused before its first frame
 abbrev pub HeadIs : {C : Type 0} → container.Ghosts C → Keep → List Block → List Frame → Option (Place × Why) → List Block → Result ⊤ Fault → Stage C → Type 0
 HeadIs g keep blocks frames end kept (Ok x) s = (kept ≡ filter (keeps keep) blocks) × FramesCome g true s frames end
-HeadIs g keep blocks frames end kept (Err f) s = (frames ≡ []) × (end ≡ Some (told f))
+HeadIs g keep blocks frames end kept (Err f) s = (frames ≡ []) × (end ≡ Some (fault_pair f))
 
 -- the same of all that a decoder still has to return, if the source returned no error and memory did not run out
 abbrev pub ReadsBlocks : {C : Type 0} → container.Ghosts C → (old new : Stage C) → Keep → List Block → Result ⊤ Fault → Type 0
-ReadsBlocks g old new keep kept result = IsCalm g old new → HadRoom result → OfItems g old (λ blocks frames end. HeadIs g keep blocks frames end kept result new)
+ReadsBlocks g old new keep kept result = IsCalm g old new → HadMemory result → OfItems g old (λ blocks frames end. HeadIs g keep blocks frames end kept result new)
 
 -- The metadata was read from old on, of a source whose bytes are known: the wanted blocks are kept, the frames come
 -- next, and the bytes before them are counted. No error was met.

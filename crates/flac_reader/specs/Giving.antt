@@ -23,7 +23,7 @@ pub record Gives {C X : Type 0} {g : container.Ghosts C} (old new : Reader C g) 
   pub given : old.ahead ≡ true → (new.decoder ≡ old.decoder) × (seen_by view result ≡ Ok (last_frame old))
   pub memory : IsPast (stage_of old.decoder) → IfErr result (λ f. f.why ≢ Memory)
   pub past : IsPast (stage_of old.decoder) → IfOk result (λ _. IsPast (stage_of new.decoder))
-  pub samples : MatchResult result (λ x. (new.first ≡ old.behind) × (new.behind ≡ min (old.behind + size_of (view x)) 18446744073709551615)) (λ _. (new.first ≡ old.first) × (new.behind ≡ old.behind))
+  pub samples : MatchResult result (λ x. (new.first ≡ old.after) × (new.after ≡ min (old.after + size_of (view x)) 18446744073709551615)) (λ _. (new.first ≡ old.first) × (new.after ≡ old.after))
   pub blocks : new.blocks ≡ old.blocks
   pub info : new.info ≡ old.info
   pub start : new.start ≡ old.start

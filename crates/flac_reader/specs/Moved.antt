@@ -5,7 +5,7 @@ use Rattle.std.specs.Io.Seek.{StaysAt}
 use Rattle.std.specs.declared.io.traits.Read as read
 use Rattle.std.specs.declared.io.traits.Seek as seek
 use Rattle.flac_bits.specs.State.{the_end}
-use Rattle.flac_bits.specs.Handing.{Reading}
+use Rattle.flac_bits.specs.Handing.{InputReading}
 use Rattle.flac_bits.specs.declared.why.Why.TheVariants.{Memory, Read}
 use Rattle.flac_info.specs.Info.{Info}
 use Rattle.flac_header.specs.declared.subset.Profile.{Profile}
@@ -46,7 +46,7 @@ abbrev pub bytes_to_come : Option (List ℕ) → List ℕ
 bytes_to_come remaining = take 18446744073709551615 (unwrap_or remaining [])
 
 -- read from the state in which a frame comes
-abbrev pub read_resumed : Profile → Info → Option (List ℕ) → Reading Piece Place
+abbrev pub read_resumed : Profile → Info → Option (List ℕ) → InputReading Piece Place
 read_resumed profile info remaining = frame_input profile info (bytes_to_come remaining) the_end
 
 -- how many errors a device that was returned has at least

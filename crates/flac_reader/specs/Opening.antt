@@ -1,7 +1,7 @@
 -- What a reader returns that was opened over an input.
 use Rattle.std.specs.Prelude.{◌≡◌, ℕ, Bool, true, List, [], filter, Option, Some}
 use Rattle.std.specs.Borrow.{GName}
-use Rattle.flac_bits.specs.Handing.{Reading}
+use Rattle.flac_bits.specs.Handing.{InputReading}
 use Rattle.flac_bits.specs.declared.source.Source as source
 use Rattle.flac_bits.specs.declared.why.Why.{Why}
 use Rattle.flac_meta.specs.declared.block.Block.{Block}
@@ -19,22 +19,22 @@ use Rattle.flac_reader.specs.declared.keep.Keep.{Keep}
 use Rattle.flac_reader.specs.declared.reader.Reader.{Reader}
 
 -- The input is read as these parts and this end, which are the marker, these blocks, and these frames.
-pub record IsReadAs (r : Reading Piece Place) (blocks : List Block) (frames : List Frame) (end : Option (Place × Why)) : Type 0 where
+pub record IsReadAs (r : InputReading Piece Place) (blocks : List Block) (frames : List Frame) (end : Option (Place × Why)) : Type 0 where
   pub parts : List Piece
   pub read : ReadAs r parts end
   pub items : items_of parts ≡ stream_items blocks frames
 
 -- This holds of the blocks, the frames and the end that the input is read as; or, if it has no blocks, of the frames
 -- and the end.
-abbrev pub OfInput : Reading Piece Place → (List Block → List Frame → Option (Place × Why) → Type 0) → Type 0
+abbrev pub OfInput : InputReading Piece Place → (List Block → List Frame → Option (Place × Why) → Type 0) → Type 0
 OfInput r holds = (blocks : List Block) (frames : List Frame) (end : Option (Place × Why)) → IsReadAs r blocks frames end → holds blocks frames end
 
-abbrev pub OfFrames : Reading Piece Place → (List Frame → Option (Place × Why) → Type 0) → Type 0
+abbrev pub OfFrames : InputReading Piece Place → (List Frame → Option (Place × Why) → Type 0) → Type 0
 OfFrames r holds = (frames : List Frame) (end : Option (Place × Why)) → IsReadAs r [] frames end → holds frames end
 
 -- Of the stream that the input is: all wanted blocks are kept, STREAMINFO among them, and its frames are still to come,
 -- and then its end or its refusal; the bytes before the first frame are counted as those of a native stream.
-pub record Opens {C : Type 0} {g : container.Ghosts C} (r : Reading Piece Place) (keep : Keep) (reader : Reader C g) : Type 0 where
+pub record Opens {C : Type 0} {g : container.Ghosts C} (r : InputReading Piece Place) (keep : Keep) (reader : Reader C g) : Type 0 where
   pub blocks : OfInput r (λ blocks frames end. reader.blocks.items ≡ filter (keeps keep) blocks)
   pub frames : OfInput r (λ blocks frames end. FramesCome g reader.ahead (stage_of reader.decoder) frames end)
   pub start : OfInput r (λ blocks frames end. reader.start ≡ frames_start blocks)
@@ -54,7 +54,7 @@ pub record Starts {C : Type 0} {g : container.Ghosts C} (known : Bool) (errors r
   pub info : first_info reader.blocks.items ≡ Some reader.info
   pub ahead : reader.ahead ≡ true
   pub first : reader.first ≡ 0
-  pub next : reader.behind ≡ 0
+  pub next : reader.after ≡ 0
   pub source : IsOver known errors raised names reader
   pub past : IsPast (stage_of reader.decoder)
 
@@ -66,7 +66,7 @@ IsOverSource s over reader = IsOver (s.known over) (s.errors over) (s.raised ove
 
 -- A reader was opened over a source that is read so; if its bytes are known, it returns what the input is.
 abbrev pub OpensSource : {S C : Type 0} {g : container.Ghosts C} → source.Ghosts S → Input → S → Keep → Reader C g → Type 0
-OpensSource s input over keep reader = s.known over ≡ true → Opens (input (s.coming over) (s.behind over)) keep reader
+OpensSource s input over keep reader = s.known over ≡ true → Opens (input (s.coming over) (s.after over)) keep reader
 
 -- Such a reader goes through the references of the source, and no error of the source was met.
 abbrev pub StartsSource : {S C : Type 0} {g : container.Ghosts C} → source.Ghosts S → S → Reader C g → Type 0

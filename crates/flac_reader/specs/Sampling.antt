@@ -8,7 +8,7 @@ use Rattle.flac_native.specs.declared.fault.Place.{Place}
 use Rattle.flac_native.specs.declared.fault.Place.TheVariants as place
 use Rattle.flac_native.specs.declared.fault.Fault.{Fault}
 use Rattle.flac_native.specs.declared.container.Container as container
-use Rattle.flac_reader.specs.Coming.{FramesCome, IsCalm, IsPast, HadRoom, Counted, size_of}
+use Rattle.flac_reader.specs.Coming.{FramesCome, IsCalm, IsPast, HadMemory, Counted, size_of}
 use Rattle.flac_reader.specs.Giving.{last_frame}
 use Rattle.flac_reader.specs.Places.{all_samples, left_at, is_over}
 use Rattle.flac_reader.specs.declared.reader.Reader.{Reader}
@@ -26,13 +26,13 @@ pub record SamplesLeft {C : Type 0} {g : container.Ghosts C} (reader : Reader C 
   pub come : FramesCome g reader.ahead (stage_of reader.decoder) frames end
 
 -- after the end, and after a refusal, nothing is left, and no further refusal
-abbrev pub ComeBehind : {C : Type 0} {g : container.Ghosts C} → Spot → Reader C g → List ℤ → Option (Place × Why) → Type 0
-ComeBehind spot.Over reader samples end = (samples ≡ []) × (end ≡ None)
-ComeBehind spot.Next reader samples end = SamplesLeft reader [] samples end
-ComeBehind (spot.Inside channel index) reader samples end = SamplesLeft reader (left_at (spot.Inside channel index) (last_frame reader)) samples end
+abbrev pub ComeAfter : {C : Type 0} {g : container.Ghosts C} → Spot → Reader C g → List ℤ → Option (Place × Why) → Type 0
+ComeAfter spot.Over reader samples end = (samples ≡ []) × (end ≡ None)
+ComeAfter spot.Next reader samples end = SamplesLeft reader [] samples end
+ComeAfter (spot.Inside channel index) reader samples end = SamplesLeft reader (left_at (spot.Inside channel index) (last_frame reader)) samples end
 
 abbrev pub SamplesCome : {C : Type 0} {g : container.Ghosts C} → Samples C g → List ℤ → Option (Place × Why) → Type 0
-SamplesCome s samples end = ComeBehind s.spot s.reader samples end
+SamplesCome s samples end = ComeAfter s.spot s.reader samples end
 
 -- a reader was made an iterator over the samples of the frames that it still has to return
 abbrev pub SamplesOf : {C : Type 0} {g : container.Ghosts C} → Reader C g → Samples C g → Type 0
@@ -70,8 +70,8 @@ pub record Stays {C : Type 0} {g : container.Ghosts C} (old new : Samples C g) (
 -- It read these, which have no samples, the last of them first here, and then one more, or the end.
 pub record Enters {C : Type 0} {g : container.Ghosts C} (old new : Samples C g) (passed : List Frame) (steps : ℕ) : Type 0 where
   pub empty : all_samples passed ≡ []
-  pub first : new.reader.first ≡ count_after old.reader.behind passed
-  pub next : new.reader.behind ≡ min (new.reader.first + size_of (last_frame new.reader)) 18446744073709551615
+  pub first : new.reader.first ≡ count_after old.reader.after passed
+  pub next : new.reader.after ≡ min (new.reader.first + size_of (last_frame new.reader)) 18446744073709551615
   pub left : old.left ≡ new.left + length passed + 1 + steps
 
 -- one of both: a step for each frame, and so many more
@@ -81,8 +81,8 @@ Steps old new steps = Stays old new steps ⊎ ((passed : List Frame) × Enters o
 -- It read these, which have no samples, the last of them first here, and the next one was refused, or the end.
 pub record Stops {C : Type 0} {g : container.Ghosts C} (old new : Samples C g) (passed : List Frame) (f : Fault) : Type 0 where
   pub empty : all_samples passed ≡ []
-  pub first : new.reader.first ≡ first_after old.reader.first old.reader.behind passed
-  pub next : new.reader.behind ≡ count_after old.reader.behind passed
+  pub first : new.reader.first ≡ first_after old.reader.first old.reader.after passed
+  pub next : new.reader.after ≡ count_after old.reader.after passed
   pub memory : IsPast (stage_of old.reader.decoder) → f.why ≢ Memory
 
 -- no step was left
@@ -99,7 +99,7 @@ Reads old new (Err f) = ((passed : List Frame) × Stops old new passed f) ⊎ Ru
 
 -- The call returned the first sample of those that were to come, and left the others. The metadata stays.
 pub record GivesSample {C : Type 0} {g : container.Ghosts C} (old new : Samples C g) (answer : Result (Option ℤ) Fault) : Type 0 where
-  pub sample : IsCalm g (stage_of old.reader.decoder) (stage_of new.reader.decoder) → HadRoom answer → (samples : List ℤ) (end : Option (Place × Why)) → SamplesCome old samples end → IsFirstSample samples end answer new
+  pub sample : IsCalm g (stage_of old.reader.decoder) (stage_of new.reader.decoder) → HadMemory answer → (samples : List ℤ) (end : Option (Place × Why)) → SamplesCome old samples end → IsFirstSample samples end answer new
   pub counts : Counted g (stage_of old.reader.decoder) (stage_of new.reader.decoder) answer
   -- the numbers of the first sample and of the next, and the steps, fall and rise by the frames that it read
   pub reads : Reads old new answer

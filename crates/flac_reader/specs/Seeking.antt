@@ -4,8 +4,8 @@ use Rattle.std.specs.List.{list_any}
 use Rattle.flac_bits.specs.Bits.{bits_of}
 use Rattle.flac_bits.specs.Reasons.{of_output}
 use Rattle.flac_bits.specs.State.{Rises, the_end}
-use Rattle.flac_bits.specs.Items.{Joined, Stream, after}
-use Rattle.flac_bits.specs.Handing.{Reading, by_grammar}
+use Rattle.flac_bits.specs.Items.{Joined, Stream, state_after}
+use Rattle.flac_bits.specs.Handing.{InputReading, by_grammar}
 use Rattle.flac_bits.specs.declared.source.Source as source
 use Rattle.flac_bits.specs.declared.why.Why.{Why}
 use Rattle.flac_bits.specs.declared.why.Why.TheVariants.{Memory, Read, Truncated}
@@ -18,7 +18,7 @@ use Rattle.flac_frame.specs.Frame.{Frame, first_sample}
 use Rattle.flac_native.specs.Decoding.{beginning}
 use Rattle.flac_native.specs.Resuming.{resumed}
 use Rattle.flac_native.specs.Stream.{Piece, framed, grammar, opening}
-use Rattle.flac_native.specs.Item.{Item, metadata, frame, told}
+use Rattle.flac_native.specs.Item.{Item, metadata, frame, fault_pair}
 use Rattle.flac_native.specs.Giving.{Stage, stage_of}
 use Rattle.flac_native.specs.declared.fault.Place.{Place}
 use Rattle.flac_native.specs.declared.fault.Place.TheVariants as place
@@ -88,27 +88,27 @@ pub record Finds {C : Type 0} (g : container.Ghosts C) (info : Info) (sample : �
   pub come : FramesCome g ahead s left end
 
 -- A reader that was made over this input finds the frame.
-abbrev pub Sought : {C : Type 0} {g : container.Ghosts C} → Info → ℕ → Reading Piece Place → Reader C g → Type 0
+abbrev pub Sought : {C : Type 0} {g : container.Ghosts C} → Info → ℕ → InputReading Piece Place → Reader C g → Type 0
 Sought {g = g} info sample r reader = OfFrames r (λ frames end. Finds g info sample frames end reader.ahead (stage_of reader.decoder))
 
 -- A reader was made over this input: it finds the frame; or the input is refused after frames that do not hold the
 -- sample, unless memory ran out.
-abbrev pub SeeksTo : {C : Type 0} {g : container.Ghosts C} → Info → ℕ → Reading Piece Place → Result (Reader C g) Fault → Type 0
+abbrev pub SeeksTo : {C : Type 0} {g : container.Ghosts C} → Info → ℕ → InputReading Piece Place → Result (Reader C g) Fault → Type 0
 SeeksTo info sample r (Ok reader) = Sought info sample r reader
-SeeksTo info sample r (Err f) = f.why ≢ Memory → OfFrames r (λ frames end. PassedBy info sample frames × (end ≡ Some (told f)))
+SeeksTo info sample r (Err f) = f.why ≢ Memory → OfFrames r (λ frames end. PassedBy info sample frames × (end ≡ Some (fault_pair f)))
 
 -- No reader was made over the input of a source, for this reason. An error of the source raised its counts, and none of
 -- the output is met; without one, if the input is known and memory did not run out, it is refused after frames that do
 -- not hold the sample.
-pub record RefusesSeek (info : Info) (sample : ℕ) (r : Reading Piece Place) (known : Bool) (errors raised errors_left raised_left : ℕ) (f : Fault) : Type 0 where
+pub record RefusesSeek (info : Info) (sample : ℕ) (r : InputReading Piece Place) (known : Bool) (errors raised errors_left raised_left : ℕ) (f : Fault) : Type 0 where
   pub kept : errors ≤ errors_left
   pub risen : f.why ≡ Read → Rises raised raised_left
   pub output : of_output f.why ≡ false
-  pub refused : known ≡ true → errors_left ≡ errors → raised_left ≡ raised → f.why ≢ Memory → OfFrames r (λ frames end. PassedBy info sample frames × (end ≡ Some (told f)))
+  pub refused : known ≡ true → errors_left ≡ errors → raised_left ≡ raised → f.why ≢ Memory → OfFrames r (λ frames end. PassedBy info sample frames × (end ≡ Some (fault_pair f)))
 
 -- Both numbers of a reader are that of the first sample of the frame that it read ahead, 0 at the end of the stream.
 abbrev pub IsNumbered : {C : Type 0} {g : container.Ghosts C} → Info → Reader C g → Type 0
-IsNumbered info reader = (reader.first ≡ reader.behind) × (reader.behind ≡ number_of info (item_in (stage_of reader.decoder)))
+IsNumbered info reader = (reader.first ≡ reader.after) × (reader.after ≡ number_of info (item_in (stage_of reader.decoder)))
 
 -- memory ran out before anything was read
 abbrev pub no_memory : Fault
@@ -124,11 +124,11 @@ SeeksBytes profile info sample bytes result = SeeksTo info sample (frame_input p
 
 -- The same over a source, if its bytes are known.
 abbrev pub SoughtSource : {S C : Type 0} {g : container.Ghosts C} → source.Ghosts S → Profile → Info → (sample : ℕ) → S → Reader C g → Type 0
-SoughtSource s profile info sample over reader = s.known over ≡ true → Sought info sample (frame_input profile info (s.coming over) (s.behind over)) reader
+SoughtSource s profile info sample over reader = s.known over ≡ true → Sought info sample (frame_input profile info (s.coming over) (s.after over)) reader
 
 abbrev pub RefusesSeekSource : {S : Type 0} → source.Ghosts S → Profile → Info → (sample : ℕ) → S → Refused S → Type 0
 RefusesSeekSource s profile info sample over x =
-    RefusesSeek info sample (frame_input profile info (s.coming over) (s.behind over)) (s.known over) (s.errors over) (s.raised over) (s.errors x.left) (s.raised x.left) x.fault
+    RefusesSeek info sample (frame_input profile info (s.coming over) (s.after over)) (s.known over) (s.errors over) (s.raised over) (s.errors x.left) (s.raised x.left) x.fault
 
 -- ---- in a whole stream
 
@@ -138,7 +138,7 @@ pub record Cuts (profile : Profile) (stream : List ℕ) (info : Info) (at : ℕ)
   pub front : List Piece
   pub whole : Stream grammar (opening profile) (beginning Truncated) (front ++ map framed frames) (bits_of stream)
   pub before : Joined grammar (opening profile) (beginning Truncated) front (bits_of (take at stream))
-  pub known : (after grammar (opening profile) front).stand.info ≡ Some info
+  pub known : (state_after grammar (opening profile) front).stand.info ≡ Some info
 
 -- A reader finds the frame among these, and returns it and all later ones, up to the end of the stream; or memory ran
 -- out.

@@ -51,7 +51,7 @@ pub struct Reader<C: Container> {
     /// The number of the first sample of the last frame that was given.
     pub(crate) first: u64,
     /// The number of the first sample after it, which the next frame begins with.
-    pub(crate) behind: u64,
+    pub(crate) after: u64,
 }
 
 impl<C: Container + Drop> Reader<C> {
@@ -68,7 +68,7 @@ impl<C: Container + Drop> Reader<C> {
     ) -> Result<Reader<C>, Refused<Decoder<C>>>
         ensures info { IfOk result (λ r. first_info r.blocks.items ≡ Some r.info) }
         ensures ahead { IfOk result (λ r. r.ahead ≡ true) }
-        ensures start { IfOk result (λ r. (r.first ≡ 0) × (r.behind ≡ 0)) }
+        ensures start { IfOk result (λ r. (r.first ≡ 0) × (r.after ≡ 0)) }
         // The last metadata block was read: no `next` of it is out of memory.
         ensures past { IfOk result (λ r. IsPast (stage_of r.decoder)) }
         // All wanted blocks are kept, and the frames come next: those of the stream that the decoder was to give.
@@ -107,7 +107,7 @@ impl<C: Container> Reader<C> {
         ensures head { (result.info ≡ head.info) × (result.start ≡ head.start) }
         ensures blocks { result.blocks ≡ blocks }
         ensures ahead { result.ahead ≡ true }
-        ensures first { (result.first ≡ first) × (result.behind ≡ first) }
+        ensures first { (result.first ≡ first) × (result.after ≡ first) }
     {
         Reader {
             decoder,
@@ -116,7 +116,7 @@ impl<C: Container> Reader<C> {
             ahead: true,
             start: head.start,
             first,
-            behind: first,
+            after: first,
         }
     }
 
@@ -247,7 +247,7 @@ impl<C: Container> Reader<C> {
             ahead: _,
             start: _,
             first: _,
-            behind: _,
+            after: _,
         } = self;
         decoder
     }
@@ -281,8 +281,8 @@ impl<C: Container> Reader<C> {
             Ok(()) => {}
             Err(fault) => return Err(fault),
         }
-        self.first = self.behind;
-        self.behind = self.behind.saturating_add(self.frame_len());
+        self.first = self.after;
+        self.after = self.after.saturating_add(self.frame_len());
         Ok(())
     }
 

@@ -1,7 +1,7 @@
 //! Finds the frame that holds a sample.
 
 ghost use Rattle.std.specs.Prelude.{◌≡◌, ◌≢◌, IfOk, IfErr, IfSome};
-ghost use Rattle.flac_frame.specs.Lent.{frame_of};
+ghost use Rattle.flac_frame.specs.Viewed.{frame_of};
 ghost use Rattle.flac_native.specs.Giving.{stage_of};
 ghost use Rattle.flac_reader.specs.Coming.{IsPast, Counted, item_in};
 ghost use Rattle.flac_reader.specs.Seeking.{number_of};

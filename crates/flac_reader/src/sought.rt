@@ -174,7 +174,7 @@ impl<R: Source + Drop> Reader<BitReader<R>> {
             ahead: _,
             start,
             first: _,
-            behind: _,
+            after: _,
         } = self;
         let mut decoder = match Decoder::resume_returning(alloc, source, &info, profile) {
             Ok(decoder) => decoder,

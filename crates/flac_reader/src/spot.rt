@@ -1,7 +1,7 @@
 //! The place of the next sample.
 
 ghost use Rattle.std.specs.Prelude.{◌≡◌};
-ghost use Rattle.flac_frame.specs.Lent.{frame_of};
+ghost use Rattle.flac_frame.specs.Viewed.{frame_of};
 ghost use Rattle.flac_reader.specs.Places.{IsSampleAt};
 
 use flac_native::FrameView;

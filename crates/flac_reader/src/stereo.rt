@@ -2,7 +2,7 @@
 
 ghost use Rattle.std.specs.List.{zip};
 ghost use Rattle.std.specs.Iterator.{YieldsFirst, item_count};
-ghost use Rattle.flac_frame.specs.Lent.{frame_of};
+ghost use Rattle.flac_frame.specs.Viewed.{frame_of};
 ghost use Rattle.flac_reader.specs.Stereo.{AreStereo};
 
 use flac_native::FrameView;

@@ -14,12 +14,12 @@ module _ (profile : Profile) (i : Info) (bytes : List ℕ) (k : ℕ) (f : Frame)
   missed_none from [] found least = absurd (found k least f n there)
   missed_none from (s ∷ more) found least = elim (lt_or_not k s.at) [
     | inl before ↦ absurd (found.0.least k before least f n there)
-    | inr after ↦ elim (lt_or_not k (s.at + s.len)) [
+    | inr later ↦ elim (lt_or_not k (s.at + s.len)) [
       | inl inside ↦ inl (record {
-        covered = record { from = after; to = inside };
+        covered = record { from = later; to = inside };
         same = λ e. found.0.only f n (subst (λ q. Stands profile i bytes q f n) e there);
       })
-      | inr behind ↦ inr (missed_none (s.at + s.len) more found.1 behind)
+      | inr after ↦ inr (missed_none (s.at + s.len) more found.1 after)
     ]
   ]
 
@@ -33,9 +33,9 @@ module _ (profile : Profile) (i : Info) (bytes : List ℕ) (k : ℕ) (inside : k
   told from [] found least = inr (inl (record { from = least; to = inside }))
   told from (s ∷ more) found least = elim (lt_or_not k s.at) [
     | inl before ↦ inr (inl (record { from = least; to = before }))
-    | inr after ↦ elim (lt_or_not k (s.at + s.len)) [
-      | inl in_it ↦ inl (inl (record { from = after; to = in_it }))
-      | inr behind ↦ elim (told (s.at + s.len) more found.1 behind) [
+    | inr later ↦ elim (lt_or_not k (s.at + s.len)) [
+      | inl in_it ↦ inl (inl (record { from = later; to = in_it }))
+      | inr after ↦ elim (told (s.at + s.len) more found.1 after) [
         | inl a ↦ inl (inr a)
         | inr b ↦ inr (inr b)
       ]
@@ -82,7 +82,7 @@ module _ (profile : Profile) (i : Info) (bytes : List ℕ) where
   same_at : (from : ℕ) (s t : Spot) → IsNextWhole profile i bytes from s.at s.frame s.len → IsNextWhole profile i bytes from t.at t.frame t.len → s.at ≤ t.at
   same_at from s t a b = elim (lt_or_not t.at s.at) [
     | inl before ↦ absurd (a.least t.at before b.after t.frame t.len b.stands)
-    | inr after ↦ after
+    | inr later ↦ later
   ]
 
   same_next : (from : ℕ) (s t : Spot) → IsNextWhole profile i bytes from s.at s.frame s.len → IsNextWhole profile i bytes from t.at t.frame t.len → s ≡ t
@@ -99,8 +99,8 @@ module _ (profile : Profile) (i : Info) (bytes : List ℕ) where
   once from (s ∷ one) [] a b = absurd (b s.at a.0.after s.frame s.len a.0.stands)
   once from (s ∷ one) (t ∷ other) a b =
       let same : s ≡ t = same_next from s t a.0 b.0 in
-      let behind : Found profile i bytes (s.at + s.len) other = subst (λ (x : Spot). Found profile i bytes (x.at + x.len) other) (sym same) b.1 in
-      ap (λ (x : Spot). x ∷ one) same ∙ ap (λ (l : List Spot). t ∷ l) (once (s.at + s.len) one other a.1 behind)
+      let after : Found profile i bytes (s.at + s.len) other = subst (λ (x : Spot). Found profile i bytes (x.at + x.len) other) (sym same) b.1 in
+      ap (λ (x : Spot). x ∷ one) same ∙ ap (λ (l : List Spot). t ∷ l) (once (s.at + s.len) one other a.1 after)
 
 pub found_once : FoundOnce
 found_once profile i bytes from one other a b = once profile i bytes from one other a b

@@ -14,10 +14,10 @@ module _ (profile : Profile) (i : Info) (xs ys : List ℕ) (f : Frame) (n : ℕ)
   wider : IsFrameAt profile i xs f n → IsFrameAt profile i (xs ++ ys) f n
   wider at =
       let within = at.within in
-      let behind : bits_of (drop n xs) ++ bits_of ys ≡ bits_of (drop n (xs ++ ys)) = sym (bits_of-append (drop n xs) ys) ∙ ap (λ (l : List ℕ). bits_of l) (sym (drop-append-le n xs ys within)) in
+      let after : bits_of (drop n xs) ++ bits_of ys ≡ bits_of (drop n (xs ++ ys)) = sym (bits_of-append (drop n xs) ys) ∙ ap (λ (l : List ℕ). bits_of l) (sym (drop-append-le n xs ys within)) in
       record {
         text = at.text;
-        split = bits_of-append xs ys ∙ ap (λ (l : List Bool). l ++ bits_of ys) at.split ∙ append_assoc at.text (bits_of (drop n xs)) (bits_of ys) ∙ ap (λ (l : List Bool). at.text ++ l) behind;
+        split = bits_of-append xs ys ∙ ap (λ (l : List Bool). l ++ bits_of ys) at.split ∙ append_assoc at.text (bits_of (drop n xs)) (bits_of ys) ∙ ap (λ (l : List Bool). at.text ++ l) after;
         within = omega (arith, within, length-append xs ys);
         spelled = at.spelled;
         room = at.room;

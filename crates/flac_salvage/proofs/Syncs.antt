@@ -29,8 +29,8 @@ record Begins (text : List Bool) : Type 0 where
   rest : List Bool
   is : text ≡ unsigned 15 0x7FFC ++ rest
 
-more : (text behind : List Bool) → Begins text → Begins (text ++ behind)
-more text behind b = record { rest = b.rest ++ behind; is = ap (λ (t : List Bool). t ++ behind) b.is ∙ append_assoc (unsigned 15 0x7FFC) b.rest behind }
+more : (text after : List Bool) → Begins text → Begins (text ++ after)
+more text after b = record { rest = b.rest ++ after; is = ap (λ (t : List Bool). t ++ after) b.is ∙ append_assoc (unsigned 15 0x7FFC) b.rest after }
 
 parts_begin : (h : Header) → Begins (joined (header_parts h))
 unfolding header_parts

@@ -1,7 +1,7 @@
 //! All whole frames in bytes.
 
 ghost use Rattle.std.specs.Prelude.{◌≡◌, ◌≤◌, ℕ, length, IfOk, IfErr, IfSome};
-ghost use Rattle.flac_frame.specs.Lent.{frame_of};
+ghost use Rattle.flac_frame.specs.Viewed.{frame_of};
 ghost use Rattle.flac_salvage.specs.Kept.{AreFound, kept_of};
 
 use crate::next::next_whole;
@@ -33,7 +33,7 @@ pub struct WholeFrames {
     pub cut: Option<usize>,
 }
 
-/// What is kept of a frame that stands at an offset, in so many bytes.
+/// What is kept of a frame that stands at an offset, in n bytes.
 fn whole_frame(stands: (usize, u64), frame: &FrameView<'_>, block_size: u16) -> WholeFrame
     ensures { result ≡ kept_of block_size (record { at = stands.0; len = stands.1; frame = frame_of frame.now }) }
 {

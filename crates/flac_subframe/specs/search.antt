@@ -2,6 +2,6 @@
 pub mod Choices
 pub mod FamilyLaws
 -- Working arrays
-pub mod Room
+pub mod Capacity
 -- What private contracts and proofs need, and no contract of an exported function
 pub mod inner

@@ -3,8 +3,8 @@
 // choosing: the subframe, its content, the form of a residual
 pub(crate) mod choice;
 pub(crate) mod chosen;
-pub(crate) mod survey;
-pub(crate) mod wide;
+pub(crate) mod least_coding;
+pub(crate) mod wide_choice;
 
 // the bits of codings, and lower bounds on them
 pub(crate) mod cost;

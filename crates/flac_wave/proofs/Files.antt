@@ -3,7 +3,7 @@ use Rattle.std.proofs.Common.{◌≡◌, ◌≤◌, ◌<◌, ◌%◌, ◌++◌, 
 use Rattle.std.specs.Prelude.{◌&&◌, nat_lt, nat_eq}
 use Rattle.std.proofs.lemmas.Bool.{false≢true, ltb-true, ltb-false, eqb-true, and_parts}
 use Rattle.std.proofs.lemmas.List.{take-append-drop, get_or-take, length-take-le}
-use Rattle.flac_wave.specs.Chunks.{Leads, seen_first, fault_at, is_data, id_of, after, chunk_len, header_fault, data_len}
+use Rattle.flac_wave.specs.Chunks.{Leads, seen_first, fault_at, is_data, id_of, after_chunk, chunk_len, header_fault, data_len}
 use Rattle.flac_wave.specs.Cuts.{AreCuts, piece_len}
 use Rattle.flac_wave.specs.Wave.{Parts, IsWave, IsNoWave, is_head, front_of, pieces_after, all_of, begins_empty, pad_of, restored, begins_zero, ArePiecesBy, ArePiecesAfter}
 use Rattle.flac_wave.specs.declared.seen.Seen.{Seen}
@@ -54,20 +54,20 @@ chunk_no_head bytes other = and_false (nat_eq (length (take (chunk_len bytes) by
 pub leads_joined : (s : Seen) (cs : List (List ℕ)) (bytes rest : List ℕ) (t : Seen) → Leads s cs bytes rest t → all_of cs ++ rest ≡ bytes
 leads_joined s [] bytes rest t h = sym h.0
 leads_joined s (c ∷ cs) bytes rest t h =
-    append_assoc c (all_of cs) rest ∙ (ap (λ l. c ++ l) (leads_joined (after s bytes) cs (drop (chunk_len bytes) bytes) rest t h.3)
+    append_assoc c (all_of cs) rest ∙ (ap (λ l. c ++ l) (leads_joined (after_chunk s bytes) cs (drop (chunk_len bytes) bytes) rest t h.3)
     ∙ (ap (λ l. l ++ drop (chunk_len bytes) bytes) h.2 ∙ take-append-drop (chunk_len bytes) bytes))
 
 pub leads_front : (s : Seen) (cs : List (List ℕ)) (bytes rest : List ℕ) (t : Seen) (ps : List (List ℕ)) → Leads s cs bytes rest t → front_of (cs ++ ps) ≡ all_of cs ++ front_of ps
 leads_front s [] bytes rest t ps h = refl
 leads_front s (c ∷ cs) bytes rest t ps h =
     ap (λ b. cond b c (c ++ front_of (cs ++ ps))) (ap is_head h.2 ∙ chunk_no_head bytes h.1)
-    ∙ (ap (λ l. c ++ l) (leads_front (after s bytes) cs (drop (chunk_len bytes) bytes) rest t ps h.3) ∙ sym (append_assoc c (all_of cs) (front_of ps)))
+    ∙ (ap (λ l. c ++ l) (leads_front (after_chunk s bytes) cs (drop (chunk_len bytes) bytes) rest t ps h.3) ∙ sym (append_assoc c (all_of cs) (front_of ps)))
 
 pub leads_after : (s : Seen) (cs : List (List ℕ)) (bytes rest : List ℕ) (t : Seen) (ps : List (List ℕ)) → Leads s cs bytes rest t → pieces_after (cs ++ ps) ≡ pieces_after ps
 leads_after s [] bytes rest t ps h = refl
 leads_after s (c ∷ cs) bytes rest t ps h =
     ap (λ b. cond b (cs ++ ps) (pieces_after (cs ++ ps))) (ap is_head h.2 ∙ chunk_no_head bytes h.1)
-    ∙ leads_after (after s bytes) cs (drop (chunk_len bytes) bytes) rest t ps h.3
+    ∙ leads_after (after_chunk s bytes) cs (drop (chunk_len bytes) bytes) rest t ps h.3
 
 -- ---- cuts
 
@@ -165,7 +165,7 @@ leads_one s (c ∷ cs) [] bytes q r t u h k ends stops =
 leads_one s [] (d ∷ ds) bytes q r t u h k ends stops =
     absurd (false≢true (sym k.1 ∙ (ap is_data h.0 ∙ ends (ap (λ x. fault_at x q) (sym h.1) ∙ (ap (λ l. fault_at s l) (sym h.0) ∙ k.0)))))
 leads_one s (c ∷ cs) (d ∷ ds) bytes q r t u h k ends stops =
-    let more = leads_one (after s bytes) cs ds (drop (chunk_len bytes) bytes) q r t u h.3 k.3 ends stops in
+    let more = leads_one (after_chunk s bytes) cs ds (drop (chunk_len bytes) bytes) q r t u h.3 k.3 ends stops in
     (ap (λ x. x ∷ cs) (h.2 ∙ sym k.2) ∙ ap (λ l. d ∷ l) more.0, more.1, more.2)
 
 some_inj : {X : Type 0} (d x y : X) → Some x ≡ Some y → x ≡ y

@@ -5,7 +5,7 @@ use Rattle.std.proofs.Math.Nat.{mul_assoc, mul-mod_left}
 use Rattle.std.proofs.lemmas.Bool.{ltb-true, ltb-false, lt-ltb, and_parts, eqb-true}
 use Rattle.std.proofs.lemmas.List.{get_or-take, get_or-drop, length-take-le, length-drop}
 use Rattle.std.proofs.lemmas.Nat.{div-add-mod'}
-use Rattle.flac_wave.specs.Chunks.{Leads, seen_first, fault_at, is_data, is_format, after, chunk_len, data_len, data_fault, samples_fault, chunk_fault, content_fault}
+use Rattle.flac_wave.specs.Chunks.{Leads, seen_first, fault_at, is_data, is_format, after_chunk, chunk_len, data_len, data_fault, samples_fault, chunk_fault, content_fault}
 use Rattle.flac_wave.specs.Format.{short_at, long_at, is_pcm, fields_fit, format_fault, format_of, IsInRange, row_of}
 use Rattle.flac_wave.specs.Kept.{has_head, bits_after, bits_in}
 use Rattle.flac_wave.specs.Wave.{Parts, IsWave, is_head}
@@ -109,8 +109,8 @@ known_by false s bytes bits is a k =
     let n = chunk_len bytes in
     subst (λ m. Known s.format m) (sym (other_by _ bits _ (is_format (take n bytes)) (format_take n bytes (omega arith) ∙ is))) k
 
-known_after : (s : Seen) (bytes : List ℕ) (bits : ℕ) → fault_at s bytes ≡ None → is_data bytes ≡ false → Known s.format bits → Known (after s bytes).format (bits_after bits (take (chunk_len bytes) bytes))
-unfolding after
+known_after : (s : Seen) (bytes : List ℕ) (bits : ℕ) → fault_at s bytes ≡ None → is_data bytes ≡ false → Known s.format bits → Known (after_chunk s bytes).format (bits_after bits (take (chunk_len bytes) bytes))
+unfolding after_chunk
 known_after s bytes bits good other k = known_by (is_format bytes) s bytes bits refl (accepted s bytes good other) k
 
 -- what the chunks before the samples say
@@ -124,8 +124,8 @@ said : (s : Seen) (cs : List (List ℕ)) (bytes rest : List ℕ) (t : Seen) (bit
 said s [] bytes rest t bits ps h k = record { last = bits; known = subst (λ (u : Seen). Known u.format bits) h.1 k; head = refl; stated = refl }
 said s (c ∷ cs) bytes rest t bits ps h k =
     let other : is_head c ≡ false = ap is_head h.2 ∙ chunk_no_head bytes h.1 in
-    let next : Known (after s bytes).format (bits_after bits c) = subst (λ p. Known (after s bytes).format (bits_after bits p)) (sym h.2) (known_after s bytes bits h.0 h.1 k) in
-    let more = said (after s bytes) cs (drop (chunk_len bytes) bytes) rest t (bits_after bits c) ps h.3 next in
+    let next : Known (after_chunk s bytes).format (bits_after bits c) = subst (λ p. Known (after_chunk s bytes).format (bits_after bits p)) (sym h.2) (known_after s bytes bits h.0 h.1 k) in
+    let more = said (after_chunk s bytes) cs (drop (chunk_len bytes) bytes) rest t (bits_after bits c) ps h.3 next in
     record {
       last = more.last;
       known = more.known;
@@ -192,11 +192,11 @@ all_there f size room good =
     (ltb-false room size a.0, eqb-true (size % row_of f) 0 (and_parts (nat_lt 0 (row_of f)) _ b.0).1)
 
 -- each inter-channel sample has whole samples
-each_whole : (n channels wide : ℕ) → n % (channels * wide) ≡ 0 → n % wide ≡ 0
-each_whole n channels wide none =
-    let q = n / (channels * wide) in
-    let e : n ≡ q * (channels * wide) = let d = div-add-mod' n (channels * wide) in omega (arith, d, none) in
-    ap (λ k. k % wide) (e ∙ sym (mul_assoc q channels wide)) ∙ mul-mod_left (q * channels) wide
+each_whole : (n channels extensible : ℕ) → n % (channels * extensible) ≡ 0 → n % extensible ≡ 0
+each_whole n channels extensible none =
+    let q = n / (channels * extensible) in
+    let e : n ≡ q * (channels * extensible) = let d = div-add-mod' n (channels * extensible) in omega (arith, d, none) in
+    ap (λ k. k % extensible) (e ∙ sym (mul_assoc q channels extensible)) ∙ mul-mod_left (q * channels) extensible
 
 pub wave_whole : (bytes : List ℕ) (w : Parts) → IsWave bytes w → length w.samples % ((w.format.bits + 7) / 8) ≡ 0
 wave_whole bytes w i =

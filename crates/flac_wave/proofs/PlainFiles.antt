@@ -10,7 +10,7 @@ use Rattle.std.specs.Prelude.{is_some, unwrap_or}
 use Rattle.std.proofs.Math.Nat.{mul-le-mul_right, mul-pos, mul-mod_left}
 use Rattle.flac_wave.specs.declared.why.WaveWhy.TheVariants as why
 use Rattle.flac_wave.specs.Format.{short_at, long_at, is_extensible, has_pcm_guid, is_pcm, fields_fit, format_fault, format_of, row_of, IsInRange}
-use Rattle.flac_wave.specs.Chunks.{Leads, seen_first, fault_at, is_data, is_format, is_long_sizes, size_of, most_kept, id_of, after, chunk_len, chunk_fault, content_fault, data_fault, samples_fault, header_fault, data_len, stated}
+use Rattle.flac_wave.specs.Chunks.{Leads, seen_first, fault_at, is_data, is_format, is_long_sizes, size_of, most_kept, id_of, after_chunk, chunk_len, chunk_fault, content_fault, data_fault, samples_fault, header_fault, data_len, stated}
 use Rattle.flac_wave.specs.Plain.{needs_extensible, mask_of, plain_format, file_header, format_fields, basic_chunk, extensible_chunk, format_chunk, format_len, data_header, sizes_chunk, short_pieces, long_pieces, known_pieces, riff_size, plain_pieces, plain_file, plain_parts, MaskFits, CanBeWritten, IsPlain}
 use Rattle.flac_wave.specs.Wave.{IsWave, pad_of, all_of, front_of, pieces_after, is_head, restored}
 use Rattle.flac_wave.specs.declared.seen.Seen.{Seen}
@@ -149,12 +149,12 @@ basic_is f p valid mask =
 
 -- ---- of 40 bytes
 
-wide_yes : (bytes : List ℕ) → short_at 8 bytes ≡ 65534 → long_at 4 bytes ≡ 40 → is_extensible bytes ≡ true
-wide_yes bytes tag size = ap (λ n. nat_eq n 65534 && nat_lt 39 (long_at 4 bytes)) tag ∙ ap (λ n. nat_lt 39 n) size
+extensible_yes : (bytes : List ℕ) → short_at 8 bytes ≡ 65534 → long_at 4 bytes ≡ 40 → is_extensible bytes ≡ true
+extensible_yes bytes tag size = ap (λ n. nat_eq n 65534 && nat_lt 39 (long_at 4 bytes)) tag ∙ ap (λ n. nat_lt 39 n) size
 
-wide_pcm : (bytes : List ℕ) → is_extensible bytes ≡ true → has_pcm_guid bytes ≡ true → is_pcm bytes ≡ true
+extensible_pcm : (bytes : List ℕ) → is_extensible bytes ≡ true → has_pcm_guid bytes ≡ true → is_pcm bytes ≡ true
 unfolding is_pcm
-wide_pcm bytes wide guid = or_second (nat_eq (short_at 8 bytes) 1) (is_extensible bytes && has_pcm_guid bytes) (and_true _ _ wide guid)
+extensible_pcm bytes extensible guid = or_second (nat_eq (short_at 8 bytes) 1) (is_extensible bytes && has_pcm_guid bytes) (and_true _ _ extensible guid)
 
 -- the fields after those that both forms have
 record More (bytes : List ℕ) (count speakers : ℕ) : Type 0 where
@@ -170,28 +170,28 @@ more_of f mask rest few small = record {
   guid = refl;
 }
 
-wide_format : (bytes : List ℕ) (f : WaveFormat) (mask : ℕ) → Fields bytes 40 65534 f → More bytes f.valid mask → f.mask ≡ Some mask → format_of bytes ≡ f
+extensible_format : (bytes : List ℕ) (f : WaveFormat) (mask : ℕ) → Fields bytes 40 65534 f → More bytes f.valid mask → f.mask ≡ Some mask → format_of bytes ≡ f
 unfolding format_of
-wide_format bytes f mask x y is =
-    let wide = wide_yes bytes x.tag x.size in
+extensible_format bytes f mask x y is =
+    let extensible = extensible_yes bytes x.tag x.size in
     same_format (format_of bytes) f x.rate x.channels x.bits
-    (ap (λ b. cond b (short_at 26 bytes) (short_at 22 bytes)) wide ∙ y.valid)
-    (ap (λ b. cond b (Some (long_at 28 bytes)) None) wide ∙ (ap Some y.mask ∙ sym is))
+    (ap (λ b. cond b (short_at 26 bytes) (short_at 22 bytes)) extensible ∙ y.valid)
+    (ap (λ b. cond b (Some (long_at 28 bytes)) None) extensible ∙ (ap Some y.mask ∙ sym is))
 
-wide_fields : (f : WaveFormat) (mask : ℕ) (rest : List ℕ) → CanBeWritten f → Fields (extensible_chunk f mask ++ rest) 40 65534 f
+extensible_fields : (f : WaveFormat) (mask : ℕ) (rest : List ℕ) → CanBeWritten f → Fields (extensible_chunk f mask ++ rest) 40 65534 f
 unfolding extensible_chunk
-wide_fields f mask rest p =
+extensible_fields f mask rest p =
     let tail = little_bytes 2 22 ++ (little_bytes 2 f.valid ++ (little_bytes 4 mask ++ (little_bytes 4 1 ++ (little_bytes 4 1048576 ++ (little_bytes 4 2852126848 ++ little_bytes 4 1905997824))))) in
     subst (λ b. Fields b 40 65534 f) (sym (append_assoc (format_fields 40 65534 f) tail rest)) (fields_of 40 65534 f (tail ++ rest) (omega arith) (omega arith) p)
 
-wide_begins : (f : WaveFormat) (mask : ℕ) → Begins (extensible_chunk f mask) 48
+extensible_begins : (f : WaveFormat) (mask : ℕ) → Begins (extensible_chunk f mask) 48
 unfolding extensible_chunk format_fields
-wide_begins f mask = record { long = refl; other = λ rest. refl; len = λ rest. refl; is = λ rest. refl; sizes = λ rest. refl }
+extensible_begins f mask = record { long = refl; other = λ rest. refl; len = λ rest. refl; is = λ rest. refl; sizes = λ rest. refl }
 
-wide_is : (f : WaveFormat) (mask : ℕ) → CanBeWritten f → f.valid < 65536 → mask < 4294967296 → f.mask ≡ Some mask → IsChunkOf (extensible_chunk f mask) 48 f
-wide_is f mask p few small is =
-    let b = wide_begins f mask in
-    let x : (rest : List ℕ) → Fields (extensible_chunk f mask ++ rest) 40 65534 f = λ rest. wide_fields f mask rest p in
+extensible_is : (f : WaveFormat) (mask : ℕ) → CanBeWritten f → f.valid < 65536 → mask < 4294967296 → f.mask ≡ Some mask → IsChunkOf (extensible_chunk f mask) 48 f
+extensible_is f mask p few small is =
+    let b = extensible_begins f mask in
+    let x : (rest : List ℕ) → Fields (extensible_chunk f mask ++ rest) 40 65534 f = λ rest. extensible_fields f mask rest p in
     let y : (rest : List ℕ) → More (extensible_chunk f mask ++ rest) f.valid mask = λ rest. more_of f mask rest few small in
     record {
       long = b.long;
@@ -202,8 +202,8 @@ wide_is f mask p few small is =
       is = b.is;
       sizes = b.sizes;
       good = λ rest. format_good (extensible_chunk f mask ++ rest) 40 65534 f (x rest) p.range (omega arith)
-          (wide_pcm (extensible_chunk f mask ++ rest) (wide_yes (extensible_chunk f mask ++ rest) (x rest).tag (x rest).size) (y rest).guid);
-      format = λ rest. wide_format (extensible_chunk f mask ++ rest) f mask (x rest) (y rest) is;
+          (extensible_pcm (extensible_chunk f mask ++ rest) (extensible_yes (extensible_chunk f mask ++ rest) (x rest).tag (x rest).size) (y rest).guid);
+      format = λ rest. extensible_format (extensible_chunk f mask ++ rest) f mask (x rest) (y rest) is;
     }
 
 -- ---- either
@@ -211,7 +211,7 @@ wide_is f mask p few small is =
 chunk_by_mask : (f : WaveFormat) (mask : Option ℕ) → f.mask ≡ mask → CanBeWritten f → MaskFits f.valid f.bits mask
     → IsChunkOf (elim mask [ None ↦ basic_chunk f | Some m ↦ extensible_chunk f m ]) (elim mask [ None ↦ 24 | Some m ↦ 48 ]) f
 chunk_by_mask f None is p w = basic_is f p w is
-chunk_by_mask f (Some mask) is p w = wide_is f mask p w.0 w.1 is
+chunk_by_mask f (Some mask) is p w = extensible_is f mask p w.0 w.1 is
 
 chunk_is : (f : WaveFormat) → CanBeWritten f → IsChunkOf (format_chunk f) (format_len f) f
 chunk_is f p = chunk_by_mask f f.mask refl p p.mask
@@ -253,7 +253,7 @@ no_extensible channels bits e =
     or_parts true b e = absurd cc
     or_parts false b e = (refl, e)
 
-mask_by : (wide : Bool) (channels bits : ℕ) → needs_extensible channels bits ≡ wide → bits < 33 → MaskFits bits (8 * ((bits + 7) / 8)) (cond wide (Some (mask_of channels)) None)
+mask_by : (extensible : Bool) (channels bits : ℕ) → needs_extensible channels bits ≡ extensible → bits < 33 → MaskFits bits (8 * ((bits + 7) / 8)) (cond extensible (Some (mask_of channels)) None)
 mask_by true channels bits is narrow = (omega (arith, narrow), mask_small channels)
 mask_by false channels bits is narrow = let h = no_extensible channels bits is in omega (arith, h)
 
@@ -295,7 +295,7 @@ content_other s bytes is = ap (λ b. cond b (cond (is_some s.format) (Some why.R
 -- a chunk more before others
 leads_by : (s : Seen) (c : List ℕ) (n : ℕ) (rest : List ℕ) (cs : List (List ℕ)) (last : List ℕ) (t : Seen)
     → length c ≡ n → 8 ≤ n → n < 1000 → is_data (c ++ rest) ≡ false → chunk_len (c ++ rest) ≡ n → content_fault s (c ++ rest) ≡ None
-    → Leads (after s (c ++ rest)) cs rest last t → Leads s (c ∷ cs) (c ++ rest) last t
+    → Leads (after_chunk s (c ++ rest)) cs rest last t → Leads s (c ∷ cs) (c ++ rest) last t
 leads_by s c n rest cs last t long some few other len none h =
     let all : length (c ++ rest) ≡ n + length rest = length-append c rest ∙ ap (λ k. k + length rest) long in
     let size : chunk_len (c ++ rest) ≡ length c = len ∙ sym long in
@@ -304,7 +304,7 @@ leads_by s c n rest cs last t long some few other len none h =
       fault_by s (c ++ rest) false (omega (arith, all, some)) other (chunk_by s (c ++ rest) n len few (omega (arith, all)) none),
       other,
       sym front,
-      subst (λ b. Leads (after s (c ++ rest)) cs b last t) (sym left) h,
+      subst (λ b. Leads (after_chunk s (c ++ rest)) cs b last t) (sym left) h,
     )
 
 -- ---- what is known after it
@@ -321,24 +321,24 @@ first_riff : (id size : ℕ) (rest : List ℕ) → size < 4294967296 → (seen_f
 unfolding seen_first file_header
 first_riff id size rest few = little_number-reads_back 4 size (drop 8 (file_header id size ++ rest)) few
 
-after_format : (s : Seen) (bytes : List ℕ) → is_format bytes ≡ true → (after s bytes).format ≡ Some (format_of bytes)
-unfolding after
+after_format : (s : Seen) (bytes : List ℕ) → is_format bytes ≡ true → (after_chunk s bytes).format ≡ Some (format_of bytes)
+unfolding after_chunk
 after_format s bytes is = ap (λ b. cond b (Some (format_of bytes)) s.format) is
 
-after_other : (s : Seen) (bytes : List ℕ) → is_format bytes ≡ false → (after s bytes).format ≡ s.format
-unfolding after
+after_other : (s : Seen) (bytes : List ℕ) → is_format bytes ≡ false → (after_chunk s bytes).format ≡ s.format
+unfolding after_chunk
 after_other s bytes is = ap (λ b. cond b (Some (format_of bytes)) s.format) is
 
-after_riff : (s : Seen) (bytes : List ℕ) → (after s bytes).riff ≡ s.riff
-unfolding after
+after_riff : (s : Seen) (bytes : List ℕ) → (after_chunk s bytes).riff ≡ s.riff
+unfolding after_chunk
 after_riff s bytes = refl
 
-after_long : (s : Seen) (bytes : List ℕ) → is_long_sizes bytes ≡ false → (after s bytes).long ≡ s.long
-unfolding after
+after_long : (s : Seen) (bytes : List ℕ) → is_long_sizes bytes ≡ false → (after_chunk s bytes).long ≡ s.long
+unfolding after_chunk
 after_long s bytes is = ap (λ b. cond (b && nat_lt 27 (size_of bytes)) (Some (little_number 8 (drop 16 bytes))) s.long) is
 
-after_sizes : (s : Seen) (all size total : ℕ) (rest : List ℕ) → size < 18446744073709551616 → (after s (sizes_chunk all size total ++ rest)).long ≡ Some size
-unfolding after sizes_chunk
+after_sizes : (s : Seen) (all size total : ℕ) (rest : List ℕ) → size < 18446744073709551616 → (after_chunk s (sizes_chunk all size total ++ rest)).long ≡ Some size
+unfolding after_chunk sizes_chunk
 after_sizes s all size total rest few = ap Some (little_number-reads_back 8 size (drop 24 (sizes_chunk all size total ++ rest)) few)
 
 record IsSizes (c : List ℕ) : Type 0 where
@@ -443,7 +443,7 @@ short_is f all d samples tail p small few length_is whole =
     let k = chunk_is f p in
     let rest = data_header d ++ (samples ++ tail) in
     let s = seen_first (h ++ (c ++ rest)) in
-    let t = after s (c ++ rest) in
+    let t = after_chunk s (c ++ rest) in
     let content : content_fault s (c ++ rest) ≡ None = content_by s (c ++ rest) (k.is rest) (first_format (h ++ (c ++ rest))) (k.good rest) in
     subst (λ b. IsWave b (record { format = f; pieces = short_pieces f all d; samples = samples; back = tail })) (sym (joined_three h c (data_header d) (samples ++ tail)))
     (file_is h (c ++ rest) (c ∷ []) d samples tail f t (header_length 1179011410 all) (riff_header all (c ++ rest))
@@ -465,8 +465,8 @@ long_is f size total samples tail p small length_is whole =
     let rest = data_header 4294967295 ++ (samples ++ tail) in
     let form = c ++ rest in
     let s = seen_first (h ++ (e ++ form)) in
-    let u = after s (e ++ form) in
-    let t = after u form in
+    let u = after_chunk s (e ++ form) in
+    let t = after_chunk u form in
     let none : u.format ≡ None = after_other s (e ++ form) (z.is form) ∙ first_format (h ++ (e ++ form)) in
     subst (λ b. IsWave b (record { format = f; pieces = long_pieces f size total; samples = samples; back = tail })) (sym (joined_four h e c (data_header 4294967295) (samples ++ tail)))
     (file_is h (e ++ form) (e ∷ c ∷ []) 4294967295 samples tail f t (header_length 875972178 4294967295) (long_header 4294967295 (e ++ form))

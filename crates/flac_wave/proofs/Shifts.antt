@@ -10,52 +10,52 @@ use Rattle.std.specs.Int.{bytes_low_first, byte_at}
 use Rattle.std.proofs.lemmas.Bool.{and_parts, ltb-true, eqb-true, eq-eqb, ne_eqb}
 use borrow.Rule.Slice.PartMut.{put_mid, mid_of}
 use Rattle.std.specs.Prelude.{◌==◌, ◌&&◌, ◌||◌, Bool, true, false, cond, nat_lt, nat_eq}
-use Rattle.flac_wave.specs.Shift.{raised, raised_one, lowered, lowered_number, are_low_zero, AreBytes, SamplesComeBack, is_stated_depth, wide_of, depth_in}
+use Rattle.flac_wave.specs.Shift.{raised, raised_one, lowered, lowered_number, are_low_zero, AreBytes, SamplesComeBack, is_stated_depth, wave_width_of, depth_in}
 use Rattle.flac_wave.specs.declared.format.WaveFormat.{WaveFormat}
 
 -- some samples were raised, and these are left
-pub record Raising (width wide shift : ℕ) (all rest old out : List ℕ) (done : ℕ) : Type 0 where
+pub record Raising (width wave_width shift : ℕ) (all rest old out : List ℕ) (done : ℕ) : Type 0 where
   pub left : ℕ
   pub long : length rest ≡ left * width
-  pub filled : take done out ++ raised width wide shift left rest ≡ raised width wide shift (length all / width) all
-  pub place : done + left * wide ≡ length all / width * wide
+  pub filled : take done out ++ raised width wave_width shift left rest ≡ raised width wave_width shift (length all / width) all
+  pub place : done + left * wave_width ≡ length all / width * wave_width
   pub room : length out ≡ length old
 
 whole_of : (n width : ℕ) → n % width ≡ 0 → n ≡ n / width * width
 whole_of n width none = let e = div-add-mod' n width in omega (arith, e, none)
 
-pub raising_first : (width wide shift : ℕ) (all out : List ℕ) → length all % width ≡ 0 → Raising width wide shift all all out out 0
-raising_first width wide shift all out whole = record { left = length all / width; long = whole_of (length all) width whole; filled = refl; place = none_first (length all / width * wide); room = refl }
+pub raising_first : (width wave_width shift : ℕ) (all out : List ℕ) → length all % width ≡ 0 → Raising width wave_width shift all all out out 0
+raising_first width wave_width shift all out whole = record { left = length all / width; long = whole_of (length all) width whole; filled = refl; place = none_first (length all / width * wave_width); room = refl }
   where
     none_first : (n : ℕ) → 0 + n ≡ n
     none_first n = omega arith
 
 -- a sample at least is left
-pub record SomeLeft (width wide : ℕ) (all rest old out : List ℕ) (done : ℕ) : Type 0 where
+pub record SomeLeft (width wave_width : ℕ) (all rest old out : List ℕ) (done : ℕ) : Type 0 where
   pub within : width ≤ length rest
-  pub room : done + wide ≤ length out
+  pub room : done + wave_width ≤ length out
 
-raising_some : (width wide shift : ℕ) (all rest old out : List ℕ) (done : ℕ) → Raising width wide shift all rest old out done → 0 < length rest → length all / width * wide ≤ length old → SomeLeft width wide all rest old out done
-raising_some width wide shift all rest old out done s more enough = some_by s.left s.long s.place
+raising_some : (width wave_width shift : ℕ) (all rest old out : List ℕ) (done : ℕ) → Raising width wave_width shift all rest old out done → 0 < length rest → length all / width * wave_width ≤ length old → SomeLeft width wave_width all rest old out done
+raising_some width wave_width shift all rest old out done s more enough = some_by s.left s.long s.place
   where
-    some_by : (left : ℕ) → length rest ≡ left * width → done + left * wide ≡ length all / width * wide → SomeLeft width wide all rest old out done
+    some_by : (left : ℕ) → length rest ≡ left * width → done + left * wave_width ≡ length all / width * wave_width → SomeLeft width wave_width all rest old out done
     some_by zero long place = absurd (omega (arith, long, more))
     some_by (suc m) long place =
         let e : suc m * width ≡ m * width + width = suc-mul m width in
-        let g : suc m * wide ≡ m * wide + wide = suc-mul m wide in
+        let g : suc m * wave_width ≡ m * wave_width + wave_width = suc-mul m wave_width in
         record { within = omega (arith, long, e); room = let r = s.room in omega (arith, place, g, r, enough) }
 
-pub raising_within : (width wide shift : ℕ) (all rest old out : List ℕ) (done : ℕ) → Raising width wide shift all rest old out done → 0 < length rest → length all / width * wide ≤ length old → width ≤ length rest
-raising_within width wide shift all rest old out done s more enough = (raising_some width wide shift all rest old out done s more enough).within
+pub raising_within : (width wave_width shift : ℕ) (all rest old out : List ℕ) (done : ℕ) → Raising width wave_width shift all rest old out done → 0 < length rest → length all / width * wave_width ≤ length old → width ≤ length rest
+raising_within width wave_width shift all rest old out done s more enough = (raising_some width wave_width shift all rest old out done s more enough).within
 
-pub raising_room : (width wide shift : ℕ) (all rest old out : List ℕ) (done : ℕ) → Raising width wide shift all rest old out done → 0 < length rest → length all / width * wide ≤ length old → done + wide ≤ length out
-raising_room width wide shift all rest old out done s more enough = (raising_some width wide shift all rest old out done s more enough).room
+pub raising_room : (width wave_width shift : ℕ) (all rest old out : List ℕ) (done : ℕ) → Raising width wave_width shift all rest old out done → 0 < length rest → length all / width * wave_width ≤ length old → done + wave_width ≤ length out
+raising_room width wave_width shift all rest old out done s more enough = (raising_some width wave_width shift all rest old out done s more enough).room
 
 -- one sample more
-raised_more : (width wide shift left : ℕ) (rest : List ℕ) (a : List ℕ) → length rest ≡ left * width → 0 < length rest
-    → (m : ℕ) × (left ≡ suc m) × (a ++ raised width wide shift left rest ≡ (a ++ little_bytes wide (little_number width rest * 2 ^ shift % 2 ^ (8 * wide))) ++ raised width wide shift m (drop width rest))
-raised_more width wide shift zero rest a long more = absurd (omega (arith, long, more))
-raised_more width wide shift (suc m) rest a long more = (m, refl, sym (append_assoc a (little_bytes wide (little_number width rest * 2 ^ shift % 2 ^ (8 * wide))) (raised width wide shift m (drop width rest))))
+raised_more : (width wave_width shift left : ℕ) (rest : List ℕ) (a : List ℕ) → length rest ≡ left * width → 0 < length rest
+    → (m : ℕ) × (left ≡ suc m) × (a ++ raised width wave_width shift left rest ≡ (a ++ little_bytes wave_width (little_number width rest * 2 ^ shift % 2 ^ (8 * wave_width))) ++ raised width wave_width shift m (drop width rest))
+raised_more width wave_width shift zero rest a long more = absurd (omega (arith, long, more))
+raised_more width wave_width shift (suc m) rest a long more = (m, refl, sym (append_assoc a (little_bytes wave_width (little_number width rest * 2 ^ shift % 2 ^ (8 * wave_width))) (raised width wave_width shift m (drop width rest))))
 
 -- a part of the places was filled
 put_taken : (a k n : ℕ) (xs ys : List ℕ) → a ≤ length xs → n ≤ length ys → take (a + n) (put_mid a k xs ys) ≡ take a xs ++ take n ys
@@ -77,10 +77,10 @@ low_mod n k le =
     all_of : (k : ℕ) → k ≤ 64 → 64 ≡ (64 - k) + k
     all_of k le = omega (arith, le)
 
--- a number that is shifted in 64 bits and cut to `wide` bytes
-high_is : (number shift wide : ℕ) → wide ≤ 4 → number * 2 ^ shift % 2 ^ 64 % (1 * 2 ^ (8 * wide) % 2 ^ 64) ≡ number * 2 ^ shift % 2 ^ (8 * wide)
-high_is number shift wide few =
-    ap (λ m. number * 2 ^ shift % 2 ^ 64 % m) (one_shl (8 * wide) 64 (omega (arith, few))) ∙ low_mod (number * 2 ^ shift) (8 * wide) (omega (arith, few))
+-- a number that is shifted in 64 bits and cut to `wave_width` bytes
+high_is : (number shift wave_width : ℕ) → wave_width ≤ 4 → number * 2 ^ shift % 2 ^ 64 % (1 * 2 ^ (8 * wave_width) % 2 ^ 64) ≡ number * 2 ^ shift % 2 ^ (8 * wave_width)
+high_is number shift wave_width few =
+    ap (λ m. number * 2 ^ shift % 2 ^ 64 % m) (one_shl (8 * wave_width) 64 (omega (arith, few))) ∙ low_mod (number * 2 ^ shift) (8 * wave_width) (omega (arith, few))
 
 pow_bytes : (n : ℕ) → 256 ^ n ≡ 2 ^ (8 * n)
 pow_bytes zero = refl
@@ -88,41 +88,41 @@ pow_bytes (suc n) =
     let e : 8 * suc n ≡ 8 * n + 8 = omega arith in
     pow-suc 256 n ∙ (ap (λ x. x * 256) (pow_bytes n) ∙ (sym (pow-add 2 (8 * n) 8) ∙ ap (λ k. 2 ^ k) (sym e)))
 
-pub high_fits : (x wide : ℕ) → wide ≤ 4 → x % (1 * 2 ^ (8 * wide) % 2 ^ 64) < 256 ^ wide
-high_fits x wide few =
-    subst (λ m. x % (1 * 2 ^ (8 * wide) % 2 ^ 64) < m) (one_shl (8 * wide) 64 (omega (arith, few)) ∙ sym (pow_bytes wide))
-    (mod-lt x (subst (λ m. 0 < m) (sym (one_shl (8 * wide) 64 (omega (arith, few)))) (pow_pos (8 * wide))))
+pub high_fits : (x wave_width : ℕ) → wave_width ≤ 4 → x % (1 * 2 ^ (8 * wave_width) % 2 ^ 64) < 256 ^ wave_width
+high_fits x wave_width few =
+    subst (λ m. x % (1 * 2 ^ (8 * wave_width) % 2 ^ 64) < m) (one_shl (8 * wave_width) 64 (omega (arith, few)) ∙ sym (pow_bytes wave_width))
+    (mod-lt x (subst (λ m. 0 < m) (sym (one_shl (8 * wave_width) 64 (omega (arith, few)))) (pow_pos (8 * wave_width))))
 
 pub some_rest : (xs : List ℕ) (b : Bool) → b ≡ (length xs == 0) → b ≡ false → 0 < length xs
 some_rest [] b is e = absurd cc
 some_rest (x ∷ xs) b is e = omega arith
 
-pub raising_next : (width wide shift : ℕ) (all rest more sample old out buf : List ℕ) (done number : ℕ) → Raising width wide shift all rest old out done → 0 < length rest
-    → length all / width * wide ≤ length old → wide ≤ 4 → sample ≡ take width rest → number ≡ little_number width sample → more ≡ drop width rest
-    → buf ≡ little_bytes wide (number * 2 ^ shift % 2 ^ 64 % (1 * 2 ^ (8 * wide) % 2 ^ 64)) ++ drop wide (mid_of done (length out - done) out)
-    → Raising width wide shift all more old (put_mid done (length out - done) out buf) (done + wide)
-raising_next width wide shift all rest more sample old out buf done number s some enough few part read cut put =
-    let k = raising_some width wide shift all rest old out done s some enough in
-    let n = raised_more width wide shift s.left rest (take done out) s.long some in
+pub raising_next : (width wave_width shift : ℕ) (all rest more sample old out buf : List ℕ) (done number : ℕ) → Raising width wave_width shift all rest old out done → 0 < length rest
+    → length all / width * wave_width ≤ length old → wave_width ≤ 4 → sample ≡ take width rest → number ≡ little_number width sample → more ≡ drop width rest
+    → buf ≡ little_bytes wave_width (number * 2 ^ shift % 2 ^ 64 % (1 * 2 ^ (8 * wave_width) % 2 ^ 64)) ++ drop wave_width (mid_of done (length out - done) out)
+    → Raising width wave_width shift all more old (put_mid done (length out - done) out buf) (done + wave_width)
+raising_next width wave_width shift all rest more sample old out buf done number s some enough few part read cut put =
+    let k = raising_some width wave_width shift all rest old out done s some enough in
+    let n = raised_more width wave_width shift s.left rest (take done out) s.long some in
     let room = k.room in
-    let high = number * 2 ^ shift % 2 ^ 64 % (1 * 2 ^ (8 * wide) % 2 ^ 64) in
+    let high = number * 2 ^ shift % 2 ^ 64 % (1 * 2 ^ (8 * wave_width) % 2 ^ 64) in
     let number_is : number ≡ little_number width rest = read ∙ (ap (λ l. little_number width l) part ∙ little_from-take 0 width width rest (omega arith)) in
-    let is : high ≡ little_number width rest * 2 ^ shift % 2 ^ (8 * wide) = high_is number shift wide few ∙ ap (λ x. x * 2 ^ shift % 2 ^ (8 * wide)) number_is in
-    let bytes : length (little_bytes wide high) ≡ wide = length-bytes_low_first 0 wide high in
+    let is : high ≡ little_number width rest * 2 ^ shift % 2 ^ (8 * wave_width) = high_is number shift wave_width few ∙ ap (λ x. x * 2 ^ shift % 2 ^ (8 * wave_width)) number_is in
+    let bytes : length (little_bytes wave_width high) ≡ wave_width = length-bytes_low_first 0 wave_width high in
     let mid : length (mid_of done (length out - done) out) ≡ length out - done = mid_long done out in
     let buf_long : length buf ≡ length out - done =
-    ap length put ∙ (length-append (little_bytes wide high) (drop wide (mid_of done (length out - done) out))
-    ∙ (let d = length-drop wide (mid_of done (length out - done) out) in omega (arith, bytes, d, mid, room))) in
-    let front : take wide buf ≡ little_bytes wide high =
-    ap (λ l. take wide l) put ∙ (ap (λ x. take x (little_bytes wide high ++ drop wide (mid_of done (length out - done) out))) (sym bytes) ∙ take-append_seam (little_bytes wide high) _) in
-    let taken : take (done + wide) (put_mid done (length out - done) out buf) ≡ take done out ++ little_bytes wide high =
-    put_taken done (length out - done) wide out buf (omega (arith, room)) (omega (arith, buf_long, room)) ∙ ap (λ l. take done out ++ l) front in
+    ap length put ∙ (length-append (little_bytes wave_width high) (drop wave_width (mid_of done (length out - done) out))
+    ∙ (let d = length-drop wave_width (mid_of done (length out - done) out) in omega (arith, bytes, d, mid, room))) in
+    let front : take wave_width buf ≡ little_bytes wave_width high =
+    ap (λ l. take wave_width l) put ∙ (ap (λ x. take x (little_bytes wave_width high ++ drop wave_width (mid_of done (length out - done) out))) (sym bytes) ∙ take-append_seam (little_bytes wave_width high) _) in
+    let taken : take (done + wave_width) (put_mid done (length out - done) out buf) ≡ take done out ++ little_bytes wave_width high =
+    put_taken done (length out - done) wave_width out buf (omega (arith, room)) (omega (arith, buf_long, room)) ∙ ap (λ l. take done out ++ l) front in
     record {
       left = n.0;
       long = left_long n.0 n.1 (ap length cut ∙ length-drop width rest);
-      filled = ap (λ l. l ++ raised width wide shift n.0 more) taken
-          ∙ (ap (λ l. (take done out ++ little_bytes wide high) ++ raised width wide shift n.0 l) cut
-          ∙ (ap (λ x. (take done out ++ little_bytes wide x) ++ raised width wide shift n.0 (drop width rest)) is ∙ (sym n.2 ∙ s.filled)));
+      filled = ap (λ l. l ++ raised width wave_width shift n.0 more) taken
+          ∙ (ap (λ l. (take done out ++ little_bytes wave_width high) ++ raised width wave_width shift n.0 l) cut
+          ∙ (ap (λ x. (take done out ++ little_bytes wave_width x) ++ raised width wave_width shift n.0 (drop width rest)) is ∙ (sym n.2 ∙ s.filled)));
       place = place_by n.0 n.1;
       room = put_long done out buf (omega (arith, room)) buf_long ∙ s.room;
     }
@@ -133,71 +133,71 @@ raising_next width wide shift all rest more sample old out buf done number s som
     left_long : (m : ℕ) → s.left ≡ suc m → length more ≡ length rest - width → length more ≡ m * width
     left_long m e f = let g : length rest ≡ m * width + width = s.long ∙ (ap (λ x. x * width) e ∙ suc-mul m width) in omega (arith, f, g)
 
-    place_by : (m : ℕ) → s.left ≡ suc m → (done + wide) + m * wide ≡ length all / width * wide
-    place_by m e = let g : done + (m * wide + wide) ≡ length all / width * wide = ap (λ x. done + x) (sym (ap (λ x. x * wide) e ∙ suc-mul m wide)) ∙ s.place in omega (arith, g)
+    place_by : (m : ℕ) → s.left ≡ suc m → (done + wave_width) + m * wave_width ≡ length all / width * wave_width
+    place_by m e = let g : done + (m * wave_width + wave_width) ≡ length all / width * wave_width = ap (λ x. done + x) (sym (ap (λ x. x * wave_width) e ∙ suc-mul m wave_width)) ∙ s.place in omega (arith, g)
 
-pub raising_last : (width wide shift : ℕ) (all rest old out : List ℕ) (done : ℕ) → Raising width wide shift all rest old out done → 0 < width → rest ≡ []
-    → (take done out ≡ raised width wide shift (length all / width) all) × (done ≡ length all / width * wide)
-raising_last width wide shift all rest old out done s some none = last_by s.left s.long s.filled s.place
+pub raising_last : (width wave_width shift : ℕ) (all rest old out : List ℕ) (done : ℕ) → Raising width wave_width shift all rest old out done → 0 < width → rest ≡ []
+    → (take done out ≡ raised width wave_width shift (length all / width) all) × (done ≡ length all / width * wave_width)
+raising_last width wave_width shift all rest old out done s some none = last_by s.left s.long s.filled s.place
   where
-    last_by : (left : ℕ) → length rest ≡ left * width → take done out ++ raised width wide shift left rest ≡ raised width wide shift (length all / width) all → done + left * wide ≡ length all / width * wide
-        → (take done out ≡ raised width wide shift (length all / width) all) × (done ≡ length all / width * wide)
+    last_by : (left : ℕ) → length rest ≡ left * width → take done out ++ raised width wave_width shift left rest ≡ raised width wave_width shift (length all / width) all → done + left * wave_width ≡ length all / width * wave_width
+        → (take done out ≡ raised width wave_width shift (length all / width) all) × (done ≡ length all / width * wave_width)
     last_by zero long filled place = (sym (append-nil (take done out)) ∙ filled, let e = place in omega (arith, e))
     last_by (suc m) long filled place = let e : length rest ≡ 0 = ap length none in let g : suc m * width ≡ m * width + width = suc-mul m width in absurd (omega (arith, e, g, long, some))
 
 -- ---- lowering
 
 -- some samples were lowered, and these are left
-pub record Lowering (wide width shift : ℕ) (all rest low : List ℕ) : Type 0 where
+pub record Lowering (wave_width width shift : ℕ) (all rest low : List ℕ) : Type 0 where
   pub left : ℕ
-  pub long : length rest ≡ left * wide
-  pub filled : low ++ lowered wide width shift left rest ≡ lowered wide width shift (length all / wide) all
+  pub long : length rest ≡ left * wave_width
+  pub filled : low ++ lowered wave_width width shift left rest ≡ lowered wave_width width shift (length all / wave_width) all
 
-pub lowering_first : (wide width shift : ℕ) (all : List ℕ) → length all % wide ≡ 0 → Lowering wide width shift all all []
-lowering_first wide width shift all whole = record { left = length all / wide; long = whole_of (length all) wide whole; filled = refl }
+pub lowering_first : (wave_width width shift : ℕ) (all : List ℕ) → length all % wave_width ≡ 0 → Lowering wave_width width shift all all []
+lowering_first wave_width width shift all whole = record { left = length all / wave_width; long = whole_of (length all) wave_width whole; filled = refl }
 
-pub lowering_within : (wide width shift : ℕ) (all rest low : List ℕ) → Lowering wide width shift all rest low → 0 < length rest → wide ≤ length rest
-lowering_within wide width shift all rest low s more = within_by s.left s.long
+pub lowering_within : (wave_width width shift : ℕ) (all rest low : List ℕ) → Lowering wave_width width shift all rest low → 0 < length rest → wave_width ≤ length rest
+lowering_within wave_width width shift all rest low s more = within_by s.left s.long
   where
-    within_by : (left : ℕ) → length rest ≡ left * wide → wide ≤ length rest
+    within_by : (left : ℕ) → length rest ≡ left * wave_width → wave_width ≤ length rest
     within_by zero long = absurd (omega (arith, long, more))
-    within_by (suc m) long = let e : suc m * wide ≡ m * wide + wide = suc-mul m wide in omega (arith, long, e)
+    within_by (suc m) long = let e : suc m * wave_width ≡ m * wave_width + wave_width = suc-mul m wave_width in omega (arith, long, e)
 
-pub lowering_next : (wide width shift : ℕ) (all rest more low new : List ℕ) (number : ℕ) → Lowering wide width shift all rest low → 0 < length rest
-    → number ≡ lowered_number wide width shift (little_number wide rest) → more ≡ drop wide rest → new ≡ low ++ little_bytes width number → Lowering wide width shift all more new
-lowering_next wide width shift all rest more low new number s some is cut put = next_by s.left s.long s.filled
+pub lowering_next : (wave_width width shift : ℕ) (all rest more low new : List ℕ) (number : ℕ) → Lowering wave_width width shift all rest low → 0 < length rest
+    → number ≡ lowered_number wave_width width shift (little_number wave_width rest) → more ≡ drop wave_width rest → new ≡ low ++ little_bytes width number → Lowering wave_width width shift all more new
+lowering_next wave_width width shift all rest more low new number s some is cut put = next_by s.left s.long s.filled
   where
-    next_by : (left : ℕ) → length rest ≡ left * wide → low ++ lowered wide width shift left rest ≡ lowered wide width shift (length all / wide) all → Lowering wide width shift all more new
+    next_by : (left : ℕ) → length rest ≡ left * wave_width → low ++ lowered wave_width width shift left rest ≡ lowered wave_width width shift (length all / wave_width) all → Lowering wave_width width shift all more new
     next_by zero long filled = absurd (omega (arith, long, some))
     next_by (suc m) long filled =
-        let e : suc m * wide ≡ m * wide + wide = suc-mul m wide in
-        let left : length more ≡ length rest - wide = ap length cut ∙ length-drop wide rest in
+        let e : suc m * wave_width ≡ m * wave_width + wave_width = suc-mul m wave_width in
+        let left : length more ≡ length rest - wave_width = ap length cut ∙ length-drop wave_width rest in
         record {
           left = m;
           long = omega (arith, left, long, e);
-          filled = ap (λ l. l ++ lowered wide width shift m more) put
-              ∙ (ap (λ n. (low ++ little_bytes width n) ++ lowered wide width shift m more) is
-              ∙ (ap (λ l. (low ++ little_bytes width (lowered_number wide width shift (little_number wide rest))) ++ lowered wide width shift m l) cut
-              ∙ (append_assoc low (little_bytes width (lowered_number wide width shift (little_number wide rest))) (lowered wide width shift m (drop wide rest)) ∙ filled)));
+          filled = ap (λ l. l ++ lowered wave_width width shift m more) put
+              ∙ (ap (λ n. (low ++ little_bytes width n) ++ lowered wave_width width shift m more) is
+              ∙ (ap (λ l. (low ++ little_bytes width (lowered_number wave_width width shift (little_number wave_width rest))) ++ lowered wave_width width shift m l) cut
+              ∙ (append_assoc low (little_bytes width (lowered_number wave_width width shift (little_number wave_width rest))) (lowered wave_width width shift m (drop wave_width rest)) ∙ filled)));
         }
 
-pub lowering_last : (wide width shift : ℕ) (all rest low : List ℕ) → Lowering wide width shift all rest low → 0 < wide → rest ≡ [] → low ≡ lowered wide width shift (length all / wide) all
-lowering_last wide width shift all rest low s some none = last_by s.left s.long s.filled
+pub lowering_last : (wave_width width shift : ℕ) (all rest low : List ℕ) → Lowering wave_width width shift all rest low → 0 < wave_width → rest ≡ [] → low ≡ lowered wave_width width shift (length all / wave_width) all
+lowering_last wave_width width shift all rest low s some none = last_by s.left s.long s.filled
   where
-    last_by : (left : ℕ) → length rest ≡ left * wide → low ++ lowered wide width shift left rest ≡ lowered wide width shift (length all / wide) all → low ≡ lowered wide width shift (length all / wide) all
+    last_by : (left : ℕ) → length rest ≡ left * wave_width → low ++ lowered wave_width width shift left rest ≡ lowered wave_width width shift (length all / wave_width) all → low ≡ lowered wave_width width shift (length all / wave_width) all
     last_by zero long filled = sym (append-nil low) ∙ filled
-    last_by (suc m) long filled = let e : length rest ≡ 0 = ap length none in let g : suc m * wide ≡ m * wide + wide = suc-mul m wide in absurd (omega (arith, e, g, long, some))
+    last_by (suc m) long filled = let e : length rest ≡ 0 = ap length none in let g : suc m * wave_width ≡ m * wave_width + wave_width = suc-mul m wave_width in absurd (omega (arith, e, g, long, some))
 
 -- ---- zeros
 
-pub zero_none : (wide shift : ℕ) (rest : List ℕ) → 0 < wide → length rest < wide → are_low_zero wide shift (length rest / wide) rest ≡ true
-zero_none wide shift rest some few = ap (λ n. are_low_zero wide shift n rest) (div-eq_of_lt few)
+pub zero_none : (wave_width shift : ℕ) (rest : List ℕ) → 0 < wave_width → length rest < wave_width → are_low_zero wave_width shift (length rest / wave_width) rest ≡ true
+zero_none wave_width shift rest some few = ap (λ n. are_low_zero wave_width shift n rest) (div-eq_of_lt few)
 
-pub zero_next : (wide shift : ℕ) (rest : List ℕ) → 0 < wide → wide ≤ length rest
-    → are_low_zero wide shift (length rest / wide) rest ≡ (nat_eq (little_number wide rest % 2 ^ shift) 0 && are_low_zero wide shift (length (drop wide rest) / wide) (drop wide rest))
-zero_next wide shift rest some within =
-    ap (λ n. are_low_zero wide shift n rest) (div-eq-sub-div some within ∙ next_suc ((length rest - wide) / wide))
-    ∙ ap (λ n. nat_eq (little_number wide rest % 2 ^ shift) 0 && are_low_zero wide shift (n / wide) (drop wide rest)) (sym (length-drop wide rest))
+pub zero_next : (wave_width shift : ℕ) (rest : List ℕ) → 0 < wave_width → wave_width ≤ length rest
+    → are_low_zero wave_width shift (length rest / wave_width) rest ≡ (nat_eq (little_number wave_width rest % 2 ^ shift) 0 && are_low_zero wave_width shift (length (drop wave_width rest) / wave_width) (drop wave_width rest))
+zero_next wave_width shift rest some within =
+    ap (λ n. are_low_zero wave_width shift n rest) (div-eq-sub-div some within ∙ next_suc ((length rest - wave_width) / wave_width))
+    ∙ ap (λ n. nat_eq (little_number wave_width rest % 2 ^ shift) 0 && are_low_zero wave_width shift (n / wave_width) (drop wave_width rest)) (sym (length-drop wave_width rest))
   where
     next_suc : (n : ℕ) → n + 1 ≡ suc n
     next_suc n = omega arith
@@ -240,15 +240,15 @@ back_by true n S D M P K some low few is within more times = back_even n S D M P
 back_by false n S D M P K some low few is within more times = back_odd n S D M P K some low few is within more times
 
 -- a number whose lowest bits are zeros comes back
-number_back : (wide width shift n : ℕ) → shift ≤ 8 * wide → 8 * wide ≤ 8 * width + shift → n < 2 ^ (8 * wide) → n % 2 ^ shift ≡ 0
-    → lowered_number wide width shift n * 2 ^ shift % 2 ^ (8 * wide) ≡ n
-number_back wide width shift n less more few low =
-    let d = 8 * wide - shift in
-    let k = 8 * width + shift - 8 * wide in
-    let is : 2 ^ d * 2 ^ shift ≡ 2 ^ (8 * wide) = sym (pow-add 2 d shift) ∙ ap (λ e. 2 ^ e) (omega (arith, less)) in
-    let times : 2 ^ (8 * width) * 2 ^ shift ≡ 2 ^ k * 2 ^ (8 * wide) = sym (pow-add 2 (8 * width) shift) ∙ (ap (λ e. 2 ^ e) (omega (arith, more)) ∙ pow-add 2 k (8 * wide)) in
+number_back : (wave_width width shift n : ℕ) → shift ≤ 8 * wave_width → 8 * wave_width ≤ 8 * width + shift → n < 2 ^ (8 * wave_width) → n % 2 ^ shift ≡ 0
+    → lowered_number wave_width width shift n * 2 ^ shift % 2 ^ (8 * wave_width) ≡ n
+number_back wave_width width shift n less more few low =
+    let d = 8 * wave_width - shift in
+    let k = 8 * width + shift - 8 * wave_width in
+    let is : 2 ^ d * 2 ^ shift ≡ 2 ^ (8 * wave_width) = sym (pow-add 2 d shift) ∙ ap (λ e. 2 ^ e) (omega (arith, less)) in
+    let times : 2 ^ (8 * width) * 2 ^ shift ≡ 2 ^ k * 2 ^ (8 * wave_width) = sym (pow-add 2 (8 * width) shift) ∙ (ap (λ e. 2 ^ e) (omega (arith, more)) ∙ pow-add 2 k (8 * wave_width)) in
     let within : 2 ^ d ≤ 2 ^ (8 * width) = pow-le-pow_right (omega arith) (omega (arith, more)) in
-    back_by (nat_lt n (2 ^ (8 * wide - 1))) n (2 ^ shift) (2 ^ d) (2 ^ (8 * wide)) (2 ^ (8 * width)) (2 ^ k) (pow_pos shift) low few is within (pow_pos (8 * width)) times
+    back_by (nat_lt n (2 ^ (8 * wave_width - 1))) n (2 ^ shift) (2 ^ d) (2 ^ (8 * wave_width)) (2 ^ (8 * width)) (2 ^ k) (pow_pos shift) low few is within (pow_pos (8 * width)) times
 
 -- bytes of one number are the same
 number_inj : (n : ℕ) (xs bs : List ℕ) → length xs ≡ n → length bs ≡ n → AreBytes xs → AreBytes bs → little_number n xs ≡ little_number n bs → xs ≡ bs
@@ -301,30 +301,30 @@ bytes_back n bs h long =
     (low_first_bytes 0 n (little_number n bs)) (bytes_take n bs h)
     (sym (ap (λ l. little_number n l) (append-nil (little_bytes n (little_number n bs)))) ∙ (little_number-reads_back n (little_number n bs) [] (number_small n bs h long) ∙ sym (little_from-take 0 n n bs (omega arith))))
 
-one_back : (wide width shift : ℕ) (bs rest : List ℕ) → shift ≤ 8 * wide → 8 * wide ≤ 8 * width + shift → AreBytes bs → wide ≤ length bs → little_number wide bs % 2 ^ shift ≡ 0
-    → raised_one width wide shift (little_bytes width (lowered_number wide width shift (little_number wide bs)) ++ rest) ≡ take wide bs
-one_back wide width shift bs rest less more h long low =
-    let n = little_number wide bs in
-    let x = lowered_number wide width shift n in
-    let few : n < 2 ^ (8 * wide) = subst (λ m. n < m) (pow_bytes wide) (number_small wide bs h long) in
-    let small : x < 256 ^ width = subst (λ m. x < m) (sym (pow_bytes width)) (mod-lt (n / 2 ^ shift % 2 ^ (8 * width) + cond (nat_lt n (2 ^ (8 * wide - 1))) 0 (2 ^ (8 * width) - 2 ^ (8 * wide - shift))) (pow_pos (8 * width))) in
-    ap (λ k. little_bytes wide (k * 2 ^ shift % 2 ^ (8 * wide))) (little_number-reads_back width x rest small)
-    ∙ (ap (λ k. little_bytes wide k) (number_back wide width shift n less more few low) ∙ bytes_back wide bs h long)
+one_back : (wave_width width shift : ℕ) (bs rest : List ℕ) → shift ≤ 8 * wave_width → 8 * wave_width ≤ 8 * width + shift → AreBytes bs → wave_width ≤ length bs → little_number wave_width bs % 2 ^ shift ≡ 0
+    → raised_one width wave_width shift (little_bytes width (lowered_number wave_width width shift (little_number wave_width bs)) ++ rest) ≡ take wave_width bs
+one_back wave_width width shift bs rest less more h long low =
+    let n = little_number wave_width bs in
+    let x = lowered_number wave_width width shift n in
+    let few : n < 2 ^ (8 * wave_width) = subst (λ m. n < m) (pow_bytes wave_width) (number_small wave_width bs h long) in
+    let small : x < 256 ^ width = subst (λ m. x < m) (sym (pow_bytes width)) (mod-lt (n / 2 ^ shift % 2 ^ (8 * width) + cond (nat_lt n (2 ^ (8 * wave_width - 1))) 0 (2 ^ (8 * width) - 2 ^ (8 * wave_width - shift))) (pow_pos (8 * width))) in
+    ap (λ k. little_bytes wave_width (k * 2 ^ shift % 2 ^ (8 * wave_width))) (little_number-reads_back width x rest small)
+    ∙ (ap (λ k. little_bytes wave_width k) (number_back wave_width width shift n less more few low) ∙ bytes_back wave_width bs h long)
 
 pub samples_back : SamplesComeBack
-samples_back wide width shift zero [] less more h long low = refl
-samples_back wide width shift zero (b ∷ bs) less more h long low = absurd (omega (arith, long))
-samples_back wide width shift (suc n) bs less more h long low =
-    let first = and_parts (nat_eq (little_number wide bs % 2 ^ shift) 0) (are_low_zero wide shift n (drop wide bs)) low in
-    let e : suc n * wide ≡ n * wide + wide = suc-mul n wide in
-    let within : wide ≤ length bs = omega (arith, long, e) in
-    let left : length (drop wide bs) ≡ n * wide = let d = length-drop wide bs in omega (arith, d, long, e) in
-    let x = lowered_number wide width shift (little_number wide bs) in
-    let rest = lowered wide width shift n (drop wide bs) in
+samples_back wave_width width shift zero [] less more h long low = refl
+samples_back wave_width width shift zero (b ∷ bs) less more h long low = absurd (omega (arith, long))
+samples_back wave_width width shift (suc n) bs less more h long low =
+    let first = and_parts (nat_eq (little_number wave_width bs % 2 ^ shift) 0) (are_low_zero wave_width shift n (drop wave_width bs)) low in
+    let e : suc n * wave_width ≡ n * wave_width + wave_width = suc-mul n wave_width in
+    let within : wave_width ≤ length bs = omega (arith, long, e) in
+    let left : length (drop wave_width bs) ≡ n * wave_width = let d = length-drop wave_width bs in omega (arith, d, long, e) in
+    let x = lowered_number wave_width width shift (little_number wave_width bs) in
+    let rest = lowered wave_width width shift n (drop wave_width bs) in
     let after : drop width (little_bytes width x ++ rest) ≡ rest = ap (λ k. drop k (little_bytes width x ++ rest)) (sym (length-bytes_low_first 0 width x)) ∙ drop-append_seam (little_bytes width x) rest in
-    ap (λ l. l ++ raised width wide shift n (drop width (little_bytes width x ++ rest))) (one_back wide width shift bs rest less more h within (eqb-true (little_number wide bs % 2 ^ shift) 0 first.0))
-    ∙ (ap (λ l. take wide bs ++ raised width wide shift n l) after
-    ∙ (ap (λ l. take wide bs ++ l) (samples_back wide width shift n (drop wide bs) less more (bytes_drop wide bs h) left first.1) ∙ take-append-drop wide bs))
+    ap (λ l. l ++ raised width wave_width shift n (drop width (little_bytes width x ++ rest))) (one_back wave_width width shift bs rest less more h within (eqb-true (little_number wave_width bs % 2 ^ shift) 0 first.0))
+    ∙ (ap (λ l. take wave_width bs ++ raised width wave_width shift n l) after
+    ∙ (ap (λ l. take wave_width bs ++ l) (samples_back wave_width width shift n (drop wave_width bs) less more (bytes_drop wave_width bs h) left first.1) ∙ take-append-drop wave_width bs))
 
 -- ---- what the calls compute
 
@@ -340,92 +340,92 @@ low_bytes_of width x few = take_first 0 8 width x (omega (arith, few))
 pub ones_within : (a b : ℕ) → a ≤ b → b < 64 → 1 * 2 ^ a % 2 ^ 64 ≤ 1 * 2 ^ b % 2 ^ 64
 ones_within a b le few = let h : 2 ^ a ≤ 2 ^ b = pow-le-pow_right (omega arith) le in rw (one_shl a 64 (omega (arith, le, few)), one_shl b 64 few) h
 
-number_taken : (wide number : ℕ) (rest sample : List ℕ) → sample ≡ take wide rest → number ≡ little_number wide sample → number ≡ little_number wide rest
-number_taken wide number rest sample part read = read ∙ (ap (λ l. little_number wide l) part ∙ little_from-take 0 wide wide rest (omega arith))
+number_taken : (wave_width number : ℕ) (rest sample : List ℕ) → sample ≡ take wave_width rest → number ≡ little_number wave_width sample → number ≡ little_number wave_width rest
+number_taken wave_width number rest sample part read = read ∙ (ap (λ l. little_number wave_width l) part ∙ little_from-take 0 wave_width wave_width rest (omega arith))
 
 -- a sample has another bit
-pub zero_found : (wide shift number : ℕ) (rest sample : List ℕ) (all : Bool) → 0 < wide → wide ≤ length rest → shift < 32 → sample ≡ take wide rest → number ≡ little_number wide sample
-    → 0 < number % (1 * 2 ^ shift % 2 ^ 64) → are_low_zero wide shift (length rest / wide) rest ≡ all → false ≡ all
-zero_found wide shift number rest sample all some within few part read more h =
-    let n = number_taken wide number rest sample part read in
-    let e : number % (1 * 2 ^ shift % 2 ^ 64) ≡ little_number wide rest % 2 ^ shift = ap (λ m. number % m) (one_shl shift 64 (omega (arith, few))) ∙ ap (λ k. k % 2 ^ shift) n in
-    let no_zero : nat_eq (little_number wide rest % 2 ^ shift) 0 ≡ false = ne_eqb (little_number wide rest % 2 ^ shift) 0 (λ z. omega (arith, z, e, more)) in
-    sym (zero_next wide shift rest some within ∙ ap (λ b. b && are_low_zero wide shift (length (drop wide rest) / wide) (drop wide rest)) no_zero) ∙ h
+pub zero_found : (wave_width shift number : ℕ) (rest sample : List ℕ) (all : Bool) → 0 < wave_width → wave_width ≤ length rest → shift < 32 → sample ≡ take wave_width rest → number ≡ little_number wave_width sample
+    → 0 < number % (1 * 2 ^ shift % 2 ^ 64) → are_low_zero wave_width shift (length rest / wave_width) rest ≡ all → false ≡ all
+zero_found wave_width shift number rest sample all some within few part read more h =
+    let n = number_taken wave_width number rest sample part read in
+    let e : number % (1 * 2 ^ shift % 2 ^ 64) ≡ little_number wave_width rest % 2 ^ shift = ap (λ m. number % m) (one_shl shift 64 (omega (arith, few))) ∙ ap (λ k. k % 2 ^ shift) n in
+    let no_zero : nat_eq (little_number wave_width rest % 2 ^ shift) 0 ≡ false = ne_eqb (little_number wave_width rest % 2 ^ shift) 0 (λ z. omega (arith, z, e, more)) in
+    sym (zero_next wave_width shift rest some within ∙ ap (λ b. b && are_low_zero wave_width shift (length (drop wave_width rest) / wave_width) (drop wave_width rest)) no_zero) ∙ h
 
 -- a sample has none
-pub zero_passed : (wide shift number : ℕ) (rest more sample : List ℕ) (all : Bool) → 0 < wide → wide ≤ length rest → shift < 32 → sample ≡ take wide rest → number ≡ little_number wide sample
-    → number % (1 * 2 ^ shift % 2 ^ 64) ≡ 0 → more ≡ drop wide rest → are_low_zero wide shift (length rest / wide) rest ≡ all → are_low_zero wide shift (length more / wide) more ≡ all
-zero_passed wide shift number rest more sample all some within few part read none cut h =
-    let n = number_taken wide number rest sample part read in
-    let e : number % (1 * 2 ^ shift % 2 ^ 64) ≡ little_number wide rest % 2 ^ shift = ap (λ m. number % m) (one_shl shift 64 (omega (arith, few))) ∙ ap (λ k. k % 2 ^ shift) n in
-    let zero_is : nat_eq (little_number wide rest % 2 ^ shift) 0 ≡ true = eq-eqb (little_number wide rest % 2 ^ shift) 0 (sym e ∙ none) in
-    ap (λ l. are_low_zero wide shift (length l / wide) l) cut
-    ∙ (sym (zero_next wide shift rest some within ∙ ap (λ b. b && are_low_zero wide shift (length (drop wide rest) / wide) (drop wide rest)) zero_is) ∙ h)
+pub zero_passed : (wave_width shift number : ℕ) (rest more sample : List ℕ) (all : Bool) → 0 < wave_width → wave_width ≤ length rest → shift < 32 → sample ≡ take wave_width rest → number ≡ little_number wave_width sample
+    → number % (1 * 2 ^ shift % 2 ^ 64) ≡ 0 → more ≡ drop wave_width rest → are_low_zero wave_width shift (length rest / wave_width) rest ≡ all → are_low_zero wave_width shift (length more / wave_width) more ≡ all
+zero_passed wave_width shift number rest more sample all some within few part read none cut h =
+    let n = number_taken wave_width number rest sample part read in
+    let e : number % (1 * 2 ^ shift % 2 ^ 64) ≡ little_number wave_width rest % 2 ^ shift = ap (λ m. number % m) (one_shl shift 64 (omega (arith, few))) ∙ ap (λ k. k % 2 ^ shift) n in
+    let zero_is : nat_eq (little_number wave_width rest % 2 ^ shift) 0 ≡ true = eq-eqb (little_number wave_width rest % 2 ^ shift) 0 (sym e ∙ none) in
+    ap (λ l. are_low_zero wave_width shift (length l / wave_width) l) cut
+    ∙ (sym (zero_next wave_width shift rest some within ∙ ap (λ b. b && are_low_zero wave_width shift (length (drop wave_width rest) / wave_width) (drop wave_width rest)) zero_is) ∙ h)
 
-pub lowering_more : (wide width shift : ℕ) (all rest more sample low new bytes : List ℕ) (read number : ℕ) → Lowering wide width shift all rest low → 0 < length rest → width ≤ 4
-    → sample ≡ take wide rest → read ≡ little_number wide sample → number ≡ lowered_number wide width shift read → more ≡ drop wide rest
-    → bytes ≡ bytes_low_first 0 8 number → new ≡ low ++ take width bytes → Lowering wide width shift all more new
-lowering_more wide width shift all rest more sample low new bytes read number s some few part is lowered_is cut eight put =
-    lowering_next wide width shift all rest more low new number s some (lowered_is ∙ ap (λ k. lowered_number wide width shift k) (number_taken wide read rest sample part is)) cut
+pub lowering_more : (wave_width width shift : ℕ) (all rest more sample low new bytes : List ℕ) (read number : ℕ) → Lowering wave_width width shift all rest low → 0 < length rest → width ≤ 4
+    → sample ≡ take wave_width rest → read ≡ little_number wave_width sample → number ≡ lowered_number wave_width width shift read → more ≡ drop wave_width rest
+    → bytes ≡ bytes_low_first 0 8 number → new ≡ low ++ take width bytes → Lowering wave_width width shift all more new
+lowering_more wave_width width shift all rest more sample low new bytes read number s some few part is lowered_is cut eight put =
+    lowering_next wave_width width shift all rest more low new number s some (lowered_is ∙ ap (λ k. lowered_number wave_width width shift k) (number_taken wave_width read rest sample part is)) cut
     (put ∙ (ap (λ l. low ++ take width l) eight ∙ ap (λ l. low ++ l) (low_bytes_of width number few)))
 
 -- ---- piece by piece
 
 -- samples that are raised in pieces
-pub raised_append : (width wide shift n m : ℕ) (a b : List ℕ) → length a ≡ n * width → raised width wide shift (n + m) (a ++ b) ≡ raised width wide shift n a ++ raised width wide shift m b
-raised_append width wide shift zero m [] b long = ap (λ k. raised width wide shift k b) (none_first m)
+pub raised_append : (width wave_width shift n m : ℕ) (a b : List ℕ) → length a ≡ n * width → raised width wave_width shift (n + m) (a ++ b) ≡ raised width wave_width shift n a ++ raised width wave_width shift m b
+raised_append width wave_width shift zero m [] b long = ap (λ k. raised width wave_width shift k b) (none_first m)
   where
     none_first : (m : ℕ) → 0 + m ≡ m
     none_first m = omega arith
-raised_append width wide shift zero m (x ∷ a) b long = absurd (omega (arith, long))
-raised_append width wide shift (suc n) m a b long =
+raised_append width wave_width shift zero m (x ∷ a) b long = absurd (omega (arith, long))
+raised_append width wave_width shift (suc n) m a b long =
     let e : suc n * width ≡ n * width + width = suc-mul n width in
     let within : width ≤ length a = omega (arith, long, e) in
     let left : length (drop width a) ≡ n * width = let d = length-drop width a in omega (arith, d, long, e) in
-    ap (λ k. raised width wide shift k (a ++ b)) (next_first n m)
-    ∙ (ap (λ k. little_bytes wide (k * 2 ^ shift % 2 ^ (8 * wide)) ++ raised width wide shift (n + m) (drop width (a ++ b))) (little_from-append width a b within)
-    ∙ (ap (λ l. raised_one width wide shift a ++ raised width wide shift (n + m) l) (drop-append-le width a b within)
-    ∙ (ap (λ l. raised_one width wide shift a ++ l) (raised_append width wide shift n m (drop width a) b left)
-    ∙ sym (append_assoc (raised_one width wide shift a) (raised width wide shift n (drop width a)) (raised width wide shift m b)))))
+    ap (λ k. raised width wave_width shift k (a ++ b)) (next_first n m)
+    ∙ (ap (λ k. little_bytes wave_width (k * 2 ^ shift % 2 ^ (8 * wave_width)) ++ raised width wave_width shift (n + m) (drop width (a ++ b))) (little_from-append width a b within)
+    ∙ (ap (λ l. raised_one width wave_width shift a ++ raised width wave_width shift (n + m) l) (drop-append-le width a b within)
+    ∙ (ap (λ l. raised_one width wave_width shift a ++ l) (raised_append width wave_width shift n m (drop width a) b left)
+    ∙ sym (append_assoc (raised_one width wave_width shift a) (raised width wave_width shift n (drop width a)) (raised width wave_width shift m b)))))
   where
     next_first : (n m : ℕ) → suc n + m ≡ suc (n + m)
     next_first n m = omega arith
 
 -- the samples of a file have as many bytes as are due
-pub raised_long : (width wide shift n : ℕ) (a : List ℕ) → length (raised width wide shift n a) ≡ n * wide
-raised_long width wide shift zero a = omega arith
-raised_long width wide shift (suc n) a =
-    let e : suc n * wide ≡ n * wide + wide = suc-mul n wide in
-    let h = raised_long width wide shift n (drop width a) in
-    length-append (raised_one width wide shift a) (raised width wide shift n (drop width a))
-    ∙ (let f = length-bytes_low_first 0 wide (little_number width a * 2 ^ shift % 2 ^ (8 * wide)) in omega (arith, e, f, h))
+pub raised_long : (width wave_width shift n : ℕ) (a : List ℕ) → length (raised width wave_width shift n a) ≡ n * wave_width
+raised_long width wave_width shift zero a = omega arith
+raised_long width wave_width shift (suc n) a =
+    let e : suc n * wave_width ≡ n * wave_width + wave_width = suc-mul n wave_width in
+    let h = raised_long width wave_width shift n (drop width a) in
+    length-append (raised_one width wave_width shift a) (raised width wave_width shift n (drop width a))
+    ∙ (let f = length-bytes_low_first 0 wave_width (little_number width a * 2 ^ shift % 2 ^ (8 * wave_width)) in omega (arith, e, f, h))
 
 -- and so have those of a stream
-pub lowered_long : (wide width shift n : ℕ) (a : List ℕ) → length (lowered wide width shift n a) ≡ n * width
-lowered_long wide width shift zero a = omega arith
-lowered_long wide width shift (suc n) a =
+pub lowered_long : (wave_width width shift n : ℕ) (a : List ℕ) → length (lowered wave_width width shift n a) ≡ n * width
+lowered_long wave_width width shift zero a = omega arith
+lowered_long wave_width width shift (suc n) a =
     let e : suc n * width ≡ n * width + width = suc-mul n width in
-    let x = lowered_number wide width shift (little_number wide a) in
-    let h = lowered_long wide width shift n (drop wide a) in
-    length-append (little_bytes width x) (lowered wide width shift n (drop wide a)) ∙ (let f = length-bytes_low_first 0 width x in omega (arith, e, f, h))
+    let x = lowered_number wave_width width shift (little_number wave_width a) in
+    let h = lowered_long wave_width width shift n (drop wave_width a) in
+    length-append (little_bytes width x) (lowered wave_width width shift n (drop wave_width a)) ∙ (let f = length-bytes_low_first 0 width x in omega (arith, e, f, h))
 
 -- ---- how many bits a stream has
 
 -- all bits of a sample's bytes, or fewer, below which all are zeros
 pub record IsNarrow (f : WaveFormat) (samples : List ℕ) (depth : ℕ) : Type 0 where
   pub stated : is_stated_depth depth ≡ true
-  pub few : depth < 8 * wide_of f
-  pub zeros : are_low_zero (wide_of f) (8 * wide_of f - depth) (length samples / wide_of f) samples ≡ true
+  pub few : depth < 8 * wave_width_of f
+  pub zeros : are_low_zero (wave_width_of f) (8 * wave_width_of f - depth) (length samples / wave_width_of f) samples ≡ true
 
-depth_by : (f : WaveFormat) (samples : List ℕ) (b : Bool) → (is_stated_depth f.valid && nat_lt f.valid (8 * wide_of f)) && are_low_zero (wide_of f) (8 * wide_of f - f.valid) (length samples / wide_of f) samples ≡ b
-    → (cond b f.valid (8 * wide_of f) ≡ 8 * wide_of f) ⊎ IsNarrow f samples (cond b f.valid (8 * wide_of f))
+depth_by : (f : WaveFormat) (samples : List ℕ) (b : Bool) → (is_stated_depth f.valid && nat_lt f.valid (8 * wave_width_of f)) && are_low_zero (wave_width_of f) (8 * wave_width_of f - f.valid) (length samples / wave_width_of f) samples ≡ b
+    → (cond b f.valid (8 * wave_width_of f) ≡ 8 * wave_width_of f) ⊎ IsNarrow f samples (cond b f.valid (8 * wave_width_of f))
 depth_by f samples true is =
-    let a = and_parts (is_stated_depth f.valid && nat_lt f.valid (8 * wide_of f)) _ is in
+    let a = and_parts (is_stated_depth f.valid && nat_lt f.valid (8 * wave_width_of f)) _ is in
     let b = and_parts (is_stated_depth f.valid) _ a.0 in
-    inr (record { stated = b.0; few = ltb-true f.valid (8 * wide_of f) b.1; zeros = a.1 })
+    inr (record { stated = b.0; few = ltb-true f.valid (8 * wave_width_of f) b.1; zeros = a.1 })
 depth_by f samples false is = inl refl
 
-pub depth_cases : (f : WaveFormat) (samples : List ℕ) → (depth_in f samples ≡ 8 * wide_of f) ⊎ IsNarrow f samples (depth_in f samples)
+pub depth_cases : (f : WaveFormat) (samples : List ℕ) → (depth_in f samples ≡ 8 * wave_width_of f) ⊎ IsNarrow f samples (depth_in f samples)
 depth_cases f samples = depth_by f samples _ refl
 
 -- a depth that a frame header states is 8 at least

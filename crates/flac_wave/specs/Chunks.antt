@@ -53,8 +53,8 @@ unfoldable pub seen_first : List ℕ → Seen
 seen_first bytes = record { riff = size_of bytes; long = None; format = None }
 
 -- what is known after a chunk before the samples
-unfoldable pub after : Seen → (bytes : List ℕ) → Seen
-after s bytes = record {
+unfoldable pub after_chunk : Seen → (bytes : List ℕ) → Seen
+after_chunk s bytes = record {
   riff = s.riff;
   -- the length of the samples, which `ds64` has in eight bytes
   long = cond (is_long_sizes bytes && nat_lt 27 (size_of bytes)) (Some (little_number 8 (drop 16 bytes))) s.long;
@@ -108,4 +108,4 @@ fault_at s bytes =
 abbrev pub Leads : Seen → (chunks : List (List ℕ)) → (bytes rest : List ℕ) → Seen → Type 0
 Leads s [] bytes rest t = (bytes ≡ rest) × (s ≡ t)
 Leads s (c ∷ cs) bytes rest t =
-    (fault_at s bytes ≡ None) × (is_data bytes ≡ false) × (c ≡ take (chunk_len bytes) bytes) × Leads (after s bytes) cs (drop (chunk_len bytes) bytes) rest t
+    (fault_at s bytes ≡ None) × (is_data bytes ≡ false) × (c ≡ take (chunk_len bytes) bytes) × Leads (after_chunk s bytes) cs (drop (chunk_len bytes) bytes) rest t

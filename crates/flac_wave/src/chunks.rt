@@ -1,7 +1,7 @@
 //! The chunks of a WAV file.
 
 ghost use Rattle.std.specs.Prelude.{◌≡◌, ◌≤◌, ◌<◌, ◌+◌, ◌-◌, ◌%◌, length, None, Some, IfOk, IfErr, OnOk};
-ghost use Rattle.flac_wave.specs.Chunks.{id_of, is_data, is_format, is_long_sizes, size_of, chunk_len, header_fault, seen_first, after, stated, data_len, samples_fault, data_fault, content_fault, chunk_fault, most_kept};
+ghost use Rattle.flac_wave.specs.Chunks.{id_of, is_data, is_format, is_long_sizes, size_of, chunk_len, header_fault, seen_first, after_chunk, stated, data_len, samples_fault, data_fault, content_fault, chunk_fault, most_kept};
 
 use crate::format::{WaveFormat, format_at, long_at};
 use crate::seen::Seen;
@@ -161,10 +161,10 @@ impl Seen {
     ///
     /// # Errors
     /// Why the chunk is refused.
-    #[tactic(auto, unfolding(crate::specs::Chunks::content_fault, crate::specs::Chunks::after))]
+    #[tactic(auto, unfolding(crate::specs::Chunks::content_fault, crate::specs::Chunks::after_chunk))]
     fn format_after(&self, bytes: &[u8]) -> Result<Option<WaveFormat>, WaveWhy>
         requires { 8 + size_of bytes.now ≤ length bytes.now }
-        ensures found { IfOk result (λ f. (content_fault self.now bytes.now ≡ None) × (f ≡ (after self.now bytes.now).format)) }
+        ensures found { IfOk result (λ f. (content_fault self.now bytes.now ≡ None) × (f ≡ (after_chunk self.now bytes.now).format)) }
         ensures fault { IfErr result (λ e. content_fault self.now bytes.now ≡ Some e) }
     {
         if !is_format(bytes) {
@@ -181,10 +181,10 @@ impl Seen {
     ///
     /// # Errors
     /// Why the chunk is refused.
-    #[tactic(auto, unfolding(crate::specs::Chunks::chunk_fault, crate::specs::Chunks::after))]
+    #[tactic(auto, unfolding(crate::specs::Chunks::chunk_fault, crate::specs::Chunks::after_chunk))]
     pub(crate) fn next(&self, bytes: &[u8]) -> Result<Seen, WaveWhy>
         requires { 8 ≤ length bytes.now }
-        ensures found { IfOk result (λ s. (chunk_fault self.now bytes.now ≡ None) × (s ≡ after self.now bytes.now)) }
+        ensures found { IfOk result (λ s. (chunk_fault self.now bytes.now ≡ None) × (s ≡ after_chunk self.now bytes.now)) }
         ensures within { OnOk result ((chunk_len bytes.now ≤ length bytes.now) × (chunk_len bytes.now ≤ most_kept)) }
         ensures fault { IfErr result (λ e. chunk_fault self.now bytes.now ≡ Some e) }
     {

@@ -102,13 +102,21 @@ pub(crate) fn format_at(chunk: &[u8]) -> Result<WaveFormat, WaveWhy>
         return Err(WaveWhy::FormatFields);
     }
     let bits = short_at(chunk, 22);
-    let wide = is_extensible(chunk);
+    let extensible = is_extensible(chunk);
     Ok(WaveFormat {
         rate: long_at(chunk, 12),
         channels: short_at(chunk, 10),
         bits,
-        valid: if wide { short_at(chunk, 26) } else { bits },
-        mask: if wide { Some(long_at(chunk, 28)) } else { None },
+        valid: if extensible {
+            short_at(chunk, 26)
+        } else {
+            bits
+        },
+        mask: if extensible {
+            Some(long_at(chunk, 28))
+        } else {
+            None
+        },
     })
 }
 

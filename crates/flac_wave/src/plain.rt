@@ -39,7 +39,7 @@ fn mask_of(channels: u32) -> u32
 }
 
 impl WaveFormat {
-    /// Which speakers the channels are for, if the file says others than RFC 9639, section 9.1.3, has for so many channels.
+    /// Which speakers the channels are for, if the file says others than RFC 9639, section 9.1.3, has for n channels.
     pub fn other_mask(&self) -> Option<u32>
         ensures { result ≡ other_mask self.now }
     {

@@ -8,17 +8,17 @@ use crate::format::WaveFormat;
 use byteorder::{ByteOrder, LittleEndian};
 use std::alloc::{AllocError, Global};
 
-/// Writes each sample of a stream (`width` bytes, 1 to 4) as one of a file (`wide` bytes, 1 to 4), shifted up by `shift`
-/// bits, at most 31: `8 * wide - depth` for samples of `depth` bits. `samples` has whole samples, `out` room for all of
-/// them. Returns the number of bytes written.
-pub fn raise(width: usize, wide: usize, shift: u32, samples: &[u8], out: &mut [u8]) -> usize
+/// Writes each sample of a stream (`width` bytes, 1 to 4) as one of a file (`wave_width` bytes, 1 to 4), shifted up by
+/// `shift` bits, at most 31: `8 * wave_width - depth` for samples of `depth` bits. `samples` has whole samples, `out`
+/// room for all of them. Returns the number of bytes written.
+pub fn raise(width: usize, wave_width: usize, shift: u32, samples: &[u8], out: &mut [u8]) -> usize
     requires width { (0 < width) × (width ≤ 4) }
-    requires wide { (0 < wide) × (wide ≤ 4) }
+    requires wave_width { (0 < wave_width) × (wave_width ≤ 4) }
     requires shift { shift < 32 }
     requires whole { length samples.now % width ≡ 0 }
-    requires room { length samples.now / width * wide ≤ length out.old }
-    ensures count { result ≡ length samples.now / width * wide }
-    ensures raised { take result out.new ≡ raised width wide shift (length samples.now / width) samples.now }
+    requires room { length samples.now / width * wave_width ≤ length out.old }
+    ensures count { result ≡ length samples.now / width * wave_width }
+    ensures raised { take result out.new ≡ raised width wave_width shift (length samples.now / width) samples.now }
     ensures length { length out.new ≡ length out.old }
 {
     let mut rest = samples;
@@ -26,68 +26,74 @@ pub fn raise(width: usize, wide: usize, shift: u32, samples: &[u8], out: &mut [u
     'samples: while !rest.is_empty() {
         let (sample, more) = rest.split_at(width);
         let number = LittleEndian::read_uint(sample, width);
-        let high = (number << shift) % (1 << (8 * wide));
-        LittleEndian::write_uint(&mut out[done..], high, wide);
+        let high = (number << shift) % (1 << (8 * wave_width));
+        LittleEndian::write_uint(&mut out[done..], high, wave_width);
         rest = more;
-        done += wide;
+        done += wave_width;
     }
     done
 }
 
-/// A number of `wide` bytes, `shift` bits lower, in `width` bytes.
-fn lowered_number(wide: usize, width: usize, shift: u32, number: u64) -> u64
-    requires wide { (0 < wide) × (wide ≤ 4) }
+/// A number of `wave_width` bytes, `shift` bits lower, in `width` bytes.
+fn lowered_number(wave_width: usize, width: usize, shift: u32, number: u64) -> u64
+    requires wave_width { (0 < wave_width) × (wave_width ≤ 4) }
     requires width { (0 < width) × (width ≤ 4) }
-    requires shift { (shift < 8 * wide) × (8 * wide ≤ 8 * width + shift) }
-    ensures { result ≡ lowered_number wide width shift number }
+    requires shift { (shift < 8 * wave_width) × (8 * wave_width ≤ 8 * width + shift) }
+    ensures { result ≡ lowered_number wave_width width shift number }
 {
     let limit: u64 = 1 << (8 * width);
     let low = (number >> shift) % limit;
-    if number < 1 << (8 * wide - 1) {
+    if number < 1 << (8 * wave_width - 1) {
         return low % limit;
     }
-    (low + (limit - (1 << (8 * wide - shift as usize)))) % limit
+    (low + (limit - (1 << (8 * wave_width - shift as usize)))) % limit
 }
 
-/// Makes samples of a stream (`width` bytes each, 1 to 4) of those of a file (`wide` bytes each, 1 to 4): each is shifted
-/// down by `shift` bits, fewer than `8 * wide`, and at least `8 * wide - 8 * width`. The lowest `shift` bits are dropped.
+/// Makes samples of a stream (`width` bytes each, 1 to 4) of those of a file (`wave_width` bytes each, 1 to 4): each is
+/// shifted down by `shift` bits, fewer than `8 * wave_width`, and at least `8 * wave_width - 8 * width`. The lowest
+/// `shift` bits are dropped.
 ///
 /// # Errors
 /// An allocation fails.
 pub fn lower(
     alloc: Global,
-    wide: usize,
+    wave_width: usize,
     width: usize,
     shift: u32,
     samples: &[u8],
 ) -> Result<Vec<u8>, AllocError>
-    requires wide { (0 < wide) × (wide ≤ 4) }
+    requires wave_width { (0 < wave_width) × (wave_width ≤ 4) }
     requires width { (0 < width) × (width ≤ 4) }
-    requires shift { (shift < 8 * wide) × (8 * wide ≤ 8 * width + shift) }
-    requires whole { length samples.now % wide ≡ 0 }
-    ensures { IfOk result (λ low. low.items ≡ lowered wide width shift (length samples.now / wide) samples.now) }
+    requires shift { (shift < 8 * wave_width) × (8 * wave_width ≤ 8 * width + shift) }
+    requires whole { length samples.now % wave_width ≡ 0 }
+    ensures { IfOk result (λ low. low.items ≡ lowered wave_width width shift (length samples.now / wave_width) samples.now) }
 {
     let mut low = Vec::with_capacity(alloc, samples.len())?;
     let mut rest = samples;
     'samples: while !rest.is_empty() {
-        let (sample, more) = rest.split_at(wide);
-        let number = lowered_number(wide, width, shift, LittleEndian::read_uint(sample, wide));
+        let (sample, more) = rest.split_at(wave_width);
+        let number = lowered_number(
+            wave_width,
+            width,
+            shift,
+            LittleEndian::read_uint(sample, wave_width),
+        );
         low.extend_from_slice(&number.to_le_bytes()[..width])?;
         rest = more;
     }
     Ok(low)
 }
 
-/// Whether the lowest `shift` bits of all samples of `wide` bytes are zeros.
-fn are_low_zero(wide: usize, shift: u32, samples: &[u8]) -> bool
-    requires wide { (0 < wide) × (wide ≤ 4) }
+/// Whether the lowest `shift` bits of all samples of `wave_width` bytes are zeros.
+fn are_low_zero(wave_width: usize, shift: u32, samples: &[u8]) -> bool
+    requires wave_width { (0 < wave_width) × (wave_width ≤ 4) }
     requires shift { shift < 32 }
-    ensures { result ≡ are_low_zero wide shift (length samples.now / wide) samples.now }
+    ensures { result ≡ are_low_zero wave_width shift (length samples.now / wave_width) samples.now }
 {
     let mut rest = samples;
-    'samples: while rest.len() >= wide {
-        let (sample, more) = rest.split_at(wide);
-        if LittleEndian::read_uint(sample, wide) % (1 << shift) != 0 {
+    'samples: while rest.len() >= wave_width {
+        let (sample, more) = rest.split_at(wave_width);
+        if LittleEndian::read_uint(sample, wave_width) % (1 << shift) != 0 {
             return false;
         }
         rest = more;
@@ -109,11 +115,11 @@ impl WaveFormat {
         requires { IsInRange self.now }
         ensures { result ≡ depth_in self.now samples.now }
     {
-        let wide = (self.bits + 7) / 8;
-        let all = 8 * wide;
+        let wave_width = (self.bits + 7) / 8;
+        let all = 8 * wave_width;
         if is_stated_depth(self.valid)
             && self.valid < all
-            && are_low_zero(wide as usize, all - self.valid, samples)
+            && are_low_zero(wave_width as usize, all - self.valid, samples)
         {
             return self.valid;
         }

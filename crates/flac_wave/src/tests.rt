@@ -126,7 +126,7 @@ fn is_plain(
 }
 
 /// Before four inter-channel samples of six channels of 20 bits at 48000 Hz.
-const WIDE: [u8; 68] = [
+const EXTENSIBLE: [u8; 68] = [
     0x52, 0x49, 0x46, 0x46, 0x84, 0x00, 0x00, 0x00, 0x57, 0x41, 0x56, 0x45, 0x66, 0x6d, 0x74, 0x20,
     0x28, 0x00, 0x00, 0x00, 0xfe, 0xff, 0x06, 0x00, 0x80, 0xbb, 0x00, 0x00, 0x00, 0x2f, 0x0d, 0x00,
     0x12, 0x00, 0x18, 0x00, 0x16, 0x00, 0x14, 0x00, 0x3f, 0x00, 0x00, 0x00, 0x01, 0x00, 0x00, 0x00,
@@ -148,14 +148,14 @@ fn plain_files_are_written(rt: HostRuntime) -> Result<(), Fail> {
     let alloc = rt.alloc();
     let format = WaveFormat::plain(44100, 2, 16);
     let short = is_plain(alloc, format, 2, 3, &STEREO[..44])?;
-    let wide = is_plain(alloc, WaveFormat::plain(48000, 6, 20), 4, 3, &WIDE)?;
+    let extensible = is_plain(alloc, WaveFormat::plain(48000, 6, 20), 4, 3, &EXTENSIBLE)?;
     let long = is_plain(alloc, format, 2_147_483_648, 4, &LONG)?;
     // If the number of samples is unknown, both lengths are FFFFFFFF, and a piece without a byte comes last.
     let mut open = STEREO;
     open[4..8].copy_from_slice(&[255; 4]);
     open[40..44].copy_from_slice(&[255; 4]);
     let unknown = is_plain(alloc, format, 0, 4, &open[..44])?;
-    assert!(rt; format == FORMAT && short && wide && long && unknown);
+    assert!(rt; format == FORMAT && short && extensible && long && unknown);
     Ok(())
 }
 
@@ -171,8 +171,8 @@ fn samples_are_lowered_and_raised(rt: HostRuntime) -> Result<(), Fail> {
     let count = raise(2, 2, 4, low.as_slice(), &mut again);
     assert!(rt; count == 6 && &again[..6] == file.as_slice() && again[7] == 1);
     // -2 of 8 bits in a byte of a stream, and in three bytes of a file.
-    let wide = raise(1, 3, 16, &[0xfe], &mut again);
-    assert!(rt; wide == 3 && &again[..3] == [0x00, 0x00, 0xfe].as_slice());
+    let extensible = raise(1, 3, 16, &[0xfe], &mut again);
+    assert!(rt; extensible == 3 && &again[..3] == [0x00, 0x00, 0xfe].as_slice());
     Ok(())
 }
 

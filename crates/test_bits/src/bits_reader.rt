@@ -315,7 +315,7 @@ fn last_of<T>(source: &Counted<T>) -> Option<(ErrorKind, Option<i32>)> {
     Some((error.kind(), error.raw_os_error()))
 }
 
-/// The error of a reader is kept, also where another is given behind it.
+/// The error of a reader is kept, also where another is given after it.
 #[test]
 fn the_last_error_of_a_reader(rt: HostRuntime) {
     let mut source = Counted::new(Once { given: false });

@@ -108,7 +108,7 @@ fn many_words(rt: HostRuntime) -> Result<(), Fail> {
     Ok(())
 }
 
-/// A writer that takes one byte at a time and fails behind so many.
+/// A writer that takes one byte at a time and fails after n bytes.
 #[derive(Drop)]
 struct Trickle {
     bytes: [u8; 8],

@@ -81,7 +81,7 @@ fn head(flags: u8, sequence: u32) -> Head {
     }
 }
 
-/// A packet of 51 bytes, and one that goes on behind its page, which is marked so.
+/// A packet of 51 bytes, and one that goes on after its page, which is marked so.
 fn open_packet(alloc: Global, flags: u8) -> Result<Answer, Why> {
     let mut writer = BitWriter::new(Collected::new(alloc));
     write_page(head(2, 0), &[51], &[7; 51], &mut writer)?;

@@ -3,7 +3,7 @@ ghost use Rattle.flac_pages.specs.Placed.{AreInOrder};
 
 use flac_bits::{BitReader, BitWriter, Collected, Memory, Pieces, Source, Why};
 use flac_pages::{
-    Before, PacketAt, PacketBytes, PacketKind, PacketMarks, PageRoom, Pages, next_page,
+    Before, PacketAt, PacketBytes, PacketKind, PacketMarks, PageBuffer, Pages, next_page,
     write_packet, write_packets,
 };
 use std::alloc::Global;
@@ -166,14 +166,14 @@ PAGE_0 4f | 0 2 0 [51] 51, Truncated
 PAGE_1 | BadMapping";
 
 /// A page in text.
-fn told_page(alloc: Global, room: &PageRoom) -> Result<String, Fail> {
+fn told_page(alloc: Global, room: &PageBuffer) -> Result<String, Fail> {
     let (head, lacing, len) = (room.head(), room.lacing(), room.body().len());
     let (number, flags, granule) = (head.sequence, head.flags, head.granule);
     Ok(format!(in alloc; "{number} {flags} {granule} {lacing:?} {len}, ")?)
 }
 
 /// The pages of some bytes in text, at most five, and why no further one is read.
-fn told_alone(alloc: Global, bytes: &[u8], room: &mut PageRoom) -> Result<String, Fail> {
+fn told_alone(alloc: Global, bytes: &[u8], room: &mut PageBuffer) -> Result<String, Fail> {
     let mut reader = BitReader::new(Memory::new(bytes));
     let mut text = String::new(alloc);
     let mut before = None;
@@ -195,7 +195,7 @@ fn told_alone(alloc: Global, bytes: &[u8], room: &mut PageRoom) -> Result<String
 
 #[test]
 fn reads_pages(rt: HostRuntime) -> Result<(), Fail> {
-    let mut room = PageRoom::new(rt.alloc())?;
+    let mut room = PageBuffer::new(rt.alloc())?;
     for row in ALONE.lines() {
         let (words, wanted) = row.split_once(" | ").unwrap_or((row, ""));
         let bytes = pages_of(rt.alloc(), words)?;

@@ -39,7 +39,7 @@ pub fn ends<C: Container>(decoder: &mut Decoder<C>) -> bool {
     matches!(decoder.next(), Ok(Item::End))
 }
 
-/// The peaks of the first three channels of a stream, behind which the end comes once more.
+/// The peaks of the first three channels of a stream, after which the end comes once more.
 pub fn peaks_to_end<C: Container>(decoder: &mut Decoder<C>) -> Option<(u32, u32, u32)> {
     let peaks = peaks(decoder).ok()?;
     if ends(decoder) {

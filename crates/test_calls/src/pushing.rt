@@ -20,7 +20,7 @@ pub fn setup_number(outcome: Result<(), SetupFault>) -> u8 {
     }
 }
 
-/// A writer that has room for so many bytes.
+/// A writer that has room for n bytes.
 #[derive(Drop)]
 pub struct Narrow {
     room: usize,

@@ -13,8 +13,8 @@ const OLD: [u8; 114] = [
     109, 101, 115,
 ];
 
-/// The comments `a=22` and `B=3` behind the old ones.
-const BEHIND: [u8; 114] = [
+/// The comments `a=22` and `B=3` after the old ones.
+const AFTER: [u8; 114] = [
     102, 76, 97, 67, 0, 0, 0, 34, 0, 1, 2, 3, 4, 5, 6, 7, 8, 9, 10, 11, 12, 13, 14, 15, 16, 17, 18,
     19, 20, 21, 22, 23, 24, 25, 26, 27, 28, 29, 30, 31, 32, 33, 1, 0, 0, 20, 0, 0, 0, 0, 0, 0, 0,
     0, 0, 0, 0, 0, 0, 0, 0, 0, 0, 0, 0, 0, 4, 0, 0, 24, 1, 0, 0, 0, 118, 2, 0, 0, 0, 4, 0, 0, 0,
@@ -45,7 +45,7 @@ fn the_two_halves_take_turns(rt: HostRuntime) -> Result<(), Fail> {
     let slots = [Slot::Other(34), Slot::Comments(16), Slot::Padding(40)];
     let done = edit_in_place(alloc, &mut file, &slots, &more);
     assert!(rt; done == Ok(true));
-    assert!(rt; file.bytes() == BEHIND.as_slice());
+    assert!(rt; file.bytes() == AFTER.as_slice());
     let fewer = edited(alloc, &more, &[Edit::Remove(b"A")])?;
     let slots = [
         Slot::Other(34),

@@ -23,15 +23,15 @@ use test_vectors::{
 
 /// A writer that allocates nothing. It keeps the first 512 bytes.
 #[derive(Drop)]
-struct Room {
+struct FixedBuffer {
     bytes: [u8; 512],
     len: usize,
 }
 
-impl Room {
+impl FixedBuffer {
     /// A room without bytes.
-    fn new() -> Room {
-        Room {
+    fn new() -> FixedBuffer {
+        FixedBuffer {
             bytes: [0; 512],
             len: 0,
         }
@@ -43,7 +43,7 @@ impl Room {
     }
 }
 
-impl Write for Room {
+impl Write for FixedBuffer {
     fn write(&mut self, bytes: &[u8]) -> io::Result<usize> {
         for byte in bytes {
             if self.len < 512 {
@@ -110,8 +110,8 @@ fn setup_again(alloc: Global, lax: bool, ogg: bool) -> Result<Given, Fail> {
 }
 
 /// What encoding returns, and what it sends.
-fn sent(alloc: Global, written: &Written<'_>) -> (Result<(), EncodeFault>, Room) {
-    let mut target = Counted::new(Room::new());
+fn sent(alloc: Global, written: &Written<'_>) -> (Result<(), EncodeFault>, FixedBuffer) {
+    let mut target = Counted::new(FixedBuffer::new());
     let outcome = write(alloc, written, &mut target);
     (outcome, target.into_inner())
 }
@@ -220,9 +220,9 @@ fn pushed<W: Target + Drop>(
 }
 
 /// What pushing returns, and what it sends.
-fn tried(alloc: Global, ogg: bool, blocks: &BlockList) -> Result<(u8, Room), Fail> {
+fn tried(alloc: Global, ogg: bool, blocks: &BlockList) -> Result<(u8, FixedBuffer), Fail> {
     let one = predictors_again(alloc)?;
-    let mut target = Counted::new(Room::new());
+    let mut target = Counted::new(FixedBuffer::new());
     let number = pushed(alloc, ogg, blocks, one, &mut target);
     Ok((number, target.into_inner()))
 }

@@ -1,4 +1,4 @@
-//! Streams whose reading fails: each call of a source in turn, and each of a sink. What was handed out before is the
+//! Streams whose reading fails: each call of a source in turn, and each of a sink. What was yielded before is the
 //! front of what a run without a fault gives.
 
 ghost use Rattle.std.specs.Prelude.{⊤, [], true, ◌≡◌, ◌<◌, OnOk, OnErr};
@@ -79,7 +79,7 @@ impl Layout {
         count
     }
 
-    /// How many items are in so many parts.
+    /// How many items are in n parts.
     fn items_in(&self, parts: usize) -> usize {
         if self.ogg {
             parts
@@ -97,7 +97,7 @@ impl Layout {
         }
     }
 
-    /// The place of a part, also of one behind the last.
+    /// The place of a part, also of one after the last.
     pub(crate) fn part_place(&self, part: usize) -> Place {
         if self.ogg {
             Place::Page(part as u64)
@@ -109,7 +109,7 @@ impl Layout {
     }
 }
 
-/// The items that were handed out: how many, and a number of each of the first eight.
+/// The items that were yielded: how many, and a number of each of the first eight.
 #[derive(Clone, Copy, PartialEq, Eq)]
 struct Items {
     count: usize,
@@ -205,7 +205,7 @@ impl Sink for Noting {
     }
 }
 
-/// A stream in memory, which comes in pieces of so many bytes.
+/// A stream in memory, which comes in pieces of n bytes.
 #[derive(Clone, Copy)]
 struct Input<'a> {
     stream: &'a [u8],
@@ -308,7 +308,7 @@ fn both_get(
 }
 
 /// What comes where the source fails that is asked for the byte of this number: the fault is at the part of that byte,
-/// or behind the last, and the items before were handed out.
+/// or after the last, and the items before were yielded.
 fn failed_at(layout: &Layout, whole: &Items, byte: usize) -> (Place, Items) {
     let part = layout.whole_before(byte);
     (layout.part_place(part), whole.first(layout.items_in(part)))
@@ -365,7 +365,7 @@ fn each_read_fails(
     Ok(())
 }
 
-/// This call of the sink fails: the fault is at the item that was handed out, and those before were taken.
+/// This call of the sink fails: the fault is at the item that was yielded, and those before were taken.
 fn item_fails(
     rt: &impl Abort,
     alloc: Global,

@@ -121,7 +121,7 @@ pub(crate) fn each_write_fails(
     }
 }
 
-/// Writes samples in blocks of 4096 as a native stream, with a seek point each so many samples.
+/// Writes samples in blocks of 4096 as a native stream, with a seek point every n samples.
 fn each_native_write_fails(
     rt: &impl Abort,
     alloc: Global,
@@ -242,7 +242,7 @@ fn wanted_answers(byte: usize) -> Answers {
 }
 
 /// The marker and STREAMINFO of one channel in blocks of 4096, total and digest unknown; and the frames of 10000
-/// samples behind it.
+/// samples after it.
 fn ten_thousand_pushed(alloc: Global) -> Result<Vec<u8>, Fail> {
     let head = "664c61438000002210001000000000000000\
         0ac440f00000000000000000000000000000000000000000";
@@ -454,7 +454,7 @@ struct Tagging<'a> {
     wanted: &'a [u8],
 }
 
-/// Sets the comments in pieces of so many bytes, where a call of the source fails, or one of the target, which takes a
+/// Sets the comments in pieces of n bytes, where a call of the source fails, or one of the target, which takes a
 /// byte at a time.
 fn retagged(
     alloc: Global,
@@ -472,7 +472,7 @@ fn retagged(
     (outcome, bytes, asked, sent)
 }
 
-/// The place where the source fails that is asked for the byte of this number. What is behind the blocks is not judged.
+/// The place where the source fails that is asked for the byte of this number. What is after the blocks is not judged.
 fn retag_place(byte: usize) -> Place {
     ONE_FRAME.part_place(ONE_FRAME.whole_before(byte).min(2))
 }
@@ -486,7 +486,7 @@ fn calls_of_copying(rt: &impl Abort, alloc: Global, tagging: &Tagging<'_>, most:
 }
 
 /// Whether these bytes are written if the source fails that is asked for the byte of this number: within the blocks
-/// nothing, and behind them a beginning, the blocks at least.
+/// nothing, and after them a beginning, the blocks at least.
 fn may_be_written(bytes: &[u8], wanted: &[u8], byte: usize) -> bool {
     wanted.starts_with(bytes)
         && if byte < 42 {

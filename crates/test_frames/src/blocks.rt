@@ -433,7 +433,7 @@ const INDEX: CueIndex = CueIndex {
     number: 1,
 };
 
-/// A track of so many index points.
+/// A track of n index points.
 fn track_of(alloc: Global, points: usize) -> Result<CueTrack, Fail> {
     let indices = vec![in alloc; INDEX; points]?;
     Ok(CueTrack {

@@ -62,7 +62,7 @@ fn is_in_range(values: &[i64]) -> bool {
     values.iter().all(|value| value.unsigned_abs() < 1 << 31)
 }
 
-/// Whether a number has a two's complement form of so many bits; 0 alone has one of none.
+/// Whether a number has a two's complement form of n bits; 0 alone has one of none.
 fn fits(value: i64, width: u32) -> bool {
     let half = (1i64 << (width % 64)) / 2;
     if half == 0 {

@@ -35,7 +35,7 @@ const FRAMES: &str = "# Of the standard.
 32 16 | fff8698e00006b027fffffff027fffffff80fc62 | 0 false Fixed 0 1 [2147483647] [-2147483648]
 32 16 | fff8699e0000c9027fffffff8140000000005f45 | 0 false Fixed 0 1 [2147483647] [-2147483648]";
 
-/// STREAMINFO of two channels, of blocks of so many samples and of a bit depth.
+/// STREAMINFO of two channels, of blocks of n samples and of a bit depth.
 fn stereo_info(block: u16, depth: u8) -> Result<StreamInfo, Why>
     ensures { IfOk result (λ i. (i.channels ≡ 2) × (i.greatest_block ≡ block)) }
 {

@@ -17,8 +17,8 @@ mod headers;
 #[cfg(test)]
 mod joining;
 #[cfg(test)]
+mod lax_subframes;
+#[cfg(test)]
 mod predictors;
 #[cfg(test)]
 mod subframes;
-#[cfg(test)]
-mod wide;

@@ -2,14 +2,15 @@
 
 ghost use Rattle.std.specs.Prelude.{◌≡◌};
 
+use crate::lax_subframes::written_in;
 use crate::subframes::all_fit;
-use crate::wide::written_in;
 use flac_bits::{BitWriter, Collected, Target, Why};
-use flac_frame::{Audio, EncodeBuffers, encode_frame_with, frame_widened_is_plain, greatest_order};
+use flac_frame::{
+    Audio, EncodeBuffers, encode_frame_with, frame_family_with_is_plain, greatest_order,
+};
 use flac_header::Profile;
 use flac_subframe::{
-    Choice, Limits, LinearPredictor, choose, choose_with, widened_family_is_plain,
-    write_subframe_with,
+    Choice, Limits, LinearPredictor, choose, choose_with, family_with_is_plain, write_subframe_with,
 };
 use std::alloc::Global;
 use std::process::Abort;
@@ -113,7 +114,7 @@ fn writes(alloc: Global, predictors: &[LinearPredictor], wanted: &[u8]) -> Resul
 /// the header and 183 of a residual of 16 numbers of 11 bits.
 #[test]
 fn writes_by_a_predictor(rt: HostRuntime) -> Result<(), Fail> {
-    widened_family_is_plain();
+    family_with_is_plain();
     let Some(predictor) = LinearPredictor::new(1, 0, &[-1]) else {
         assert!(rt; false);
         return Ok(());
@@ -290,7 +291,7 @@ fn code_byte(alloc: Global, predictors: &[LinearPredictor]) -> Result<u8, Fail> 
 /// bits. Two channels that are the same are left and side, whose side is constant in 8 + 17 bits.
 #[test]
 fn writes_a_frame(rt: HostRuntime) -> Result<(), Fail> {
-    frame_widened_is_plain();
+    frame_family_with_is_plain();
     let Some(predictor) = LinearPredictor::new(1, 0, &[-1]) else {
         assert!(rt; false);
         return Ok(());

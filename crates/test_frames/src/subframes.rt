@@ -149,7 +149,7 @@ fn reads_subframes(rt: HostRuntime) -> Result<(), Fail> {
     Ok(())
 }
 
-/// Whether a number fits so many bits.
+/// Whether a number fits n bits.
 fn fits_bits(number: i64, bits: u32) -> bool
     requires { (1 ≤ bits) × (bits ≤ 33) }
     ensures { IsTrue result → FitsBits bits number }

@@ -1,7 +1,7 @@
 -- What a program finds that opens a stream, goes to a sample, and reads on.
 use Rattle.std.proofs.Common.{◌≡◌, inl, inr, ℕ, ◌<◌, ◌≤◌, ◌^◌, true, List, [], ◌∷◌, filter, map, length, Option, Some, None, Result, Ok, refl, sym, ap, subst, ◌∙◌, arith}
 use Rattle.flac_bits.specs.Bits.{bits_of}
-use Rattle.flac_bits.specs.Handing.{Reading, by_grammar}
+use Rattle.flac_bits.specs.Handing.{InputReading, by_grammar}
 use Rattle.flac_bits.specs.declared.why.Why.{Why}
 use Rattle.flac_bits.specs.declared.why.Why.TheVariants.{Truncated}
 use Rattle.flac_info.specs.Info.{Info}
@@ -11,7 +11,7 @@ use Rattle.flac_header.specs.declared.subset.Profile.{Profile}
 use Rattle.flac_frame.specs.Frame.{Frame}
 use Rattle.flac_native.specs.Decoding.{beginning}
 use Rattle.flac_native.specs.Stream.{Piece, grammar, opening}
-use Rattle.flac_native.specs.Item.{Item, frame, told}
+use Rattle.flac_native.specs.Item.{Item, frame, fault_pair}
 use Rattle.flac_native.specs.Giving.{Stage, stage_of, held}
 use Rattle.flac_native.specs.declared.fault.Place.{Place}
 use Rattle.flac_native.specs.declared.fault.Fault.{Fault}
@@ -72,7 +72,7 @@ same_info : (i j : Info) → some_info i ≡ Some j → i ≡ j
 same_info i j e = cc
 
 -- the info of such a reader is that of the stream, and it seeks from the first frame on
-pub info_is : {C : Type 0} {g : container.Ghosts C} (r : Reading Piece Place) (reader : Reader C g) (blocks : List Block) (frames : List Frame) (info : Info) → Opens r Tags reader → IsReadAs r blocks frames None → first_info blocks ≡ Some info → info ≡ reader.info
+pub info_is : {C : Type 0} {g : container.Ghosts C} (r : InputReading Piece Place) (reader : Reader C g) (blocks : List Block) (frames : List Frame) (info : Info) → Opens r Tags reader → IsReadAs r blocks frames None → first_info blocks ≡ Some info → info ≡ reader.info
 info_is r reader blocks frames info opens is told =
     same_info info reader.info (sym told ∙ sym (info_kept blocks) ∙ ap first_info (sym (opens.blocks blocks frames None is)) ∙ opens.info)
 
@@ -95,7 +95,7 @@ refusal x = Some x
 pub not_refused : (blocks : List Block) (frames : List Frame) (info : Info) (f : Fault) → first_info blocks ≡ Some info → IsRefusal blocks frames None f → ⊥
 not_refused blocks frames info f is (inl (none, end)) = no_end end
   where
-    no_end : None ≡ refusal (told f) → ⊥
+    no_end : None ≡ refusal (fault_pair f) → ⊥
     no_end e = absurd cc
 not_refused blocks frames info f is (inr (fault, none)) = no_info (sym none ∙ is)
   where
@@ -118,9 +118,9 @@ shows_first info (f ∷ fs) h g s first = let is : h ≡ Some (frame f) = same h
     same h e = cc
 
 pub shows : {D : Type 0} {g : container.Ghosts D} (info : Info) (sample : ℕ) (frames : List Frame) (reader : Reader D g) (result : Result (Option (ℕ × ℕ)) Fault) → Finds g info sample frames None reader.ahead (stage_of reader.decoder)
-    → reader.ahead ≡ true → reader.behind ≡ number_of info (held (stage_of reader.decoder).course (stage_of reader.decoder).track) → result ≡ Ok (seen_of reader.behind (last_frame reader)) → ShowsFrames info sample frames result
+    → reader.ahead ≡ true → reader.after ≡ number_of info (held (stage_of reader.decoder).course (stage_of reader.decoder).track) → result ≡ Ok (seen_of reader.after (last_frame reader)) → ShowsFrames info sample frames result
 shows {g = g} info sample frames reader result finds ahead number is =
     let s = stage_of reader.decoder in
     let first : IsFirst g (map frame finds.left) None (Ok (held s.course s.track)) s = subst (λ b. FramesCome g b s finds.left None) ahead finds.come in
-    let seen : seen_of reader.behind (last_frame reader) ≡ shown info finds.left = ap (λ n. seen_of n (last_frame reader)) number ∙ shows_first info finds.left (held s.course s.track) g s first in
+    let seen : seen_of reader.after (last_frame reader) ≡ shown info finds.left = ap (λ n. seen_of n (last_frame reader)) number ∙ shows_first info finds.left (held s.course s.track) g s first in
     subst (ShowsFrames info sample frames) (sym is) (finds.passed, finds.left, finds.split, finds.by, finds.holds, seen)

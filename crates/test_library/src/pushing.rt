@@ -113,7 +113,7 @@ fn is_frame_of(frame: &[u8], stream: &[u8]) -> bool {
     stream.len() > 42 && frame == &stream[42..]
 }
 
-/// A format encodes the block as the frame that the stream has behind its metadata.
+/// A format encodes the block as the frame that the stream has after its metadata.
 #[test]
 fn one_block(rt: HostRuntime) -> Result<(), Fail> {
     let wanted = hex::decode(rt.alloc(), ONE)?;

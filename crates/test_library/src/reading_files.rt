@@ -166,7 +166,7 @@ fn comments_by_name(rt: HostRuntime) -> Result<(), Fail> {
     Ok(())
 }
 
-/// Puts the samples of a frame behind those of each channel.
+/// Puts the samples of a frame after those of each channel.
 fn gather(frame: &FrameView<'_>, channels: &mut Vec<Vec<i32>>) -> Result<(), AllocError> {
     for (i, samples) in channels.iter_mut().enumerate() {
         if i < frame.channels() {

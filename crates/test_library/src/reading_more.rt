@@ -1,7 +1,7 @@
 //! What a decoder says of itself before any frame is read, why an Ogg stream is not opened, and samples that are sought
 //! in whole streams. The streams are the example of RFC 9639, appendix D.1, with the comment TITLE=x, its digest
 //! unknown, and the same samples in pages; and the samples 0, 1, .., 9999 in three frames of 4096, 4096 and 1808
-//! samples with seek points, of which the first frame begins at byte 100 and the second 15 bytes behind it.
+//! samples with seek points, of which the first frame begins at byte 100 and the second 15 bytes after it.
 
 use flac_ogg::ogg_decoder;
 use flac_reader::{

@@ -20,7 +20,7 @@ type Seen = Option<(u64, u64)>;
 
 /// Reads the next frame.
 fn next_frame<C: Container>(reader: &mut Reader<C>) -> Result<Seen, Fault>
-    ensures { reader.old.ahead ≡ true → result ≡ Ok (seen_of reader.old.behind (last_frame reader.old)) }
+    ensures { reader.old.ahead ≡ true → result ≡ Ok (seen_of reader.old.after (last_frame reader.old)) }
 {
     let size = match reader.next() {
         Ok(Some(frame)) => frame.len() as u64,

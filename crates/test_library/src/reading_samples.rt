@@ -146,9 +146,9 @@ type Counts = (i32, Option<Result<i32, Fault>>, Option<Result<i32, Fault>>);
 fn counted(alloc: Global, stream: &[u8]) -> Result<Counts, Fault> {
     let mut samples = opened(alloc, stream, Keep::Tags)?.into_samples();
     let (count, next) = count_rising(&mut samples, 0);
-    let behind = samples.next();
+    let after = samples.next();
     drop(samples);
-    Ok((count, next, behind))
+    Ok((count, next, after))
 }
 
 /// What comes of the example: two samples, nothing, and nothing again; and the rate that its reader has then.
@@ -225,7 +225,7 @@ fn frames_sought(rt: HostRuntime) -> Result<(), Fail> {
 }
 
 /// The samples from the frame that holds a sample on, and how many come.
-fn samples_behind(alloc: Global, stream: &[u8]) -> Result<i32, Fault> {
+fn samples_after_rows(alloc: Global, stream: &[u8]) -> Result<i32, Fault> {
     let reader = opened(alloc, stream, Keep::All)?;
     let frames = stream.get(100..).unwrap_or(&[]);
     let sought = reader.seek(alloc, frames, Profile::Subset, 5000)?;
@@ -238,12 +238,12 @@ fn samples_behind(alloc: Global, stream: &[u8]) -> Result<i32, Fault> {
 #[test]
 fn samples_of_frames_sought(rt: HostRuntime) -> Result<(), Fail> {
     let stream = hex::decode(rt.alloc(), TEN_THOUSAND)?;
-    assert!(rt; samples_behind(rt.alloc(), &stream) == Ok(5904));
+    assert!(rt; samples_after_rows(rt.alloc(), &stream) == Ok(5904));
     Ok(())
 }
 
 /// What is seen of the frame that a reader lends after a sample was taken of its first one.
-fn behind_a_sample(alloc: Global, stream: &[u8]) -> Result<Sought, Fault> {
+fn after_a_sample(alloc: Global, stream: &[u8]) -> Result<Sought, Fault> {
     let mut samples = opened(alloc, stream, Keep::Tags)?.into_samples();
     let _first = samples.next();
     let mut reader = samples.into_reader();
@@ -256,7 +256,7 @@ fn behind_a_sample(alloc: Global, stream: &[u8]) -> Result<Sought, Fault> {
 fn reader_of_samples(rt: HostRuntime) -> Result<(), Fail> {
     let stream = hex::decode(rt.alloc(), TEN_THOUSAND)?;
     let second = Some((4096, 4096, Duration::from_nanos(92_879_818)));
-    assert!(rt; behind_a_sample(rt.alloc(), &stream) == Ok(second));
+    assert!(rt; after_a_sample(rt.alloc(), &stream) == Ok(second));
     Ok(())
 }
 

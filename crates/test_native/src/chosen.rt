@@ -6,7 +6,7 @@ ghost use Rattle.flac_native.specs.Given.{fits_plan, room_of};
 
 use flac_bits::{Target, send_all};
 use flac_frame::{Audio, EncodeBuffers};
-use flac_native::{ChosenFrames, Plan, Profile, Room, StreamInfo, Why, info_of};
+use flac_native::{ChosenFrames, FixedBuffer, Plan, Profile, StreamInfo, Why, info_of};
 use std::alloc::Global;
 use std::mem::drop;
 use std::ops::Range;
@@ -20,7 +20,7 @@ struct FirstFrame {
     least: u32,
     greatest: u32,
     info: StreamInfo,
-    room: Room,
+    room: FixedBuffer,
 }
 
 /// Chooses the frames of samples, and writes the first one, if there is one.
@@ -47,7 +47,7 @@ fn chosen(
     })
 }
 
-/// Whether STREAMINFO is that of frames of so many bytes, at 44100 Hz and 16 bits.
+/// Whether STREAMINFO is that of frames of n bytes, at 44100 Hz and 16 bits.
 fn is_info_of(info: &StreamInfo, len: u32) -> bool {
     (info.least_frame(), info.greatest_frame()) == (len, len)
         && (info.rate(), info.depth()) == (44100, 16)
@@ -135,7 +135,7 @@ fn ranges_of_frames(rt: HostRuntime) -> Result<(), Fail> {
 #[test]
 fn room(rt: HostRuntime) -> Result<(), Fail> {
     let stream = hex::decode(rt.alloc(), ONE_SAMPLE)?;
-    let mut room = Room::new(rt.alloc(), 57)?;
+    let mut room = FixedBuffer::new(rt.alloc(), 57)?;
     assert!(rt; send_all(&mut room, &stream).is_ok());
     assert!(rt; room.bytes() == stream.as_slice());
     let mut room = room.emptied();

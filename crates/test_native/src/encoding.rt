@@ -143,7 +143,7 @@ fn blocks_of_plans(rt: HostRuntime) -> Result<(), Fail> {
     Ok(())
 }
 
-/// The number of the fault for which a point for each of so many blocks of 16 samples is refused, 0 if it is not.
+/// The number of the fault for which a point for each of n blocks of 16 samples is refused, 0 if it is not.
 fn points_refused(alloc: Global, blocks: usize) -> Result<u8, Fail> {
     let samples = vec![in alloc; 0; blocks.saturating_mul(16)]?;
     let audio = Audio::new(44100, 16, vec![in alloc; samples]?)?;
@@ -205,7 +205,7 @@ fn head_is(alloc: Global, list: BlockList, wanted: &[u8]) -> Result<bool, Fail> 
     Ok(outcome == Ok(()) && sent.bytes() == wanted)
 }
 
-/// What comes before the frame of the sample, without and with a block behind STREAMINFO.
+/// What comes before the frame of the sample, without and with a block after STREAMINFO.
 #[test]
 fn heads(rt: HostRuntime) -> Result<(), Fail> {
     let alloc = rt.alloc();
@@ -218,7 +218,7 @@ fn heads(rt: HostRuntime) -> Result<(), Fail> {
     Ok(())
 }
 
-/// A target in memory fails by want of memory alone. What is no fault of the target stays.
+/// A target in memory fails only when out of memory. What is no fault of the target stays.
 #[test]
 fn faults_in_memory(rt: HostRuntime) {
     assert!(rt; EncodeFault::Write.in_memory() == EncodeFault::Memory);

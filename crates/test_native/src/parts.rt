@@ -192,7 +192,7 @@ fn kinds_of_places(rt: HostRuntime) {
     assert!(rt; Place::End.kind_name() == "end");
 }
 
-/// A stream has no bytes from an offset behind its end on.
+/// A stream has no bytes from an offset after its end on.
 #[test]
 fn bytes_from_an_offset(rt: HostRuntime) {
     assert!(rt; bytes_from(b"fLaC", 0) == b"fLaC".as_slice());

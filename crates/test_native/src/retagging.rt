@@ -86,7 +86,7 @@ fn rest(alloc: Global) -> Result<Vec<u8>, Fail> {
     Ok(rest)
 }
 
-/// What is written of the example's STREAMINFO and these bytes behind it with the comment TITLE=x.
+/// What is written of the example's STREAMINFO and these bytes after it with the comment TITLE=x.
 fn headed(alloc: Global, rest: &[u8]) -> Result<Vec<u8>, Fail> {
     let mut stream = hex::decode(alloc, EXAMPLE_INFO)?;
     stream.extend_from_slice(rest)?;

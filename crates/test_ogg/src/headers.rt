@@ -60,8 +60,8 @@ fn held_back(rt: HostRuntime) -> Result<(), Fail> {
     Ok(())
 }
 
-/// Whether a list with a comment block behind this many paddings begins with it.
-fn begins_behind(alloc: Global, paddings: usize) -> Result<bool, Fail> {
+/// Whether a list with a comment block after this many paddings begins with it.
+fn begins_after(alloc: Global, paddings: usize) -> Result<bool, Fail> {
     let list = comments(alloc, paddings)?;
     let begins = begins_with_comment(list.blocks());
     drop(list);
@@ -70,8 +70,8 @@ fn begins_behind(alloc: Global, paddings: usize) -> Result<bool, Fail> {
 
 #[test]
 fn comment_first(rt: HostRuntime) -> Result<(), Fail> {
-    assert!(rt; begins_behind(rt.alloc(), 0)?);
-    assert!(rt; !begins_behind(rt.alloc(), 1)?);
+    assert!(rt; begins_after(rt.alloc(), 0)?);
+    assert!(rt; !begins_after(rt.alloc(), 1)?);
     assert!(rt; !begins_with_comment(&[Block::Padding(0)]));
     assert!(rt; !begins_with_comment(&[]));
     Ok(())

@@ -298,7 +298,7 @@ fn pushed_pages(alloc: Global) -> Result<([u8; 2], Collected), Fail> {
     Ok((answers, encoder.finish()?))
 }
 
-/// The pages behind the first one, of 79 bytes, whose STREAMINFO states neither total nor digest.
+/// The pages after the first one, of 79 bytes, whose STREAMINFO states neither total nor digest.
 #[test]
 fn pages_block_by_block(rt: HostRuntime) -> Result<(), Fail> {
     let (answers, target) = pushed_pages(rt.alloc())?;

@@ -12,7 +12,7 @@ use std::test::Fail;
 use test_calls::sample;
 use test_vectors::{ONE_SAMPLE_COMMENTED, PAGES, PAGES_OF_NO_SAMPLES, channels_of};
 
-/// A block of no vendor and no comments, behind this many paddings.
+/// A block of no vendor and no comments, after this many paddings.
 pub(crate) fn comments(alloc: Global, paddings: usize) -> Result<BlockList, Fail> {
     let mut blocks = Vec::new(alloc);
     for _ in 0..paddings {
@@ -25,7 +25,7 @@ pub(crate) fn comments(alloc: Global, paddings: usize) -> Result<BlockList, Fail
     Ok(BlockList::new(blocks)?)
 }
 
-/// Writes samples with that block behind paddings, and seek points each so many samples: the outcome, and the pages.
+/// Writes samples with that block after paddings, and seek points every n samples: the outcome, and the pages.
 fn pages_of(
     alloc: Global,
     audio: &Audio,
@@ -61,7 +61,7 @@ fn no_samples_in_pages(rt: HostRuntime) -> Result<(), Fail> {
     writes(&rt, rt.alloc(), &audio, PAGES_OF_NO_SAMPLES)
 }
 
-/// Checks that nothing is written of a sample, behind paddings and with seek points.
+/// Checks that nothing is written of a sample, after paddings and with seek points.
 fn is_refused(rt: &impl Abort, alloc: Global, paddings: usize, every: u32) -> Result<(), Fail> {
     let audio = sample(alloc)?;
     let (outcome, pages) = pages_of(alloc, &audio, paddings, every)?;
@@ -78,7 +78,7 @@ fn no_stream_in_ogg(rt: HostRuntime) -> Result<(), Fail> {
     is_refused(&rt, rt.alloc(), 1, 1)
 }
 
-/// One sample with that block behind paddings, encoded and decoded again in one call: in pages if there is a serial
+/// One sample with that block after paddings, encoded and decoded again in one call: in pages if there is a serial
 /// number.
 fn both_ways(
     alloc: Global,

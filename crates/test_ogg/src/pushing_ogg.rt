@@ -17,7 +17,7 @@ use test_vectors::PAGES_OF_PUSHES;
 const NO_FRAME: &str =
     "4f676753000200000000000000000100000000000000bb6e652301337f464c414301000001664c614300000022100010000000000000000ac442f000000000000000000000000000000000000000004f67675300040000000000000000010000000100000099fee768010c840000080000000000000000";
 
-/// A block of no vendor and no comments, and behind it this many paddings; or, if it is not asked for, the paddings
+/// A block of no vendor and no comments, and after it this many paddings; or, if it is not asked for, the paddings
 /// alone.
 fn list_of(alloc: Global, comments: bool, paddings: usize) -> Result<BlockList, Fail> {
     let mut blocks = Vec::new(alloc);
@@ -33,7 +33,7 @@ fn list_of(alloc: Global, comments: bool, paddings: usize) -> Result<BlockList, 
     Ok(BlockList::new(blocks)?)
 }
 
-/// An encoder of a format of 44100 Hz and 16 bits, with that block and so many paddings.
+/// An encoder of a format of 44100 Hz and 16 bits, with that block and n paddings.
 fn encoder_of<W: Target + Drop>(
     alloc: Global,
     channels: u32,
@@ -182,7 +182,7 @@ fn two_with_room(alloc: Global, room: usize) -> Result<[u8; 3], Fail> {
     Ok(two_and_finish(encoder))
 }
 
-/// A target that fails in the second header packet, which the first frame is held behind, and one that fails at the
+/// A target that fails in the second header packet, after which the first frame is held, and one that fails at the
 /// end.
 #[test]
 fn spent(rt: HostRuntime) -> Result<(), Fail> {
@@ -204,7 +204,7 @@ fn record<W: Target + Drop>(encoder: &mut OggEncoder<W>) -> Result<(), EncodeFau
     encoder.push(&[&block[..5]])
 }
 
-/// What a recorder pushes, with two paddings behind the comments.
+/// What a recorder pushes, with two paddings after the comments.
 fn recorded(alloc: Global) -> Result<(Result<(), EncodeFault>, Collected), Fail> {
     let mut encoder = encoder_of(alloc, 1, 16, 2, Collected::new(alloc))?;
     let outcome = record(&mut encoder);
@@ -224,7 +224,7 @@ fn read_again(rt: HostRuntime) -> Result<(), Fail> {
     Ok(())
 }
 
-/// How many header packets the first page of a stream states, in its bytes 35 and 36, if comments and so many paddings
+/// How many header packets the first page of a stream states, in its bytes 35 and 36, if comments and n paddings
 /// come after STREAMINFO.
 fn headers_stated(alloc: Global, paddings: usize) -> Result<u32, Fail> {
     let encoder = encoder_of(alloc, 1, 16, paddings, Collected::new(alloc))?;

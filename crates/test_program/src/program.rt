@@ -97,7 +97,7 @@ fn has_line(bytes: &[u8], front: &str, line: &str) -> bool {
     rest == Some(line.as_bytes())
 }
 
-/// The one line that these bytes are, behind this front; nothing where they are no such line.
+/// The one line that these bytes are, after this front; nothing where they are no such line.
 fn line_in<'a>(bytes: &'a [u8], front: &str) -> &'a str {
     let rest = bytes.strip_prefix(front.as_bytes()).unwrap_or(&[]);
     let line = rest.strip_suffix(b"\n").unwrap_or(&[]);

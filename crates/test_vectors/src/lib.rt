@@ -67,19 +67,19 @@ pub const PAIRS_24: &str =
 pub const EQUAL_32: &str =
     "664c6143800000220010001000000e00000e0ac441f0000000109e9acc978df6458dadf4faef69ee5763fff8690e000f4d007fffffffda2b";
 
-/// A frame of 0, 1, .., 15 behind a STREAMINFO of its format, total and digest unknown.
+/// A frame of 0, 1, .., 15 after a STREAMINFO of its format, total and digest unknown.
 pub const RISING_ALONE: &str =
     "664c614380000022001010000000000000000ac440f00000000000000000000000000000000000000000fff86908000f30140000000103c0efc9";
 
-/// Sixteen zeros behind the same.
+/// Sixteen zeros after the same.
 pub const SILENT_ALONE: &str =
     "664c614380000022001010000000000000000ac440f00000000000000000000000000000000000000000fff86908000f301003c0cf43";
 
-/// 1001 and -1001 in turn by a linear predictor of order 1, precision 1, shift 0 and coefficient -1 behind the same.
+/// 1001 and -1001 in turn by a linear predictor of order 1, precision 1, shift 0 and coefficient -1 after the same.
 pub const ALTERNATING: &str =
     "664c614380000022001010000000000000000ac440f00000000000000000000000000000000000000000fff86908000f304003e90040f000b5aa";
 
-/// 0, 1, .., 15 in two channels as left and side, behind a STREAMINFO of two channels, total and digest unknown.
+/// 0, 1, .., 15 in two channels as left and side, after a STREAMINFO of two channels, total and digest unknown.
 pub const LEFT_SIDE: &str =
     "664c614380000022001010000000000000000ac442f00000000000000000000000000000000000000000fff86988000f3b140000000103c02007803d83";
 

@@ -29,7 +29,7 @@ register_32 c = (c / 16777216) ∷ (c / 65536 % 256) ∷ (c / 256 % 256) ∷ (c 
 -- after d zeros the first i bytes of the quotient of x by a multiple of degree d, and zeros after them
 pub record Divided (d : ℕ) (es : List ℕ) (x : ℕ → ℕ) (q : List ℕ) (i : ℕ) : Type 0 where
   pub before : (k : ℕ) → k < d → value_at q k ≡ 0
-  pub behind : (k : ℕ) → d + i ≤ k → value_at q k ≡ 0
+  pub after : (k : ℕ) → d + i ≤ k → value_at q k ≡ 0
   pub each : (p : ℕ) → p < i → bit_xor (value_at q (p + d)) (mixed_at es (value_at q) p) ≡ x p
 
 -- the bytes of a quotient from one index up to another follow from those before them

@@ -2,7 +2,7 @@
 use Rattle.std.specs.Prelude.{◌≡◌, ◌≤◌, ◌<◌, ◌+◌, ◌-◌, ℕ, ℤ, pos, true, List, length, take, get_or, Result}
 use Rattle.flac_bits.specs.State.{State, Cursor}
 use Rattle.flac_bits.specs.Layout.{Layout, Reason, run, and_then}
-use Rattle.flac_bits.specs.Lists.{list_of, behind}
+use Rattle.flac_bits.specs.Lists.{list_of, after}
 use Rattle.flac_bits.specs.Reading.{HeldEnds}
 use Rattle.flac_bits.specs.Rice.{rice_value, IsResidual}
 
@@ -11,7 +11,7 @@ pub record Goes {Y : Type 0} (old now : State) (rest whole : Result Y Reason) : 
   pub known : old.known ≡ true → now.known ≡ true
   pub errors : now.errors ≡ old.errors
   pub raised : now.raised ≡ old.raised
-  pub behind : old.known ≡ true → now.behind ≡ old.behind
+  pub after : old.known ≡ true → now.after ≡ old.after
   pub names : now.names ≡ old.names
   pub reads : old.known ≡ true → rest ≡ whole
 
@@ -23,7 +23,7 @@ pub record Draws (old now : State) (rest whole : Type 0) : Type 0 where
 
 -- The source was not asked: what is known of it stays.
 abbrev pub SameSource : State → State → Type 0
-SameSource old new = (new.known ≡ old.known) × (new.errors ≡ old.errors) × (new.raised ≡ old.raised) × (new.behind ≡ old.behind) × (new.names ≡ old.names)
+SameSource old new = (new.known ≡ old.known) × (new.errors ≡ old.errors) × (new.raised ≡ old.raised) × (new.after ≡ old.after) × (new.names ≡ old.names)
 
 -- what was read was held
 abbrev pub TookHeld : State → State → Type 0
@@ -35,7 +35,7 @@ rice_values k n = list_of n (rice_value k)
 
 -- the values from an index on are read from a position, after those before it
 abbrev pub values_from : (k n : ℕ) → List ℤ → ℕ → Cursor → Result (List ℤ × Cursor) Reason
-values_from k n values i at = and_then (run (rice_values k (n - i)) at) (behind (take i values))
+values_from k n values i at = and_then (run (rice_values k (n - i)) at) (after (take i values))
 
 -- a loop that reads n values pulled only for those from one index up to another
 abbrev pub DrawsValues : (k n from to : ℕ) → State → State → Type 0

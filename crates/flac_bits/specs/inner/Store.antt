@@ -28,9 +28,9 @@ abbrev pub seen : Option ℕ → ℕ → ℕ
 seen None n = n
 seen (Some room) n = min n room
 
-abbrev pub room_behind : Option ℕ → ℕ → Option ℕ
-room_behind None n = None
-room_behind (Some room) n = Some (room - n)
+abbrev pub room_after : Option ℕ → ℕ → Option ℕ
+room_after None n = None
+room_after (Some room) n = Some (room - n)
 
 -- ---- the state of a store and of the source that fills it
 

@@ -4,14 +4,14 @@ use Rattle.flac_bits.specs.Bits.{unsigned, bits_of}
 use Rattle.flac_bits.specs.State.{Mark, past}
 use Rattle.flac_bits.specs.Layout.{run, and_then}
 use Rattle.flac_bits.specs.Meaning.{IsCut, unary_bits}
-use Rattle.flac_bits.specs.Lists.{list_of, behind}
+use Rattle.flac_bits.specs.Lists.{list_of, after}
 use Rattle.flac_bits.specs.Rice.{rice_value, unfolded}
 
 -- A text, whatever comes after it, is read as the values from one index up to another under the Rice parameter k
 -- (RFC 9639, section 9.2.7.3).
 pub record IsRead (k : ℕ) (text : List Bool) (old : List ℤ) (from : ℕ) (new : List ℤ) (to : ℕ) : Type 0 where
-  pub reads : (rest : List Bool) → (m : Mark) → and_then (run (list_of (length old - from) (rice_value k)) (record { left = text ++ rest; mark = m })) (behind (take from old))
-      ≡ and_then (run (list_of (length old - to) (rice_value k)) (record { left = rest; mark = past text m })) (behind (take to new))
+  pub reads : (rest : List Bool) → (m : Mark) → and_then (run (list_of (length old - from) (rice_value k)) (record { left = text ++ rest; mark = m })) (after (take from old))
+      ≡ and_then (run (list_of (length old - to) (rice_value k)) (record { left = rest; mark = past text m })) (after (take to new))
   -- and bits after it that end inside the other values end inside all of them
   pub ends : (rest : List Bool) → (m : Mark) → IsCut (list_of (length old - to) (rice_value k)) (past text m) rest → IsCut (list_of (length old - from) (rice_value k)) m (text ++ rest)
 

@@ -7,10 +7,10 @@ use Rattle.flac_bits.specs.declared.why.Why.TheVariants.{Memory}
 use Rattle.flac_bits.specs.Within.{ReadsWithin}
 
 -- the same unless memory ran out
-abbrev pub ReadsWithinInRoom : {X Y : Type 0} → Option ℕ → (X → Y) → Layout Y → State → State → Result X Why → Type 0
-ReadsWithinInRoom room view layout old new result = (result ≡ Err Memory → ⊥) → ReadsWithin room view layout old new result
+abbrev pub ReadsWithinGivenMemory : {X Y : Type 0} → Option ℕ → (X → Y) → Layout Y → State → State → Result X Why → Type 0
+ReadsWithinGivenMemory room view layout old new result = (result ≡ Err Memory → ⊥) → ReadsWithin room view layout old new result
 
 -- no fence is set
 pub record IsOpen (s : State) : Type 0 where
-  pub none : s.behind.fenced ≡ []
-  pub short : s.cursor.mark.short ≡ short_of s.behind.fails
+  pub none : s.after.fenced ≡ []
+  pub short : s.cursor.mark.short ≡ short_of s.after.fails

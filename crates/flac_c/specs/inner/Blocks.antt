@@ -2,7 +2,7 @@
 use Rattle.std.specs.Prelude.{◌≡◌, ◌≢◌, ℕ, Bool, true, List, ◌++◌, Option, None}
 use Rattle.flac_bits.specs.State.{State, past, fresh}
 use Rattle.flac_bits.specs.Meaning.{Spells}
-use Rattle.flac_bits.specs.Items.{Joined, Refused, after, mark_behind}
+use Rattle.flac_bits.specs.Items.{Joined, Refused, state_after, mark_after}
 use Rattle.flac_bits.specs.declared.why.Why.TheVariants.{Memory}
 use Rattle.flac_meta.specs.Block.{block as block_layout, seen_after}
 use Rattle.flac_meta.specs.declared.block.Seen.{Seen}
@@ -27,7 +27,7 @@ pub record Noted (old : Metadata) (b : Block) (new : Metadata) : Type 0 where
 
 -- STREAMINFO, the number of comments and the seek point of all these parts are kept
 pub record IsFound (sample : ℕ) (parts : List Piece) (found : Metadata) : Type 0 where
-  pub info : found.info ≡ (after grammar (opening Subset) parts).stand.info
+  pub info : found.info ≡ (state_after grammar (opening Subset) parts).stand.info
   pub comments : found.comments ≡ count_of (comments_from None parts)
   pub sought : found.sample ≡ sample
   pub point : found.point ≡ point_from sample None parts
@@ -51,7 +51,7 @@ pub record PartsRead (start now : State) (sample : ℕ) (found : Metadata) : Typ
   pub text : List Bool
   pub stands : start.cursor.left ≡ text ++ now.cursor.left
   pub spelled : Joined grammar (opening Subset) start.cursor.mark parts text
-  pub mark : now.cursor.mark ≡ mark_behind grammar (opening Subset) start.cursor.mark parts text spelled
+  pub mark : now.cursor.mark ≡ mark_after grammar (opening Subset) start.cursor.mark parts text spelled
   pub tells : IsFound sample parts found
   pub known : now.known ≡ true
   pub errors : now.errors ≡ start.errors
@@ -59,14 +59,14 @@ pub record PartsRead (start now : State) (sample : ℕ) (found : Metadata) : Typ
 -- and a block comes next
 pub record BlocksCome (start now : State) (sample : ℕ) (found : Metadata) (seen : Seen) (index : ℕ) : Type 0 where
   pub read : PartsRead start now sample found
-  pub phase : (after grammar (opening Subset) read.parts).stand.phase ≡ Blocks
-  pub seen_is : (after grammar (opening Subset) read.parts).stand.seen ≡ seen
-  pub index_is : (after grammar (opening Subset) read.parts).stand.index ≡ index
+  pub phase : (state_after grammar (opening Subset) read.parts).stand.phase ≡ Blocks
+  pub seen_is : (state_after grammar (opening Subset) read.parts).stand.seen ≡ seen
+  pub index_is : (state_after grammar (opening Subset) read.parts).stand.index ≡ index
 
 -- and all blocks are read
 pub record HeadRead (start now : State) (sample : ℕ) (found : Metadata) : Type 0 where
   pub read : PartsRead start now sample found
-  pub phase : (after grammar (opening Subset) read.parts).stand.phase ≡ Frames
+  pub phase : (state_after grammar (opening Subset) read.parts).stand.phase ≡ Frames
 
 -- what comes from the start on is refused at this place
 abbrev pub IsRefusedAt : State → Fault → Type 0

@@ -9,7 +9,7 @@ use Rattle.flac_wave.specs.Kept.{bits_after}
 use Rattle.flac_wave.specs.Plain.{plain_format}
 use Rattle.flac_wave.specs.Wave.{is_head, all_of, begins_empty}
 use Rattle.flac_cli.specs.Speakers.{mask_in}
-use Rattle.flac_cli.specs.Waves.{Plain, plain_with, no_plain, is_riff, file_samples, piece_fault, wide_by}
+use Rattle.flac_cli.specs.Waves.{Plain, plain_with, no_plain, is_riff, file_samples, piece_fault, wave_width_by}
 use Rattle.flac_cli.specs.declared.held_wave.KeptFault.{KeptFault}
 
 -- the pieces so far; how many there are up to the header of the samples, 0 before it came; the bits of a sample that the
@@ -81,10 +81,10 @@ abbrev pub held_fault : Held → Option KeptFault
 held_fault s = piece_fault (nat_lt 0 s.head) s.bits s.depth
 
 -- how many bytes a sample of the file has
-abbrev pub held_wide : Held → ℕ
-held_wide s = wide_by (nat_lt 0 s.head) s.bits s.depth
+abbrev pub held_wave_width : Held → ℕ
+held_wave_width s = wave_width_by (nat_lt 0 s.head) s.bits s.depth
 
--- samples of this depth have room in so many bytes, of which there are 4 at most; none have some
+-- samples of this depth have room in n bytes, of which there are 4 at most; none have some
 pub record Holds (wide depth : ℕ) : Type 0 where
   pub few : wide ≤ 4
   pub room : depth ≤ 8 * wide
@@ -92,7 +92,7 @@ pub record Holds (wide depth : ℕ) : Type 0 where
 
 -- the samples of a frame, as those of the file
 abbrev pub frame_text : Held → Frame → List ℕ
-frame_text s f = file_samples (held_wide s) s.depth (frame_bytes 0 s.depth f)
+frame_text s f = file_samples (held_wave_width s) s.depth (frame_bytes 0 s.depth f)
 
 -- then no samples are written
 abbrev pub writes : Held → Bool

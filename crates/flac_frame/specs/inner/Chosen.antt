@@ -1,6 +1,6 @@
 -- For proofs of the search: choices for channels, each by itself.
 use Rattle.std.specs.Prelude.{ℕ, ℤ, List}
-use Rattle.flac_subframe.specs.declared.search.wide.WideChoice.{WideChoice}
+use Rattle.flac_subframe.specs.declared.search.wide_choice.WideChoice.{WideChoice}
 use Rattle.flac_frame.specs.inner.Encoding.{AreFormsByPlane, AreLeast}
 use Rattle.flac_frame.specs.Chosen.{forms_by_plane, AreMadeByPlane}
 use Rattle.flac_frame.specs.PlaneLists.{Lists}

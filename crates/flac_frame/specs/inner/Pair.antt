@@ -3,7 +3,7 @@ use Rattle.std.specs.Prelude.{◌≡◌, ℕ, ◌+◌, ◌≤◌, ◌<◌, ◌�
 use Rattle.flac_bits.specs.Signed.{FitsBits}
 use Rattle.flac_subframe.specs.declared.format.limits.Limits.{Limits}
 use Rattle.flac_subframe.specs.declared.format.linear.LinearPredictor.{LinearPredictor}
-use Rattle.flac_subframe.specs.declared.search.wide.WideChoice.{WideChoice}
+use Rattle.flac_subframe.specs.declared.search.wide_choice.WideChoice.{WideChoice}
 use Rattle.flac_subframe.specs.search.Choices.{IsMadeIn, form_in}
 use Rattle.flac_subframe.specs.format.Handed.{AreWithin}
 use Rattle.flac_subframe.specs.format.Spelling.{subframe_spelling, IsSubframe}
@@ -12,10 +12,10 @@ use Rattle.flac_frame.specs.inner.Encoding.{IsLeastFor}
 use Rattle.flac_frame.specs.PlaneLists.{Lists}
 use Rattle.flac_frame.specs.Stereo.{side_of, middle_of, kept_as}
 use Rattle.flac_frame.specs.Audio.{Sound}
-use Rattle.flac_frame.specs.Chosen.{AllWide}
+use Rattle.flac_frame.specs.Chosen.{AllHaveCodings}
 use Rattle.flac_frame.specs.Encoding.{block_of}
 use Rattle.flac_frame.specs.Frame.{side_bit}
-use Rattle.flac_frame.specs.Pair.{AreWide}
+use Rattle.flac_frame.specs.Pair.{HaveCodings}
 use Rattle.flac_frame.specs.declared.pair_choices.PairChoices.{PairChoices}
 
 -- the codes of two channels (RFC 9639, section 9.1.3)
@@ -67,8 +67,8 @@ abbrev pub with_kept : ℕ → PairChoices → List WideChoice → List WideChoi
 with_kept code c places = slice_set (slice_set places 0 (first_kept code c)) 1 (second_kept code c)
 
 -- arrays that are long enough stay so
-abbrev pub KeepsWide : PairChoices → List WideChoice → PairChoices → List WideChoice → Type 0
-KeepsWide c places c' places' = (most : ℕ) → AreWide most c → AllWide most places → AreWide most c' × AllWide most places'
+abbrev pub KeepsCodings : PairChoices → List WideChoice → PairChoices → List WideChoice → Type 0
+KeepsCodings c places c' places' = (most : ℕ) → HaveCodings most c → AllHaveCodings most places → HaveCodings most c' × AllHaveCodings most places'
 
 -- if two channels fit a depth, what a code stores of them fits it too, the side with one bit more (section 9.2.3)
 abbrev pub FitAsKept : ℕ → (left right first second : List ℤ) → Type 0

@@ -4,7 +4,7 @@ use Rattle.flac_bits.specs.Written.{Written}
 use Rattle.flac_bits.specs.declared.why.Why.{Why}
 use Rattle.flac_subframe.specs.search.Choices.{form_in}
 use Rattle.flac_subframe.specs.format.Spelling.{subframe_spelling}
-use Rattle.flac_subframe.specs.declared.search.wide.WideChoice.{WideChoice}
+use Rattle.flac_subframe.specs.declared.search.wide_choice.WideChoice.{WideChoice}
 use Rattle.flac_frame.specs.Chosen.{forms_by_plane, AreMadeByPlane, IsChoiceByPlane}
 use Rattle.flac_frame.specs.Encoding.{block_of, partition_limit, order_limit, WritesFrameByPlane}
 use Rattle.flac_frame.specs.PlaneLists.{Lists, lists_of, lists_kept, AreAllWithin}

@@ -1,4 +1,4 @@
--- For the proof of reading: the header as its codes and what comes behind them.
+-- For the proof of reading: the header as its codes and what comes after them.
 use Rattle.std.specs.Prelude.{◌≡◌, ◌<◌, ℕ, Bool, false, not, nat_eq, nat_lt}
 use Rattle.flac_bits.specs.Layout.{Layout, done, bits, check8, ◌>>=◌}
 use Rattle.flac_bits.specs.Number.{number}
@@ -42,8 +42,8 @@ abbrev pub AreValid : CodesRead → Type 0
 AreValid k = (0 < k.size_code) × (k.size_code < 16) × (k.rate_code < 15) × (k.channel_code < 11) × (k.depth_code < 8) × (nat_eq k.depth_code 3 ≡ false)
 
 -- the fields from the coded number on
-unfoldable pub behind_codes : Codes → Layout Header
-behind_codes k = do
+unfoldable pub after_codes : Codes → Layout Header
+after_codes k = do
   count ← number (number_bits k.variable)
   size ← size_field k.size_code
   rate ← rate_field k.rate_code

@@ -8,7 +8,7 @@ use Rattle.flac_bits.specs.Forms.{joined}
 use Rattle.flac_header.specs.Spelling.{restarted}
 use Rattle.flac_frame.specs.Audio.{Sound, samples_each}
 use Rattle.flac_frame.specs.Spelling.{FrameForm, frame_spelling}
-use Rattle.flac_subframe.specs.search.Room.{Room}
+use Rattle.flac_subframe.specs.search.Capacity.{Capacity}
 use Rattle.flac_subframe.specs.declared.format.linear.LinearPredictor.{LinearPredictor}
 use Rattle.flac_frame.specs.Chosen.{IsChoiceWith}
 use Rattle.flac_frame.specs.declared.frame_choice.FrameChoice.{FrameChoice}
@@ -39,7 +39,7 @@ pub record WritesOn {X : Type 0} (text : List Bool) (old new : Written) (result 
 
 -- The frame of a number can be written: it has samples, which fit the plan; these are the choices of the first frames;
 -- and the buffers were made for the plan.
-pub record IsReady (p : Cut) (a : Sound) (number : ℕ) (choices : List FrameChoice) (room : Room) : Type 0 where
+pub record IsReady (p : Cut) (a : Sound) (number : ℕ) (choices : List FrameChoice) (room : Capacity) : Type 0 where
   pub fits : fits_plan p a ≡ true
   pub few : number < blocks_in p.block_size (samples_each a.channels)
   pub chosen : AreChoices p a choices

@@ -2,19 +2,19 @@
 use Rattle.std.specs.Prelude.{◌≡◌, ◌≢◌, ◌+◌, ℕ, length, true, false, Option, Some, None, Result, Ok, Err}
 use Rattle.flac_bits.specs.Layout.{Layout, ◌>>=◌}
 use Rattle.flac_bits.specs.Fencing.{lifted}
-use Rattle.flac_bits.specs.Reading.{ReadsInRoom, Call, CallInPlace}
+use Rattle.flac_bits.specs.Reading.{ReadsGivenMemory, Call, CallInPlace}
 use Rattle.flac_bits.specs.State.{State}
 use Rattle.flac_bits.specs.Within.{ReadsWithin}
 use Rattle.flac_bits.specs.declared.why.Why.{Why}
 use Rattle.flac_bits.specs.declared.why.Why.TheVariants.{Memory}
-use Rattle.flac_bits.specs.inner.Within.{ReadsWithinInRoom}
-use Rattle.flac_native.specs.Stream.{Piece, Stand, Progress, next, layout_in, room_in, frame_behind}
-use Rattle.flac_native.specs.Track.{IsAt, IsInOrder, is_behind_blocks, piece_of, kept, shown, stand_of}
+use Rattle.flac_bits.specs.inner.Within.{ReadsWithinGivenMemory}
+use Rattle.flac_native.specs.Stream.{Piece, Stand, Progress, next, layout_in, room_in, frame_after}
+use Rattle.flac_native.specs.Track.{IsAt, IsInOrder, is_after_blocks, piece_of, kept, shown, stand_of}
 use Rattle.flac_native.specs.declared.container.Part.{Part}
 use Rattle.flac_native.specs.declared.fault.Fault.{Fault}
 use Rattle.flac_native.specs.declared.track.Phase.TheVariants.{Opening, Blocks, Frames}
 use Rattle.flac_native.specs.declared.track.Track.{Track}
-use Rattle.flac_pages.specs.Items.{HasBehind, TellsItem, packet_mark, packet_of}
+use Rattle.flac_pages.specs.Items.{HasAfter, TellsItem, packet_mark, packet_of}
 use Rattle.flac_pages.specs.Packets.{Ahead, Met, Place, ahead}
 use Rattle.flac_ogg.specs.Decoding.{IsBrokenAt}
 use Rattle.flac_ogg.specs.Mapping.{mapping, packet_layout}
@@ -40,7 +40,7 @@ TrackGoesOn old new x = (p : Progress) → IsAt old p → IsAt new (next p x)
 
 -- a block comes in its phase, and a frame in its
 abbrev pub BlockInOrder : Part → (old new : Track) → Type 0
-BlockInOrder part old new = is_behind_blocks (stand_of old).phase ≡ false → IsInOrder (Some part) old new
+BlockInOrder part old new = is_after_blocks (stand_of old).phase ≡ false → IsInOrder (Some part) old new
 
 abbrev pub FrameInOrder : Part → (old new : Track) → Type 0
 FrameInOrder part old new = (stand_of old).phase ≡ Frames → IsInOrder (Some part) old new
@@ -48,21 +48,21 @@ FrameInOrder part old new = (stand_of old).phase ≡ Frames → IsInOrder (Some 
 -- ---- what is read of a packet's bits, and is kept in the track
 
 abbrev pub ReadsBlock : {X : Type 0} → Track → Stand → State → State → Result X Why → Type 0
-ReadsBlock t s old new result = Call 32 (ReadsInRoom (λ _. kept t) (layout_in Blocks s)) old new result
+ReadsBlock t s old new result = Call 32 (ReadsGivenMemory (λ _. kept t) (layout_in Blocks s)) old new result
 
 abbrev pub GivesBlockPart : Track → Layout Piece → State → State → Result Part Why → Type 0
-GivesBlockPart t layout old new result = ReadsInRoom (λ part. piece_of t part) layout old new result
+GivesBlockPart t layout old new result = ReadsGivenMemory (λ part. piece_of t part) layout old new result
 
 -- a frame, which has at most 2^24 - 1 bytes (RFC 9639, section 8.2)
 abbrev pub GivesFramePart : Track → Stand → State → State → Result Part Why → Type 0
 GivesFramePart t s old new result = ReadsWithin (Some 16777215) (λ part. piece_of t part) (layout_in Frames s) old new result
 
 abbrev pub ReadsFrame : {X : Type 0} → Track → Stand → State → State → Result X Why → Type 0
-ReadsFrame t s old new result = CallInPlace 40 (λ _. ReadsWithin (Some 16777215) (λ _. shown t) (frame_behind s.profile s.info s.before) old) (lifted old) new result
+ReadsFrame t s old new result = CallInPlace 40 (λ _. ReadsWithin (Some 16777215) (λ _. shown t) (frame_after s.profile s.info s.before) old) (lifted old) new result
 
 -- the packet's block or frame, in this state
 abbrev pub GivesPacket : Track → Stand → State → State → Result Part Why → Type 0
-GivesPacket t s old new result = s.phase ≢ Opening → ReadsWithinInRoom (room_in s.phase) (λ part. piece_of t part) (packet_layout s) old new result
+GivesPacket t s old new result = s.phase ≢ Opening → ReadsWithinGivenMemory (room_in s.phase) (λ part. piece_of t part) (packet_layout s) old new result
 
 -- ---- the pages
 
@@ -76,7 +76,7 @@ most_left p = p.most + length p.body
 
 -- in this state they are after a packet, and still have what was after it
 abbrev pub IsAfterPacket : Stand → (old new : Place) → Type 0
-IsAfterPacket s old new = s.phase ≢ Opening → old.known ≡ true → HasBehind old new
+IsAfterPacket s old new = s.phase ≢ Opening → old.known ≡ true → HasAfter old new
 
 -- ---- what a call over one packet returns
 

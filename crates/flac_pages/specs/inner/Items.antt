@@ -3,7 +3,7 @@ use Rattle.std.specs.Prelude.{◌≡◌, ◌≢◌, ◌≤◌, ◌+◌, ℕ, [],
 use Rattle.flac_bits.specs.State.{State}
 use Rattle.flac_bits.specs.declared.why.Why.{Why}
 use Rattle.flac_bits.specs.declared.why.Why.TheVariants.{Read, Truncated, PacketLength}
-use Rattle.flac_pages.specs.Packets.{Place, Met, behind_of, on_page, ReadsPages, BreaksAt}
+use Rattle.flac_pages.specs.Packets.{Place, Met, after_of, on_page, ReadsPages, BreaksAt}
 use Rattle.flac_pages.specs.Items.{PacketEnd, whole, cut_at, end_of, cut_off}
 
 -- the reason if a field needs more bits than the packet has
@@ -36,14 +36,14 @@ EndsPacket old new (Ok x) = record {
   names : new.names ≡ old.names;
   stands : (new.rest ≡ 0) × (new.more ≡ false);
   room : new.most + length new.body ≤ old.most + length old.body;
-  ended : old.known ≡ true → end_of (behind_of old) ≡ whole;
-  behind : old.known ≡ true → behind_of new ≡ behind_of old;
+  ended : old.known ≡ true → end_of (after_of old) ≡ whole;
+  after : old.known ≡ true → after_of new ≡ after_of old;
   pages : old.known ≡ true → ReadsPages (on_page old) (on_page new);
 }
 EndsPacket old new (Err why) = record {
   errors : old.errors ≤ new.errors;
   met : Met why.1 old.raised new.raised;
   names : new.names ≡ old.names;
-  fault : old.known ≡ true → new.errors ≡ old.errors → (end_of (behind_of old) ≢ whole) × (why ≡ cut_off (end_of (behind_of old)));
+  fault : old.known ≡ true → new.errors ≡ old.errors → (end_of (after_of old) ≢ whole) × (why ≡ cut_off (end_of (after_of old)));
   breaks : old.known ≡ true → IfSome why.0 (λ n. (old.more ≡ true) × BreaksAt (on_page old) n);
 }

@@ -1,7 +1,7 @@
 -- For proofs of reading packets: what the steps of a reader do.
 use Rattle.std.specs.Prelude.{◌≡◌, ℕ, ◌+◌, ◌*◌, ◌<◌, Bool, true, false, List, [], ◌∷◌, ◌++◌, length, take, Option, Some, None, nat_eq, Result, Ok, Err, ◌≤◌}
 use Rattle.flac_bits.specs.declared.why.Why.{Why}
-use Rattle.flac_pages.specs.Packets.{Place, Ahead, ahead, rest_of, behind_of, broken_off, on_page, ReadsPages, BreaksAt, Met}
+use Rattle.flac_pages.specs.Packets.{Place, Ahead, ahead, rest_of, after_of, broken_off, on_page, ReadsPages, BreaksAt, Met}
 
 -- ---- the state of a reader of packets
 
@@ -57,19 +57,19 @@ Steps old new (Ok true) = record {
   raised : new.raised ≡ old.raised;
   names : new.names ≡ old.names;
   bytes : old.known ≡ true → rest_of new ≡ rest_of old;
-  behind : old.known ≡ true → behind_of new ≡ behind_of old;
+  after : old.known ≡ true → after_of new ≡ after_of old;
   room : new.most + length new.body ≤ old.most + length old.body;
   spends : 256 * new.most + length new.lacing < 256 * old.most + length old.lacing;
   follows : Follows old new;
 }
-Steps old new (Ok false) = record { same : new ≡ old; bytes : rest_of old ≡ []; fault : (behind_of old).fails ≡ None; none : old.more ≡ true → (ahead old).lacing ≡ [] }
+Steps old new (Ok false) = record { same : new ≡ old; bytes : rest_of old ≡ []; fault : (after_of old).fails ≡ None; none : old.more ≡ true → (ahead old).lacing ≡ [] }
 Steps old new (Err why) = record {
   errors : old.errors ≤ new.errors;
   met : Met why old.raised new.raised;
   names : new.names ≡ old.names;
   count : new.count ≡ old.count;
   bytes : old.known ≡ true → new.errors ≡ old.errors → rest_of old ≡ [];
-  behind : old.known ≡ true → new.errors ≡ old.errors → behind_of old ≡ broken_off (old.count, why);
+  after : old.known ≡ true → new.errors ≡ old.errors → after_of old ≡ broken_off (old.count, why);
   breaks : (old.more ≡ true) × BreaksAt (on_page old) new.count;
 }
 
@@ -82,9 +82,9 @@ Finds old new (Ok found) = record {
   names : new.names ≡ old.names;
   room : new.most + length new.body ≤ old.most + length old.body;
   bytes : old.known ≡ true → rest_of new ≡ rest_of old;
-  behind : old.known ≡ true → behind_of new ≡ behind_of old;
+  after : old.known ≡ true → after_of new ≡ after_of old;
   byte : found ≡ true → 0 < new.rest;
-  over : found ≡ false → old.known ≡ true → (rest_of old ≡ []) × ((behind_of old).fails ≡ None);
+  over : found ≡ false → old.known ≡ true → (rest_of old ≡ []) × ((after_of old).fails ≡ None);
   stands : found ≡ false → (new.rest ≡ 0) × (new.more ≡ true → (ahead new).lacing ≡ []);
   follows : Follows old new;
 }
@@ -93,7 +93,7 @@ Finds old new (Err why) = record {
   met : Met why old.raised new.raised;
   names : new.names ≡ old.names;
   bytes : old.known ≡ true → new.errors ≡ old.errors → rest_of old ≡ [];
-  behind : old.known ≡ true → new.errors ≡ old.errors → behind_of old ≡ broken_off (new.count, why);
+  after : old.known ≡ true → new.errors ≡ old.errors → after_of old ≡ broken_off (new.count, why);
   breaks : old.known ≡ true → (old.more ≡ true) × BreaksAt (on_page old) new.count;
 }
 
@@ -105,7 +105,7 @@ pub record Copies (old new : Place) (out : List ℕ) (n : ℕ) : Type 0 where
   pub names : new.names ≡ old.names
   pub room : new.most + length new.body + n ≤ old.most + length old.body
   pub bytes : rest_of old ≡ take n out ++ rest_of new
-  pub behind : behind_of new ≡ behind_of old
+  pub after : after_of new ≡ after_of old
   pub follows : Follows old new
 
 -- after the last page: no packet, or the fault there

@@ -2,7 +2,7 @@
 use Rattle.std.specs.Prelude.{ℕ, ℤ, ◌≤◌, ◌^◌, List, [], length, take}
 use Rattle.flac_subframe.specs.declared.format.limits.Limits.{Limits}
 use Rattle.flac_subframe.specs.declared.search.chosen.Choice.{Choice}
-use Rattle.flac_subframe.specs.declared.search.wide.WideChoice.{WideChoice}
+use Rattle.flac_subframe.specs.declared.search.wide_choice.WideChoice.{WideChoice}
 use Rattle.flac_subframe.specs.declared.format.linear.LinearPredictor.{LinearPredictor}
 use Rattle.flac_subframe.specs.format.Bodies.{Chooses}
 use Rattle.flac_subframe.specs.format.Family.{form_as, IsMadeAs, Stands}

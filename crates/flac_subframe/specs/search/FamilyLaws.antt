@@ -50,16 +50,16 @@ WithLinear ps (Fixed warm_up rest) = Unit {0}
 WithLinear ps (Linear warm_up chosen rest) = IsOneOf chosen ps
 
 -- a form of the family with linear predictors, for its samples: its wasted bits are the most that they all have
-pub record InWidened (ps : List LinearPredictor) (f : Form) (s : List ℤ) : Type 0 where
+pub record InFamilyWith (ps : List LinearPredictor) (f : Form) (s : List ℤ) : Type 0 where
   pub plain : WithLinear ps f.content
   pub wasted : IsWasted f.wasted s
 
 -- each form of this family that may be spelled, with a partition order of at most `most`, encodes its samples
-abbrev pub WidenedIsWhole : Type 0
-WidenedIsWhole = (most depth block : ℕ) (limits : Limits) (ps : List LinearPredictor) (f : Form) (s : List ℤ) → limits.partition ≤ most → IsSubframe depth block limits f → samples_of depth block f ≡ Some s
-    → InWidened ps f s → Stands most (offered ps) f s
+abbrev pub FamilyWithIsWhole : Type 0
+FamilyWithIsWhole = (most depth block : ℕ) (limits : Limits) (ps : List LinearPredictor) (f : Form) (s : List ℤ) → limits.partition ≤ most → IsSubframe depth block limits f → samples_of depth block f ≡ Some s
+    → InFamilyWith ps f s → Stands most (offered ps) f s
 
 -- conversely, if the order of each predictor is within the limit
-abbrev pub WidenedIsPlain : Type 0
-WidenedIsPlain = (most depth : ℕ) (limits : Limits) (ps : List LinearPredictor) (f : Form) (s : List ℤ) → 1 ≤ depth → 0 < length s → most ≤ limits.partition → most ≤ 15 → AreWithin limits.linear ps
-    → All (FitsBits depth) s → Stands most (offered ps) f s → IsSubframe depth (length s) limits f × (samples_of depth (length s) f ≡ Some s) × InWidened ps f s
+abbrev pub FamilyWithIsPlain : Type 0
+FamilyWithIsPlain = (most depth : ℕ) (limits : Limits) (ps : List LinearPredictor) (f : Form) (s : List ℤ) → 1 ≤ depth → 0 < length s → most ≤ limits.partition → most ≤ 15 → AreWithin limits.linear ps
+    → All (FitsBits depth) s → Stands most (offered ps) f s → IsSubframe depth (length s) limits f × (samples_of depth (length s) f ≡ Some s) × InFamilyWith ps f s

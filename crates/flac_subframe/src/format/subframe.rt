@@ -273,11 +273,11 @@ pub fn read_subframe<R: Source>(
     ensures small { IfOk result (λ fits. IsTrue fits → All (FitsBits 34) samples.new) }
     ensures reading { CallInPlace 8 (Means (if_fit samples.new) (subframe_samples depth block limits.now)) bits.old bits.new result }
 {
-    read_here(bits, depth, block, limits, samples)
+    read_by_layout(bits, depth, block, limits, samples)
 }
 
 /// Does what [`read_subframe`] does.
-fn read_here<R: Source>(
+fn read_by_layout<R: Source>(
     bits: &mut BitReader<R>,
     depth: u32,
     block: u32,

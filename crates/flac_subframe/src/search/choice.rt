@@ -21,9 +21,9 @@ use crate::format::residual_form::ResidualForm;
 use crate::format::wasted::without_wasted;
 use crate::search::entry::Entry;
 use crate::search::folding::fold_each;
+use crate::search::least_coding::{greatest_partition_order, least_residual};
 use crate::search::narrowed::{narrow, peak, take_narrow};
 use crate::search::products::take_products;
-use crate::search::survey::{greatest_partition_order, least_residual};
 use crate::search::tables::{SearchArrays, Tables};
 use crate::search::view::{ResidualView, SampleView, Task};
 use crate::search::wide_products::take_wide_products;
@@ -424,7 +424,7 @@ pub(crate) struct Found {
 
 impl Task<'_> {
     /// The subframe of the fewest bits and how many it takes. The codings of its residual are the first of the bytes;
-    /// the places behind those for the codings are for the widths of partitions.
+    /// the places after those for the codings are for the widths of partitions.
     pub(crate) fn choose_in_places(
         &self,
         longs: &mut [i64],

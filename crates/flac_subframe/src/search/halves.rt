@@ -202,7 +202,7 @@ pub(crate) fn compare(
     ensures settled { IsTrue result.settled → HasEntriesOf residual.now 31 table.new }
     // proof only
     ensures long { length table.new ≡ length table.old }
-    ensures wide { (IsTrue result.settled → ⊥) → parameters ≤ width + 1 }
+    ensures within_width { (IsTrue result.settled → ⊥) → parameters ≤ width + 1 }
     ensures few { result.count ≤ parameters - from }
     ensures narrow { result.count ≤ width + 1 - from }
 {

@@ -41,9 +41,9 @@ impl Drop for Workspace {
 
 impl Model for Workspace {
     ghost use Rattle.std.specs.Prelude.{◌≡◌, ◌≤◌, ◌+◌, ◌*◌, ◌^◌, vec_len};
-    ghost use Rattle.flac_subframe.specs.search.Room.{Room};
+    ghost use Rattle.flac_subframe.specs.search.Capacity.{Capacity};
 
-    ghost Value = { Room };
+    ghost Value = { Capacity };
 
     ghost view = { λ w. record { block = w.max_block; most = w.most } };
 

@@ -4,7 +4,7 @@ use Rattle.std.proofs.lemmas.List.{take_all}
 use Rattle.std.proofs.lemmas.Grind.{take-set_at}
 use Rattle.flac_bits.specs.State.{Cursor}
 use Rattle.flac_bits.specs.Layout.{bits, run, and_then, number_at, Reason}
-use Rattle.flac_bits.specs.Lists.{list_of, behind}
+use Rattle.flac_bits.specs.Lists.{list_of, after}
 use Rattle.flac_bits.proofs.Loops.{goes_on}
 use Rattle.flac_bits.proofs.Lists.{list_more, list_end}
 use Rattle.flac_bits.proofs.Counting.{gone, failed_then}
@@ -15,13 +15,13 @@ pub loop-i-preserved : goal.loop-i-preserved
 loop-i-preserved g c =
     let n = length c.args.out.now in
     let i = c.loop-i.i in
-    let more : ℕ → Cursor → _ = λ v d. and_then (run (list_of (n - (i + 1)) (bits 8)) d) (behind (take i c.loop-i.out ++ v ∷ [])) in
+    let more : ℕ → Cursor → _ = λ v d. and_then (run (list_of (n - (i + 1)) (bits 8)) d) (after (take i c.loop-i.out ++ v ∷ [])) in
     record {
       spent = omega (arith, c.in_ok-out.ensures.reading.spends);
       held = omega (arith, c.loop-i.invariant.held, c.in_ok-out.ensures.needed);
       goes = goes_on c.args.bits.now c.loop-i.bits c.take.new.self (number_at 8 c.loop-i.bits.cursor) c.in_ok-out.field-0 more _ _ _
           c.loop-i.invariant.goes (list_more n i (bits 8) c.loop-i.bits.cursor (take i c.loop-i.out) c.loop-i-test.true)
-          (ap (λ front. and_then (run (list_of (n - (i + 1)) (bits 8)) c.take.new.self.cursor) (behind front)) (sym (take-set_at c.loop-i.out i (i + 1) c.in_ok-out.field-0 refl (omega (arith, c.loop-i.auto.out, c.loop-i-test.true)))))
+          (ap (λ front. and_then (run (list_of (n - (i + 1)) (bits 8)) c.take.new.self.cursor) (after front)) (sym (take-set_at c.loop-i.out i (i + 1) c.in_ok-out.field-0 refl (omega (arith, c.loop-i.auto.out, c.loop-i-test.true)))))
           c.in_ok-out.ensures.reading.counts c.in_ok-out.ensures.reading.reads;
     }
 

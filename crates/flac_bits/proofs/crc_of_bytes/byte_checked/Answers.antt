@@ -15,8 +15,8 @@ returns-clause-sixteen c =
     let small : c.args.byte < 2 ^ 8 = search rules in
     ap (bit_xor (c.args.checks.1 * 256 % 65536)) c.crc16_of.ensures ∙ byte16 c.args.checks.1 c.args.byte fits small
 
-pub overflow_cast-narrow : goal.overflow_cast-narrow
-overflow_cast-narrow c = byte_widened _ (mixed_fits c.args.checks.0 c.args.byte (search rules) c.ranges.byte)
+pub overflow_cast-entry8 : goal.overflow_cast-entry8
+overflow_cast-entry8 c = byte_widened _ (mixed_fits c.args.checks.0 c.args.byte (search rules) c.ranges.byte)
 
 pub bounds-check8 : goal.bounds-check8
 bounds-check8 c = byte_index _ (mixed_fits c.args.checks.0 c.args.byte (search rules) c.ranges.byte)
@@ -24,11 +24,11 @@ bounds-check8 c = byte_index _ (mixed_fits c.args.checks.0 c.args.byte (search r
 pub offset_bounds-check8 : goal.offset_bounds-check8
 offset_bounds-check8 c = byte_offset _ (mixed_fits c.args.checks.0 c.args.byte (search rules) c.ranges.byte)
 
-pub overflow_cast-wide : goal.overflow_cast-wide
-overflow_cast-wide c = high_fits c.args.checks.1 (search rules)
+pub overflow_cast-entry16 : goal.overflow_cast-entry16
+overflow_cast-entry16 c = high_fits c.args.checks.1 (search rules)
 
-pub overflow_cast-wide-2 : goal.overflow_cast-wide-2
-overflow_cast-wide-2 c =
+pub overflow_cast-entry16-2 : goal.overflow_cast-entry16-2
+overflow_cast-entry16-2 c =
     byte_widened _ (mixed_fits (c.args.checks.1 / 256) c.args.byte (high_fits c.args.checks.1 (search rules)) c.ranges.byte)
 
 pub bounds-check16 : goal.bounds-check16

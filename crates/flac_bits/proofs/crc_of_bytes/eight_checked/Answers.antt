@@ -90,11 +90,11 @@ offset_bounds-bytes-6 c = byte_offset (get_or c.args.bytes.now 7 0) (c.type_inv.
 pub offset_bounds-bytes-7 : goal.offset_bounds-bytes-7
 offset_bounds-bytes-7 c = byte_offset (get_or c.args.bytes.now 1 0) (c.type_inv.bytes 1)
 
-pub overflow_cast-narrow-2 : goal.overflow_cast-narrow-2
-overflow_cast-narrow-2 c = byte_widened (get_or c.args.bytes.now 1 0) (c.type_inv.bytes 1)
+pub overflow_cast-entry8-2 : goal.overflow_cast-entry8-2
+overflow_cast-entry8-2 c = byte_widened (get_or c.args.bytes.now 1 0) (c.type_inv.bytes 1)
 
-pub overflow_cast-narrow : goal.overflow_cast-narrow
-overflow_cast-narrow c =
+pub overflow_cast-entry8 : goal.overflow_cast-entry8
+overflow_cast-entry8 c =
     byte_widened _ (mixed_fits c.args.checks.0 (get_or c.args.bytes.now 0 0) (search rules) (c.type_inv.bytes 0))
 
 pub bounds-check8 : goal.bounds-check8
@@ -105,8 +105,8 @@ pub offset_bounds-check8 : goal.offset_bounds-check8
 offset_bounds-check8 c =
     byte_offset _ (mixed_fits c.args.checks.0 (get_or c.args.bytes.now 0 0) (search rules) (c.type_inv.bytes 0))
 
-pub overflow_cast-wide-2 : goal.overflow_cast-wide-2
-overflow_cast-wide-2 c =
+pub overflow_cast-entry16-2 : goal.overflow_cast-entry16-2
+overflow_cast-entry16-2 c =
     byte_widened _ (mixed_fits (c.args.checks.1 / 256) (get_or c.args.bytes.now 0 0) (high_fits c.args.checks.1 (search rules)) (c.type_inv.bytes 0))
 
 pub bounds-check16 : goal.bounds-check16
@@ -117,8 +117,8 @@ pub offset_bounds-check16 : goal.offset_bounds-check16
 offset_bounds-check16 c =
     byte_offset _ (mixed_fits (c.args.checks.1 / 256) (get_or c.args.bytes.now 0 0) (high_fits c.args.checks.1 (search rules)) (c.type_inv.bytes 0))
 
-pub overflow_cast-wide-4 : goal.overflow_cast-wide-4
-overflow_cast-wide-4 c =
+pub overflow_cast-entry16-4 : goal.overflow_cast-entry16-4
+overflow_cast-entry16-4 c =
     byte_widened _ (mixed_fits (c.args.checks.1 % 256) (get_or c.args.bytes.now 1 0) (low_fits c.args.checks.1) (c.type_inv.bytes 1))
 
 pub bounds-check16-2 : goal.bounds-check16-2
@@ -129,11 +129,11 @@ pub offset_bounds-check16-2 : goal.offset_bounds-check16-2
 offset_bounds-check16-2 c =
     byte_offset _ (mixed_fits (c.args.checks.1 % 256) (get_or c.args.bytes.now 1 0) (low_fits c.args.checks.1) (c.type_inv.bytes 1))
 
-pub overflow_cast-wide : goal.overflow_cast-wide
-overflow_cast-wide c = high_fits c.args.checks.1 (search rules)
+pub overflow_cast-entry16 : goal.overflow_cast-entry16
+overflow_cast-entry16 c = high_fits c.args.checks.1 (search rules)
 
-pub overflow_cast-wide-3 : goal.overflow_cast-wide-3
-overflow_cast-wide-3 c = low_fits c.args.checks.1
+pub overflow_cast-entry16-3 : goal.overflow_cast-entry16-3
+overflow_cast-entry16-3 c = low_fits c.args.checks.1
 
 pub crc8_of-requires : goal.crc8_of-requires
 crc8_of-requires c = tt

@@ -94,7 +94,7 @@ loop-i-init g c =
         known = λ h. h;
         errors = refl;
         raised = refl;
-        behind = λ _. refl;
+        after = λ _. refl;
         names = refl;
         reads = λ _. ap (λ k. run (continued k high) c.args.bits.now.cursor) e;
       },

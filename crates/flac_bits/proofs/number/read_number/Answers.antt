@@ -8,8 +8,8 @@ returns-clause-reading g c = record {
   spends = search rules;
   counts = search rules;
   memory = search rules;
-  reads = means (λ v. v) (number c.args.max_bits) c.args.bits.now c.number_here.new.bits c.number_here.result c.number_here.ensures.reading.reads;
+  reads = means (λ v. v) (number c.args.max_bits) c.args.bits.now c.number_by_layout.new.bits c.number_by_layout.result c.number_by_layout.ensures.reading.reads;
 }
 
 pub returns-clause-needed : goal.returns-clause-needed
-returns-clause-needed g c = c.number_here.ensures.needed
+returns-clause-needed g c = c.number_by_layout.ensures.needed

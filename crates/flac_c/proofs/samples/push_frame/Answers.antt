@@ -1,8 +1,8 @@
 use Rattle.std.proofs.Common.{◌≡◌, ◌+◌, ◌-◌, ◌*◌, ◌++◌, ◌∙◌, arith, length, take, drop, ap, ℤ, List}
 use Rattle.std.proofs.lemmas.List.{take_all, length-take, length-drop}
-use Rattle.flac_frame.specs.Lent.{frame_of}
+use Rattle.flac_frame.specs.Viewed.{frame_of}
 use Rattle.flac_frame.specs.Interleaved.{interleaved}
-use Rattle.flac_c.proofs.Collecting.{grown, places_behind}
+use Rattle.flac_c.proofs.Collecting.{grown, places_after}
 use Rattle.flac_c.proofs.HandedOver.{few_samples, filled}
 use Rattle.flac_c.proofs.samples.push_frame.Goals as goal
 
@@ -34,5 +34,5 @@ returns c =
     let all : written ≡ interleaved (frame_of c.args.frame.now) =
     filled (frame_of c.args.frame.now) _ ch size c.channels.ensures c.len.ensures written c.interleave-all.result room c.interleave-all.auto.out c.interleave-all.ensures.count c.interleave-all.ensures.samples in
     let sized = grown old c.resize.new.self.items (take (front + ch * size) old) _ c.resize.result c.in_ok-resize.field-0 c.in_ok-resize.was c.resize.ensures.items kept in
-    places_behind c.resize.new.self.len front old _ places c.resize.new.self.items written many sized c.deref_mut.ensures.value (omega (arith, c.in_ok-resize.ensures.len, room, c.interleave-all.auto.out)) (omega (arith, c.interleave-all.auto.out, lent, left))
+    places_after c.resize.new.self.len front old _ places c.resize.new.self.items written many sized c.deref_mut.ensures.value (omega (arith, c.in_ok-resize.ensures.len, room, c.interleave-all.auto.out)) (omega (arith, c.interleave-all.auto.out, lent, left))
     ∙ ap (λ l. old ++ l) all

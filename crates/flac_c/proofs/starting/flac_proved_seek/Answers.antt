@@ -7,4 +7,4 @@ use Rattle.flac_c.proofs.starting.flac_proved_seek.Goals as goal
 
 pub returns-in-Err-clause-streams : goal.returns-in-Err-clause-streams
 returns-in-Err-clause-streams c = λ items stream.
-    inl (ap (λ (r : FlacProvedFault). r.number) c.in_c-in-Err.ensures.value ∙ ap (λ (w : Why). number_of w) (start_refused c.args.bytes.now items stream c.in-Err.told c.in-Err.ensures.refused))
+    inl (ap (λ (r : FlacProvedFault). r.number) c.in_c-in-Err.ensures.value ∙ ap (λ (w : Why). number_of w) (start_refused c.args.bytes.now items stream c.in-Err.refusal c.in-Err.ensures.refused))

@@ -12,4 +12,4 @@ returns-in-Ok-clause-streams c = λ items stream.
 
 pub returns-in-Err-clause-streams : goal.returns-in-Err-clause-streams
 returns-in-Err-clause-streams c = λ items stream.
-    inl (ap (λ (r : FlacProvedFault). r.number) c.in_c-in-Err.ensures.value ∙ ap (λ (w : Why). number_of w) (start_refused c.args.bytes.now items stream c.in-Err.told c.in-Err.ensures.refused))
+    inl (ap (λ (r : FlacProvedFault). r.number) c.in_c-in-Err.ensures.value ∙ ap (λ (w : Why). number_of w) (start_refused c.args.bytes.now items stream c.in-Err.refusal c.in-Err.ensures.refused))

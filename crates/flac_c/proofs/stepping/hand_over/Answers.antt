@@ -1,5 +1,5 @@
 use Rattle.std.proofs.Common.{arith}
-use Rattle.flac_frame.specs.Lent.{frame_of}
+use Rattle.flac_frame.specs.Viewed.{frame_of}
 use Rattle.flac_c.proofs.HandedOver.{handed, not_handed, few_samples}
 use Rattle.flac_c.proofs.stepping.hand_over.Goals as goal
 

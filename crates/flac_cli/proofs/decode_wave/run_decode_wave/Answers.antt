@@ -15,7 +15,7 @@ returns-in-Stream-clause-reported g c = λ tells served told.
     record {
       outcome = streamed (Some (Some f.at, f.why));
       answer = subst (λ p. IsAnswer (Some (Some f.at, f.why)) p c.refuse.result (g.E.Target.sent c.args.err.now) (g.E.Target.sent c.refuse.new.err)) path (c.refuse.ensures.line told.0 told.1);
-      fits = subst (λ e. Fits IsWaveOutOfMemory (ReadsWave c.args.profile (g.R.Source.coming c.args.source.now) (g.R.Source.behind c.args.source.now)) (outcome_of_failure e)) c.in-Stream.is (c.in-Err.ensures.outcome tells served);
+      fits = subst (λ e. Fits IsWaveOutOfMemory (ReadsWave c.args.profile (g.R.Source.coming c.args.source.now) (g.R.Source.after c.args.source.now)) (outcome_of_failure e)) c.in-Stream.is (c.in-Err.ensures.outcome tells served);
     }
 
 pub returns-in-Ok-clause-named : goal.returns-in-Ok-clause-named

@@ -1,5 +1,5 @@
 use Rattle.std.proofs.Common.{◌≡◌, ◌≤◌, ◌<◌, ◌+◌, ◌-◌, ◌%◌, ◌++◌, true, length}
-use Rattle.flac_frame.specs.Lent.{frame_of}
+use Rattle.flac_frame.specs.Viewed.{frame_of}
 use Rattle.flac_native.specs.Message.{sample_width, rows_bytes}
 use Rattle.flac_cli.specs.Waves.{file_samples}
 use Rattle.flac_cli.proofs.decode_wave.send_samples.Given as goal

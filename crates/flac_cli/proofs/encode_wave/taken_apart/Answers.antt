@@ -4,7 +4,7 @@ use Rattle.flac_wave.specs.Wave.{Parts, parts_of}
 use Rattle.flac_cli.specs.Asked.{asked_of}
 use Rattle.flac_cli.specs.Waves.{stream_samples, depth_for, format_with, format_as, blocks_for}
 use Rattle.flac_jobs.specs.declared.formats.RawFormat.{RawFormat}
-use Rattle.flac_wave.specs.Shift.{wide_of}
+use Rattle.flac_wave.specs.Shift.{wave_width_of}
 use Rattle.flac_wave.proofs.Formats.{wave_whole}
 use Rattle.flac_cli.proofs.Failed.{not_setup, not_input}
 use Rattle.flac_cli.proofs.WaveRefused.{refused_samples, refused_plan, refused_blocks, keeps_all, container_only, refused_file, no_memory, as_reason, only_container, not_refused, no_wave_write}
@@ -40,7 +40,7 @@ returns-in_err-audio c =
     let after = map (λ p. p.items) c.in_ok-after.after.items in
     let format = c.format_of-format.result in
     let form = form_of (asked_of c.args.encoding.now).format file _ _ c.format_of-format.ensures c.depth_of-depth.ensures in
-    let raw = stream_samples (wide_of file.format) format.bits file.samples in
+    let raw = stream_samples (wave_width_of file.format) format.bits file.samples in
     let e = rw c.sample_width-wide.ensures at c.in_err-audio.ensures in
     rw (p.1, p.2) (record {
       found = tt;
@@ -58,7 +58,7 @@ returns-in_err-plan c =
     let after = map (λ p. p.items) c.in_ok-after.after.items in
     let format = c.format_of-format.result in
     let form = form_of (asked_of c.args.encoding.now).format file _ _ c.format_of-format.ensures c.depth_of-depth.ensures in
-    let raw = stream_samples (wide_of file.format) format.bits file.samples in
+    let raw = stream_samples (wave_width_of file.format) format.bits file.samples in
     let audio = rw c.sample_width-wide.ensures at c.in_ok-audio.ensures in
     rw (p.1, p.2) (record {
       found = tt;
@@ -76,7 +76,7 @@ returns-in_err-list c =
     let after = map (λ p. p.items) c.in_ok-after.after.items in
     let format = c.format_of-format.result in
     let form = form_of (asked_of c.args.encoding.now).format file _ _ c.format_of-format.ensures c.depth_of-depth.ensures in
-    let raw = stream_samples (wide_of file.format) format.bits file.samples in
+    let raw = stream_samples (wave_width_of file.format) format.bits file.samples in
     let audio = rw c.sample_width-wide.ensures at c.in_ok-audio.ensures in
     let plan = c.in_ok-plan.ensures in
     let bad = rw (c.as_slice-before.ensures.value, c.as_slice.ensures.value) at c.in_err-list.ensures.refused in
@@ -95,7 +95,7 @@ returns c =
     let after = map (λ p. p.items) c.in_ok-after.after.items in
     let format = c.format_of-format.result in
     let form = form_of (asked_of c.args.encoding.now).format file _ _ c.format_of-format.ensures c.depth_of-depth.ensures in
-    let raw = stream_samples (wide_of file.format) format.bits file.samples in
+    let raw = stream_samples (wave_width_of file.format) format.bits file.samples in
     let audio = rw c.sample_width-wide.ensures at c.in_ok-audio.ensures in
     let plan = c.in_ok-plan.ensures in
     let list = rw (c.as_slice-before.ensures.value, c.as_slice.ensures.value) at c.in_ok-list.ensures.list in

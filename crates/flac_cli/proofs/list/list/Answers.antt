@@ -16,5 +16,5 @@ returns-clause-stream g c = c.list_into-outcome.ensures.stream
 
 pub returns-clause-outcome : goal.returns-clause-outcome
 returns-clause-outcome g c tells =
-    subst (λ out. Fits (IsUnlisted (Serves g.O.Target c.args.out.now out)) (Reads c.args.profile (g.R.Source.coming c.args.source.now) (g.R.Source.behind c.args.source.now)) (outcome_of at_place c.list_into-outcome.result)) (search rules)
+    subst (λ out. Fits (IsUnlisted (Serves g.O.Target c.args.out.now out)) (Reads c.args.profile (g.R.Source.coming c.args.source.now) (g.R.Source.after c.args.source.now)) (outcome_of at_place c.list_into-outcome.result)) (search rules)
     (rw c.new-sink.ensures.target at (c.list_into-outcome.ensures.outcome tells))

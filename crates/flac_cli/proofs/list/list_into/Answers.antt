@@ -17,7 +17,7 @@ returns-clause-outcome g c tells =
     let bits : bit_value (g.W.Target.known c.decode_stream-outcome.new.sink.began.value) ≡ bit_value (g.W.Target.known c.args.sink.now.began.value) = same_first _ _ _ _ _ _ names in
     let stays : g.W.Target.errors c.decode_stream-outcome.new.sink.began.value ≡ g.W.Target.errors c.args.sink.now.began.value = same_second _ _ _ _ _ _ names in
     listed_fits (Serves g.W.Target c.args.sink.now.lines.target c.decode_stream-outcome.new.sink.lines.target)
-    c.args.profile (g.R.Source.coming c.args.source.now) (g.R.Source.behind c.args.source.now) c.decode_stream-outcome.new.sink.failures.count (outcome_of at_place c.decode_stream-outcome.result)
+    c.args.profile (g.R.Source.coming c.args.source.now) (g.R.Source.after c.args.source.now) c.decode_stream-outcome.new.sink.failures.count (outcome_of at_place c.decode_stream-outcome.result)
     (λ none. c.decode_stream-outcome.ensures.outcome tells known (none ∙ sym c.requires.none))
     (λ some. c.decode_stream-outcome.ensures.failed tells known (omega (arith, c.requires.none, some)))
     (λ served. unfailed g.W.Target.known g.W.Target.errors c.args.sink.now.lines.target c.decode_stream-outcome.new.sink.lines.target c.args.sink.now.began.value c.decode_stream-outcome.new.sink.began.value c.decode_stream-outcome.new.sink.failures.count

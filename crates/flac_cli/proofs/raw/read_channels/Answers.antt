@@ -29,7 +29,7 @@ rose began before now more was same = absurd (omega (arith, more, was, same))
 some_none : {X Y : Type 0} (x : X) → Some x ≡ None → Y
 some_none x e = absurd cc
 
--- so many bytes are there
+-- n bytes are there
 long_front : {X : Type 0} (n most : ℕ) (xs : List X) → n ≤ most → most ≤ 16384 → length xs ≡ 16384 → length (take n xs) ≡ n
 long_front n most xs few size long = length-take-le n xs (omega (arith, few, size, long))
 

@@ -2,7 +2,7 @@ use Rattle.std.proofs.Common.{◌<◌, ◌*◌, ℕ, length, get_or, ap, ◌∙�
 use Rattle.std.proofs.lemmas.Int.{ints}
 use Rattle.flac_bits.specs.Signed.{FitsBits}
 use Rattle.flac_native.specs.Message.{sample_bytes}
-use Rattle.flac_cli.proofs.Wide.{twos_fit, twos_bytes, fits_word, narrowed}
+use Rattle.flac_cli.proofs.TwosComplement.{twos_fit, twos_bytes, fits_word, narrowed}
 use Rattle.flac_cli.proofs.raw.sample.Goals as goal
 
 pub overflow_cast-result : goal.overflow_cast-result

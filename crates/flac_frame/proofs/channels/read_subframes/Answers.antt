@@ -62,8 +62,8 @@ overflow_add-own g c = let s = c.args.shape.now in end_fits c.loop-channel.chann
 pub overflow_add-shape : goal.overflow_add-shape
 overflow_add-shape g c = deep_fits _ _ c.args.shape.now.deep.1 c.side_bit.ensures.small
 
-pub subframe_here-requires-clause-depth : goal.subframe_here-requires-clause-depth
-subframe_here-requires-clause-depth g c = let deep = c.args.shape.now.deep in deep_33 _ _ deep.0 deep.1 c.side_bit.ensures.small
+pub subframe_by_layout-requires-clause-depth : goal.subframe_by_layout-requires-clause-depth
+subframe_by_layout-requires-clause-depth g c = let deep = c.args.shape.now.deep in deep_33 _ _ deep.0 deep.1 c.side_bit.ensures.small
 
 pub returns-clause-reading : goal.returns-clause-reading
 returns-clause-reading g c = record {
@@ -81,21 +81,21 @@ pub loop-channel-preserved : goal.loop-channel-preserved
 loop-channel-preserved g c =
     let l = c.loop-channel in
     let long : length l.samples ≡ c.args.shape.now.channels * c.args.shape.now.block = l.auto.samples ∙ c.requires.places in
-    let own : length c.subframe_here.new.samples ≡ c.args.shape.now.block = omega (arith, c.subframe_here.auto.samples) in
-    let next = turn c.args.bits.now l.bits c.subframe_here.new.bits c.args.shape.now.depth (code_of c.args.assignment) c.args.shape.now.block c.args.shape.now.limits l.fits c.in_ok-subframe_here.field-0 c.if-not-branch.fits l.channel c.args.shape.now.channels l.samples c.subframe_here.new.samples
+    let own : length c.subframe_by_layout.new.samples ≡ c.args.shape.now.block = omega (arith, c.subframe_by_layout.auto.samples) in
+    let next = turn c.args.bits.now l.bits c.subframe_by_layout.new.bits c.args.shape.now.depth (code_of c.args.assignment) c.args.shape.now.block c.args.shape.now.limits l.fits c.in_ok-subframe_by_layout.field-0 c.if-not-branch.fits l.channel c.args.shape.now.channels l.samples c.subframe_by_layout.new.samples
     (run (subframes c.args.shape.now.depth (code_of c.args.assignment) c.args.shape.now.block c.args.shape.now.limits (Some []) 0 c.args.shape.now.channels) c.args.bits.now.cursor) l.invariant.2 c.loop-channel-test.true long own in
-    let reads = rw c.side_bit.ensures.bit at c.in_ok-subframe_here.ensures.reading.reads in
+    let reads = rw c.side_bit.ensures.bit at c.in_ok-subframe_by_layout.ensures.reading.reads in
     let within : l.channel * c.args.shape.now.block ≤ length l.samples = within_all l.channel c.args.shape.now.channels c.args.shape.now.block (length l.samples) c.loop-channel-test.true long in
     elim c.if-not-branch.branch [
       | then-not-branch w ↦ (
-        still _ _ _ c.in_ok-subframe_here.ensures.reading.spends l.invariant.0,
+        still _ _ _ c.in_ok-subframe_by_layout.ensures.reading.spends l.invariant.0,
         λ yes. never c.if-not-branch.fits w.fits-is yes,
-        next (both_false l.fits c.if-not-branch.fits c.in_ok-subframe_here.field-0 w.fits-is w.if-not-branch.true) c.in_ok-subframe_here.ensures.reading.counts reads,
+        next (both_false l.fits c.if-not-branch.fits c.in_ok-subframe_by_layout.field-0 w.fits-is w.if-not-branch.true) c.in_ok-subframe_by_layout.ensures.reading.counts reads,
       )
       | else-not-branch w ↦ (
-        still _ _ _ c.in_ok-subframe_here.ensures.reading.spends l.invariant.0,
-        λ yes. all_more (FitsBits 34) l.channel c.args.shape.now.block l.samples c.subframe_here.new.samples within own (l.invariant.1 (sym w.fits-is ∙ yes)) (c.in_ok-subframe_here.ensures.small w.if-not-branch.false),
-        next (both_true l.fits c.if-not-branch.fits c.in_ok-subframe_here.field-0 w.fits-is w.if-not-branch.false) c.in_ok-subframe_here.ensures.reading.counts reads,
+        still _ _ _ c.in_ok-subframe_by_layout.ensures.reading.spends l.invariant.0,
+        λ yes. all_more (FitsBits 34) l.channel c.args.shape.now.block l.samples c.subframe_by_layout.new.samples within own (l.invariant.1 (sym w.fits-is ∙ yes)) (c.in_ok-subframe_by_layout.ensures.small w.if-not-branch.false),
+        next (both_true l.fits c.if-not-branch.fits c.in_ok-subframe_by_layout.field-0 w.fits-is w.if-not-branch.false) c.in_ok-subframe_by_layout.ensures.reading.counts reads,
       )
     ]
 
@@ -107,19 +107,19 @@ returns-clause-small g c = λ yes.
     let all : length l.samples ≡ l.channel * c.args.shape.now.block = long ∙ ap (λ k. k * c.args.shape.now.block) (sym e) in
     subst (All (FitsBits 34)) (take_all (l.channel * c.args.shape.now.block) l.samples (as_long _ _ all)) (l.invariant.1 yes)
 
-pub returns-in_err-subframe_here : goal.returns-in_err-subframe_here
-returns-in_err-subframe_here g c =
+pub returns-in_err-subframe_by_layout : goal.returns-in_err-subframe_by_layout
+returns-in_err-subframe_by_layout g c =
     let p = err_from_is_err_and c.from_residual.result c.from_residual.ensures.1 in
     let l = c.loop-channel in
-    let told = c.in_err-subframe_here.ensures.reading in
+    let told = c.in_err-subframe_by_layout.ensures.reading in
     let reads = rw c.side_bit.ensures.bit at told.reads in
     rw (p.1, p.2) (record {
       small = tt;
       reading = record {
         spends = tt;
-        counts = failed_then c.args.bits.now l.bits c.subframe_here.new.bits (gone l.invariant.2) told.counts;
+        counts = failed_then c.args.bits.now l.bits c.subframe_by_layout.new.bits (gone l.invariant.2) told.counts;
         memory = told.memory;
-        reads = gone_fault c.args.bits.now l.bits c.subframe_here.new.bits _ l.invariant.2
+        reads = gone_fault c.args.bits.now l.bits c.subframe_by_layout.new.bits _ l.invariant.2
             (subframes_more c.args.shape.now.depth (code_of c.args.assignment) c.args.shape.now.block c.args.shape.now.limits (cond l.fits (Some (chunks l.channel c.args.shape.now.block l.samples)) None) l.channel c.args.shape.now.channels l.bits.cursor c.loop-channel-test.true) reads;
       };
     })

@@ -2,8 +2,8 @@ use Rattle.std.proofs.Common.{List, ◌≡◌, ◌∙◌, ◌≤◌, ◌-◌, re
 use Rattle.std.proofs.lemmas.List.{with_items_is}
 use Rattle.std.specs.Vec.{with_items}
 use Rattle.flac_subframe.specs.format.Spelling.{subframe_spelling}
-use Rattle.flac_subframe.specs.declared.search.wide.WideChoice.{WideChoice}
-use Rattle.flac_frame.specs.Chosen.{forms_by_plane, AllWide}
+use Rattle.flac_subframe.specs.declared.search.wide_choice.WideChoice.{WideChoice}
+use Rattle.flac_frame.specs.Chosen.{forms_by_plane, AllHaveCodings}
 use Rattle.flac_frame.specs.PlaneLists.{lists_of}
 use Rattle.flac_frame.specs.inner.Chosen.{AreChosen}
 use Rattle.flac_frame.specs.Encoding.{block_of, partition_limit}
@@ -20,7 +20,7 @@ choose_channels-choice-requires c =
       partition = c.requires.partition;
       orders = c.requires.orders;
       choices = subst (λ (l : List WideChoice). length c.args.subject.now.audio.now.channels ≤ length l) places c.requires.choices.many;
-      wide = subst (λ (l : List WideChoice). AllWide c.args.workspace.now.most l) places c.requires.choices.wide;
+      codings = subst (λ (l : List WideChoice). AllHaveCodings c.args.workspace.now.most l) places c.requires.choices.codings;
     }
 
 pub returns-clause-many : goal.returns-clause-many
@@ -55,5 +55,5 @@ returns-clause-choices c =
     let back : made.subframes.items ≡ k.new.subframes = with_items_is c.args.choice.now.subframes k.new.subframes long in
     record {
       many = subst (λ n. length c.args.subject.now.audio.now.channels ≤ n) (sym (ap length back ∙ k.auto.subframes ∙ ap length c.deref_mut.ensures.value)) c.requires.choices.many;
-      wide = subst (λ (l : List WideChoice). AllWide c.args.workspace.now.most l) (sym back) k.ensures.wide;
+      codings = subst (λ (l : List WideChoice). AllHaveCodings c.args.workspace.now.most l) (sym back) k.ensures.codings;
     }

@@ -4,9 +4,9 @@ use Rattle.std.proofs.lemmas.List.Elements.{All-set}
 use Rattle.std.proofs.lemmas.Nat.{mul-le}
 use borrow.Author.Count.{falls}
 use Rattle.flac_bits.specs.Signed.{FitsBits}
-use Rattle.flac_subframe.specs.search.Room.{Room}
+use Rattle.flac_subframe.specs.search.Capacity.{Capacity}
 use Rattle.flac_subframe.specs.format.Spelling.{subframe_spelling}
-use Rattle.flac_subframe.specs.declared.search.wide.WideChoice.{WideChoice}
+use Rattle.flac_subframe.specs.declared.search.wide_choice.WideChoice.{WideChoice}
 use Rattle.flac_frame.specs.Audio.{Sound, IsSound}
 use Rattle.flac_frame.specs.Chosen.{forms_by_plane}
 use Rattle.flac_frame.specs.inner.Chosen.{AreChosen}
@@ -15,7 +15,7 @@ use Rattle.flac_frame.specs.PlaneLists.{lists_of}
 use Rattle.flac_frame.proofs.Chosen.{FirstChosen, none_chosen, one_chosen, all_chosen}
 use Rattle.flac_frame.proofs.Encoded.{block_more}
 use Rattle.flac_frame.proofs.Frames.{many_channels, few_channels, part_small, bits_small}
-use Rattle.flac_frame.proofs.Rooms.{below_33, as_few, few_of, room_for, some_of, in_reach, wide_for, wide_still}
+use Rattle.flac_frame.proofs.Capacities.{below_33, as_few, few_of, room_for, some_of, in_reach, codings_for, codings_still}
 use Rattle.flac_frame.proofs.Short.{one_short}
 use Rattle.flac_frame.proofs.Sounds.{limit_few}
 use Rattle.flac_frame.proofs.encode.choose_channels.Goals as goal
@@ -76,11 +76,11 @@ choose_plane-requires c =
     let lt : c.loop-i.i < length c.loop-i.subframes = in_reach _ _ _ _ _ within refl c.requires.choices c.loop-i.auto.subframes in
     record {
       some = some_of _ _ long s.some;
-      block = room_for _ _ _ _ long (ap (λ (r : Room). r.block) c.loop-i.invariant.room) c.requires.block;
+      block = room_for _ _ _ _ long (ap (λ (r : Capacity). r.block) c.loop-i.invariant.room) c.requires.block;
       depth = (deep.0, few_of c.bits-depth.result 32 33 deep.1 below_33);
       fits = subst (All (FitsBits c.bits-depth.result)) (sym (c.widen.ensures ∙ c.part.ensures.part)) (part_small a e.sound s.start s.size c.loop-i.i c.bits-depth.result c.bits-depth.ensures within);
-      partition = wide_still _ _ _ (ap (λ (r : Room). r.most) c.loop-i.invariant.room) c.requires.partition;
-      places = wide_for (partition_limit a) c.args.workspace.now.most _ c.requires.partition (c.loop-i.invariant.wide c.loop-i.i c.index-subframes-i.result lt);
+      partition = codings_still _ _ _ (ap (λ (r : Capacity). r.most) c.loop-i.invariant.room) c.requires.partition;
+      places = codings_for (partition_limit a) c.args.workspace.now.most _ c.requires.partition (c.loop-i.invariant.codings c.loop-i.i c.index-subframes-i.result lt);
       orders = c.requires.orders;
     }
 
@@ -91,7 +91,7 @@ pub loop-i-init : goal.loop-i-init
 loop-i-init c = record {
   first = none_chosen (partition_limit c.args.subject.now.audio.now) (lists_of c.args.subject.now.predictors.now) c.bits-depth.result c.args.subject.now.size c.args.subframes.now;
   few = none_more;
-  wide = c.requires.wide;
+  codings = c.requires.codings;
   room = refl;
 }
 
@@ -127,11 +127,11 @@ loop-i-preserved c =
     let fits : All (FitsBits depth) s = subst (All (FitsBits depth)) (sym so) (part_small a w.sound start size i depth c.bits-depth.ensures within) in
     let one = one_short most (limit_few a.profile a.rate) (lists i) depth deep.0 _ s (some_of _ _ long c.args.subject.now.some) fits k.least in
     let more : c.bits-bits.result ≤ 2097160 = few_bits depth (length s) c.bits-bits.result deep.1 (as_few _ _ _ long c.args.subject.now.few) (as_few _ _ _ (c.bits-bits.ensures ∙ k.cost) one) in
-    let here : 2 ^ c.args.workspace.now.most ≤ vec_len y.codings = wide_still _ _ _ e.places (c.loop-i.invariant.wide i c.index-subframes-i.result lt) in
+    let here : 2 ^ c.args.workspace.now.most ≤ vec_len y.codings = codings_still _ _ _ e.places (c.loop-i.invariant.codings i c.index-subframes-i.result lt) in
     record {
       first = subst (λ b. FirstChosen most lists depth size (set c.loop-i.subframes i y) (i + 1) b (c.loop-i.bits + c.bits-bits.result)) is made;
       few = more_bits _ _ _ c.loop-i.invariant.few more;
-      wide = All-set (λ (v : WideChoice). 2 ^ c.args.workspace.now.most ≤ vec_len v.codings) c.loop-i.subframes i y here c.loop-i.invariant.wide;
+      codings = All-set (λ (v : WideChoice). 2 ^ c.args.workspace.now.most ≤ vec_len v.codings) c.loop-i.subframes i y here c.loop-i.invariant.codings;
       room = e.room ∙ c.loop-i.invariant.room;
     }
 
@@ -161,8 +161,8 @@ returns-clause-bits c =
     (all_chosen (partition_limit a) lists c.bits-depth.result size c.loop-i.subframes c.loop-i.i _ c.loop-i.bits k.1 c.loop-i.invariant.first).1 ∙ ap (λ b. length (flat_map (subframe_spelling c.bits-depth.result) (forms_by_plane lists c.loop-i.subframes b))) k.0
     ∙ ap (λ d. length (flat_map (subframe_spelling d) (forms_by_plane lists c.loop-i.subframes (block_of c.args.subject.now.start size a.channels)))) c.bits-depth.ensures
 
-pub returns-clause-wide : goal.returns-clause-wide
-returns-clause-wide c = c.loop-i.invariant.wide
+pub returns-clause-codings : goal.returns-clause-codings
+returns-clause-codings c = c.loop-i.invariant.codings
 
 pub returns-clause-room : goal.returns-clause-room
 returns-clause-room c = c.loop-i.invariant.room

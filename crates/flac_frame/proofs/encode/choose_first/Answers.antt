@@ -2,7 +2,7 @@ use Rattle.std.proofs.Common.{◌≡◌, ◌∙◌, sym, subst, length}
 use Rattle.std.proofs.lemmas.List.{length-take-le}
 use Rattle.flac_frame.specs.Chosen.{HasPlaces}
 use Rattle.flac_frame.proofs.Frames.{many_channels}
-use Rattle.flac_frame.proofs.Rooms.{quarter}
+use Rattle.flac_frame.proofs.Capacities.{quarter}
 use Rattle.flac_frame.proofs.encode.choose_first.Goals as goal
 
 pub choose_pair-requires : goal.choose_pair-requires
@@ -15,7 +15,7 @@ choose_pair-requires c =
       places = c.requires.places;
       block = c.requires.block;
       partition = c.requires.partition;
-      wide = c.requires.wide;
+      codings = c.requires.codings;
       choices = subst (λ n. HasPlaces n c.args.workspace.now.most c.args.choice.now) two c.requires.choices;
       number = c.requires.number;
       orders = c.requires.orders;
@@ -27,7 +27,7 @@ returns-then-channels-eq2 c =
     let a = c.args.subject.now.audio.now in
     let two : length a.channels ≡ 2 = sym (many_channels (λ v. v.items) c.channels-channels.result.now a e.sound e.items) ∙ c.if-channels-eq2.true in
     let k = c.choose_pair.ensures in
-    record { chosen = k.chosen; wide = k.wide; choices = subst (λ n. HasPlaces n c.args.workspace.now.most c.choose_pair.new.choice) (sym two) k.choices; many = k.many; room = k.room }
+    record { chosen = k.chosen; codings = k.codings; choices = subst (λ n. HasPlaces n c.args.workspace.now.most c.choose_pair.new.choice) (sym two) k.choices; many = k.many; room = k.room }
 
 pub slice_bounds-choose_apart-end : goal.slice_bounds-choose_apart-end
 slice_bounds-choose_apart-end c = quarter _ _ c.requires.places
@@ -50,4 +50,4 @@ choose_apart-requires c =
     }
 
 pub returns : goal.returns
-returns c = let k = c.choose_apart.ensures in record { chosen = k.chosen; wide = c.requires.wide; choices = k.choices; many = k.many; room = k.room }
+returns c = let k = c.choose_apart.ensures in record { chosen = k.chosen; codings = c.requires.codings; choices = k.choices; many = k.many; room = k.room }

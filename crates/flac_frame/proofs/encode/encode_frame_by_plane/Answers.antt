@@ -1,14 +1,14 @@
 use Rattle.std.proofs.Common.{◌≡◌, ◌<◌, ◌≤◌, ◌-◌, ◌+◌, ◌*◌, ◌^◌, ◌∙◌, ℕ, length, Result, Ok, ap, subst, sym, arith}
 use Rattle.std.proofs.lemmas.Result.{err_from_is_err_and}
 use Rattle.flac_bits.specs.declared.why.Why.{Why}
-use Rattle.flac_subframe.specs.search.Room.{Room}
+use Rattle.flac_subframe.specs.search.Capacity.{Capacity}
 use Rattle.flac_frame.specs.Audio.{Sound}
-use Rattle.flac_frame.specs.Chosen.{AllWide}
-use Rattle.flac_frame.specs.Pair.{AreWide}
+use Rattle.flac_frame.specs.Chosen.{AllHaveCodings}
+use Rattle.flac_frame.specs.Pair.{HaveCodings}
 use Rattle.flac_frame.specs.Spelling.{frame_spelling}
 use Rattle.flac_frame.proofs.Encoded.{failed}
 use Rattle.flac_frame.proofs.FrameTie.{frames_bytes}
-use Rattle.flac_frame.proofs.Rooms.{as_few, few_of}
+use Rattle.flac_frame.proofs.Capacities.{as_few, few_of}
 use Rattle.flac_frame.proofs.Sizes.{bytes_grow, bits_more}
 use Rattle.flac_frame.proofs.Subjects.{few_in, size_in, four_in, two_in, partition_in, orders_in, wrote_in}
 use Rattle.flac_frame.proofs.encode.encode_frame_by_plane.Goals as goal
@@ -32,20 +32,20 @@ overflow_sub-result g c =
     no_fewer _ _ _ _ c.bytes_written-before.ensures c.bytes_written.ensures grows
 
 pub of-subject-requires : goal.of-subject-requires
-of-subject-requires g c = record { some = c.requires.some; few = few_in _ _ _ c.requires.room (ap (λ (r : Room). r.block) c.buffers.view_is) c.buffers.invariant.block; within = c.requires.within }
+of-subject-requires g c = record { some = c.requires.some; few = few_in _ _ _ c.requires.room (ap (λ (r : Capacity). r.block) c.buffers.view_is) c.buffers.invariant.block; within = c.requires.within }
 
 pub choose_first-requires : goal.choose_first-requires
 choose_first-requires g c =
     let s = c.of-subject.result in
     let is = c.of-subject.ensures in
     let inv = c.buffers.invariant in
-    let block = ap (λ (r : Room). r.block) c.buffers.view_is in
+    let block = ap (λ (r : Capacity). r.block) c.buffers.view_is in
     record {
       places = four_in _ _ _ _ _ _ is.size c.requires.room block c.deref_mut.ensures.len inv.places;
       block = size_in _ _ _ _ is.size c.requires.room block;
-      partition = partition_in s.audio.now c.args.audio.now _ _ is.audio c.requires.partition (ap (λ (r : Room). r.most) c.buffers.view_is);
-      wide = inv.choices;
-      choices = record { many = few_of _ _ _ (as_few _ _ _ (ap (λ (a : Sound). length a.channels) is.audio) c.channels-channels.ensures.sound.few) inv.choice.many; wide = inv.choice.wide };
+      partition = partition_in s.audio.now c.args.audio.now _ _ is.audio c.requires.partition (ap (λ (r : Capacity). r.most) c.buffers.view_is);
+      codings = inv.choices;
+      choices = record { many = few_of _ _ _ (as_few _ _ _ (ap (λ (a : Sound). length a.channels) is.audio) c.channels-channels.ensures.sound.few) inv.choice.many; codings = inv.choice.codings };
       number = subst (λ n. n < 2 ^ 31) (sym is.number) c.requires.number;
       orders = orders_in s.audio.now c.args.audio.now s.predictors.now c.args.predictors.now is.audio is.predictors c.requires.orders;
     }
@@ -53,10 +53,10 @@ choose_first-requires g c =
 pub write_first-requires : goal.write_first-requires
 write_first-requires g c =
     let chosen = c.choose_first.ensures in
-    let block = ap (λ (r : Room). r.block) c.buffers.view_is in
+    let block = ap (λ (r : Capacity). r.block) c.buffers.view_is in
     record {
       places = two_in _ _ _ _ _ _ c.of-subject.ensures.size c.requires.room block c.deref_mut-2.ensures.len c.buffers.invariant.places;
-      block = size_in _ _ _ _ c.of-subject.ensures.size c.requires.room (ap (λ (r : Room). r.block) chosen.room ∙ block);
+      block = size_in _ _ _ _ c.of-subject.ensures.size c.requires.room (ap (λ (r : Capacity). r.block) chosen.room ∙ block);
       choices = chosen.choices.many;
       chosen = chosen.chosen;
       whole = c.requires.whole;
@@ -99,24 +99,24 @@ pub invariant_of-buffers : goal.invariant_of-buffers
 invariant_of-buffers g c =
     let same : c.write_first.new.workspace ≡ c.buffers.inside.workspace = c.in_err-write_first.ensures.room ∙ c.choose_first.ensures.room in
     record {
-      places = c.buffers.invariant.places ∙ ap (λ (r : Room). 4 * r.block) (sym same);
-      choices = subst (λ (r : Room). AreWide r.most c.choose_first.new.choices) (sym same) c.choose_first.ensures.wide;
+      places = c.buffers.invariant.places ∙ ap (λ (r : Capacity). 4 * r.block) (sym same);
+      choices = subst (λ (r : Capacity). HaveCodings r.most c.choose_first.new.choices) (sym same) c.choose_first.ensures.codings;
       choice = record {
         many = subst (λ n. 8 ≤ n) (sym c.choose_first.ensures.many) c.buffers.invariant.choice.many;
-        wide = subst (λ (r : Room). AllWide r.most c.choose_first.new.choice.subframes.items) (sym same) c.choose_first.ensures.choices.wide;
+        codings = subst (λ (r : Capacity). AllHaveCodings r.most c.choose_first.new.choice.subframes.items) (sym same) c.choose_first.ensures.choices.codings;
       };
-      block = as_few _ _ _ (ap (λ (r : Room). r.block) same) c.buffers.invariant.block;
+      block = as_few _ _ _ (ap (λ (r : Capacity). r.block) same) c.buffers.invariant.block;
     }
 
 pub invariant_of-buffers-2 : goal.invariant_of-buffers-2
 invariant_of-buffers-2 g c =
     let same : c.write_first.new.workspace ≡ c.buffers.inside.workspace = c.in_ok-write_first.ensures.room ∙ c.choose_first.ensures.room in
     record {
-      places = c.buffers.invariant.places ∙ ap (λ (r : Room). 4 * r.block) (sym same);
-      choices = subst (λ (r : Room). AreWide r.most c.choose_first.new.choices) (sym same) c.choose_first.ensures.wide;
+      places = c.buffers.invariant.places ∙ ap (λ (r : Capacity). 4 * r.block) (sym same);
+      choices = subst (λ (r : Capacity). HaveCodings r.most c.choose_first.new.choices) (sym same) c.choose_first.ensures.codings;
       choice = record {
         many = subst (λ n. 8 ≤ n) (sym c.choose_first.ensures.many) c.buffers.invariant.choice.many;
-        wide = subst (λ (r : Room). AllWide r.most c.choose_first.new.choice.subframes.items) (sym same) c.choose_first.ensures.choices.wide;
+        codings = subst (λ (r : Capacity). AllHaveCodings r.most c.choose_first.new.choice.subframes.items) (sym same) c.choose_first.ensures.choices.codings;
       };
-      block = as_few _ _ _ (ap (λ (r : Room). r.block) same) c.buffers.invariant.block;
+      block = as_few _ _ _ (ap (λ (r : Capacity). r.block) same) c.buffers.invariant.block;
     }

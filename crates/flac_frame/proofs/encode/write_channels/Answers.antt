@@ -5,16 +5,16 @@ use Rattle.flac_bits.specs.Signed.{FitsBits}
 use Rattle.flac_bits.specs.Written.{Adds, Fails, Writes}
 use Rattle.flac_bits.proofs.Writing.{Towards, towards_start, towards_more, towards_fail, towards_end}
 use Rattle.flac_subframe.specs.search.Choices.{IsMadeIn, form_in}
-use Rattle.flac_subframe.specs.search.Room.{Room}
+use Rattle.flac_subframe.specs.search.Capacity.{Capacity}
 use Rattle.flac_subframe.specs.format.Spelling.{subframe_spelling}
 use Rattle.flac_frame.specs.Chosen.{AreMadeByPlane, forms_by_plane}
 use Rattle.flac_frame.specs.PlaneLists.{Lists, lists_of}
 use Rattle.flac_frame.specs.Encoding.{block_of}
-use Rattle.flac_frame.proofs.Chosen.{made_next, text_next, text_behind, text_last, texts_same}
+use Rattle.flac_frame.proofs.Chosen.{made_next, text_next, text_after, text_last, texts_same}
 use Rattle.flac_frame.proofs.Encoded.{failed}
 use Rattle.flac_frame.proofs.Frames.{many_channels, few_channels, part_small, bits_small}
 use Rattle.flac_frame.proofs.PlaneLists.{none_from}
-use Rattle.flac_frame.proofs.Rooms.{below_33, few_of, room_for, some_of, in_reach}
+use Rattle.flac_frame.proofs.Capacities.{below_33, few_of, room_for, some_of, in_reach}
 use Rattle.flac_frame.proofs.encode.write_channels.Goals as goal
 
 pub loop-i-init : goal.loop-i-init
@@ -68,7 +68,7 @@ write_subframe_in-requires g c =
     let next = made_next (lists_of s.predictors.now) c.bits-depth.result s.start s.size cs s.audio.now.channels c.loop-i.i c.index-subframes-i.result few lt c.index-subframes-i.is c.loop-i.invariant.made in
     record {
       some = some_of _ _ long s.some;
-      block = room_for _ _ _ _ long (ap (λ (r : Room). r.block) c.loop-i.invariant.room) c.requires.block;
+      block = room_for _ _ _ _ long (ap (λ (r : Capacity). r.block) c.loop-i.invariant.room) c.requires.block;
       depth = (deep.0, few_of c.bits-depth.result 32 33 deep.1 below_33);
       fits = subst (All (FitsBits c.bits-depth.result)) so (part_small s.audio.now e.sound s.start s.size c.loop-i.i c.bits-depth.result c.bits-depth.ensures lt);
       made = subst (λ ps. IsMadeIn ps c.index-subframes-i.result c.widen.new.out) (sym c.list-predictors.ensures) (subst (IsMadeIn (lists_of s.predictors.now c.loop-i.i) c.index-subframes-i.result) so next.0);
@@ -112,7 +112,7 @@ loop-i-preserved g c =
     let told = subst (λ ps. Adds (subframe_spelling depth (form_in ps c.index-subframes-i.result c.widen.new.out)) c.loop-i.writer c.write_subframe_in.new.writer) c.list-predictors.ensures c.in_ok-write_subframe_in.ensures.text in
     record {
       made = next.1;
-      towards = towards_more (text_behind (lists_of s.predictors.now) depth s.start s.size cs a.channels (c.loop-i.i + 1)) text c.loop-i.invariant.towards
+      towards = towards_more (text_after (lists_of s.predictors.now) depth s.start s.size cs a.channels (c.loop-i.i + 1)) text c.loop-i.invariant.towards
           (subst (λ t. Adds (subframe_spelling depth (form_in (lists_of s.predictors.now c.loop-i.i) c.index-subframes-i.result t)) c.loop-i.writer c.write_subframe_in.new.writer) so told);
       room = c.in_ok-write_subframe_in.ensures.room ∙ c.loop-i.invariant.room;
     }

@@ -4,7 +4,7 @@ use Rattle.flac_bits.specs.Written.{Writes}
 use Rattle.flac_frame.specs.Encoding.{block_of}
 use Rattle.flac_frame.specs.PlaneLists.{lists_of}
 use Rattle.flac_frame.proofs.Frames.{many_channels, few_channels}
-use Rattle.flac_frame.proofs.Rooms.{as_few, half_of}
+use Rattle.flac_frame.proofs.Capacities.{as_few, half_of}
 use Rattle.flac_frame.proofs.Written.{pair_code, apart_made, apart_parts}
 use Rattle.flac_frame.proofs.encode.write_subframes.Goals as goal
 

@@ -10,7 +10,7 @@ use Rattle.flac_frame.specs.Frame.{limits_at, subframes, each_fits}
 use Rattle.flac_frame.specs.Stereo.{joined}
 use Rattle.flac_frame.specs.View.{chunks}
 use Rattle.flac_frame.proofs.Bodies.{two_channels, rest_unread, rest_unfit, rest_fit}
-use Rattle.flac_frame.proofs.Rooms.{as_few}
+use Rattle.flac_frame.proofs.Capacities.{as_few}
 use Rattle.flac_frame.proofs.frame_reading.read_body.Goals as goal
 
 range_no_memory : SampleRange ≡ Memory → ⊥

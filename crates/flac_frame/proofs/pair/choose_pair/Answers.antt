@@ -2,16 +2,16 @@ use Rattle.std.proofs.Common.{List, [], ◌∷◌, ◌≡◌, ◌∙◌, ◌+◌
 use Rattle.std.proofs.lemmas.List.{with_items_is, length-take-le}
 use Rattle.std.specs.Vec.{with_items}
 use Rattle.flac_bits.specs.Signed.{FitsBits}
-use Rattle.flac_subframe.specs.declared.search.wide.WideChoice.{WideChoice}
+use Rattle.flac_subframe.specs.declared.search.wide_choice.WideChoice.{WideChoice}
 use Rattle.flac_frame.specs.declared.frame_choice.FrameChoice.{FrameChoice}
 use Rattle.flac_header.specs.Assignment.{code_of}
 use Rattle.flac_frame.specs.Audio.{samples_each}
-use Rattle.flac_frame.specs.Chosen.{AllWide}
+use Rattle.flac_frame.specs.Chosen.{AllHaveCodings}
 use Rattle.flac_frame.specs.Encoding.{block_of, partition_limit}
 use Rattle.flac_frame.specs.PlaneLists.{lists_of}
 use Rattle.flac_frame.specs.inner.Pair.{ArePlanes}
 use Rattle.flac_frame.proofs.PairLeast.{pair_choice}
-use Rattle.flac_frame.proofs.Rooms.{as_few, some_of, quarter}
+use Rattle.flac_frame.proofs.Capacities.{as_few, some_of, quarter}
 use Rattle.flac_frame.proofs.Sounds.{depth_small}
 use Rattle.flac_frame.proofs.pair.choose_pair.Goals as goal
 
@@ -54,7 +54,7 @@ pub choose_planes-assignment-requires : goal.choose_planes-assignment-requires
 choose_planes-assignment-requires c = record {
   block = as_few _ _ _ (c.split_pair.auto.left ∙ c.split_at_mut-left.ensures.front_len) c.requires.block;
   partition = c.requires.partition;
-  wide = c.requires.wide;
+  codings = c.requires.codings;
   orders = c.requires.orders;
 }
 
@@ -108,16 +108,16 @@ returns-clause-chosen c =
     c.profile.result c.rate.result c.bits-depth.result c.chosen_in-header.result c.profile.ensures c.rate.ensures c.bits-depth.ensures (rw c.code-code.ensures.code at c.chosen_in-header.ensures.chosen) c.chosen_in-header.ensures.valid c.requires.number
     made old (subst (λ (l : List WideChoice). 2 ≤ length l) (sym c.deref_mut.ensures.value) c.requires.choices.many) c.code-code.ensures.code (back ∙ c.keep.ensures.kept) k.ensures.bits
 
-pub returns-clause-wide : goal.returns-clause-wide
-returns-clause-wide c = (c.keep.ensures.wide c.args.workspace.now.most c.choose_planes-assignment.ensures.wide (subst (λ l. AllWide c.args.workspace.now.most l) (sym c.deref_mut.ensures.value) c.requires.choices.wide)).0
+pub returns-clause-codings : goal.returns-clause-codings
+returns-clause-codings c = (c.keep.ensures.codings c.args.workspace.now.most c.choose_planes-assignment.ensures.codings (subst (λ l. AllHaveCodings c.args.workspace.now.most l) (sym c.deref_mut.ensures.value) c.requires.choices.codings)).0
 
 pub returns-clause-choices : goal.returns-clause-choices
 returns-clause-choices c =
     let most : ℕ = c.args.workspace.now.most in
     let made : FrameChoice = record { code = c.code-code.result; bits = c.choose_planes-assignment.result.1; subframes = with_items c.args.choice.now.subframes c.keep.new.places } in
     let back : made.subframes.items ≡ c.keep.new.places = with_items_is c.args.choice.now.subframes c.keep.new.places (c.keep.auto.places ∙ ap length c.deref_mut.ensures.value ∙ sym c.args.choice.now.subframes.ok.0) in
-    let wide = (c.keep.ensures.wide most c.choose_planes-assignment.ensures.wide (subst (λ l. AllWide most l) (sym c.deref_mut.ensures.value) c.requires.choices.wide)).1 in
+    let codings = (c.keep.ensures.codings most c.choose_planes-assignment.ensures.codings (subst (λ l. AllHaveCodings most l) (sym c.deref_mut.ensures.value) c.requires.choices.codings)).1 in
     record {
       many = subst (λ n. 2 ≤ n) (sym (ap length back ∙ c.keep.auto.places ∙ ap length c.deref_mut.ensures.value)) c.requires.choices.many;
-      wide = subst (λ (l : List WideChoice). AllWide most l) (sym back) wide;
+      codings = subst (λ (l : List WideChoice). AllHaveCodings most l) (sym back) codings;
     }

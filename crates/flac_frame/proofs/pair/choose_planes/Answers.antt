@@ -1,12 +1,12 @@
 use Rattle.std.proofs.Common.{◌≡◌, ◌∙◌, ◌+◌, ◌≤◌, ℕ, Fits, w32, ap, subst, sym, length, All, arith}
 use Rattle.flac_bits.specs.Signed.{FitsBits}
 use Rattle.flac_header.specs.Assignment.{code_of}
-use Rattle.flac_subframe.specs.search.Room.{Room}
+use Rattle.flac_subframe.specs.search.Capacity.{Capacity}
 use Rattle.flac_frame.specs.Encoding.{partition_limit}
 use Rattle.flac_frame.specs.PlaneLists.{lists_of}
 use Rattle.flac_frame.specs.inner.Pair.{IsFirstLeast, IsPlane, pair_cost}
 use Rattle.flac_frame.proofs.Pairs.{side_long, middle_long, side_fits, middle_fits}
-use Rattle.flac_frame.proofs.Rooms.{as_few, room_for, some_of, wide_for, wide_still}
+use Rattle.flac_frame.proofs.Capacities.{as_few, room_for, some_of, codings_for, codings_still}
 use Rattle.flac_frame.proofs.pair.choose_planes.Goals as goal
 
 -- the depth of a plane
@@ -35,7 +35,7 @@ choose_plane-requires c =
       depth = within_33 p.depth p.deep;
       fits = p.left_fits;
       partition = c.requires.partition;
-      places = wide_for _ _ _ c.requires.partition c.requires.wide.left;
+      places = codings_for _ _ _ c.requires.partition c.requires.codings.left;
       orders = c.requires.orders;
     }
 
@@ -45,11 +45,11 @@ choose_plane-requires-2 c =
     let room = c.choose_plane.ensures.room in
     record {
       some = some_of _ _ p.long p.some;
-      block = room_for _ _ _ _ p.long (ap (λ (r : Room). r.block) room) c.requires.block;
+      block = room_for _ _ _ _ p.long (ap (λ (r : Capacity). r.block) room) c.requires.block;
       depth = within_33 p.depth p.deep;
       fits = p.right_fits;
-      partition = wide_still _ _ _ (ap (λ (r : Room). r.most) room) c.requires.partition;
-      places = wide_for _ _ _ c.requires.partition c.requires.wide.right;
+      partition = codings_still _ _ _ (ap (λ (r : Capacity). r.most) room) c.requires.partition;
+      places = codings_for _ _ _ c.requires.partition c.requires.codings.right;
       orders = c.requires.orders;
     }
 
@@ -60,11 +60,11 @@ choose_plane-requires-3 c =
     let long : length p.side.now ≡ length p.left.now = ap length p.sides ∙ side_long p.left.now p.right.now p.long in
     record {
       some = some_of _ _ long p.some;
-      block = room_for _ _ _ _ long (ap (λ (r : Room). r.block) room) c.requires.block;
+      block = room_for _ _ _ _ long (ap (λ (r : Capacity). r.block) room) c.requires.block;
       depth = one_more p.depth p.deep.1;
       fits = subst (All (FitsBits (p.depth + 1))) (sym p.sides) (side_fits p.left.now p.right.now p.long p.depth p.deep.0 p.left_fits p.right_fits);
-      partition = wide_still _ _ _ (ap (λ (r : Room). r.most) room) c.requires.partition;
-      places = wide_for _ _ _ c.requires.partition c.requires.wide.side;
+      partition = codings_still _ _ _ (ap (λ (r : Capacity). r.most) room) c.requires.partition;
+      places = codings_for _ _ _ c.requires.partition c.requires.codings.side;
       orders = c.requires.orders;
     }
 
@@ -75,11 +75,11 @@ choose_plane-requires-4 c =
     let long : length p.middle.now ≡ length p.left.now = ap length p.middles ∙ middle_long p.left.now p.right.now p.long in
     record {
       some = some_of _ _ long p.some;
-      block = room_for _ _ _ _ long (ap (λ (r : Room). r.block) room) c.requires.block;
+      block = room_for _ _ _ _ long (ap (λ (r : Capacity). r.block) room) c.requires.block;
       depth = within_33 p.depth p.deep;
       fits = subst (All (FitsBits p.depth)) (sym p.middles) (middle_fits p.left.now p.right.now p.long p.depth p.left_fits p.right_fits);
-      partition = wide_still _ _ _ (ap (λ (r : Room). r.most) room) c.requires.partition;
-      places = wide_for _ _ _ c.requires.partition c.requires.wide.middle;
+      partition = codings_still _ _ _ (ap (λ (r : Capacity). r.most) room) c.requires.partition;
+      places = codings_for _ _ _ c.requires.partition c.requires.codings.middle;
       orders = c.requires.orders;
     }
 
@@ -112,11 +112,11 @@ returns c =
       valid = c.least_assignment.ensures.valid;
       best = subst (λ f. IsFirstLeast f code) cost c.least_assignment.ensures.best;
       bits = c.least_assignment.ensures.bits ∙ ap (λ f. f code) cost;
-      wide = record {
-        left = wide_still _ _ _ l.places c.requires.wide.left;
-        right = wide_still _ _ _ r.places c.requires.wide.right;
-        side = wide_still _ _ _ s.places c.requires.wide.side;
-        middle = wide_still _ _ _ m.places c.requires.wide.middle;
+      codings = record {
+        left = codings_still _ _ _ l.places c.requires.codings.left;
+        right = codings_still _ _ _ r.places c.requires.codings.right;
+        side = codings_still _ _ _ s.places c.requires.codings.side;
+        middle = codings_still _ _ _ m.places c.requires.codings.middle;
       };
       room = m.room ∙ s.room ∙ r.room ∙ l.room;
     }

@@ -10,7 +10,7 @@ use Rattle.flac_frame.specs.Encoding.{block_of}
 use Rattle.flac_frame.specs.Frame.{side_bit}
 use Rattle.flac_frame.specs.Spelling.{subframes_spelling}
 use Rattle.flac_frame.specs.Stereo.{kept_as}
-use Rattle.flac_frame.proofs.Rooms.{as_few, some_of, half_of, other_half}
+use Rattle.flac_frame.proofs.Capacities.{as_few, some_of, half_of, other_half}
 use Rattle.flac_frame.proofs.pair.write_pair.Goals as goal
 
 pub split_at_mut-first-requires : goal.split_at_mut-first-requires

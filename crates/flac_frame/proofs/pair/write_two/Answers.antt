@@ -2,7 +2,7 @@ use Rattle.std.proofs.Common.{◌≡◌, ℕ, ◌+◌, ◌≤◌, ◌++◌, All,
 use Rattle.std.proofs.lemmas.Result.{err_from_is_err_and}
 use Rattle.flac_bits.specs.Signed.{FitsBits}
 use Rattle.flac_bits.specs.Written.{Adds, Fails, Writes}
-use Rattle.flac_subframe.specs.search.Room.{Room}
+use Rattle.flac_subframe.specs.search.Capacity.{Capacity}
 use Rattle.flac_bits.proofs.Writing.{fails_first, writes_then}
 use Rattle.flac_frame.specs.Chosen.{AreMadeByPlane}
 use Rattle.flac_frame.specs.PlaneLists.{plane_of, lists_of, lists_kept}
@@ -11,7 +11,7 @@ use Rattle.flac_subframe.specs.format.Spelling.{subframe_spelling}
 use Rattle.flac_frame.specs.Frame.{side_bit}
 use Rattle.flac_frame.proofs.Chosen.{first_made, second_made, pair_texts}
 use Rattle.flac_frame.proofs.Encoded.{failed}
-use Rattle.flac_frame.proofs.Rooms.{some_of, room_for}
+use Rattle.flac_frame.proofs.Capacities.{some_of, room_for}
 use Rattle.flac_frame.proofs.Sounds.{depth_small}
 use Rattle.flac_frame.proofs.pair.write_two.Goals as goal
 
@@ -34,7 +34,7 @@ pub write_subframe_in-requires-2-clause-some : goal.write_subframe_in-requires-2
 write_subframe_in-requires-2-clause-some g c = some_of _ _ c.requires.second c.requires.some
 
 pub write_subframe_in-requires-2-clause-block : goal.write_subframe_in-requires-2-clause-block
-write_subframe_in-requires-2-clause-block g c = room_for _ _ _ _ c.requires.second (ap (λ (r : Room). r.block) c.in_ok-write_subframe_in.ensures.room) c.requires.block
+write_subframe_in-requires-2-clause-block g c = room_for _ _ _ _ c.requires.second (ap (λ (r : Capacity). r.block) c.in_ok-write_subframe_in.ensures.room) c.requires.block
 
 pub write_subframe_in-requires-2-clause-fits : goal.write_subframe_in-requires-2-clause-fits
 write_subframe_in-requires-2-clause-fits g c =

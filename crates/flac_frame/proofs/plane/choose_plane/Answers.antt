@@ -5,7 +5,7 @@ use Rattle.flac_subframe.specs.declared.format.limits.Limits.{Limits}
 use Rattle.flac_frame.specs.Encoding.{partition_limit}
 use Rattle.flac_frame.specs.PlaneLists.{lists_of}
 use Rattle.flac_frame.specs.inner.Pair.{IsChosen}
-use Rattle.flac_frame.proofs.Rooms.{limits_are, partition_is, chosen_of}
+use Rattle.flac_frame.proofs.Capacities.{limits_are, partition_is, chosen_of}
 use Rattle.flac_frame.proofs.plane.choose_plane.Goals as goal
 
 pub choose_in-requires-clause-orders : goal.choose_in-requires-clause-orders

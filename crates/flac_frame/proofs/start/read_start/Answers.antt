@@ -25,14 +25,14 @@ pub returns-in_err-header : goal.returns-in_err-header
 unfolding stream_header
 returns-in_err-header g c =
     let p = err_from_is_err_and c.from_residual.result c.from_residual.ensures.1 in
-    rw (p.1, p.2) (record { number = tt; code = tt; channels = tt; size = tt; reading = record { spends = tt; counts = c.in_err-header.ensures.reading.counts; memory = c.in_err-header.ensures.reading.memory; reads = told_fault (started c.args.bits.now) c.header_here.new.bits _ c.in_err-header.ensures.reading.reads } })
+    rw (p.1, p.2) (record { number = tt; code = tt; channels = tt; size = tt; reading = record { spends = tt; counts = c.in_err-header.ensures.reading.counts; memory = c.in_err-header.ensures.reading.memory; reads = told_fault (started c.args.bits.now) c.header_by_layout.new.bits _ c.in_err-header.ensures.reading.reads } })
 
 pub returns-then-not-allows : goal.returns-then-not-allows
 unfolding stream_header
 returns-then-not-allows g c =
     let h = c.in_ok-header.header in
     let told = c.in_ok-header.ensures.reading in
-    let mid = c.header_here.new.bits in
+    let mid = c.header_by_layout.new.bits in
     record {
       number = tt;
       code = tt;
@@ -51,7 +51,7 @@ unfolding stream_header
 returns-then-differs g c =
     let h = c.in_ok-header.header in
     let told = c.in_ok-header.ensures.reading in
-    let mid = c.header_here.new.bits in
+    let mid = c.header_by_layout.new.bits in
     record {
       number = tt;
       code = tt;
@@ -70,7 +70,7 @@ unfolding stream_header
 returns-then-breaks_sequence g c =
     let h = c.in_ok-header.header in
     let told = c.in_ok-header.ensures.reading in
-    let mid = c.header_here.new.bits in
+    let mid = c.header_by_layout.new.bits in
     record {
       number = tt;
       code = tt;
@@ -89,7 +89,7 @@ unfolding stream_header
 returns-then-breaks_size g c =
     let h = c.in_ok-header.header in
     let told = c.in_ok-header.ensures.reading in
-    let mid = c.header_here.new.bits in
+    let mid = c.header_by_layout.new.bits in
     record {
       number = tt;
       code = tt;
@@ -116,7 +116,7 @@ unfolding stream_header
 returns-clause-reading g c =
     let h = c.in_ok-header.header in
     let told = c.in_ok-header.ensures.reading in
-    let mid = c.header_here.new.bits in
+    let mid = c.header_by_layout.new.bits in
     record {
       spends = told.spends;
       counts = told.counts;

@@ -8,8 +8,8 @@ use Rattle.flac_bits.specs.declared.why.Why.{Why}
 use Rattle.flac_bits.specs.declared.why.Why.TheVariants.{HeaderCheck, Memory}
 use Rattle.flac_bits.proofs.Counting.{answered_then, failed_then, refused_then}
 use Rattle.flac_bits.proofs.Telling.{told_then, told_fault, told_past, told_broken}
-use Rattle.flac_header.specs.inner.Codes.{behind_codes}
-use Rattle.flac_header.proofs.Parted.{behind, told_header}
+use Rattle.flac_header.specs.inner.Codes.{after_codes}
+use Rattle.flac_header.proofs.Parted.{after, told_header}
 use Rattle.flac_header.proofs.read.read_fields.Goals as goal
 
 -- one rule at the end of a field
@@ -32,10 +32,10 @@ pub returns-in_err-strategy : goal.returns-in_err-strategy
 returns-in_err-strategy g c =
     let p = err_from_is_err_and c.from_residual.result c.from_residual.ensures.1 in
     let cut = c.in_err-strategy.ensures.reading in
-    rw (p.1, p.2) (record { reading = record { spends = tt; counts = cut.counts; memory = cut.memory; reads = told_header c.args.bits.now c.read_codes.new.bits (told_fault c.args.bits.now c.read_codes.new.bits behind cut.reads) } })
+    rw (p.1, p.2) (record { reading = record { spends = tt; counts = cut.counts; memory = cut.memory; reads = told_header c.args.bits.now c.read_codes.new.bits (told_fault c.args.bits.now c.read_codes.new.bits after cut.reads) } })
 
 pub returns-in_err-number : goal.returns-in_err-number
-unfolding behind_codes
+unfolding after_codes
 returns-in_err-number g c =
     let p = err_from_is_err_and c.from_residual-in_err-number.result c.from_residual-in_err-number.ensures.1 in
     let first = c.in_ok-strategy.ensures.reading in
@@ -43,15 +43,15 @@ returns-in_err-number g c =
     rw (p.1, p.2) (record {
       reading = record {
         spends = tt;
-        counts = failed_then c.args.bits.now c.read_codes.new.bits c.number_here.new.bits first.counts cut.counts;
+        counts = failed_then c.args.bits.now c.read_codes.new.bits c.number_by_layout.new.bits first.counts cut.counts;
         memory = cut.memory;
-        reads = told_header c.args.bits.now c.number_here.new.bits (told_then c.args.bits.now c.read_codes.new.bits c.number_here.new.bits behind first.counts first.reads
-            (told_fault c.read_codes.new.bits c.number_here.new.bits _ (rw c.number_bits.ensures at cut.reads)));
+        reads = told_header c.args.bits.now c.number_by_layout.new.bits (told_then c.args.bits.now c.read_codes.new.bits c.number_by_layout.new.bits after first.counts first.reads
+            (told_fault c.read_codes.new.bits c.number_by_layout.new.bits _ (rw c.number_bits.ensures at cut.reads)));
       };
     })
 
 pub returns-in_err-size : goal.returns-in_err-size
-unfolding behind_codes
+unfolding after_codes
 returns-in_err-size g c =
     let p = err_from_is_err_and c.from_residual-in_err-size.result c.from_residual-in_err-size.ensures.1 in
     let first = c.in_ok-strategy.ensures.reading in
@@ -61,16 +61,16 @@ returns-in_err-size g c =
     rw (p.1, p.2) (record {
       reading = record {
         spends = tt;
-        counts = failed_then c.args.bits.now c.read_codes.new.bits last first.counts (failed_then c.read_codes.new.bits c.number_here.new.bits last number.counts cut.counts);
+        counts = failed_then c.args.bits.now c.read_codes.new.bits last first.counts (failed_then c.read_codes.new.bits c.number_by_layout.new.bits last number.counts cut.counts);
         memory = cut.memory;
-        reads = told_header c.args.bits.now last (told_then c.args.bits.now c.read_codes.new.bits last behind first.counts first.reads
-            (told_then c.read_codes.new.bits c.number_here.new.bits last _ number.counts (rw c.number_bits.ensures at number.reads)
-            (told_fault c.number_here.new.bits last _ cut.reads)));
+        reads = told_header c.args.bits.now last (told_then c.args.bits.now c.read_codes.new.bits last after first.counts first.reads
+            (told_then c.read_codes.new.bits c.number_by_layout.new.bits last _ number.counts (rw c.number_bits.ensures at number.reads)
+            (told_fault c.number_by_layout.new.bits last _ cut.reads)));
       };
     })
 
 pub returns-in_err-rate : goal.returns-in_err-rate
-unfolding behind_codes
+unfolding after_codes
 returns-in_err-rate g c =
     let p = err_from_is_err_and c.from_residual-in_err-rate.result c.from_residual-in_err-rate.ensures.1 in
     let first = c.in_ok-strategy.ensures.reading in
@@ -81,18 +81,18 @@ returns-in_err-rate g c =
     rw (p.1, p.2) (record {
       reading = record {
         spends = tt;
-        counts = failed_then c.args.bits.now c.read_codes.new.bits last first.counts (failed_then c.read_codes.new.bits c.number_here.new.bits last number.counts
-            (failed_then c.number_here.new.bits c.read_size.new.bits last size.counts cut.counts));
+        counts = failed_then c.args.bits.now c.read_codes.new.bits last first.counts (failed_then c.read_codes.new.bits c.number_by_layout.new.bits last number.counts
+            (failed_then c.number_by_layout.new.bits c.read_size.new.bits last size.counts cut.counts));
         memory = cut.memory;
-        reads = told_header c.args.bits.now last (told_then c.args.bits.now c.read_codes.new.bits last behind first.counts first.reads
-            (told_then c.read_codes.new.bits c.number_here.new.bits last _ number.counts (rw c.number_bits.ensures at number.reads)
-            (told_then c.number_here.new.bits c.read_size.new.bits last _ size.counts size.reads
+        reads = told_header c.args.bits.now last (told_then c.args.bits.now c.read_codes.new.bits last after first.counts first.reads
+            (told_then c.read_codes.new.bits c.number_by_layout.new.bits last _ number.counts (rw c.number_bits.ensures at number.reads)
+            (told_then c.number_by_layout.new.bits c.read_size.new.bits last _ size.counts size.reads
             (told_fault c.read_size.new.bits last _ cut.reads))));
       };
     })
 
 pub returns-in_err-take : goal.returns-in_err-take
-unfolding behind_codes
+unfolding after_codes
 returns-in_err-take g c =
     let p = err_from_is_err_and c.from_residual-in_err-take.result c.from_residual-in_err-take.ensures.1 in
     let first = c.in_ok-strategy.ensures.reading in
@@ -104,19 +104,19 @@ returns-in_err-take g c =
     rw (p.1, p.2) (record {
       reading = record {
         spends = tt;
-        counts = failed_then c.args.bits.now c.read_codes.new.bits last first.counts (failed_then c.read_codes.new.bits c.number_here.new.bits last number.counts
-            (failed_then c.number_here.new.bits c.read_size.new.bits last size.counts (failed_then c.read_size.new.bits c.read_rate.new.bits last rate.counts cut.counts)));
+        counts = failed_then c.args.bits.now c.read_codes.new.bits last first.counts (failed_then c.read_codes.new.bits c.number_by_layout.new.bits last number.counts
+            (failed_then c.number_by_layout.new.bits c.read_size.new.bits last size.counts (failed_then c.read_size.new.bits c.read_rate.new.bits last rate.counts cut.counts)));
         memory = cut.memory;
-        reads = told_header c.args.bits.now last (told_then c.args.bits.now c.read_codes.new.bits last behind first.counts first.reads
-            (told_then c.read_codes.new.bits c.number_here.new.bits last _ number.counts (rw c.number_bits.ensures at number.reads)
-            (told_then c.number_here.new.bits c.read_size.new.bits last _ size.counts size.reads
+        reads = told_header c.args.bits.now last (told_then c.args.bits.now c.read_codes.new.bits last after first.counts first.reads
+            (told_then c.read_codes.new.bits c.number_by_layout.new.bits last _ number.counts (rw c.number_bits.ensures at number.reads)
+            (told_then c.number_by_layout.new.bits c.read_size.new.bits last _ size.counts size.reads
             (told_then c.read_size.new.bits c.read_rate.new.bits last _ rate.counts rate.reads
             (told_fault c.read_rate.new.bits last _ cut.reads)))));
       };
     })
 
 pub returns-then-branch-from : goal.returns-then-branch-from
-unfolding behind_codes
+unfolding after_codes
 returns-then-branch-from g c =
     let first = c.in_ok-strategy.ensures.reading in
     let number = c.in_ok-number.ensures.reading in
@@ -128,12 +128,12 @@ returns-then-branch-from g c =
     record {
       reading = record {
         spends = tt;
-        counts = refused_then c.args.bits.now last (answered_then c.args.bits.now c.read_codes.new.bits last first.counts (answered_then c.read_codes.new.bits c.number_here.new.bits last number.counts
-            (answered_then c.number_here.new.bits c.read_size.new.bits last size.counts (answered_then c.read_size.new.bits c.read_rate.new.bits last rate.counts stored.counts)))) refl;
+        counts = refused_then c.args.bits.now last (answered_then c.args.bits.now c.read_codes.new.bits last first.counts (answered_then c.read_codes.new.bits c.number_by_layout.new.bits last number.counts
+            (answered_then c.number_by_layout.new.bits c.read_size.new.bits last size.counts (answered_then c.read_size.new.bits c.read_rate.new.bits last rate.counts stored.counts)))) refl;
         memory = check_no_memory;
-        reads = told_header c.args.bits.now last (told_then c.args.bits.now c.read_codes.new.bits last behind first.counts first.reads
-            (told_then c.read_codes.new.bits c.number_here.new.bits last _ number.counts (rw c.number_bits.ensures at number.reads)
-            (told_then c.number_here.new.bits c.read_size.new.bits last _ size.counts size.reads
+        reads = told_header c.args.bits.now last (told_then c.args.bits.now c.read_codes.new.bits last after first.counts first.reads
+            (told_then c.read_codes.new.bits c.number_by_layout.new.bits last _ number.counts (rw c.number_bits.ensures at number.reads)
+            (told_then c.number_by_layout.new.bits c.read_size.new.bits last _ size.counts size.reads
             (told_then c.read_size.new.bits c.read_rate.new.bits last _ rate.counts rate.reads
             (told_then c.read_rate.new.bits last last _ stored.counts stored.reads
             (told_broken {read = judged (not (nat_eq c.in_ok-take.field-0 c.read_rate.new.bits.cursor.mark.check8)) HeaderCheck last.cursor} last last _ (rw (ne_eqb c.in_ok-take.field-0 c.read_rate.new.bits.cursor.mark.check8 (λ q. c.if-branch-from.true (q ∙ sym check_is))) refl)))))));
@@ -141,7 +141,7 @@ returns-then-branch-from g c =
     }
 
 pub returns : goal.returns
-unfolding behind_codes
+unfolding after_codes
 returns g c =
     let first = c.in_ok-strategy.ensures.reading in
     let number = c.in_ok-number.ensures.reading in
@@ -153,12 +153,12 @@ returns g c =
     record {
       reading = record {
         spends = spent _ _ _ _ _ _ first.spends number.spends size.spends rate.spends stored.spends;
-        counts = answered_then c.args.bits.now c.read_codes.new.bits last first.counts (answered_then c.read_codes.new.bits c.number_here.new.bits last number.counts
-            (answered_then c.number_here.new.bits c.read_size.new.bits last size.counts (answered_then c.read_size.new.bits c.read_rate.new.bits last rate.counts stored.counts)));
+        counts = answered_then c.args.bits.now c.read_codes.new.bits last first.counts (answered_then c.read_codes.new.bits c.number_by_layout.new.bits last number.counts
+            (answered_then c.number_by_layout.new.bits c.read_size.new.bits last size.counts (answered_then c.read_size.new.bits c.read_rate.new.bits last rate.counts stored.counts)));
         memory = tt;
-        reads = told_header c.args.bits.now last (told_then c.args.bits.now c.read_codes.new.bits last behind first.counts first.reads
-            (told_then c.read_codes.new.bits c.number_here.new.bits last _ number.counts (rw c.number_bits.ensures at number.reads)
-            (told_then c.number_here.new.bits c.read_size.new.bits last _ size.counts size.reads
+        reads = told_header c.args.bits.now last (told_then c.args.bits.now c.read_codes.new.bits last after first.counts first.reads
+            (told_then c.read_codes.new.bits c.number_by_layout.new.bits last _ number.counts (rw c.number_bits.ensures at number.reads)
+            (told_then c.number_by_layout.new.bits c.read_size.new.bits last _ size.counts size.reads
             (told_then c.read_size.new.bits c.read_rate.new.bits last _ rate.counts rate.reads
             (told_then c.read_rate.new.bits last last _ stored.counts stored.reads
             (told_past {read = judged (not (nat_eq c.in_ok-take.field-0 c.read_rate.new.bits.cursor.mark.check8)) HeaderCheck last.cursor} last last last.cursor _ (rw (no_other c.in_ok-take.field-0 c.read_rate.new.bits.cursor.mark.check8 (c.if-branch-from.false ∙ check_is)) refl) (λ known same. refl)))))));

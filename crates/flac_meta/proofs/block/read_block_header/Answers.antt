@@ -14,8 +14,8 @@ use Rattle.flac_meta.proofs.block.read_block_header.Goals as goal
 use Rattle.flac_meta.proofs.block.read_block_header.Goals.{in-0, in-2, in-3, in_default}
 
 -- the bits of all three fields
-spends_all : (old mid behind new : ℕ) → mid + 1 ≤ old → behind + 7 ≤ mid → new + 24 ≤ behind → new + 32 ≤ old
-spends_all old mid behind new h k l = omega arith
+spends_all : (old mid after new : ℕ) → mid + 1 ≤ old → after + 7 ≤ mid → new + 24 ≤ after → new + 32 ≤ old
+spends_all old mid after new h k l = omega arith
 
 -- ---- the rules of a header
 

@@ -5,7 +5,7 @@ use Rattle.flac_bits.specs.declared.why.Why.TheVariants.{Memory}
 use Rattle.flac_bits.proofs.Telling.{told_then, told_fault}
 use Rattle.flac_bits.specs.State.{State, Cursor}
 use Rattle.flac_bits.specs.Layout.{Layout, done, ◌>>=◌, run}
-use Rattle.flac_bits.specs.Reading.{Reads, ReadsInRoom, Call}
+use Rattle.flac_bits.specs.Reading.{Reads, ReadsGivenMemory, Call}
 use Rattle.flac_bits.specs.declared.why.Why.{Why}
 use Rattle.flac_meta.specs.Block.{content, padding, other}
 use Rattle.flac_meta.specs.declared.block.Block.{Block}
@@ -113,7 +113,7 @@ made_of make (Ok x) (Err e) is h = absurd h
 made_of make (Err e) result is h = h
 
 call_with : {X : Type 0} (make : X → Block) (layout : Layout X) (old new : State) (read : Result X Why)
-    → Call 0 (ReadsInRoom (λ x. x) layout) old new read → Call 0 (ReadsInRoom (λ b. b) (layout >>= λ x. done (make x))) old new (block_with make read)
+    → Call 0 (ReadsGivenMemory (λ x. x) layout) old new read → Call 0 (ReadsGivenMemory (λ b. b) (layout >>= λ x. done (make x))) old new (block_with make read)
 call_with make layout old new (Ok x) r = record {
   spends = r.spends;
   counts = r.counts;
@@ -126,7 +126,7 @@ call_with make layout old new (Err e) r = record {
 }
 
 -- where memory cannot run out
-in_room : {X : Type 0} (layout : Layout X) (old new : State) (read : Result X Why) → Call 0 (Reads (λ x. x) layout) old new read → Call 0 (ReadsInRoom (λ x. x) layout) old new read
+in_room : {X : Type 0} (layout : Layout X) (old new : State) (read : Result X Why) → Call 0 (Reads (λ x. x) layout) old new read → Call 0 (ReadsGivenMemory (λ x. x) layout) old new read
 in_room layout old new read r = record { spends = r.spends; counts = r.counts; reads = λ room. r.reads }
 
 info_short : (make : Info → Block) (old new : State) (read : Result Info Why) → Reads (λ x. x) stream_info old new read

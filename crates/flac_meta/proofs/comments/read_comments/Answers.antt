@@ -68,18 +68,18 @@ returns-in_err-list g c =
     let v = c.in_ok-vendor.ensures.reading in
     let n = c.in_ok-count.ensures.reading in
     let mid = c.read_sized_little.new.bits in
-    let behind = c.read_little_32.new.bits in
+    let after = c.read_little_32.new.bits in
     let new = c.read_texts.new.bits in
     let rest : ℕ = c.args.left - (4 + length c.in_ok-vendor.vendor) in
     rw (p.1, p.2) (record {
       reading = record {
         spends = tt;
-        counts = failed_then c.args.bits.now mid new v.counts (failed_then mid behind new n.counts c.in_err-list.ensures.reading.counts);
+        counts = failed_then c.args.bits.now mid new v.counts (failed_then mid after new n.counts c.in_err-list.ensures.reading.counts);
         reads = (λ room. told_then c.args.bits.now mid new _ v.counts (v.reads had_room)
-            (told_then mid behind new _ n.counts (told_part 4 rest little_32 mid behind (rw c.len.ensures at c.if-rest-lt4.false) n.reads)
-            (told_kept (nat_lt (rest - 4) (4 * c.in_ok-count.count)) BlockLength behind new behind.cursor _
+            (told_then mid after new _ n.counts (told_part 4 rest little_32 mid after (rw c.len.ensures at c.if-rest-lt4.false) n.reads)
+            (told_kept (nat_lt (rest - 4) (4 * c.in_ok-count.count)) BlockLength after new after.cursor _
             (less_not (rest - 4) (4 * c.in_ok-count.count) (many_fit c.in_ok-count.count (rest - 4) (rw c.len.ensures at c.if-count-rest.false)))
-            (told_fault behind new _ ((rw c.len.ensures at c.in_err-list.ensures.reading.reads) (same_room room))))));
+            (told_fault after new _ ((rw c.len.ensures at c.in_err-list.ensures.reading.reads) (same_room room))))));
       };
     })
 
@@ -89,18 +89,18 @@ returns g c =
     let v = c.in_ok-vendor.ensures.reading in
     let n = c.in_ok-count.ensures.reading in
     let mid = c.read_sized_little.new.bits in
-    let behind = c.read_little_32.new.bits in
+    let after = c.read_little_32.new.bits in
     let new = c.read_texts.new.bits in
     let rest : ℕ = c.args.left - (4 + length c.in_ok-vendor.vendor) in
     record {
       reading = record {
-        spends = spends_then 0 0 c.args.bits.now.most mid.most new.most v.spends (spends_then 32 0 mid.most behind.most new.most n.spends c.in_ok-list.ensures.reading.spends);
-        counts = answered_then c.args.bits.now mid new v.counts (answered_then mid behind new n.counts c.in_ok-list.ensures.reading.counts);
+        spends = spends_then 0 0 c.args.bits.now.most mid.most new.most v.spends (spends_then 32 0 mid.most after.most new.most n.spends c.in_ok-list.ensures.reading.spends);
+        counts = answered_then c.args.bits.now mid new v.counts (answered_then mid after new n.counts c.in_ok-list.ensures.reading.counts);
         reads = (λ room. told_then c.args.bits.now mid new _ v.counts (v.reads had_room)
-            (told_then mid behind new _ n.counts (told_part 4 rest little_32 mid behind (rw c.len.ensures at c.if-rest-lt4.false) n.reads)
-            (told_kept (nat_lt (rest - 4) (4 * c.in_ok-count.count)) BlockLength behind new behind.cursor _
+            (told_then mid after new _ n.counts (told_part 4 rest little_32 mid after (rw c.len.ensures at c.if-rest-lt4.false) n.reads)
+            (told_kept (nat_lt (rest - 4) (4 * c.in_ok-count.count)) BlockLength after new after.cursor _
             (less_not (rest - 4) (4 * c.in_ok-count.count) (many_fit c.in_ok-count.count (rest - 4) (rw c.len.ensures at c.if-count-rest.false)))
-            (told_then behind new new _ c.in_ok-list.ensures.reading.counts ((rw c.len.ensures at c.in_ok-list.ensures.reading.reads) had_room) (λ known same. refl)))));
+            (told_then after new new _ c.in_ok-list.ensures.reading.counts ((rw c.len.ensures at c.in_ok-list.ensures.reading.reads) had_room) (λ known same. refl)))));
       };
     }
 

@@ -2,7 +2,7 @@ use Rattle.std.proofs.Common.{◌+◌, ◌-◌, List, ℕ, ◌++◌, ◌∷◌, 
 use Rattle.std.proofs.lemmas.Result.{err_from_is_err_and}
 use Rattle.flac_bits.specs.State.{Cursor}
 use Rattle.flac_bits.specs.Layout.{run, and_then}
-use Rattle.flac_bits.specs.Lists.{behind}
+use Rattle.flac_bits.specs.Lists.{after}
 use Rattle.flac_bits.proofs.Loops.{goes_on}
 use Rattle.flac_bits.specs.LittleEndian.{little_32}
 use Rattle.flac_bits.proofs.Counting.{gone, answered_then, failed_then, refused_then}
@@ -30,7 +30,7 @@ pub loop-i-preserved : goal.loop-i-preserved
 loop-i-preserved g c =
     let t = c.in_ok-text.ensures.reading in
     let new = c.read_sized_little.new.bits in
-    let more : List ℕ → Cursor → _ = λ x d. and_then (run (texts (c.args.count - (c.loop-i.i + 1)) (c.loop-i.left - (4 + length x))) d) (behind (c.loop-i.list.items ++ x ∷ [])) in (
+    let more : List ℕ → Cursor → _ = λ x d. and_then (run (texts (c.args.count - (c.loop-i.i + 1)) (c.loop-i.left - (4 + length x))) d) (after (c.loop-i.list.items ++ x ∷ [])) in (
       less_left c.loop-i.left c.args.left (4 + c.len.result) c.loop-i.invariant.0,
       spends_turn 0 c.args.bits.now.most c.loop-i.bits.most new.most c.loop-i.invariant.1 t.spends,
       goes_on c.args.bits.now c.loop-i.bits new (run (sized little_32 c.loop-i.left) c.loop-i.bits.cursor) c.in_ok-text.text more _ _ _

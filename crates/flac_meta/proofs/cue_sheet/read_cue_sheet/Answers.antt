@@ -27,7 +27,7 @@ returns-in_err-tracks g c =
     let p = err_from_is_err_and c.from_residual-in_err-tracks.result c.from_residual-in_err-tracks.ensures.1 in
     let old = c.args.bits.now in
     let mid = c.read_sheet_front.new.bits in
-    let behind = c.read_count.new.bits in
+    let after = c.read_count.new.bits in
     let new = c.read_tracks.new.bits in
     let f = c.in_ok-catalogue.ensures.reading in
     let n = c.in_ok-count.ensures.reading in
@@ -35,11 +35,11 @@ returns-in_err-tracks g c =
     rw (p.1, p.2) (record {
       reading = record {
         spends = tt;
-        counts = failed_then old mid new f.counts (failed_then mid behind new n.counts c.in_err-tracks.ensures.reading.counts);
-        reads = (λ room. told_part 395 c.args.left _ old new c.if-left-lt395.false (told_then old mid new _ f.counts f.reads (told_then mid behind new _ n.counts n.reads
-            (told_kept_both (nat_eq count 0) CueSheet (nat_lt (c.args.left - 396) (36 * count)) BlockLength behind new behind.cursor _
+        counts = failed_then old mid new f.counts (failed_then mid after new n.counts c.in_err-tracks.ensures.reading.counts);
+        reads = (λ room. told_part 395 c.args.left _ old new c.if-left-lt395.false (told_then old mid new _ f.counts f.reads (told_then mid after new _ n.counts n.reads
+            (told_kept_both (nat_eq count 0) CueSheet (nat_lt (c.args.left - 396) (36 * count)) BlockLength after new after.cursor _
             (not_same count 0 c.if-count-eq0.false) (less_not (c.args.left - 396) (36 * count) c.if-left-count.false)
-            (told_fault behind new _ (c.in_err-tracks.ensures.reading.reads (same_room room)))))));
+            (told_fault after new _ (c.in_err-tracks.ensures.reading.reads (same_room room)))))));
       };
     })
 
@@ -48,7 +48,7 @@ unfolding cue_sheet
 returns g c =
     let old = c.args.bits.now in
     let mid = c.read_sheet_front.new.bits in
-    let behind = c.read_count.new.bits in
+    let after = c.read_count.new.bits in
     let new = c.read_tracks.new.bits in
     let f = c.in_ok-catalogue.ensures.reading in
     let n = c.in_ok-count.ensures.reading in
@@ -56,12 +56,12 @@ returns g c =
     let count = c.in_ok-count.count in
     record {
       reading = record {
-        spends = spends_then 0 0 old.most mid.most new.most f.spends (spends_then 0 0 mid.most behind.most new.most n.spends t.spends);
-        counts = answered_then old mid new f.counts (answered_then mid behind new n.counts t.counts);
-        reads = (λ room. told_part 395 c.args.left _ old new c.if-left-lt395.false (told_then old mid new _ f.counts f.reads (told_then mid behind new _ n.counts n.reads
-            (told_kept_both (nat_eq count 0) CueSheet (nat_lt (c.args.left - 396) (36 * count)) BlockLength behind new behind.cursor _
+        spends = spends_then 0 0 old.most mid.most new.most f.spends (spends_then 0 0 mid.most after.most new.most n.spends t.spends);
+        counts = answered_then old mid new f.counts (answered_then mid after new n.counts t.counts);
+        reads = (λ room. told_part 395 c.args.left _ old new c.if-left-lt395.false (told_then old mid new _ f.counts f.reads (told_then mid after new _ n.counts n.reads
+            (told_kept_both (nat_eq count 0) CueSheet (nat_lt (c.args.left - 396) (36 * count)) BlockLength after new after.cursor _
             (not_same count 0 c.if-count-eq0.false) (less_not (c.args.left - 396) (36 * count) c.if-left-count.false)
-            (told_then behind new new _ t.counts (t.reads had_room) (λ known same. refl))))));
+            (told_then after new new _ t.counts (t.reads had_room) (λ known same. refl))))));
       };
     }
 

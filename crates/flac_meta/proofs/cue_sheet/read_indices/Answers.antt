@@ -2,7 +2,7 @@ use Rattle.std.proofs.Common.{◌+◌, ◌-◌, ◌++◌, ◌∷◌, [], refl}
 use Rattle.std.proofs.lemmas.Result.{err_from_is_err_and}
 use Rattle.flac_bits.specs.State.{Cursor}
 use Rattle.flac_bits.specs.Layout.{run, and_then}
-use Rattle.flac_bits.specs.Lists.{list_of, behind}
+use Rattle.flac_bits.specs.Lists.{list_of, after}
 use Rattle.flac_bits.proofs.Lists.{list_more}
 use Rattle.flac_bits.proofs.Loops.{goes_on}
 use Rattle.flac_bits.proofs.Counting.{gone, answered_then, failed_then, refused_then}
@@ -29,7 +29,7 @@ loop-i-preserved g c =
     let t = c.in_ok-index.ensures.reading in
     let new = c.read_index.new.bits in
     let pushed = c.in_ok-push.ensures.items in
-    let more : CueIndex → Cursor → _ = λ x d. and_then (run (list_of (c.args.count - (c.loop-i.i + 1)) cue_index) d) (behind (c.loop-i.items.items ++ x ∷ [])) in (
+    let more : CueIndex → Cursor → _ = λ x d. and_then (run (list_of (c.args.count - (c.loop-i.i + 1)) cue_index) d) (after (c.loop-i.items.items ++ x ∷ [])) in (
       one_more c.loop-i.i c.loop-i.items.items c.push.new.self.items c.in_ok-index.index c.loop-i.invariant.0 pushed,
       spends_turn 0 c.args.bits.now.most c.loop-i.bits.most new.most c.loop-i.invariant.1 t.spends,
       goes_on c.args.bits.now c.loop-i.bits new (run cue_index c.loop-i.bits.cursor) c.in_ok-index.index more _ _ _

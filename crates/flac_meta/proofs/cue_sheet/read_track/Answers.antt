@@ -32,8 +32,8 @@ returns-in_err-indices-clause-reading g c =
 pub returns-clause-reading : goal.returns-clause-reading
 unfolding cue_track
 returns-clause-reading g c = record {
-  spends = (let mid = c.read_track_front.new.bits.most in let behind = c.read_count.new.bits.most in let new = c.read_indices.new.bits.most in
-      spends_then 0 0 c.args.bits.now.most mid new c.in_ok-front.ensures.reading.spends (spends_then 0 0 mid behind new c.in_ok-count.ensures.reading.spends c.in_ok-indices.ensures.reading.spends));
+  spends = (let mid = c.read_track_front.new.bits.most in let after = c.read_count.new.bits.most in let new = c.read_indices.new.bits.most in
+      spends_then 0 0 c.args.bits.now.most mid new c.in_ok-front.ensures.reading.spends (spends_then 0 0 mid after new c.in_ok-count.ensures.reading.spends c.in_ok-indices.ensures.reading.spends));
   counts = answered_then c.args.bits.now c.read_track_front.new.bits c.read_indices.new.bits c.in_ok-front.ensures.reading.counts (answered_then c.read_track_front.new.bits c.read_count.new.bits c.read_indices.new.bits c.in_ok-count.ensures.reading.counts c.in_ok-indices.ensures.reading.counts);
   reads = (λ room. told_part 35 c.args.left _ c.args.bits.now c.read_indices.new.bits c.if-left-lt35.false (told_then c.args.bits.now c.read_track_front.new.bits c.read_indices.new.bits _ c.in_ok-front.ensures.reading.counts c.in_ok-front.ensures.reading.reads (told_then c.read_track_front.new.bits c.read_count.new.bits c.read_indices.new.bits _ c.in_ok-count.ensures.reading.counts c.in_ok-count.ensures.reading.reads (told_kept (nat_lt (c.args.left - 36) (12 * c.in_ok-count.count)) BlockLength c.read_count.new.bits c.read_indices.new.bits c.read_count.new.bits.cursor _ (less_not (c.args.left - 36) (12 * c.in_ok-count.count) c.if-left-count.false) (told_then c.read_count.new.bits c.read_indices.new.bits c.read_indices.new.bits _ c.in_ok-indices.ensures.reading.counts (c.in_ok-indices.ensures.reading.reads had_room) (λ known same. refl))))));
 }

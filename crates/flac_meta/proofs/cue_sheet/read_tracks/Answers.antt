@@ -2,7 +2,7 @@ use Rattle.std.proofs.Common.{◌≡◌, ℕ, ◌+◌, ◌-◌, ◌*◌, ◌^◌
 use Rattle.std.proofs.lemmas.Result.{err_from_is_err_and}
 use Rattle.flac_bits.specs.State.{Cursor}
 use Rattle.flac_bits.specs.Layout.{run, and_then}
-use Rattle.flac_bits.specs.Lists.{behind}
+use Rattle.flac_bits.specs.Lists.{after}
 use Rattle.flac_bits.proofs.Loops.{goes_on}
 use Rattle.flac_bits.proofs.Counting.{gone, answered_then, failed_then, refused_then}
 use Rattle.flac_bits.proofs.Telling.{gone_fault}
@@ -60,7 +60,7 @@ pub loop-i-preserved : goal.loop-i-preserved
 loop-i-preserved g c =
     let t = c.in_ok-track.ensures.reading in
     let new = c.read_track.new.bits in
-    let more : CueTrack → Cursor → _ = λ x d. and_then (run (cue_tracks (c.args.count - (c.loop-i.i + 1)) (c.loop-i.left - (36 + 12 * length x.indices))) d) (behind (c.loop-i.tracks.items ++ x ∷ [])) in (
+    let more : CueTrack → Cursor → _ = λ x d. and_then (run (cue_tracks (c.args.count - (c.loop-i.i + 1)) (c.loop-i.left - (36 + 12 * length x.indices))) d) (after (c.loop-i.tracks.items ++ x ∷ [])) in (
       less_left c.loop-i.left c.args.left (36 + 12 * length c.as_slice.result.now) c.loop-i.invariant.0,
       spends_turn 0 c.args.bits.now.most c.loop-i.bits.most new.most c.loop-i.invariant.1 t.spends,
       goes_on c.args.bits.now c.loop-i.bits new (run (cue_track c.loop-i.left) c.loop-i.bits.cursor) c.in_ok-track.track more _ _ _

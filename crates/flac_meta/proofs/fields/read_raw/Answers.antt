@@ -2,7 +2,7 @@ use Rattle.std.proofs.Common.{ℕ, ◌+◌, ◌-◌, ◌++◌, ◌∷◌, [], re
 use Rattle.std.proofs.lemmas.Result.{err_from_is_err_and}
 use Rattle.flac_bits.specs.State.{Cursor}
 use Rattle.flac_bits.specs.Layout.{bits, run, and_then}
-use Rattle.flac_bits.specs.Lists.{list_of, behind}
+use Rattle.flac_bits.specs.Lists.{list_of, after}
 use Rattle.flac_bits.proofs.Lists.{list_more}
 use Rattle.flac_bits.proofs.Loops.{goes_on}
 use Rattle.flac_bits.proofs.Counting.{gone, answered_then, failed_then, refused_then}
@@ -43,7 +43,7 @@ loop-i-preserved g c =
     let t = c.in_ok-take.ensures.reading in
     let new = c.take.new.self in
     let pushed = c.in_ok-push.ensures.items in
-    let more : ℕ → Cursor → _ = λ x d. and_then (run (list_of (c.args.size - (c.loop-i.i + 1)) (bits 8)) d) (behind (c.loop-i.bytes.items ++ x ∷ [])) in (
+    let more : ℕ → Cursor → _ = λ x d. and_then (run (list_of (c.args.size - (c.loop-i.i + 1)) (bits 8)) d) (after (c.loop-i.bytes.items ++ x ∷ [])) in (
       one_more c.loop-i.i c.loop-i.bytes.items c.push.new.self.items c.in_ok-take.field-0 c.loop-i.invariant.0 pushed,
       spends_turn 8 c.args.bits.now.most c.loop-i.bits.most new.most c.loop-i.invariant.1 t.spends,
       goes_on c.args.bits.now c.loop-i.bits new (run (bits 8) c.loop-i.bits.cursor) c.in_ok-take.field-0 more _ _ _

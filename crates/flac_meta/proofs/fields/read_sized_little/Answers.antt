@@ -4,7 +4,7 @@ use Rattle.flac_bits.specs.Layout.{run}
 use Rattle.flac_bits.proofs.Telling.{told_fault}
 use Rattle.flac_meta.specs.Fields.{sized}
 use Rattle.flac_meta.specs.inner.Counted.{counted}
-use Rattle.flac_meta.proofs.Exits.{spends_last, fits_behind}
+use Rattle.flac_meta.proofs.Exits.{spends_last, fits_after}
 use Rattle.flac_meta.proofs.Short.{part_short, told_part, counts_then, gives_then, gives_part}
 use Rattle.flac_meta.proofs.fields.read_sized_little.Goals as goal
 
@@ -42,7 +42,7 @@ returns g c =
     let n = c.in_ok-size.ensures.reading in
     let r = c.read_counted.ensures.reading in
     record {
-      fits = fits_behind 4 c.args.left c.read_counted.result c.if-left-lt4.false c.read_counted.ensures.fits;
+      fits = fits_after 4 c.args.left c.read_counted.result c.if-left-lt4.false c.read_counted.ensures.fits;
       reading = record {
         spends = spends_last 32 0 old.most mid.most new.most c.read_counted.result n.spends r.spends;
         counts = counts_then old mid new c.read_counted.result n.counts r.counts;

@@ -31,7 +31,7 @@ returns-in_err-bytes g c =
     let p = err_from_is_err_and c.from_residual-in_err-bytes.result c.from_residual-in_err-bytes.ensures.1 in
     let old = c.args.bits.now in
     let mid = c.read_picture_front.new.bits in
-    let behind = c.read_sizes.new.bits in
+    let after = c.read_sizes.new.bits in
     let new = c.read_sized.new.bits in
     let f = c.in_ok-kind.ensures.reading in
     let n = c.in_ok-sizes.ensures.reading in
@@ -39,9 +39,9 @@ returns-in_err-bytes g c =
     rw (p.1, p.2) (record {
       reading = record {
         spends = tt;
-        counts = failed_then old mid new f.counts (failed_then mid behind new n.counts e.counts);
-        reads = (λ room. told_then old mid new _ f.counts (f.reads had_room) (told_then mid behind new _ n.counts (rw (c.len.ensures, c.len-2.ensures) at n.reads)
-            (told_fault behind new _ ((rw (c.len.ensures, c.len-2.ensures) at e.reads) (same_room room)))));
+        counts = failed_then old mid new f.counts (failed_then mid after new n.counts e.counts);
+        reads = (λ room. told_then old mid new _ f.counts (f.reads had_room) (told_then mid after new _ n.counts (rw (c.len.ensures, c.len-2.ensures) at n.reads)
+            (told_fault after new _ ((rw (c.len.ensures, c.len-2.ensures) at e.reads) (same_room room)))));
       };
     })
 
@@ -50,7 +50,7 @@ unfolding picture
 returns g c =
     let old = c.args.bits.now in
     let mid = c.read_picture_front.new.bits in
-    let behind = c.read_sizes.new.bits in
+    let after = c.read_sizes.new.bits in
     let new = c.read_sized.new.bits in
     let f = c.in_ok-kind.ensures.reading in
     let n = c.in_ok-sizes.ensures.reading in
@@ -58,10 +58,10 @@ returns g c =
     let rest : ℕ = c.args.left - (12 + length c.in_ok-kind.media + length c.in_ok-kind.text) in
     record {
       reading = record {
-        spends = spends_then 0 0 old.most mid.most new.most f.spends (spends_then 0 0 mid.most behind.most new.most n.spends b.spends);
-        counts = answered_then old mid new f.counts (answered_then mid behind new n.counts b.counts);
-        reads = (λ room. told_then old mid new _ f.counts (f.reads had_room) (told_then mid behind new _ n.counts (rw (c.len.ensures, c.len-2.ensures) at n.reads)
-            (told_then behind new new _ b.counts ((rw (c.len.ensures, c.len-2.ensures) at b.reads) had_room)
+        spends = spends_then 0 0 old.most mid.most new.most f.spends (spends_then 0 0 mid.most after.most new.most n.spends b.spends);
+        counts = answered_then old mid new f.counts (answered_then mid after new n.counts b.counts);
+        reads = (λ room. told_then old mid new _ f.counts (f.reads had_room) (told_then mid after new _ n.counts (rw (c.len.ensures, c.len-2.ensures) at n.reads)
+            (told_then after new new _ b.counts ((rw (c.len.ensures, c.len-2.ensures) at b.reads) had_room)
             (told_kept (not (nat_eq (rest - (20 + length c.in_ok-bytes.bytes)) 0)) BlockLength new new new.cursor _
             (none_over (rest - (20 + length c.in_ok-bytes.bytes)) (rw (c.len.ensures, c.len-2.ensures, c.len-3.ensures) at c.if-rest-len-ne0.false)) (λ known same. refl)))));
       };
@@ -84,7 +84,7 @@ unfolding picture
 returns-then-rest-len-ne0 g c =
     let old = c.args.bits.now in
     let mid = c.read_picture_front.new.bits in
-    let behind = c.read_sizes.new.bits in
+    let after = c.read_sizes.new.bits in
     let new = c.read_sized.new.bits in
     let f = c.in_ok-kind.ensures.reading in
     let n = c.in_ok-sizes.ensures.reading in
@@ -93,9 +93,9 @@ returns-then-rest-len-ne0 g c =
     record {
       reading = record {
         spends = tt;
-        counts = refused_then old new (answered_then old mid new f.counts (answered_then mid behind new n.counts b.counts)) refl;
-        reads = (λ room. told_then old mid new _ f.counts (f.reads had_room) (told_then mid behind new _ n.counts (rw (c.len.ensures, c.len-2.ensures) at n.reads)
-            (told_then behind new new _ b.counts ((rw (c.len.ensures, c.len-2.ensures) at b.reads) had_room)
+        counts = refused_then old new (answered_then old mid new f.counts (answered_then mid after new n.counts b.counts)) refl;
+        reads = (λ room. told_then old mid new _ f.counts (f.reads had_room) (told_then mid after new _ n.counts (rw (c.len.ensures, c.len-2.ensures) at n.reads)
+            (told_then after new new _ b.counts ((rw (c.len.ensures, c.len-2.ensures) at b.reads) had_room)
             (told_broken (not (nat_eq (rest - (20 + length c.in_ok-bytes.bytes)) 0)) BlockLength new new new.cursor _
             (some_over (rest - (20 + length c.in_ok-bytes.bytes)) (rw (c.len.ensures, c.len-2.ensures, c.len-3.ensures) at c.if-rest-len-ne0.true))))));
       };

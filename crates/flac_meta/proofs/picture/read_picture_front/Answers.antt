@@ -22,16 +22,16 @@ returns-in_err-text-clause-reading g c =
     let p = err_from_is_err_and c.from_residual-in_err-text.result c.from_residual-in_err-text.ensures.1 in
     let old = c.args.bits.now in
     let mid = c.read_number_32.new.bits in
-    let behind = c.read_sized.new.bits in
+    let after = c.read_sized.new.bits in
     let new = c.read_sized-2.new.bits in
     let k = c.in_ok-kind.ensures.reading in
     let m = c.in_ok-media.ensures.reading in
     let e = c.in_err-text.ensures.reading in
     rw (p.1, p.2) (record {
       spends = tt;
-      counts = failed_then old mid new k.counts (failed_then mid behind new m.counts e.counts);
-      reads = (λ room. told_then old mid new _ k.counts k.reads (told_then mid behind new _ m.counts (m.reads had_room)
-          (told_fault behind new _ ((rw c.len.ensures at e.reads) (same_room room)))));
+      counts = failed_then old mid new k.counts (failed_then mid after new m.counts e.counts);
+      reads = (λ room. told_then old mid new _ k.counts k.reads (told_then mid after new _ m.counts (m.reads had_room)
+          (told_fault after new _ ((rw c.len.ensures at e.reads) (same_room room)))));
     })
 
 pub returns-clause-reading : goal.returns-clause-reading
@@ -39,16 +39,16 @@ unfolding picture_front
 returns-clause-reading g c =
     let old = c.args.bits.now in
     let mid = c.read_number_32.new.bits in
-    let behind = c.read_sized.new.bits in
+    let after = c.read_sized.new.bits in
     let new = c.read_sized-2.new.bits in
     let k = c.in_ok-kind.ensures.reading in
     let m = c.in_ok-media.ensures.reading in
     let t = c.in_ok-text.ensures.reading in
     record {
-      spends = spends_then 0 0 old.most mid.most new.most k.spends (spends_then 0 0 mid.most behind.most new.most m.spends t.spends);
-      counts = answered_then old mid new k.counts (answered_then mid behind new m.counts t.counts);
-      reads = (λ room. told_then old mid new _ k.counts k.reads (told_then mid behind new _ m.counts (m.reads had_room)
-          (told_then behind new new _ t.counts ((rw c.len.ensures at t.reads) had_room) (λ known same. refl))));
+      spends = spends_then 0 0 old.most mid.most new.most k.spends (spends_then 0 0 mid.most after.most new.most m.spends t.spends);
+      counts = answered_then old mid new k.counts (answered_then mid after new m.counts t.counts);
+      reads = (λ room. told_then old mid new _ k.counts k.reads (told_then mid after new _ m.counts (m.reads had_room)
+          (told_then after new new _ t.counts ((rw c.len.ensures at t.reads) had_room) (λ known same. refl))));
     }
 
 pub returns-in_err-kind-clause-reading : goal.returns-in_err-kind-clause-reading

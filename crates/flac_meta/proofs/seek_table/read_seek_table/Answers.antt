@@ -2,7 +2,7 @@ use Rattle.std.proofs.Common.{◌+◌, ◌-◌, ◌++◌, ◌∷◌, [], refl, S
 use Rattle.std.proofs.lemmas.Result.{err_from_is_err_and}
 use Rattle.flac_bits.specs.State.{Cursor}
 use Rattle.flac_bits.specs.Layout.{run, and_then}
-use Rattle.flac_bits.specs.Lists.{behind}
+use Rattle.flac_bits.specs.Lists.{after}
 use Rattle.flac_bits.proofs.Loops.{goes_on}
 use Rattle.flac_bits.proofs.Counting.{gone, answered_then, failed_then, refused_then}
 use Rattle.flac_bits.proofs.Telling.{gone_fault}
@@ -29,7 +29,7 @@ pub loop-i-preserved : goal.loop-i-preserved
 loop-i-preserved g c =
     let t = c.in_ok-point.ensures.reading in
     let new = c.read_point.new.bits in
-    let more : SeekPoint → Cursor → _ = λ x d. and_then (run (seek_points (c.args.count - (c.loop-i.i + 1)) (Some x.sample)) d) (behind (c.loop-i.points.items ++ x ∷ [])) in (
+    let more : SeekPoint → Cursor → _ = λ x d. and_then (run (seek_points (c.args.count - (c.loop-i.i + 1)) (Some x.sample)) d) (after (c.loop-i.points.items ++ x ∷ [])) in (
       spends_turn 0 c.args.bits.now.most c.loop-i.bits.most new.most c.loop-i.invariant.0 t.spends,
       goes_on c.args.bits.now c.loop-i.bits new (run (seek_point c.loop-i.before) c.loop-i.bits.cursor) c.in_ok-point.point more _ _ _
           c.loop-i.invariant.1 (points_more c.args.count c.loop-i.i c.loop-i.before c.loop-i.bits.cursor c.loop-i.points.items c.loop-i-test.true)

@@ -1,7 +1,7 @@
 use Rattle.std.proofs.Common.{◌-◌, subst, sym, ap, arith, Err}
 use Rattle.flac_frame.specs.Chosen.{IsChoiceWith}
 use Rattle.flac_frame.specs.Encoding.{block_of}
-use Rattle.flac_subframe.specs.search.Room.{Room}
+use Rattle.flac_subframe.specs.search.Capacity.{Capacity}
 use Rattle.flac_native.proofs.Planned.{fit, orders_at, partition_of}
 use Rattle.flac_native.proofs.Gathered.{choice_back}
 use Rattle.flac_native.proofs.Spelled.{chosen_of, came_out}
@@ -20,7 +20,7 @@ pub write_frame-requires-clause-within : goal.write_frame-requires-clause-within
 write_frame-requires-clause-within g c = c.range-range.ensures.range.within
 
 pub write_frame-requires-clause-room : goal.write_frame-requires-clause-room
-write_frame-requires-clause-room g c = omega (arith, c.range-range.ensures.range.room, ap (λ (x : Room). x.block) c.requires.ready.buffers)
+write_frame-requires-clause-room g c = omega (arith, c.range-range.ensures.range.room, ap (λ (x : Capacity). x.block) c.requires.ready.buffers)
 
 pub write_frame-requires-clause-chosen : goal.write_frame-requires-clause-chosen
 write_frame-requires-clause-chosen g c =
@@ -42,7 +42,7 @@ pub encode_frame_with-requires-clause-within : goal.encode_frame_with-requires-c
 encode_frame_with-requires-clause-within g c = c.range-range.ensures.range.within
 
 pub encode_frame_with-requires-clause-room : goal.encode_frame_with-requires-clause-room
-encode_frame_with-requires-clause-room g c = omega (arith, c.range-range.ensures.range.room, ap (λ (x : Room). x.block) c.requires.ready.buffers)
+encode_frame_with-requires-clause-room g c = omega (arith, c.range-range.ensures.range.room, ap (λ (x : Capacity). x.block) c.requires.ready.buffers)
 
 pub encode_frame_with-requires-clause-number : goal.encode_frame_with-requires-clause-number
 encode_frame_with-requires-clause-number g c = c.range-range.ensures.range.few

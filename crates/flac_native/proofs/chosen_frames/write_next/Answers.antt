@@ -1,5 +1,5 @@
 use Rattle.std.proofs.lemmas.Result.{err_from_is_err_and}
-use Rattle.flac_native.proofs.Rooms.{next_failed, next_written}
+use Rattle.flac_native.proofs.FixedBuffers.{next_failed, next_written}
 use Rattle.flac_native.proofs.chosen_frames.write_next.Goals as goal
 
 pub returns-in_err-write_chosen-clause-wrote : goal.returns-in_err-write_chosen-clause-wrote

@@ -11,7 +11,7 @@ use Rattle.flac_native.specs.Writing.{blocks_spelling}
 use Rattle.flac_native.proofs.BlocksWritten.{first_step, each_written}
 use Rattle.flac_native.proofs.encoding.write_blocks.Goals as goal
 
--- the first block, where so many stand behind it
+-- the first block, where so many stand after it
 first_of : (b : Block) (bs : List Block) (n : ℕ) → n ≡ length bs → blocks_spelling (b ∷ bs) ≡ block_spelling (nat_eq n 0) b ++ blocks_spelling bs
 first_of b bs n is = first_step b bs ∙ ap (λ k. block_spelling (nat_eq k 0) b ++ blocks_spelling bs) (sym is)
 

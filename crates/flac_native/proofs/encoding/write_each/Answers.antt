@@ -4,7 +4,7 @@ use Rattle.flac_bits.proofs.Writing.{towards_start, towards_more, towards_fail}
 use Rattle.flac_meta.specs.Spelling.{block_spelling}
 use Rattle.flac_meta.specs.declared.block.Block.{Block}
 use Rattle.flac_native.specs.Writing.{blocks_spelling}
-use Rattle.flac_native.proofs.BlocksWritten.{blocks_step, before_table, behind_all}
+use Rattle.flac_native.proofs.BlocksWritten.{blocks_step, before_table, after_all}
 use Rattle.flac_native.proofs.Renewing.{was_written}
 use Rattle.flac_native.proofs.Unread.{never_read, never_sink}
 use Rattle.flac_native.proofs.encoding.write_each.Goals as goal
@@ -33,7 +33,7 @@ loop-i-preserved g c =
 pub returns-clause-written : goal.returns-clause-written
 returns-clause-written g c = λ more is.
     let t = c.loop-i.invariant.towards more is in
-    let e = ap blocks_spelling (behind_all c.args.blocks.now more c.loop-i.i (omega (arith, c.loop-i-test.false, c.loop-i.invariant.few))) in
+    let e = ap blocks_spelling (after_all c.args.blocks.now more c.loop-i.i (omega (arith, c.loop-i-test.false, c.loop-i.invariant.few))) in
     rw (← e) (record { known = t.known; errors = t.errors; names = t.names; mark = t.mark; bits = t.bits })
 
 pub returns-in_err-write_block-clause-failed : goal.returns-in_err-write_block-clause-failed

@@ -4,7 +4,7 @@ use Rattle.flac_meta.specs.declared.block.Block.{Block}
 use Rattle.flac_native.specs.Writing.{blocks_spelling}
 use Rattle.flac_native.proofs.encoding.write_each.Given as goal
 
--- what was written of all blocks, whatever stands behind these
+-- what was written of all blocks, whatever stands after these
 abbrev pub invariant-loop-i : goal.invariant-loop-i
 invariant-loop-i g l = record {
   few : l.i ≤ length l.blocks;

@@ -1,5 +1,5 @@
-use Rattle.flac_native.proofs.Wider as wider
+use Rattle.flac_native.proofs.LaxProfile as lax
 use Rattle.flac_native.proofs.laws.subset_is_lax.Goals as goal
 
 pub returns : goal.returns
-returns c = wider.subset_is_lax
+returns c = lax.subset_is_lax

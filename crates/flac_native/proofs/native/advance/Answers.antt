@@ -4,7 +4,7 @@ use Rattle.flac_bits.specs.Fencing.{lifted}
 use Rattle.flac_bits.specs.declared.why.Why.{Why}
 use Rattle.flac_bits.proofs.Bounds.{lifted_same}
 use Rattle.flac_native.specs.Stream.{Stand, place_in}
-use Rattle.flac_native.specs.Track.{is_behind_blocks}
+use Rattle.flac_native.specs.Track.{is_after_blocks}
 use Rattle.flac_native.specs.declared.track.Phase.{Phase}
 use Rattle.flac_native.specs.declared.track.Phase.TheVariants.{Frames}
 use Rattle.flac_native.specs.declared.track.Track.{Track}
@@ -29,13 +29,13 @@ answers x e is = absurd cc
 same_reason : {X : Type 0} (v w : Why) → wrong {X = X} v ≡ wrong w → v ≡ w
 same_reason v w e = cc
 
-behind_frames : (k : Phase) → is_behind_blocks k ≡ true → k ≡ Frames
-behind_frames k e = search rules
+after_frames : (k : Phase) → is_after_blocks k ≡ true → k ≡ Frames
+after_frames k e = search rules
 
 pub returns-in-Ok : goal.returns-in-Ok
 returns-in-Ok g c =
     let ends = rw c.lift.ensures at c.in-Ok-true.ensures in
-    let frames = behind_frames _ (ends.later c.in-Ok-true.field-0-test) in
+    let frames = after_frames _ (ends.later c.in-Ok-true.field-0-test) in
     record {
       spends = ends.spends;
       counts = ends.counts;
@@ -78,7 +78,7 @@ returns-in-Ok-read_part g c =
       broken = λ p at. tt;
       steps = λ p at known same quiet.
           let over = ends.over known in
-          part_here c.args.track.now p (lifted c.args.reader.now).cursor (lifted c.ends_here.new.reader).cursor c.in-Ok-false.field-0 _ _ at c.in-Ok-false.field-0-test over.1 (lifted_same c.args.reader.now c.ends_here.new.reader over.0 (went.3 known))
+          part_here c.args.track.now p (lifted c.args.reader.now).cursor (lifted c.is_at_end.new.reader).cursor c.in-Ok-false.field-0 _ _ at c.in-Ok-false.field-0-test over.1 (lifted_same c.args.reader.now c.is_at_end.new.reader over.0 (went.3 known))
           (part.reads (λ is. absurd (answers _ _ is)) (went.0 known) (same ∙ sym went.1));
       made = part.made;
       ordered = part.ordered;
@@ -98,7 +98,7 @@ returns-in-Err-read_part g c =
       broken = λ p at out. (c.place-at.ensures ∙ ap (λ (s : Stand). place_in s.phase s.index) at.stand, λ is there. part.marker (at_the_marker _ _ (sym c.place-at.ensures ∙ there)) is);
       steps = λ p at known same quiet room.
           let over = ends.over known in
-          part_refused_here c.args.track.now p (lifted c.args.reader.now).cursor (lifted c.ends_here.new.reader).cursor c.in-Ok-false.field-0 _ _ at c.in-Ok-false.field-0-test over.1 (lifted_same c.args.reader.now c.ends_here.new.reader over.0 (went.3 known))
+          part_refused_here c.args.track.now p (lifted c.args.reader.now).cursor (lifted c.is_at_end.new.reader).cursor c.in-Ok-false.field-0 _ _ at c.in-Ok-false.field-0-test over.1 (lifted_same c.args.reader.now c.is_at_end.new.reader over.0 (went.3 known))
           c.place-at.ensures (part.reads (λ is. room (same_reason _ _ is)) (went.0 known) (same ∙ sym went.1));
       made = tt;
       ordered = tt;

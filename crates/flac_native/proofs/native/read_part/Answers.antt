@@ -6,7 +6,7 @@ use Rattle.flac_bits.specs.Layout.{Layout, Reason, run, done, ◌>>=◌}
 use Rattle.flac_bits.specs.Fence.{fenced, read_in}
 use Rattle.flac_bits.specs.Fencing.{lifted}
 use Rattle.flac_bits.specs.declared.why.Why.{Why}
-use Rattle.flac_native.specs.Stream.{Progress, framed, marked, frame_behind, layout, next}
+use Rattle.flac_native.specs.Stream.{Progress, framed, marked, frame_after, layout, next}
 use Rattle.flac_native.specs.Track.{IsAt, profile_in, info_in, before_in}
 use Rattle.flac_native.specs.declared.format.Format.{Format}
 use Rattle.flac_native.specs.declared.track.Phase.TheVariants as phase
@@ -37,7 +37,7 @@ answers x e is = absurd cc
 frame_spends : (m n : ℕ) → m + 40 ≤ n → m + 32 ≤ n
 frame_spends m n h = omega arith
 
--- behind the marker
+-- after the marker
 marked_at : (t : Track) (p : Progress) → IsAt t p → IsAt (record t { position = record t.position { phase = phase.Blocks } }) (next p marked)
 marked_at t p at = search rules
 
@@ -92,12 +92,12 @@ returns-in_ok-read_marker-in-Opening g c =
       next = λ p at. marked_at c.args.track.now p at;
     }
 
-pub returns-in_err-next_block_here-in-Blocks : goal.returns-in_err-next_block_here-in-Blocks
+pub returns-in_err-next_block_by_layout-in-Blocks : goal.returns-in_err-next_block_by_layout-in-Blocks
 unfolding layout
-returns-in_err-next_block_here-in-Blocks g c =
-    let p = err_from_is_err_and c.from_residual-in_err-next_block_here-in-Blocks.result c.from_residual-in_err-next_block_here-in-Blocks.ensures.1 in
+returns-in_err-next_block_by_layout-in-Blocks g c =
+    let p = err_from_is_err_and c.from_residual-in_err-next_block_by_layout-in-Blocks.result c.from_residual-in_err-next_block_by_layout-in-Blocks.ensures.1 in
     let begins = rw c.lift-in-Blocks.ensures at c.start_checks-in-Blocks.ensures in
-    let e = rw begins at c.in_err-next_block_here-in-Blocks.ensures.reading in
+    let e = rw begins at c.in_err-next_block_by_layout-in-Blocks.ensures.reading in
     rw (p.1, p.2) (record {
       spends = tt;
       counts = e.counts;
@@ -109,11 +109,11 @@ returns-in_err-next_block_here-in-Blocks g c =
       next = tt;
     })
 
-pub returns-in_ok-next_block_here-in-Blocks : goal.returns-in_ok-next_block_here-in-Blocks
+pub returns-in_ok-next_block_by_layout-in-Blocks : goal.returns-in_ok-next_block_by_layout-in-Blocks
 unfolding layout
-returns-in_ok-next_block_here-in-Blocks g c =
+returns-in_ok-next_block_by_layout-in-Blocks g c =
     let begins = rw c.lift-in-Blocks.ensures at c.start_checks-in-Blocks.ensures in
-    let ok = c.in_ok-next_block_here-in-Blocks.ensures in
+    let ok = c.in_ok-next_block_by_layout-in-Blocks.ensures in
     let e = rw begins at ok.reading in
     record {
       spends = e.spends;
@@ -126,30 +126,30 @@ returns-in_ok-next_block_here-in-Blocks g c =
       next = ok.next;
     }
 
-pub returns-in_err-next_frame_here-in-Frames : goal.returns-in_err-next_frame_here-in-Frames
+pub returns-in_err-next_frame_by_layout-in-Frames : goal.returns-in_err-next_frame_by_layout-in-Frames
 unfolding layout
-returns-in_err-next_frame_here-in-Frames g c =
-    let p = err_from_is_err_and c.from_residual-in_err-next_frame_here-in-Frames.result c.from_residual-in_err-next_frame_here-in-Frames.ensures.1 in
+returns-in_err-next_frame_by_layout-in-Frames g c =
+    let p = err_from_is_err_and c.from_residual-in_err-next_frame_by_layout-in-Frames.result c.from_residual-in_err-next_frame_by_layout-in-Frames.ensures.1 in
     let t = c.args.track.now in
-    let e = c.in_err-next_frame_here-in-Frames.ensures.reading in
+    let e = c.in_err-next_frame_by_layout-in-Frames.ensures.reading in
     rw (p.1, p.2) (record {
       spends = tt;
       counts = e.counts;
       memory = λ is. e.memory;
       marker = λ is. e.memory;
       reads = rw c.in-Frames.is (λ room known same.
-          refused_within 16777215 (frame_behind (profile_in t.profile t.format) (info_in t.format) (before_in t.format)) framed
+          refused_within 16777215 (frame_after (profile_in t.profile t.format) (info_in t.format) (before_in t.format)) framed
           (started (lifted c.args.reader.now)).cursor _ (e.reads known same));
       made = tt;
       ordered = tt;
       next = tt;
     })
 
-pub returns-in_ok-next_frame_here-in-Frames : goal.returns-in_ok-next_frame_here-in-Frames
+pub returns-in_ok-next_frame_by_layout-in-Frames : goal.returns-in_ok-next_frame_by_layout-in-Frames
 unfolding layout
-returns-in_ok-next_frame_here-in-Frames g c =
+returns-in_ok-next_frame_by_layout-in-Frames g c =
     let t = c.args.track.now in
-    let ok = c.in_ok-next_frame_here-in-Frames.ensures in
+    let ok = c.in_ok-next_frame_by_layout-in-Frames.ensures in
     let e = ok.reading in
     record {
       spends = frame_spends _ _ e.spends;
@@ -157,7 +157,7 @@ returns-in_ok-next_frame_here-in-Frames g c =
       memory = λ is. tt;
       marker = λ is. tt;
       reads = rw c.in-Frames.is (λ room known same.
-          given_within 16777215 (frame_behind (profile_in t.profile t.format) (info_in t.format) (before_in t.format)) framed
+          given_within 16777215 (frame_after (profile_in t.profile t.format) (info_in t.format) (before_in t.format)) framed
           (started (lifted c.args.reader.now)).cursor _ _ (e.reads known same));
       made = info_format _ ok.made;
       ordered = (c.in-Frames.is, ok.phase ∙ c.in-Frames.is);

@@ -4,7 +4,7 @@ use Rattle.flac_bits.specs.State.{State, without_fence}
 use Rattle.flac_bits.specs.Fencing.{lifted}
 use Rattle.flac_bits.proofs.Handing.{starts, one_more, step_refused}
 use Rattle.flac_native.specs.Stream.{Progress, grammar, next, opening, place_in}
-use Rattle.flac_native.specs.Track.{is_behind_blocks, position_of}
+use Rattle.flac_native.specs.Track.{is_after_blocks, position_of}
 use Rattle.flac_native.specs.inner.Retag.{keeps}
 use Rattle.flac_native.specs.declared.position.Position.{Position}
 use Rattle.flac_bits.proofs.Bounds.{so_far_lifted, open_on, lifted_open, step_short}
@@ -44,8 +44,8 @@ loop-alloc-preserved g c =
           );
     }
 
-over : (q : Position) (p : Progress) → position_of p.stand ≡ q → is_behind_blocks q.phase ≡ true → is_behind_blocks p.stand.phase ≡ true
-over q p at e = ap (λ (k : Position). is_behind_blocks k.phase) at ∙ e
+over : (q : Position) (p : Progress) → position_of p.stand ≡ q → is_after_blocks q.phase ≡ true → is_after_blocks p.stand.phase ≡ true
+over q p at e = ap (λ (k : Position). is_after_blocks k.phase) at ∙ e
 
 truncated_read : why.Truncated ≡ why.Read → ⊥
 truncated_read e = absurd cc

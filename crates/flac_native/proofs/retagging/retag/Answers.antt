@@ -56,14 +56,14 @@ returns-clause-refused g c =
     let R = g.R.Source in
     let refused = rw c.new-reader.ensures at c.retag_from-outcome.ensures.refused in
     let whole = rw (append-nil (bits_of (g.R.Source.coming c.args.source.now))) at refused in
-    calmer _ _ _ _ (IsRefused (beginning (short_of ((R.behind c.args.source.now).fails))) (bits_of (R.coming c.args.source.now))) c.retag_from-outcome.result (λ e r. (search (rules, e), search (rules, r))) whole
+    calmer _ _ _ _ (IsRefused (beginning (short_of ((R.after c.args.source.now).fails))) (bits_of (R.coming c.args.source.now))) c.retag_from-outcome.result (λ e r. (search (rules, e), search (rules, r))) whole
 
 pub returns-clause-foretold : goal.returns-clause-foretold
 returns-clause-foretold g c =
     let R = g.R.Source in
     let foretold = rw c.new-reader.ensures at c.retag_from-outcome.ensures.foretold in
     let whole = rw (append-nil (bits_of (R.coming c.args.source.now))) at foretold in
-    foretold_calmer _ _ _ (IsRefused (beginning (short_of ((R.behind c.args.source.now).fails))) (bits_of (R.coming c.args.source.now))) c.retag_from-outcome.result (λ e. search (rules, e)) whole
+    foretold_calmer _ _ _ (IsRefused (beginning (short_of ((R.after c.args.source.now).fails))) (bits_of (R.coming c.args.source.now))) c.retag_from-outcome.result (λ e. search (rules, e)) whole
 
 pub returns-clause-placed : goal.returns-clause-placed
 returns-clause-placed g c =
@@ -87,17 +87,17 @@ pub returns-clause-exact : goal.returns-clause-exact
 returns-clause-exact g c =
     let written = rw c.new-reader.ensures at c.retag_from-outcome.ensures.written in
     let whole = rw (append-nil (bits_of (g.R.Source.coming c.args.source.now))) at written in
-    exact_ok _ _ (beginning (short_of ((g.R.Source.behind c.args.source.now).fails))) (bits_of (g.R.Source.coming c.args.source.now)) c.args.comments.now _ _ c.retag_from-outcome.result whole
+    exact_ok _ _ (beginning (short_of ((g.R.Source.after c.args.source.now).fails))) (bits_of (g.R.Source.coming c.args.source.now)) c.args.comments.now _ _ c.retag_from-outcome.result whole
 
-pub returns-clause-behind : goal.returns-clause-behind
-returns-clause-behind g c = rw c.new-reader.ensures at c.retag_from-outcome.ensures.behind
+pub returns-clause-after : goal.returns-clause-after
+returns-clause-after g c = rw c.new-reader.ensures at c.retag_from-outcome.ensures.after
 
 pub returns-clause-accepted : goal.returns-clause-accepted
 returns-clause-accepted g c =
     let R = g.R.Source in
     let refused = rw c.new-reader.ensures at c.retag_from-outcome.ensures.refused in
     let whole = rw (append-nil (bits_of (R.coming c.args.source.now))) at refused in
-    accepted _ _ _ _ (beginning (short_of ((R.behind c.args.source.now).fails))) (bits_of (R.coming c.args.source.now)) c.retag_from-outcome.result (λ e r. (search (rules, e), search (rules, r))) c.retag_from-outcome.ensures.placeless whole
+    accepted _ _ _ _ (beginning (short_of ((R.after c.args.source.now).fails))) (bits_of (R.coming c.args.source.now)) c.retag_from-outcome.result (λ e r. (search (rules, e), search (rules, r))) c.retag_from-outcome.ensures.placeless whole
 
 pub returns-clause-shown : goal.returns-clause-shown
 returns-clause-shown g c = λ short.
@@ -108,7 +108,7 @@ returns-clause-shown g c = λ short.
     let all_head = rw (append-nil (bits_of (R.coming c.args.source.now))) at head in
     let found = rw c.new-reader.ensures at c.retag_from-outcome.ensures.found in
     let all_found = rw (append-nil (bits_of (R.coming c.args.source.now))) at found in
-    shown _ _ _ _ (beginning (short_of ((R.behind c.args.source.now).fails))) (bits_of (R.coming c.args.source.now)) c.retag_from-outcome.result (λ e r. (search (rules, e), search (rules, r))) all_head all_found c.retag_from-outcome.ensures.placeless whole
+    shown _ _ _ _ (beginning (short_of ((R.after c.args.source.now).fails))) (bits_of (R.coming c.args.source.now)) c.retag_from-outcome.result (λ e r. (search (rules, e), search (rules, r))) all_head all_found c.retag_from-outcome.ensures.placeless whole
 
 pub returns-then-length-gt-MOST_BYTES : goal.returns-then-length-gt-MOST_BYTES
 returns-then-length-gt-MOST_BYTES g c = record {
@@ -120,7 +120,7 @@ returns-then-length-gt-MOST_BYTES g c = record {
   foretold = tt;
   placed = tt;
   memory = λ is. absurd (length_memory is);
-  behind = tt;
+  after = tt;
   accepted = λ other. absurd (other refl);
   shown = λ few. absurd (none_within _ _ c.length.ensures c.if-length-gt-MOST_BYTES.true few);
   nothing = λ one other. refl;

@@ -12,7 +12,7 @@ use Rattle.flac_native.specs.inner.Retag.{AreKept, MayBeHead, new_head}
 use Rattle.flac_native.specs.Retag.{BreaksAt, IsRefused}
 use Rattle.flac_native.proofs.Broken.{breaks_after, none_before, copy_placed, copy_foretold}
 use Rattle.flac_native.proofs.NewHead.{kept_may_be_head}
-use Rattle.flac_native.proofs.RetagFaults.{placed, placed_some, same_place, frame_marker, write_memory, copy_memory, before_device, unread_device, write_no_read, has_head, no_fewer, no_rise, both_err, copy_calm, copy_behind, copy_placeless, copy_output}
+use Rattle.flac_native.proofs.RetagFaults.{placed, placed_some, same_place, frame_marker, write_memory, copy_memory, before_device, unread_device, write_no_read, has_head, no_fewer, no_rise, both_err, copy_calm, copy_after, copy_placeless, copy_output}
 use Rattle.flac_native.proofs.Retagged.{all_retagged, some_retagged, part_retagged, head_begun}
 use Rattle.flac_native.proofs.retagging.retag_from.Goals as goal
 
@@ -39,7 +39,7 @@ returns-in-Err g c =
       foretold = λ before known same room. e.refused known same room;
       placed = e.placed;
       memory = λ is there. e.memory is (same_place at place.Marker there);
-      behind = λ known. inl (e.at known);
+      after = λ known. inl (e.at known);
       head = tt;
       found = λ either known. absurd (before_device at why (e.at known) either);
       nothing = λ one other. refl;
@@ -67,7 +67,7 @@ returns-in-Err-made g c =
       foretold = λ before. absurd (none_before before);
       placed = λ known. breaks_after (lifted c.args.reader.now).cursor (c.in-Ok.ensures.kept known);
       memory = λ is there. absurd (frame_marker (same_place (place.Frame 0) place.Marker there));
-      behind = λ known. inr (inr (ap (λ w. record { at = Some (place.Frame 0); why = w }) (memory known)));
+      after = λ known. inr (inr (ap (λ w. record { at = Some (place.Frame 0); why = w }) (memory known)));
       head = tt;
       found = λ either known. absurd (unread_device (place.Frame 0) w unread either);
       nothing = λ one other. refl;
@@ -94,7 +94,7 @@ returns-in-Err-sent g c =
       foretold = tt;
       placed = tt;
       memory = λ is. absurd (write_memory is);
-      behind = tt;
+      after = tt;
       head = tt;
       found = λ either known. has_head (lifted c.args.reader.now).cursor (kept known);
       nothing = λ one other. absurd (other refl);
@@ -130,7 +130,7 @@ returns-in-Ok-sent g c =
       foretold = IfErr-weaker r _ _ (λ f. copy_foretold f _ _ (λ at why. IsRefused cursor.mark cursor.left at why)) copy.fault;
       placed = IfErr-weaker r _ _ (λ f. copy_placed f _ (λ at. BreaksAt cursor.mark cursor.left at) (λ known. breaks_after cursor (kept known))) copy.fault;
       memory = IfErr-weaker r _ _ copy_memory copy.fault;
-      behind = IfErr-weaker r _ _ (λ f. copy_behind f _) copy.fault;
+      after = IfErr-weaker r _ _ (λ f. copy_after f _) copy.fault;
       head = when_ok r (λ copied known. has_head cursor (kept known)) copy.copied;
       found = when_err r (λ f begun either known. has_head cursor (kept known)) copy.begun;
       nothing = IfErr-weaker r _ _ (λ f fault one other. absurd (elim fault [ inl e ↦ one e | inr e ↦ other e ])) copy.fault;

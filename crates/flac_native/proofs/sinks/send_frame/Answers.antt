@@ -1,6 +1,6 @@
 use Rattle.std.proofs.Common.{arith, rules, ◌≡◌, ap, sym, subst, refl, ◌∙◌, ◌++◌, append-nil}
 use Rattle.std.proofs.lemmas.Result.{err_from_is_err_and}
-use Rattle.flac_frame.specs.Lent.{frame_of}
+use Rattle.flac_frame.specs.Viewed.{frame_of}
 use Rattle.flac_native.specs.Message.{rows_bytes}
 use Rattle.flac_native.proofs.RetagFaults.{no_fewer}
 use Rattle.flac_native.proofs.SampleRows.{rows_none, rows_step}

@@ -1,5 +1,5 @@
 use Rattle.std.proofs.Common.{◌≡◌, ◌≤◌, ◌-◌, ◌++◌, true, length}
-use Rattle.flac_frame.specs.Lent.{frame_of}
+use Rattle.flac_frame.specs.Viewed.{frame_of}
 use Rattle.flac_native.specs.Message.{rows_bytes}
 use Rattle.flac_native.proofs.sinks.send_frame.Given as goal
 

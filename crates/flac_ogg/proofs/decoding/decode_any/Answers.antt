@@ -1,7 +1,7 @@
 use Rattle.std.proofs.Common.{rules, ◌≡◌, ◌<◌, ◌++◌, ℕ, Bool, List, Option, Result, Ok, ◌∙◌, inr, refl, sym, ap, arith}
 use Rattle.std.proofs.lemmas.Result.{err_from_is_err_and}
 use Rattle.flac_bits.specs.Bits.{bits_of}
-use Rattle.flac_bits.specs.State.{Behind, short_of}
+use Rattle.flac_bits.specs.State.{After, short_of}
 use Rattle.flac_bits.specs.Handing.{Hands, Decides}
 use Rattle.flac_bits.specs.declared.why.Why.{Why}
 use Rattle.flac_bits.specs.declared.why.Why.TheVariants.{Read, Sink, Write}
@@ -16,13 +16,13 @@ use Rattle.flac_ogg.specs.Either.{begins_page, read_either, read_any}
 use Rattle.flac_ogg.proofs.FirstByte.{nothing_came, hands_by_byte, decides_by_byte, first_of}
 use Rattle.flac_ogg.proofs.decoding.decode_any.Goals as goal
 
--- a stream is handed out from its first byte on
-hands_all : {K : Type 0} (profile : Profile) (takes : K → Piece → K → Type 0) (errors : K → ℕ) (b b' : Bool) (h h' : Behind) (l l' : List ℕ) (e e' r r' en en' rn rn' : ℕ) (sink new : K) (outcome : Option (Place × Why)) → b ≡ b' → h ≡ h' → l ≡ l' → e ≡ e' → r ≡ r'
+-- a stream is yielded from its first byte on
+hands_all : {K : Type 0} (profile : Profile) (takes : K → Piece → K → Type 0) (errors : K → ℕ) (b b' : Bool) (h h' : After) (l l' : List ℕ) (e e' r r' en en' rn rn' : ℕ) (sink new : K) (outcome : Option (Place × Why)) → b ≡ b' → h ≡ h' → l ≡ l' → e ≡ e' → r ≡ r'
     → en ≡ en' → rn ≡ rn' → Hands (read_either profile b' (beginning (short_of h'.fails)) (bits_of l')) takes errors ((en' ≡ e') × (rn' ≡ r')) sink new outcome
     → Hands (read_any profile b (beginning (short_of h.fails)) (bits_of l)) takes errors ((en ≡ e) × (rn ≡ r)) sink new outcome
 hands_all profile takes errors b b' h h' l l' e e' r r' en en' rn rn' sink new outcome bs hs ls es rs ens rns given = rw (bs, hs, ls, es, rs, ens, rns) (hands_by_byte _ takes errors _ sink new outcome given)
 
-decides_all : (profile : Profile) (b b' : Bool) (h h' : Behind) (l l' : List ℕ) (e e' r r' en en' rn rn' : ℕ) (outcome : Option (Place × Why)) → b ≡ b' → h ≡ h' → l ≡ l' → e ≡ e' → r ≡ r' → en ≡ en' → rn ≡ rn' → en ≡ e → rn ≡ r
+decides_all : (profile : Profile) (b b' : Bool) (h h' : After) (l l' : List ℕ) (e e' r r' en en' rn rn' : ℕ) (outcome : Option (Place × Why)) → b ≡ b' → h ≡ h' → l ≡ l' → e ≡ e' → r ≡ r' → en ≡ en' → rn ≡ rn' → en ≡ e → rn ≡ r
     → (en' ≡ e' → rn' ≡ r' → Decides (read_either profile b' (beginning (short_of h'.fails)) (bits_of l')) outcome) → Decides (read_any profile b (beginning (short_of h.fails)) (bits_of l)) outcome
 decides_all profile b b' h h' l l' e e' r r' en en' rn rn' outcome bs hs ls es rs ens rns same kept given = rw (bs, hs, ls) (decides_by_byte _ outcome (given (sym ens ∙ same ∙ es) (sym rns ∙ kept ∙ rs)))
 
@@ -37,9 +37,9 @@ returns-clause-hands g c = λ known receives.
     let front = c.in_ok-front.front in
     let ok = c.in_ok-front.ensures in
     let bytes = ok.bytes known in
-    hands_all c.args.profile (taken g.S.Sink.takes) g.S.Sink.errors (begins_page (R.coming source)) c.begins_page.result (R.behind source) (R.behind mid) (R.coming source) (front_bytes front ++ R.coming mid) (R.errors source) (R.errors mid) (R.raised source) (R.raised mid) _ (R.errors c.decode_as-outcome.new.source.source.now) _ (R.raised c.decode_as-outcome.new.source.source.now) _ _ _
+    hands_all c.args.profile (taken g.S.Sink.takes) g.S.Sink.errors (begins_page (R.coming source)) c.begins_page.result (R.after source) (R.after mid) (R.coming source) (front_bytes front ++ R.coming mid) (R.errors source) (R.errors mid) (R.raised source) (R.raised mid) _ (R.errors c.decode_as-outcome.new.source.source.now) _ (R.raised c.decode_as-outcome.new.source.source.now) _ _ _
     (first_of front (R.coming mid) (R.coming source) bytes (λ none. ok.end (ap ok_front none) known) ∙ sym c.begins_page.ensures)
-    (sym (ok.behind known ok.counted.0))
+    (sym (ok.after known ok.counted.0))
     bytes
     (sym ok.counted.0)
     (sym ok.counted.1)
@@ -55,9 +55,9 @@ returns-clause-decides g c = λ known receives errors raised same.
     let front = c.in_ok-front.front in
     let ok = c.in_ok-front.ensures in
     let bytes = ok.bytes known in
-    decides_all c.args.profile (begins_page (R.coming source)) c.begins_page.result (R.behind source) (R.behind mid) (R.coming source) (front_bytes front ++ R.coming mid) (R.errors source) (R.errors mid) (R.raised source) (R.raised mid) _ (R.errors c.decode_as-outcome.new.source.source.now) _ (R.raised c.decode_as-outcome.new.source.source.now) _
+    decides_all c.args.profile (begins_page (R.coming source)) c.begins_page.result (R.after source) (R.after mid) (R.coming source) (front_bytes front ++ R.coming mid) (R.errors source) (R.errors mid) (R.raised source) (R.raised mid) _ (R.errors c.decode_as-outcome.new.source.source.now) _ (R.raised c.decode_as-outcome.new.source.source.now) _
     (first_of front (R.coming mid) (R.coming source) bytes (λ none. ok.end (ap ok_front none) known) ∙ sym c.begins_page.ensures)
-    (sym (ok.behind known ok.counted.0))
+    (sym (ok.after known ok.counted.0))
     bytes
     (sym ok.counted.0)
     (sym ok.counted.1)
@@ -84,7 +84,7 @@ returns-in_err-front g c =
     let source = c.args.source.now in
     rw (p.1, p.2) (record {
       hands = λ known receives.
-          nothing_came c.args.profile (begins_page (R.coming source)) (beginning (short_of ((R.behind source).fails))) (bits_of (R.coming source)) (taken g.S.Sink.takes) g.S.Sink.errors _ c.args.sink.now _ (λ q. not_risen _ _ (e.rises known) q.1)
+          nothing_came c.args.profile (begins_page (R.coming source)) (beginning (short_of ((R.after source).fails))) (bits_of (R.coming source)) (taken g.S.Sink.takes) g.S.Sink.errors _ c.args.sink.now _ (λ q. not_risen _ _ (e.rises known) q.1)
           (λ at why is. let told = same_end _ at _ why is in (sym told.0 ∙ e.place, sym told.1 ∙ e.why));
       decides = λ known receives errors raised same. absurd (not_risen _ _ (e.rises known) raised);
       counted = tt;

@@ -1,8 +1,8 @@
 use Rattle.std.proofs.Common.{◌≡◌, ◌∙◌, ap, sym, nat_lt, ℕ, List, arith, []}
 use Rattle.flac_bits.specs.Bits.{bits_of}
 use Rattle.flac_bits.specs.Written.{Written}
-use Rattle.flac_native.specs.Room.{placed}
-use Rattle.flac_native.proofs.Rooms.{filled, never_full}
+use Rattle.flac_native.specs.FixedBuffer.{placed}
+use Rattle.flac_native.proofs.FixedBuffers.{filled, never_full}
 use Rattle.flac_pages.specs.Written.{packet_spelling}
 use Rattle.flac_ogg.proofs.SentPackets.{pages_long}
 use Rattle.flac_ogg.proofs.encoding.paged.Goals as goal

@@ -2,7 +2,7 @@ use Rattle.std.proofs.Common.{◌≡◌, ◌≤◌, ◌+◌, ◌*◌, ◌/◌, [
 use Rattle.std.proofs.lemmas.Result.{err_from_is_err_and}
 use Rattle.flac_info.specs.Info.{Info}
 use Rattle.flac_meta.specs.declared.block.Block.{Block}
-use Rattle.flac_native.proofs.Rooms.{room_of}
+use Rattle.flac_native.proofs.FixedBuffers.{room_of}
 use Rattle.flac_ogg.specs.declared.headers.Headers.{Headers}
 use Rattle.flac_ogg.specs.Headers.{AreHeaders}
 use Rattle.flac_ogg.specs.Native.{packet_spellings}

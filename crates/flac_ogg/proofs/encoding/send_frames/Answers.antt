@@ -9,7 +9,7 @@ use Rattle.flac_native.proofs.Gathered.{still_some, all_gathered}
 use Rattle.flac_native.proofs.Planned.{planned, fit}
 use Rattle.flac_native.proofs.Spelled.{came_out}
 use Rattle.flac_pages.specs.declared.writing.PacketKind.TheVariants.{Frame}
-use Rattle.flac_pages.specs.Placed.{sequence_behind}
+use Rattle.flac_pages.specs.Placed.{sequence_after}
 use Rattle.flac_pages.specs.Written.{packet_spelling}
 use Rattle.flac_ogg.proofs.SentOgg.{some_blocks}
 use Rattle.flac_ogg.proofs.SentPackets.{SentPackets, packets_none, packets_more, packets_sent, packets_fail, last_is, sends_as, spelled_long, differ, agree}
@@ -148,7 +148,7 @@ loop-start-preserved g c =
     ∙ ap (λ k. packet_spelling (record { serial = serial; sequence = sequence; kind = Frame end; first = false; last = nat_eq end k }) packet) c.len-total.ensures
     ∙ ap (λ k. packet_spelling (record { serial = serial; sequence = sequence; kind = Frame k; first = false; last = nat_eq end total }) packet) end_is in
     let last = last_is b total n end q.least lt end_is in
-    let next : c.paged-filled.result.1 ≡ sequence_behind sequence packet = c.paged-filled.ensures.next in
+    let next : c.paged-filled.result.1 ≡ sequence_after sequence packet = c.paged-filled.ensures.next in
     let sends : SendsBits g.W.Target (packet_spelling (record { serial = serial; sequence = sequence; kind = Frame (min total (b * suc n)); first = false; last = nat_eq end total }) packet) mid new came_out =
     sends_as g.W.Target c.bytes.result.now _ mid new came_out spelled c.in_ok-send_all.ensures.sends in
     record {

@@ -7,10 +7,10 @@ use Rattle.flac_ogg.proofs.mapping.read_block.Goals as goal
 fewer : (old new : ℕ) → new + 32 ≤ old → new < old
 fewer old new h = omega arith
 
-pub returns-in_err-block_here : goal.returns-in_err-block_here
-returns-in_err-block_here g c =
+pub returns-in_err-block_by_layout : goal.returns-in_err-block_by_layout
+returns-in_err-block_by_layout g c =
     let p = err_from_is_err_and c.from_residual.result c.from_residual.ensures.1 in
-    let reading = c.in_err-block_here.ensures.reading in
+    let reading = c.in_err-block_by_layout.ensures.reading in
     rw (p.1, p.2) (record {
       spends = tt;
       counts = reading.counts;
@@ -22,7 +22,7 @@ returns-in_err-block_here g c =
 
 pub returns : goal.returns
 returns g c =
-    let ok = c.in_ok-block_here.ensures in
+    let ok = c.in_ok-block_by_layout.ensures in
     record {
       spends = fewer _ _ ok.reading.spends;
       counts = ok.reading.counts;

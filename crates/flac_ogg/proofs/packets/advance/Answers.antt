@@ -78,8 +78,8 @@ returns-in-Err-read_packet g c =
       next = tt;
     }
 
-pub returns-in-Ok-end_here : goal.returns-in-Ok-end_here
-returns-in-Ok-end_here g c =
+pub returns-in-Ok-judge_end : goal.returns-in-Ok-judge_end
+returns-in-Ok-judge_end g c =
     let old = c.args.pages.now in
     let new = c.next_packet.new.self in
     let over = begins_so old new c.in-Ok-false.field-0 false c.in-Ok-false.field-0-test c.in-Ok-false.ensures.begins in
@@ -88,7 +88,7 @@ returns-in-Ok-end_here g c =
       kept = kept_same old.errors new.errors over.errors;
       names = over.names;
       meets = over.raised;
-      steps = λ p at way known same. end_step p old new over known ∙ c.in-Ok-end_here.ensures.ends p at way;
+      steps = λ p at way known same. end_step p old new over known ∙ c.in-Ok-judge_end.ensures.ends p at way;
       broken = λ p at. tt;
       gave = tt;
       broke = tt;
@@ -96,16 +96,16 @@ returns-in-Ok-end_here g c =
       spends = tt;
       goes = (over.known, over.errors);
       made = tt;
-      ordered = c.in-Ok-end_here.ensures.ordered;
+      ordered = c.in-Ok-judge_end.ensures.ordered;
       next = tt;
     }
 
-pub returns-in-Err-end_here : goal.returns-in-Err-end_here
-returns-in-Err-end_here g c =
+pub returns-in-Err-judge_end : goal.returns-in-Err-judge_end
+returns-in-Err-judge_end g c =
     let old = c.args.pages.now in
     let new = c.next_packet.new.self in
     let over = begins_so old new c.in-Ok-false.field-0 false c.in-Ok-false.field-0-test c.in-Ok-false.ensures.begins in
-    let err = c.in-Err-end_here.ensures in
+    let err = c.in-Err-judge_end.ensures in
     record {
       memory = λ frames. err.memory;
       kept = kept_same old.errors new.errors over.errors;

@@ -7,7 +7,7 @@ use Rattle.flac_ogg.proofs.Breaking.{in_page}
 use Rattle.flac_ogg.proofs.packets.page_fault.Goals as goal
 
 pub returns-then-is_last-clause-fault : goal.returns-then-is_last-clause-fault
-returns-then-is_last-clause-fault c = λ p at way. rw c.if-is_last.true (c.behind_last.ensures.fault p at way)
+returns-then-is_last-clause-fault c = λ p at way. rw c.if-is_last.true (c.after_last.ensures.fault p at way)
 
 pub returns-clause-fault : goal.returns-clause-fault
 returns-clause-fault c = λ p at way. rw c.if-is_last.false (page_refused p (c.args.page, c.args.why) ∙ ap (λ k. refused k c.args.why) (sym c.refused_page.ensures.at) ∙ ap (λ w. refused c.refused_page.result.at w) (sym c.refused_page.ensures.why))

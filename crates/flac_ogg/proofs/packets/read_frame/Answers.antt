@@ -5,7 +5,7 @@ use Rattle.flac_bits.specs.Fence.{fenced, unfenced}
 use Rattle.flac_bits.specs.Fencing.{lifted}
 use Rattle.flac_bits.specs.Layout.{Reason, and_then, run}
 use Rattle.flac_frame.specs.Frame.{Frame}
-use Rattle.flac_native.specs.Stream.{Piece, framed, frame_behind}
+use Rattle.flac_native.specs.Stream.{Piece, framed, frame_after}
 use Rattle.flac_native.specs.Track.{stand_of}
 use Rattle.flac_native.specs.declared.track.Track.{Track}
 use Rattle.flac_ogg.proofs.packets.read_frame.Goals as goal
@@ -32,17 +32,17 @@ piece_within (Err e) u = refl
 piece_is : {answer : Result (Frame × Cursor) Reason} (read : Result (Frame × Cursor) Reason) (u : Cursor → Cursor) → and_then read (placed u) ≡ answer → and_then (and_then read as_piece) (placed u) ≡ and_then answer as_piece
 piece_is read u h = piece_within read u ∙ ap (λ r. and_then r as_piece) h
 
-pub returns-in_err-frame_here : goal.returns-in_err-frame_here
-returns-in_err-frame_here g c =
+pub returns-in_err-frame_by_layout : goal.returns-in_err-frame_by_layout
+returns-in_err-frame_by_layout g c =
     let p = err_from_is_err_and c.from_residual.result c.from_residual.ensures.1 in
-    let reading = c.in_err-frame_here.ensures.reading in
+    let reading = c.in_err-frame_by_layout.ensures.reading in
     let s = stand_of c.args.track.now in
     let at = (started (lifted c.args.bits.now)).cursor in
     rw (p.1, p.2) (record {
       spends = tt;
       memory = reading.memory;
       counts = reading.counts;
-      reads = λ known same. piece_is (run (frame_behind s.profile s.info s.before) (fenced 16777215 at)) (unfenced 16777215 at) (reading.reads known same);
+      reads = λ known same. piece_is (run (frame_after s.profile s.info s.before) (fenced 16777215 at)) (unfenced 16777215 at) (reading.reads known same);
       made = tt;
       ordered = tt;
       next = tt;
@@ -50,15 +50,15 @@ returns-in_err-frame_here g c =
 
 pub returns : goal.returns
 returns g c =
-    let ok = c.in_ok-frame_here.ensures in
+    let ok = c.in_ok-frame_by_layout.ensures in
     let s = stand_of c.args.track.now in
     let at = (started (lifted c.args.bits.now)).cursor in
     record {
       spends = fewer _ _ ok.reading.spends;
       memory = tt;
       counts = ok.reading.counts;
-      reads = λ known same. piece_is (run (frame_behind s.profile s.info s.before) (fenced 16777215 at)) (unfenced 16777215 at) (ok.reading.reads known same);
-      made = format_known c.frame_here.new.track ok.made;
+      reads = λ known same. piece_is (run (frame_after s.profile s.info s.before) (fenced 16777215 at)) (unfenced 16777215 at) (ok.reading.reads known same);
+      made = format_known c.frame_by_layout.new.track ok.made;
       ordered = λ is. (is, ok.phase ∙ is);
       next = ok.next;
     }

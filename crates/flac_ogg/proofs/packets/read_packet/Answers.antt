@@ -4,9 +4,9 @@ use Rattle.flac_native.specs.Stream.{room_in}
 use Rattle.flac_native.specs.Track.{stand_of, piece_of}
 use Rattle.flac_native.specs.declared.track.Phase.TheVariants.{Opening}
 use Rattle.flac_pages.specs.Packets.{Place, on_page}
-use Rattle.flac_pages.specs.Items.{Meets, TellsPages, HasBehind, HasItsPage}
+use Rattle.flac_pages.specs.Items.{Meets, TellsPages, HasAfter, HasItsPage}
 use Rattle.flac_bits.specs.Fencing.{lifted}
-use Rattle.flac_pages.proofs.ItemReading.{at_there, counts_so, met_told, pages_told, names_told, packet_told_within, behind_told_within, memory_told}
+use Rattle.flac_pages.proofs.ItemReading.{at_there, counts_so, met_told, pages_told, names_told, packet_told_within, after_told_within, memory_told}
 use Rattle.flac_ogg.proofs.Arriving.{on_ok_under, went_on, spent}
 use Rattle.flac_ogg.specs.Mapping.{packet_layout}
 use Rattle.flac_ogg.proofs.packets.read_packet.Goals as goal
@@ -30,10 +30,10 @@ returns-clause-ahead g c =
     let mid = c.read_part-read.new in
     let item = c.end_item-told.result in
     let at = at_there c.over.result.pages.now p c.packet_bits-bits.result c.over.ensures.pages (c.packet_bits-bits.ensures.at c.over.ensures.unread.0 c.over.ensures.unread.1) in
-    subst (λ (q : Place). OnOk item.0 (s.phase ≢ Opening → p.known ≡ true → HasBehind p q)) (search rules)
+    subst (λ (q : Place). OnOk item.0 (s.phase ≢ Opening → p.known ≡ true → HasAfter p q)) (search rules)
     (on_ok_under item.0 _ _ (λ begun.
-    behind_told_within (λ part. piece_of mid.track part) (room_in s.phase) (packet_layout s) p c.packet_bits-bits.result mid.bits item.1.now c.read_part-read.result item.0
-    at c.read_part-read.ensures.counts (c.read_part-read.ensures.reads begun) c.end_item-told.ensures.judges c.end_item-told.ensures.behind))
+    after_told_within (λ part. piece_of mid.track part) (room_in s.phase) (packet_layout s) p c.packet_bits-bits.result mid.bits item.1.now c.read_part-read.result item.0
+    at c.read_part-read.ensures.counts (c.read_part-read.ensures.reads begun) c.end_item-told.ensures.judges c.end_item-told.ensures.after))
 
 pub returns-clause-goes : goal.returns-clause-goes
 returns-clause-goes g c =
@@ -41,7 +41,7 @@ returns-clause-goes g c =
     let item = c.end_item-told.result in
     let at = at_there c.over.result.pages.now p c.packet_bits-bits.result c.over.ensures.pages (c.packet_bits-bits.ensures.at c.over.ensures.unread.0 c.over.ensures.unread.1) in
     subst (λ (q : Place). OnOk item.0 ((p.known ≡ true → q.known ≡ true) × (q.errors ≡ p.errors))) {x = item.1.now} {y = c.pages-1.given.0} (search rules)
-    (went_on p c.packet_bits-bits.result c.read_part-read.new.bits item.1.now c.read_part-read.result item.0 at c.read_part-read.ensures.counts c.end_item-told.ensures.same c.end_item-told.ensures.behind)
+    (went_on p c.packet_bits-bits.result c.read_part-read.new.bits item.1.now c.read_part-read.result item.0 at c.read_part-read.ensures.counts c.end_item-told.ensures.same c.end_item-told.ensures.after)
 
 pub returns-clause-spends : goal.returns-clause-spends
 returns-clause-spends g c =

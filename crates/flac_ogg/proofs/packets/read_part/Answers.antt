@@ -5,7 +5,7 @@ use Rattle.flac_bits.specs.State.{State, started}
 use Rattle.flac_bits.specs.Fencing.{lifted}
 use Rattle.flac_bits.specs.Reading.{Counts}
 use Rattle.flac_bits.specs.declared.why.Why.{Why}
-use Rattle.flac_native.specs.Track.{stand_of, piece_of, is_behind_blocks}
+use Rattle.flac_native.specs.Track.{stand_of, piece_of, is_after_blocks}
 use Rattle.flac_native.specs.declared.track.Phase.{Phase}
 use Rattle.flac_native.specs.declared.track.Phase.TheVariants.{Frames}
 use Rattle.flac_ogg.proofs.Packeted.{frame_told, block_told, first_told}
@@ -23,12 +23,12 @@ counts_in {X} old mid new (Err why) e h = subst (λ (k : State). Counts {X = X} 
 spends_in : {X : Type 0} (old mid new : State) (r : Result X Why) → mid ≡ started (lifted old) → OnOk r (new.most < mid.most) → OnOk r (new.most < old.most)
 spends_in old mid new r e h = subst (λ (k : State). OnOk r (new.most < k.most)) e h
 
-no_frames : (ph : Phase) → is_behind_blocks ph ≡ false → ph ≡ Frames → ⊥
+no_frames : (ph : Phase) → is_after_blocks ph ≡ false → ph ≡ Frames → ⊥
 no_frames ph e is =
-    let behind : is_behind_blocks ph ≡ true = ap is_behind_blocks is in
+    let after : is_after_blocks ph ≡ true = ap is_after_blocks is in
     absurd cc
 
-at_frames : (ph : Phase) → is_behind_blocks ph ≡ true → ph ≡ Frames
+at_frames : (ph : Phase) → is_after_blocks ph ≡ true → ph ≡ Frames
 at_frames ph e = search rules
 
 pub returns-then-is_past_metadata : goal.returns-then-is_past_metadata

@@ -4,7 +4,7 @@ use Rattle.flac_bits.proofs.Counting.{answered_then, failed_then}
 use Rattle.flac_pages.proofs.fields.read_head.Goals as goal
 
 pub returns-in_err-version : goal.returns-in_err-version
-unfolding Rattle.flac_pages.specs.Page.head_behind
+unfolding Rattle.flac_pages.specs.Page.head_after
 returns-in_err-version g c =
     let p = err_from_is_err_and c.from_residual-in_err-version.result c.from_residual-in_err-version.ensures.1 in
     rw (p.1, p.2) (record {
@@ -17,7 +17,7 @@ returns-in_err-version g c =
     })
 
 pub returns-in_err-flags : goal.returns-in_err-flags
-unfolding Rattle.flac_pages.specs.Page.head_behind
+unfolding Rattle.flac_pages.specs.Page.head_after
 returns-in_err-flags g c =
     let p = err_from_is_err_and c.from_residual-in_err-flags.result c.from_residual-in_err-flags.ensures.1 in
     rw (p.1, p.2) (record {
@@ -30,7 +30,7 @@ returns-in_err-flags g c =
     })
 
 pub returns-in_err-granule : goal.returns-in_err-granule
-unfolding Rattle.flac_pages.specs.Page.head_behind
+unfolding Rattle.flac_pages.specs.Page.head_after
 returns-in_err-granule g c =
     let p = err_from_is_err_and c.from_residual-in_err-granule.result c.from_residual-in_err-granule.ensures.1 in
     rw (p.1, p.2) (record {
@@ -43,7 +43,7 @@ returns-in_err-granule g c =
     })
 
 pub returns-in_err-serial : goal.returns-in_err-serial
-unfolding Rattle.flac_pages.specs.Page.head_behind
+unfolding Rattle.flac_pages.specs.Page.head_after
 returns-in_err-serial g c =
     let p = err_from_is_err_and c.from_residual-in_err-serial.result c.from_residual-in_err-serial.ensures.1 in
     rw (p.1, p.2) (record {
@@ -56,7 +56,7 @@ returns-in_err-serial g c =
     })
 
 pub returns-in_err-sequence : goal.returns-in_err-sequence
-unfolding Rattle.flac_pages.specs.Page.head_behind
+unfolding Rattle.flac_pages.specs.Page.head_after
 returns-in_err-sequence g c =
     let p = err_from_is_err_and c.from_residual-in_err-sequence.result c.from_residual-in_err-sequence.ensures.1 in
     rw (p.1, p.2) (record {
@@ -69,7 +69,7 @@ returns-in_err-sequence g c =
     })
 
 pub returns-in_err-sum : goal.returns-in_err-sum
-unfolding Rattle.flac_pages.specs.Page.head_behind
+unfolding Rattle.flac_pages.specs.Page.head_after
 returns-in_err-sum g c =
     let p = err_from_is_err_and c.from_residual-in_err-sum.result c.from_residual-in_err-sum.ensures.1 in
     rw (p.1, p.2) (record {
@@ -82,7 +82,7 @@ returns-in_err-sum g c =
     })
 
 pub returns : goal.returns
-unfolding Rattle.flac_pages.specs.Page.head_behind
+unfolding Rattle.flac_pages.specs.Page.head_after
 returns g c = record {
   reading = record {
     spends = search rules;

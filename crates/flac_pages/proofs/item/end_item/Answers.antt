@@ -6,13 +6,13 @@ use Rattle.flac_pages.proofs.Judging.{judged_end, judged_why, why_back, told_of,
 use Rattle.flac_pages.proofs.item.end_item.Goals as goal
 
 pub returns-in-Err-default-clause-judges : goal.returns-in-Err-default-clause-judges
-returns-in-Err-default-clause-judges g c = judged_end c.args.bits c.end_behind.result.1.now c.args.read c.in-Ok.item c.end_behind.result.0 c.in-Err-default.why c.in-Ok.is c.in-Err-default.is-0 c.end_behind.ensures.judges
+returns-in-Err-default-clause-judges g c = judged_end c.args.bits c.end_after.result.1.now c.args.read c.in-Ok.item c.end_after.result.0 c.in-Err-default.why c.in-Ok.is c.in-Err-default.is-0 c.end_after.ensures.judges
 
 pub returns-in-Err-clause-judges : goal.returns-in-Err-clause-judges
 returns-in-Err-clause-judges g c =
     let packet = c.into_source-packet.result in
     let tells = c.into_source-packet.ensures in
-    judged_why c.args.bits packet.fault c.why.result packet.errors packet.pages.now c.into_pages.result.now c.args.read c.in-Err.why c.why_in-why.result c.in-Err.is c.why_in-why.ensures.value c.why.ensures.fault packet.quiet tells.raised tells.behind
+    judged_why c.args.bits packet.fault c.why.result packet.errors packet.pages.now c.into_pages.result.now c.args.read c.in-Err.why c.why_in-why.result c.in-Err.is c.why_in-why.ensures.value c.why.ensures.fault packet.quiet tells.raised tells.after
 
 pub returns-in-Err-clause-back : goal.returns-in-Err-clause-back
 returns-in-Err-clause-back g c =

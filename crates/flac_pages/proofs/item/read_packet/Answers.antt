@@ -3,8 +3,8 @@ use Rattle.std.specs.Prelude.{⊤, IfErr}
 use Rattle.flac_bits.specs.Layout.{bits as number}
 use Rattle.flac_bits.specs.Lists.{list_of}
 use Rattle.flac_pages.specs.Packets.{Place, on_page}
-use Rattle.flac_pages.specs.Items.{HasBehind, HasItsPage, Meets, TellsPages}
-use Rattle.flac_pages.proofs.ItemReading.{at_there, counts_so, met_told, names_told, pages_told, packet_told, behind_told}
+use Rattle.flac_pages.specs.Items.{HasAfter, HasItsPage, Meets, TellsPages}
+use Rattle.flac_pages.proofs.ItemReading.{at_there, counts_so, met_told, names_told, pages_told, packet_told, after_told}
 use Rattle.flac_pages.proofs.item.read_packet.Goals as goal
 
 pub returns-clause-tells : goal.returns-clause-tells
@@ -20,9 +20,9 @@ returns-clause-ahead g c =
     let p = c.args.pages.now in
     let view = λ (x : ⊤). c.read_bytes-read.new.out in
     let layout = list_of (length c.args.out.now) (number 8) in
-    subst (λ (q : Place). OnOk c.end_item-told.result.0 (p.known ≡ true → HasBehind p q)) (search rules)
-    (behind_told view None layout p c.packet_bits-bits.result c.read_bytes-read.new.bits c.end_item-told.result.1.now c.read_bytes-read.result c.end_item-told.result.0
-    (at_there c.over.result.pages.now p c.packet_bits-bits.result c.over.ensures.pages (c.packet_bits-bits.ensures.at c.over.ensures.unread.0 c.over.ensures.unread.1)) c.read_bytes-read.ensures.reading.counts (λ _. c.read_bytes-read.ensures.reading.reads) c.end_item-told.ensures.judges c.end_item-told.ensures.behind)
+    subst (λ (q : Place). OnOk c.end_item-told.result.0 (p.known ≡ true → HasAfter p q)) (search rules)
+    (after_told view None layout p c.packet_bits-bits.result c.read_bytes-read.new.bits c.end_item-told.result.1.now c.read_bytes-read.result c.end_item-told.result.0
+    (at_there c.over.result.pages.now p c.packet_bits-bits.result c.over.ensures.pages (c.packet_bits-bits.ensures.at c.over.ensures.unread.0 c.over.ensures.unread.1)) c.read_bytes-read.ensures.reading.counts (λ _. c.read_bytes-read.ensures.reading.reads) c.end_item-told.ensures.judges c.end_item-told.ensures.after)
 
 pub returns-clause-page : goal.returns-clause-page
 returns-clause-page g c =

@@ -3,7 +3,7 @@ use Rattle.std.proofs.lemmas.Result.{err_from_is_err_and}
 use Rattle.flac_bits.proofs.Writing.{towards_start, towards_more, towards_fail}
 use Rattle.flac_pages.specs.declared.writing.PacketAt.{PacketAt}
 use Rattle.flac_pages.specs.declared.writing.PacketKind.TheVariants.{Header}
-use Rattle.flac_pages.specs.Placed.{sequence_behind, stream_spelling}
+use Rattle.flac_pages.specs.Placed.{sequence_after, stream_spelling}
 use Rattle.flac_pages.proofs.PlacedWritten.{bits_from, in_order, step_is}
 use Rattle.flac_pages.proofs.writing.write_packets.Goals as goal
 
@@ -17,7 +17,7 @@ returns-in_err-sequence g c =
     let ps = c.args.packets.now in let i = c.loop-i.i in let bytes = c.args.bytes.now in
     let none : PacketAt = record { end = 0; kind = Header } in
     let p : PacketAt = slice_index_or ps i none in
-    let next : ℕ = sequence_behind c.loop-i.sequence (take (p.end - c.loop-i.from) (drop c.loop-i.from bytes)) in
+    let next : ℕ = sequence_after c.loop-i.sequence (take (p.end - c.loop-i.from) (drop c.loop-i.from bytes)) in
     rw (e.1, e.2) (towards_fail _ (bits_from c.args.serial next (nat_eq (i + 1) 0) bytes p.end (drop (i + 1) ps))
     (step_is c.args.serial c.loop-i.sequence next bytes c.loop-i.from i ps p none (omega (arith, c.loop-i-test.true)) refl refl) c.loop-i.invariant.towards c.in_err-sequence.ensures.wrote)
 

@@ -17,8 +17,8 @@ returns-in-Ok-open_ogg-clause-opens g c = λ known.
     let mid = c.pull_front.new.source in
     let told = c.in-Ok.ensures in
     subst (λ r. Opens r c.args.keep c.in-Ok-open_ogg.reader)
-    (sym (front_read c.args.profile c.in-Ok.front (R.coming old) (R.coming mid) true (start_mark (R.behind old)) (start_mark (R.behind mid)) (told.bytes known) (λ none. told.end (ap answer none) known) (sym c.if-begins_page.true ∙ c.begins_page.ensures)
-    (ap start_mark (sym (told.behind known told.counted.0)))))
+    (sym (front_read c.args.profile c.in-Ok.front (R.coming old) (R.coming mid) true (start_mark (R.after old)) (start_mark (R.after mid)) (told.bytes known) (λ none. told.end (ap answer none) known) (sym c.if-begins_page.true ∙ c.begins_page.ensures)
+    (ap start_mark (sym (told.after known told.counted.0)))))
     (c.in-Ok-open_ogg.ensures.opens (told.known known))
 
 pub returns-in-Ok-open_native-clause-opens : goal.returns-in-Ok-open_native-clause-opens
@@ -28,8 +28,8 @@ returns-in-Ok-open_native-clause-opens g c = λ known.
     let mid = c.pull_front.new.source in
     let told = c.in-Ok.ensures in
     subst (λ r. Opens r c.args.keep c.in-Ok-open_native.reader)
-    (sym (front_read c.args.profile c.in-Ok.front (R.coming old) (R.coming mid) false (start_mark (R.behind old)) (start_mark (R.behind mid)) (told.bytes known) (λ none. told.end (ap answer none) known) (sym c.if-begins_page.false ∙ c.begins_page.ensures)
-    (ap start_mark (sym (told.behind known told.counted.0)))))
+    (sym (front_read c.args.profile c.in-Ok.front (R.coming old) (R.coming mid) false (start_mark (R.after old)) (start_mark (R.after mid)) (told.bytes known) (λ none. told.end (ap answer none) known) (sym c.if-begins_page.false ∙ c.begins_page.ensures)
+    (ap start_mark (sym (told.after known told.counted.0)))))
     (c.in-Ok-open_native.ensures.opens (told.known known))
 
 pub returns-in-Err-open_ogg-clause-refused : goal.returns-in-Err-open_ogg-clause-refused
@@ -39,10 +39,10 @@ returns-in-Err-open_ogg-clause-refused g c =
     let mid = c.pull_front.new.source in
     let told = c.in-Ok.ensures in
     let x = c.in-Err-open_ogg.refused in
-    rw c.without_front.ensures (refuses_as (ogg_input c.args.profile (front_bytes c.in-Ok.front ++ R.coming mid) (R.behind mid)) (any_input c.args.profile (R.coming old) (R.behind old))
+    rw c.without_front.ensures (refuses_as (ogg_input c.args.profile (front_bytes c.in-Ok.front ++ R.coming mid) (R.after mid)) (any_input c.args.profile (R.coming old) (R.after old))
     (R.known mid) (R.known old) (R.errors old) (R.raised old) (R.errors mid) (R.raised mid) (R.errors x.left.source) (R.raised x.left.source) x.fault told.counted.0 told.counted.1 told.known
-    (λ known. front_read c.args.profile c.in-Ok.front (R.coming old) (R.coming mid) true (start_mark (R.behind old)) (start_mark (R.behind mid)) (told.bytes known) (λ none. told.end (ap answer none) known) (sym c.if-begins_page.true ∙ c.begins_page.ensures)
-    (ap start_mark (sym (told.behind known told.counted.0))))
+    (λ known. front_read c.args.profile c.in-Ok.front (R.coming old) (R.coming mid) true (start_mark (R.after old)) (start_mark (R.after mid)) (told.bytes known) (λ none. told.end (ap answer none) known) (sym c.if-begins_page.true ∙ c.begins_page.ensures)
+    (ap start_mark (sym (told.after known told.counted.0))))
     c.in-Err-open_ogg.ensures.refused)
 
 pub returns-in-Err-open_native-clause-refused : goal.returns-in-Err-open_native-clause-refused
@@ -52,8 +52,8 @@ returns-in-Err-open_native-clause-refused g c =
     let mid = c.pull_front.new.source in
     let told = c.in-Ok.ensures in
     let x = c.in-Err-open_native.refused in
-    rw c.without_front-in-Err-open_native.ensures (refuses_as (native_input c.args.profile (front_bytes c.in-Ok.front ++ R.coming mid) (R.behind mid)) (any_input c.args.profile (R.coming old) (R.behind old))
+    rw c.without_front-in-Err-open_native.ensures (refuses_as (native_input c.args.profile (front_bytes c.in-Ok.front ++ R.coming mid) (R.after mid)) (any_input c.args.profile (R.coming old) (R.after old))
     (R.known mid) (R.known old) (R.errors old) (R.raised old) (R.errors mid) (R.raised mid) (R.errors x.left.source) (R.raised x.left.source) x.fault told.counted.0 told.counted.1 told.known
-    (λ known. front_read c.args.profile c.in-Ok.front (R.coming old) (R.coming mid) false (start_mark (R.behind old)) (start_mark (R.behind mid)) (told.bytes known) (λ none. told.end (ap answer none) known) (sym c.if-begins_page.false ∙ c.begins_page.ensures)
-    (ap start_mark (sym (told.behind known told.counted.0))))
+    (λ known. front_read c.args.profile c.in-Ok.front (R.coming old) (R.coming mid) false (start_mark (R.after old)) (start_mark (R.after mid)) (told.bytes known) (λ none. told.end (ap answer none) known) (sym c.if-begins_page.false ∙ c.begins_page.ensures)
+    (ap start_mark (sym (told.after known told.counted.0))))
     c.in-Err-open_native.ensures.refused)

@@ -14,7 +14,7 @@ pub returns-in-Ok-clause-opens : goal.returns-in-Ok-clause-opens
 returns-in-Ok-clause-opens g c = λ known.
     let R = g.R.Source in
     let source = c.args.source in
-    opens_over (by_grammar grammar (opening c.args.profile) (beginning (short_of ((R.behind source).fails))) (bits_of (R.coming source))) c.args.keep c.in-Ok.reader (stage_of c.new.result) (opening c.args.profile) c.new.ensures.course c.new.ensures.track
+    opens_over (by_grammar grammar (opening c.args.profile) (beginning (short_of ((R.after source).fails))) (bits_of (R.coming source))) c.args.keep c.in-Ok.reader (stage_of c.new.result) (opening c.args.profile) c.new.ensures.course c.new.ensures.track
     (λ parts end read. subst (λ k. PartsCome (opening c.args.profile) k parts end) (sym c.new.ensures.cursor) read) (c.new.ensures.known ∙ known) c.in-Ok.ensures.head c.in-Ok.ensures.info
 
 pub returns-in-Ok-clause-starts : goal.returns-in-Ok-clause-starts
@@ -32,7 +32,7 @@ returns-in-Err-clause-refused g c =
     let last = c.in-Err.refused.left in
     let errors : last.container.errors ≡ R.errors left = sym c.into_source-left.ensures.errors.0 in
     let raised : last.container.raised ≡ R.raised left = sym c.into_source-left.ensures.errors.1 in
-    refuses_input (by_grammar grammar (opening c.args.profile) (beginning (short_of ((R.behind source).fails))) (bits_of (R.coming source))) (stage_of c.new.result) (stage_of last) (opening c.args.profile) c.in-Err.refused.fault (R.known source) (R.errors source) (R.raised source) (R.errors left) (R.raised left)
+    refuses_input (by_grammar grammar (opening c.args.profile) (beginning (short_of ((R.after source).fails))) (bits_of (R.coming source))) (stage_of c.new.result) (stage_of last) (opening c.args.profile) c.in-Err.refused.fault (R.known source) (R.errors source) (R.raised source) (R.errors left) (R.raised left)
     c.new.ensures.course c.new.ensures.track
     (λ parts end read. subst (λ k. PartsCome (opening c.args.profile) k parts end) (sym c.new.ensures.cursor) read)
     c.new.ensures.known c.new.ensures.errors.0 c.new.ensures.errors.1 errors raised

@@ -15,7 +15,7 @@ returns-in-Ok-over-clause-opens g c = λ known.
     let R = g.R.Source in
     let source = c.args.source in
     let d = c.in-Ok.decoder in
-    let r = ogg_reading c.args.profile (beginning (short_of ((R.behind source).fails))) (bits_of (R.coming source)) in
+    let r = ogg_reading c.args.profile (beginning (short_of ((R.after source).fails))) (bits_of (R.coming source)) in
     opens_over r c.args.keep c.in-Ok-over.reader (stage_of d) (start c.args.profile) c.in-Ok.ensures.course c.in-Ok.ensures.track
     (either_end _ r c.in-Ok.ensures.stream c.in-Ok.ensures.refused) (c.in-Ok.ensures.known ∙ known) c.in-Ok-over.ensures.head c.in-Ok-over.ensures.info
 
@@ -36,7 +36,7 @@ returns-in-Err-over-clause-refused g c =
     let last = c.in-Err-over.refused.left in
     let errors : last.container.pages.errors ≡ R.errors left = cc in
     let raised : last.container.pages.raised ≡ R.raised left = cc in
-    let r = ogg_reading c.args.profile (beginning (short_of ((R.behind source).fails))) (bits_of (R.coming source)) in
+    let r = ogg_reading c.args.profile (beginning (short_of ((R.after source).fails))) (bits_of (R.coming source)) in
     refuses_input r (stage_of d) (stage_of last) (start c.args.profile) c.in-Err-over.refused.fault (R.known source) (R.errors source) (R.raised source) (R.errors left) (R.raised left)
     c.in-Ok.ensures.course c.in-Ok.ensures.track
     (either_end _ r c.in-Ok.ensures.stream c.in-Ok.ensures.refused)
@@ -54,7 +54,7 @@ pub returns-in-Err-clause-refused : goal.returns-in-Err-clause-refused
 returns-in-Err-clause-refused g c =
     let R = g.R.Source in
     let source = c.args.source in
-    rw c.in-Err.ensures.left (refuses_memory (ogg_reading c.args.profile (beginning (short_of ((R.behind source).fails))) (bits_of (R.coming source))) (R.known source) (R.errors source) (R.raised source) c.in-Err.refused.fault
+    rw c.in-Err.ensures.left (refuses_memory (ogg_reading c.args.profile (beginning (short_of ((R.after source).fails))) (bits_of (R.coming source))) (R.known source) (R.errors source) (R.raised source) c.in-Err.refused.fault
     (ap (λ (f : Fault). f.why) c.in-Err.ensures.memory))
 
 pub returns-in-Err-clause-names : goal.returns-in-Err-clause-names

@@ -1,6 +1,6 @@
 use Rattle.std.proofs.Common.{arith, ◌∙◌, sym, ap, subst, Ok}
 use Rattle.flac_frame.specs.Kept.{Kept}
-use Rattle.flac_frame.specs.Lent.{frame_of}
+use Rattle.flac_frame.specs.Viewed.{frame_of}
 use Rattle.flac_salvage.specs.Kept.{AreFound, kept_of}
 use Rattle.flac_salvage.proofs.Finding.{and_kept, and_none, and_end, and_cut, has_bytes, next_is}
 use Rattle.flac_salvage.proofs.find.whole_frames.Goals as goal

@@ -124,7 +124,7 @@ module _ (half : ℕ) (cs : List ℤ) (m : ℕ) (narrow : sum_by unsigned_abs cs
       pub packs_more : (new : List ℤ) → ((j : ℕ) → j < half → sample_at new j ≡ sample_at old (j + 1) +ℤ (sample_at factors j *ℤ x)) → Packs half cs t new (i + 1)
       packs_more new added = record { each = λ j lt. added j lt ∙ sum_is j lt }
 
--- how far from 0 a number of so many bits is at most, and so its place
+-- how far from 0 a number of n bits is at most, and so its place
 pub abs_from_bits : (n : ℕ) (z : ℤ) → FitsBits n z → unsigned_abs z ≤ 2 ^ (n - 1)
 abs_from_bits n z f = omega (arith, ints, f.low, f.high)
 

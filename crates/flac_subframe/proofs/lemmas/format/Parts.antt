@@ -12,7 +12,7 @@ use Rattle.flac_bits.specs.Signed.{FitsBits}
 use Rattle.flac_subframe.specs.format.Residual.{Partition, partition, partitions, all_values}
 use Rattle.flac_subframe.proofs.lemmas.format.Steps.{starts, and_then_and_then, same_then}
 
--- the values of partitions, behind those before
+-- the values of partitions, after those before
 abbrev pub gathered : List ℤ → List Partition → Cursor → Result (List ℤ × Cursor) Reason
 gathered front ps c = Ok (front ++ all_values ps, c)
 
@@ -45,7 +45,7 @@ pub gathers_nothing : (r : Result (List Partition × Cursor) Reason) → and_the
 gathers_nothing (Ok x) = refl
 gathers_nothing (Err e) = refl
 
--- where the i-th of n partitions begins and ends: behind all that are of the one size but the first, which is shorter
+-- where the i-th of n partitions begins and ends: after all that are of the one size but the first, which is shorter
 pub record Cuts (order size n len start end i : ℕ) : Type 0 where
   pub ahead : end + (n - i) * size ≡ len + size
   pub first : i ≡ 0 → (start ≡ 0) × (end + order ≡ size)
@@ -96,7 +96,7 @@ module _ (w order size n : ℕ) (old : State) where
 
   module _ (now next : State) (out part : List ℤ) (start end i m : ℕ) (lt : i < n) (so : PartsTo w order size n old now out start end i) (whole : m ≡ end - start) where
     pub parts_next : length part ≡ m → length (put_mid start (end - start) out part) ≡ length out → All (FitsBits 32) part → next.most ≤ now.most
-        → (now.known ≡ true → next.known ≡ true) × (next.errors ≡ now.errors) × (next.raised ≡ now.raised) × (now.known ≡ true → next.behind ≡ now.behind) × (next.names ≡ now.names)
+        → (now.known ≡ true → next.known ≡ true) × (next.errors ≡ now.errors) × (next.raised ≡ now.raised) × (now.known ≡ true → next.after ≡ now.after) × (next.names ≡ now.names)
         → (now.known ≡ true → next.errors ≡ now.errors → run (one_partition w m) now.cursor ≡ Ok (part, next.cursor))
         → PartsTo w order size n old next (put_mid start (end - start) out part) end (end + size) (i + 1)
     parts_next long kept fit less counts reads =

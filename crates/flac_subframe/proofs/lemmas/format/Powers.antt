@@ -90,7 +90,7 @@ module _ (k : ℕ) (s t : List ℤ) (long : length t ≡ length s) (so : (i : �
   pub none_wasted : ((j : ℕ) → (All (Multiple j) s) → j ≤ k) → IsWasted k s
   none_wasted most = inr (all_multiple, most)
 
-  -- samples that fit so many bits, and are multiples of that power, are silence
+  -- samples that fit n bits, and are multiples of that power, are silence
   pub silent : (1 ≤ k) → All (FitsBits k) s → (i : ℕ) → i < length s → (sample_at t i ≡ pos 0) × (sample_at s i ≡ pos 0)
   silent some fits i h =
       let f = fits i (pos 0) h in

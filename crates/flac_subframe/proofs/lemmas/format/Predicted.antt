@@ -1,4 +1,4 @@
--- Samples behind a residual that was read.
+-- Samples after a residual that was read.
 use Rattle.std.proofs.Common.{◌≡◌, ℕ, ◌+◌, ◌-◌, ◌/◌, ◌^◌, List, ◌++◌, Bool, cond, Option, Some, None, Ok, Err, refl, sym, ap, ◌∙◌, ℤ, length, take, drop, ◌≤◌, arith, zero, suc, IsTrue, All}
 use borrow.Rule.Slice.PartMut.{put_mid, mid_of, same_len_mid}
 use Rattle.std.proofs.lemmas.List.{take_all, length-append, length-take, length-drop}
@@ -17,7 +17,7 @@ use Rattle.flac_subframe.specs.format.Residual.{Residual, residual_header, resid
 use Rattle.flac_subframe.specs.format.Subframe.{Fixed, Linear, Predictor, predictor, fixed, linear, fitting}
 use Rattle.flac_subframe.proofs.lemmas.format.Steps.{and_then_and_then, read_before, fails_before}
 
--- behind the header of a residual stand its partitions
+-- after the header of a residual stand its partitions
 pub residual_run : (limit order block : ℕ) (h : ℕ × ℕ) (c d : Cursor) → run (residual_header limit order block) c ≡ Ok (h, d)
     → run (bind (residual limit order block) (λ r. done (residual_values r))) c ≡ and_then (run (partitions (4 + h.0) (block / 2 ^ h.1 - order) (block / 2 ^ h.1) (2 ^ h.1)) d) (λ ps e. Ok (all_values ps, e))
 unfolding residual

@@ -41,12 +41,12 @@ module _ (w : ℕ) (few : w < 33) (z : ℤ) (f : FitsBits (33 - w) z) where
 -- the first i numbers are multiplied, and the rest stands as it was
 pub record ScaledTo (w : ℕ) (r s : List ℤ) (i : ℕ) : Type 0 where
   pub before : (k : ℕ) → k < i → sample_at s k ≡ sample_at r k *ℤ pos (2 ^ w)
-  pub behind : (k : ℕ) → i ≤ k → sample_at s k ≡ sample_at r k
+  pub after : (k : ℕ) → i ≤ k → sample_at s k ≡ sample_at r k
 
 pub scaled_more : (w : ℕ) (r s : List ℤ) (i : ℕ) (v : ℤ) → i < length s → ScaledTo w r s i → v ≡ sample_at r i *ℤ pos (2 ^ w) → ScaledTo w r (slice_set s i v) (i + 1)
 scaled_more w r s i v within so is = record {
   before = below_more _ i (λ k h. get_or-set_other s i k v (pos 0) (λ e. omega arith) ∙ so.before k h) (get_or-set_same s i v (pos 0) within ∙ is);
-  behind = λ k h. get_or-set_other s i k v (pos 0) (λ e. omega arith) ∙ so.behind k (omega arith);
+  after = λ k h. get_or-set_other s i k v (pos 0) (λ e. omega arith) ∙ so.after k (omega arith);
 }
 
 abbrev times : ℕ → ℤ → ℤ
@@ -60,7 +60,7 @@ scaled_all w r s i long over so =
 -- without wasted bits nothing changes
 pub scaled_none : (w : ℕ) (r : List ℤ) → w ≡ 0 → r ≡ map (λ z. z *ℤ pos (2 ^ w)) r
 unfolding one
-scaled_none w r e = scaled_all w r r (length r) refl (omega arith) (record { before = λ k h. rw e (sym (*ℤ-one (sample_at r k))); behind = λ k h. refl })
+scaled_none w r e = scaled_all w r r (length r) refl (omega arith) (record { before = λ k h. rw e (sym (*ℤ-one (sample_at r k))); after = λ k h. refl })
 
 in_34_bits : (z : ℤ) → unsigned_abs z ≤ 2 ^ 32 → FitsBits 34 z
 in_34_bits z h = record { low = omega (arith, ints, h); high = omega (arith, ints, h) }

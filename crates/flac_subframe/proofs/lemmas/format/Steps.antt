@@ -6,7 +6,7 @@ use Rattle.flac_bits.specs.inner.Reading.{Goes}
 
 -- a loop that has read nothing yet
 pub starts : {Y : Type 0} (old : State) (rest whole : Result Y Reason) → rest ≡ whole → Goes old old rest whole
-starts old rest whole e = record { known = λ h. h; errors = refl; raised = refl; behind = λ h. refl; names = refl; reads = λ h. e }
+starts old rest whole e = record { known = λ h. h; errors = refl; raised = refl; after = λ h. refl; names = refl; reads = λ h. e }
 
 -- one reading after another, in the other grouping
 pub and_then_and_then : {A B C : Type 0} (r : Result (A × Cursor) Reason) (f : A → Cursor → Result (B × Cursor) Reason) (g : B → Cursor → Result (C × Cursor) Reason) → and_then (and_then r f) g ≡ and_then r (λ x d. and_then (f x d) g)

@@ -16,7 +16,7 @@ use Rattle.flac_subframe.specs.format.Bodies.{fixed, linear, Among, Body, consta
 use Rattle.flac_subframe.specs.format.Chosen.{offered}
 use Rattle.flac_subframe.specs.format.Handed.{predictor_of}
 use Rattle.flac_subframe.specs.format.Cost.{Codings, MayCode, MayCodeEach, MayWrite}
-use Rattle.flac_subframe.specs.search.FamilyLaws.{WithoutLinear, FamilyIsWhole, IsOneOf, WithLinear, WidenedIsWhole}
+use Rattle.flac_subframe.specs.search.FamilyLaws.{WithoutLinear, FamilyIsWhole, IsOneOf, WithLinear, FamilyWithIsWhole}
 use Rattle.flac_subframe.specs.format.Prediction.{fixed_coefficients, Restored}
 use Rattle.flac_subframe.specs.format.Residual.{Partition, Residual, all_values, residual_values}
 use Rattle.flac_subframe.specs.format.Spelling.{FitsWidth, IsCoded, ArePartitions, MayLeave, MayHold, IsSubframe}
@@ -52,17 +52,17 @@ module _ (w : ℕ) where
   front : (first : ℕ) (p : Partition) (ps : List Partition) → IsCoded w first p.coding p.values → take first (p.values ++ all_values ps) ≡ p.values
   front first p ps h = rw (← coded_long w first p.coding p.values h) (take-append_seam p.values (all_values ps))
 
-  behind : (first : ℕ) (p : Partition) (ps : List Partition) → IsCoded w first p.coding p.values → drop first (p.values ++ all_values ps) ≡ all_values ps
-  behind first p ps h = rw (← coded_long w first p.coding p.values h) (drop-append_seam p.values (all_values ps))
+  after : (first : ℕ) (p : Partition) (ps : List Partition) → IsCoded w first p.coding p.values → drop first (p.values ++ all_values ps) ≡ all_values ps
+  after first p ps h = rw (← coded_long w first p.coding p.values h) (drop-append_seam p.values (all_values ps))
 
   recut : (first size : ℕ) (ps : List Partition) → ArePartitions w first size ps → cut first size (all_values ps) (map coding_of ps) ≡ ps
   unfolding cut
   recut first size [] h = refl
-  recut first size (p ∷ ps) h = rw (front first p ps h.0, behind first p ps h.0, recut size size ps h.1) refl
+  recut first size (p ∷ ps) h = rw (front first p ps h.0, after first p ps h.0, recut size size ps h.1) refl
 
   each_may : (first size : ℕ) (ps : List Partition) → ArePartitions w first size ps → MayCodeEach w first size (all_values ps) (map coding_of ps)
   each_may first size [] h = tt
-  each_may first size (p ∷ ps) h = rw (front first p ps h.0, behind first p ps h.0) (may_code w first p.coding p.values h.0, each_may size size ps h.1)
+  each_may first size (p ∷ ps) h = rw (front first p ps h.0, after first p ps h.0) (may_code w first p.coding p.values h.0, each_may size size ps h.1)
 
   in_range : (first size : ℕ) (ps : List Partition) → ArePartitions w first size ps → All IsResidual (all_values ps)
   in_range first size [] h = λ i d lt. absurd (omega (arith, lt))
@@ -204,9 +204,9 @@ scaled_is k false t s e = absurd (no e)
     no : {xs : List ℤ} → None ≡ Some xs → ⊥
     no z = cc
 
-pub widened_whole : WidenedIsWhole
+pub family_with_whole : FamilyWithIsWhole
 unfolding fitting
-widened_whole most depth block limits ps f s small valid samples family =
+family_with_whole most depth block limits ps f s small valid samples family =
     let b = body_in most (depth - f.wasted) block limits ps small f.content valid.content family.plain in
     record { wasted = family.wasted; body = (b.0, restored_samples block f.content, b.1, scaled_is f.wasted _ (restored_samples block f.content) s samples, b.2) }
 
@@ -218,7 +218,7 @@ none_linear (Linear ws chosen rest) h = h
 
 pub family_whole : FamilyIsWhole
 family_whole depth block limits f s small valid samples family =
-    widened_whole 8 depth block limits [] f s small valid samples (record { plain = none_linear f.content family.plain; wasted = family.wasted })
+    family_with_whole 8 depth block limits [] f s small valid samples (record { plain = none_linear f.content family.plain; wasted = family.wasted })
 
 body_long : (depth block : ℕ) (limits : Limits) (c : Content) → limits.partition ≤ 8 → MayHold depth block limits c → length (restored_samples block c) ≡ block
 body_long depth block limits (Constant v) small may = length-replicate block v

@@ -11,7 +11,7 @@ use Rattle.flac_subframe.specs.format.Bodies.{fixed, linear, Among, Body, consta
 use Rattle.flac_subframe.specs.format.Chosen.{fixed_below, offered}
 use Rattle.flac_subframe.specs.format.Handed.{predictor_of, AreWithin}
 use Rattle.flac_subframe.specs.format.Family.{Stands}
-use Rattle.flac_subframe.specs.search.FamilyLaws.{WithoutLinear, InFamily, FamilyIsPlain, IsOneOf, WithLinear, InWidened, WidenedIsPlain}
+use Rattle.flac_subframe.specs.search.FamilyLaws.{WithoutLinear, InFamily, FamilyIsPlain, IsOneOf, WithLinear, InFamilyWith, FamilyWithIsPlain}
 use Rattle.flac_subframe.specs.format.Numbers.{sample_at}
 use Rattle.flac_subframe.specs.format.Spelling.{IsSubframe}
 use Rattle.flac_subframe.specs.format.Subframe.{Content, Constant, Verbatim, Fixed, Linear, Form, samples_of}
@@ -61,26 +61,26 @@ with_linear most ps (verbatim vs) t h = tt
 with_linear most ps (predicted (fixed order) ws f rs) t h = tt
 with_linear most ps (predicted (linear precision shift cs) ws f rs) t h = as_one precision shift cs ps (among_handed precision shift cs ps h.0)
 
-pub in_widened : (most : ℕ) (ps : List LinearPredictor) (f : Form) (s : List ℤ) → Stands most (offered ps) f s → InWidened ps f s
-in_widened most ps f s h = let body = h.body in record { plain = subst (WithLinear ps) (sym body.2) (with_linear most ps body.0 body.1 body.4); wasted = h.wasted }
+pub in_family_with : (most : ℕ) (ps : List LinearPredictor) (f : Form) (s : List ℤ) → Stands most (offered ps) f s → InFamilyWith ps f s
+in_family_with most ps f s h = let body = h.body in record { plain = subst (WithLinear ps) (sym body.2) (with_linear most ps body.0 body.1 body.4); wasted = h.wasted }
 
 module _ (most depth : ℕ) (limits : Limits) (ps : List LinearPredictor) (f : Form) (s : List ℤ) (deep : 1 ≤ depth) (some : 0 < length s) (orders : most ≤ limits.partition) (few : most ≤ 15) (within : AreWithin limits.linear ps)
     (fits : All (FitsBits depth) s) (h : Stands most (offered ps) f s) where
   abbrev form_with : Content → Form
   form_with c = record { wasted = f.wasted; content = c }
 
-  pub widened_stand : IsSubframe depth (length s) limits f × (samples_of depth (length s) f ≡ Some s)
-  widened_stand =
+  pub family_with_stand : IsSubframe depth (length s) limits f × (samples_of depth (length s) f ≡ Some s)
+  family_with_stand =
       let body = h.body in
       let left : f.wasted < depth = wasted_less depth f.wasted s body.1 deep fits body.3 h.wasted in (
         subst (λ c. IsSubframe depth (length s) limits (form_with c)) (sym body.2) (may_be most depth f.wasted s body.1 left body.3 fits limits ps body.0 some orders few within body.4),
         subst (λ c. samples_of depth (length s) (form_with c) ≡ Some s) (sym body.2) (are_samples most depth f.wasted s body.1 left body.3 fits ps body.0 body.4),
       )
 
-pub widened_plain : WidenedIsPlain
-widened_plain most depth limits ps f s deep some orders few within fits h =
-    let both = widened_stand most depth limits ps f s deep some orders few within fits h in
-    (both.0, both.1, in_widened most ps f s h)
+pub family_with_plain : FamilyWithIsPlain
+family_with_plain most depth limits ps f s deep some orders few within fits h =
+    let both = family_with_stand most depth limits ps f s deep some orders few within fits h in
+    (both.0, both.1, in_family_with most ps f s h)
 
 -- ---- a form without linear predictors
 
@@ -94,11 +94,11 @@ no_linear (Fixed ws rest) h = tt
 no_linear (Linear ws chosen rest) h = h
 
 pub in_family : (f : Form) (s : List ℤ) → Stands 8 (fixed_below 5) f s → InFamily f s
-in_family f s h = let so = in_widened 8 [] f s h in record { plain = no_linear f.content so.plain; wasted = so.wasted }
+in_family f s h = let so = in_family_with 8 [] f s h in record { plain = no_linear f.content so.plain; wasted = so.wasted }
 
 module _ (depth : ℕ) (limits : Limits) (f : Form) (s : List ℤ) (deep : 1 ≤ depth) (some : 0 < length s) (orders : 8 ≤ limits.partition) (fits : All (FitsBits depth) s) (h : Stands 8 (fixed_below 5) f s) where
   pub may_stand : IsSubframe depth (length s) limits f × (samples_of depth (length s) f ≡ Some s)
-  may_stand = widened_stand 8 depth limits [] f s deep some orders (omega arith) (none_within limits.linear) fits h
+  may_stand = family_with_stand 8 depth limits [] f s deep some orders (omega arith) (none_within limits.linear) fits h
 
 pub family_plain : FamilyIsPlain
 family_plain depth limits f s deep some orders fits h = let both = may_stand depth limits f s deep some orders fits h in (both.0, both.1, in_family f s h)

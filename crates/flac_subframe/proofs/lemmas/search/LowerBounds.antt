@@ -109,8 +109,8 @@ module _ (a s : ℕ) (rs : List ℤ) where
   two_parts : take (a + s) rs ≡ take a rs ++ take s (drop a rs)
   two_parts = sym (take-append-drop a (take (a + s) rs)) ∙ rw (front_of, back_of) refl
 
-  behind : drop s (drop a rs) ≡ drop (a + s) rs
-  behind = drop-drop s a rs ∙ ap (λ (k : ℕ). drop k rs) (omega arith)
+  after : drop s (drop a rs) ≡ drop (a + s) rs
+  after = drop-drop s a rs ∙ ap (λ (k : ℕ). drop k rs) (omega arith)
 
   may_front : (w : ℕ) (c : Coding) → MayCode w (take (a + s) rs) c → MayCode w (take a rs) c
   may_front w (Rice k) m = m
@@ -123,13 +123,13 @@ module _ (a s : ℕ) (rs : List ℤ) where
 may_halved : (w a s : ℕ) (rs : List ℤ) (cs : List Coding) → MayCodeEach w (a + s) (s + s) rs cs → MayCodeEach w a s rs (halved cs)
 may_halved w a s rs [] m = tt
 may_halved w a s rs (c ∷ cs) m =
-    let rest : MayCodeEach w (s + s) (s + s) (drop s (drop a rs)) cs = rw (behind a s rs) m.1 in
+    let rest : MayCodeEach w (s + s) (s + s) (drop s (drop a rs)) cs = rw (after a s rs) m.1 in
     (may_front a s rs w c m.0, (may_back a s rs w c m.0, may_halved w s s (drop s (drop a rs)) cs rest))
 
 cost_halved : (a s : ℕ) (rs : List ℤ) (cs : List Coding) → each_cost a s rs (halved cs) ≡ each_cost (a + s) (s + s) rs cs
 cost_halved a s rs [] = refl
 cost_halved a s rs (c ∷ cs) =
-    let rest : each_cost s s (drop s (drop a rs)) (halved cs) ≡ each_cost (s + s) (s + s) (drop (a + s) rs) cs = cost_halved s s (drop s (drop a rs)) cs ∙ ap (λ (k : List ℤ). each_cost (s + s) (s + s) k cs) (behind a s rs) in
+    let rest : each_cost s s (drop s (drop a rs)) (halved cs) ≡ each_cost (s + s) (s + s) (drop (a + s) rs) cs = cost_halved s s (drop s (drop a rs)) cs ∙ ap (λ (k : List ℤ). each_cost (s + s) (s + s) k cs) (after a s rs) in
     let here : values_cost c (take (a + s) rs) ≡ values_cost c (take a rs) + values_cost c (take s (drop a rs)) = ap (values_cost c) (two_parts a s rs) ∙ values_joined c (take a rs) (take s (drop a rs)) in
     omega (arith, rest, here)
 

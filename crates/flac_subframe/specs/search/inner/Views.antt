@@ -13,7 +13,7 @@ use Rattle.flac_subframe.specs.declared.search.tables.Tables.{Tables}
 use Rattle.flac_subframe.specs.declared.search.view.ResidualView.{ResidualView}
 use Rattle.flac_subframe.specs.declared.search.view.SampleView.{SampleView}
 use Rattle.flac_subframe.specs.declared.search.view.Task.{Task}
-use Rattle.flac_subframe.specs.declared.search.wide.WideChoice.{WideChoice}
+use Rattle.flac_subframe.specs.declared.search.wide_choice.WideChoice.{WideChoice}
 use Rattle.flac_subframe.specs.format.Bodies.{Chooses, differences}
 use Rattle.flac_subframe.specs.format.Chosen.{offered, predictor_named}
 use Rattle.flac_subframe.specs.format.Cost.{Codings, MayWrite, coding_of, codings_in, parameter_bits_of}

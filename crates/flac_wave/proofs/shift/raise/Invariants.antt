@@ -3,7 +3,7 @@ use Rattle.flac_wave.proofs.Shifts.{Raising}
 use Rattle.flac_wave.proofs.shift.raise.Given as goal
 
 abbrev pub invariant-samples : goal.invariant-samples
-invariant-samples l = Raising l.width l.wide l.shift l.samples l.rest l.fn.out l.out l.done
+invariant-samples l = Raising l.width l.wave_width l.shift l.samples l.rest l.fn.out l.out l.done
 
 abbrev pub decreases-samples : goal.decreases-samples
 decreases-samples l = length l.rest

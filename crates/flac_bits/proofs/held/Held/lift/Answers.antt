@@ -14,8 +14,8 @@ returns-clause-held c =
       ap (λ xs. record { room = None; hidden = xs }) (drop_end c.self.inside.filled c.self.inside.bytes),
     )
 
-pub returns-clause-behind : goal.returns-clause-behind
-returns-clause-behind c = λ coming.
+pub returns-clause-after : goal.returns-clause-after
+returns-clause-after c = λ coming.
     let inv = c.self.invariant in
     ap (λ (s : Store). allowed s.fence.room coming ++ (s.fence.hidden ++ forbidden s.fence.room coming)) (sym c.self.view_is)
     ∙ lifted_list c.self.inside.room c.self.inside.end c.self.inside.filled c.self.inside.bytes coming inv.7 (omega (arith, inv.6, inv.4)) ∙ ap (λ (s : Store). s.fence.hidden ++ coming) c.self.view_is

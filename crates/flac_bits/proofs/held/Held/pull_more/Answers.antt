@@ -78,7 +78,7 @@ returns-in-Ok-eq0-clause-pulls g c =
     let room = c.self.inside.room in
     let old = c.args.self.now in
     let coming = g.R.Source.coming c.args.source.now in
-    let behind = g.R.Source.behind c.args.source.now in
+    let after = g.R.Source.after c.args.source.now in
     let none = ap (λ (s : Store). s.word) c.self.view_is ∙ c.requires.taken.0 in
     let out = ap (λ (s : Store). s.bytes) c.self.view_is ∙ c.requires.taken.1 in
     let open_fence = hides_none room c.self.inside.end c.self.inside.filled c.self.inside.bytes old.fence (ap (λ (s : Store). s.fence) c.self.view_is) c.requires.room inv.7 (fits_in _ _ _ inv.6 inv.4) in
@@ -97,7 +97,7 @@ returns-in-Ok-eq0-clause-pulls g c =
       over = λ is known.
           let over = got.end zero (omega (arith, c.pull.auto.buf, inv.4)) known in (
             none_left old coming c.requires.taken.0 c.requires.taken.1 (none_allowed old.fence.room coming over.0),
-            λ read. not_foretold behind.fails over.1 (sym (ends_short old.fence.room coming behind c.requires.room over.0) ∙ read),
+            λ read. not_foretold after.fails over.1 (sym (ends_short old.fence.room coming after c.requires.room over.0) ∙ read),
           );
       kept = got.kept;
       foretold = got.foretold;
@@ -123,7 +123,7 @@ returns-in-Ok-clause-pulls g c =
     let seen_is = c.seen-self-inside.ensures in
     let few = seen_fits room n in
     let end = c.seen-self-inside.result in
-    let new : Store = record { word = c.self.inside.word; bytes = take end buf; mark = old.mark; fence = record { room = c.room_behind-self-inside.result; hidden = drop end (take n buf) } } in
+    let new : Store = record { word = c.self.inside.word; bytes = take end buf; mark = old.mark; fence = record { room = c.room_after-self-inside.result; hidden = drop end (take n buf) } } in
     record {
       names = got.names;
       mark = pulled_mark c.self.inside.bytes c.self.inside.from c.self.inside.place c.self.inside.end c.self.inside.before c.self.inside.check8 c.self.inside.check16 c.saturating_add-self-inside.result c.both_checked-check8.result.0 c.both_checked-check8.result.1 c.self.inside.word old.mark inv.0 inv.1 (fits_in _ _ _ inv.2 inv.4) none out c.both_checked-check8.ensures.eight c.both_checked-check8.ensures.sixteen c.saturating_add-self-inside.ensures (ap (λ (s : Store). s.mark) c.self.view_is);
@@ -133,7 +133,7 @@ returns-in-Ok-clause-pulls g c =
         raised = got.counted.1;
         most = came_most old new _ _ c.requires.taken.0 c.requires.taken.1 none (rw (← open_fence, seen_is) (omega (arith, got.most, length-take (seen room n) buf, length-drop (seen room n) (take n buf), length-take n buf, few, got.bound.0)));
         held = none_held old _ c.requires.taken.0 c.requires.taken.1 (ap (λ (f : Fence). length f.hidden) (sym open_fence));
-        same = λ known. came_bits old _ coming _ c.requires.taken.0 c.requires.taken.1 none (rw (← open_fence, c.room_behind-self-inside.ensures, seen_is) (came_is room n buf (g.R.Source.coming c.pull.new.self) coming got.bound.0 (got.bytes known)));
+        same = λ known. came_bits old _ coming _ c.requires.taken.0 c.requires.taken.1 none (rw (← open_fence, c.room_after-self-inside.ensures, seen_is) (came_is room n buf (g.R.Source.coming c.pull.new.self) coming got.bound.0 (got.bytes known)));
       };
       over = λ is. absurd (went_on _ refl is);
       kept = got.kept;
@@ -152,7 +152,7 @@ returns-in-Err-clause-pulls g c =
     let room = c.self.inside.room in
     let old = c.args.self.now in
     let coming = g.R.Source.coming c.args.source.now in
-    let behind = g.R.Source.behind c.args.source.now in
+    let after = g.R.Source.after c.args.source.now in
     let none = ap (λ (s : Store). s.word) c.self.view_is ∙ c.requires.taken.0 in
     let out = ap (λ (s : Store). s.bytes) c.self.view_is ∙ c.requires.taken.1 in
     let open_fence = hides_none room c.self.inside.end c.self.inside.filled c.self.inside.bytes old.fence (ap (λ (s : Store). s.fence) c.self.view_is) c.requires.room inv.7 (fits_in _ _ _ inv.6 inv.4) in
@@ -169,7 +169,7 @@ returns-in-Err-clause-pulls g c =
           let end = failed.failed known same in
           record {
             left = none_left old coming c.requires.taken.0 c.requires.taken.1 (none_allowed old.fence.room coming end.0);
-            reason = ends_short old.fence.room coming behind c.requires.room end.0 ∙ foretold behind.fails end.1;
+            reason = ends_short old.fence.room coming after c.requires.room end.0 ∙ foretold after.fails end.1;
             fenced = rw (← open_fence) (ap bits_of (sym (none_forbidden room coming end.0)));
           };
       rises = failed.rises;

@@ -62,7 +62,7 @@ returns-in-Ok-false g c = record {
         let over = pulls.over (ap Ok c.in-Ok-false.field-0-test) told in
         let reason = same_reason c.self.inside.held c.fill.new.held (g.R.Source.coming c.self.inside.source) ys _ _ bits (pulls.foretold told pulls.moved.errors) in
         let none = no_bytes (allowed room ys) (c.fill.new.held.word ++ bits_of c.fill.new.held.bytes) (bits.left ∙ over.0) in
-        let short = short_is room ys (g.R.Source.behind c.fill.new.source) c.short.result c.short.ensures.fence c.short.ensures.over none (λ e. over.1 (sym reason ∙ e)) in
+        let short = short_is room ys (g.R.Source.after c.fill.new.source) c.short.result c.short.ensures.fence c.short.ensures.over none (λ e. over.1 (sym reason ∙ e)) in
         bit_none c.args.self.now.cursor _ c.self.inside.held (bits_of (allowed c.self.inside.held.fence.room (g.R.Source.coming c.self.inside.source))) (ap (λ (s : State). s.cursor) c.self.view_is) over.0
         ∙ ap (λ w. Err (because w)) (sym (short ∙ reason)));
   };

@@ -13,8 +13,8 @@ returns-clause-errors g c = search rules
 pub returns-clause-raised : goal.returns-clause-raised
 returns-clause-raised g c = search rules
 
-pub returns-clause-behind : goal.returns-clause-behind
-returns-clause-behind g c = search rules
+pub returns-clause-after : goal.returns-clause-after
+returns-clause-after g c = search rules
 
 pub returns-clause-most : goal.returns-clause-most
 returns-clause-most g c = search rules

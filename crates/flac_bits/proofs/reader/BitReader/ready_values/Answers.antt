@@ -7,7 +7,7 @@ returns-clause-went g c =
     let R = g.R.Source in
     let source = c.self.inside.source in
     let read = c.values.ensures.read in
-    (values_took (R.known source) (R.errors source) (R.raised source) (R.most source) (R.behind source) (R.names source) (R.coming source) c.self.inside.held c.values.new.self c.args.self.now c.self.view_is
+    (values_took (R.known source) (R.errors source) (R.raised source) (R.most source) (R.after source) (R.names source) (R.coming source) c.self.inside.held c.values.new.self c.args.self.now c.self.view_is
     c.args.k read.0 c.args.values.now c.values.new.values c.args.from c.values.result read.1 read.2).0
 
 pub returns-clause-reads : goal.returns-clause-reads
@@ -15,7 +15,7 @@ returns-clause-reads g c =
     let R = g.R.Source in
     let source = c.self.inside.source in
     let read = c.values.ensures.read in
-    (values_took (R.known source) (R.errors source) (R.raised source) (R.most source) (R.behind source) (R.names source) (R.coming source) c.self.inside.held c.values.new.self c.args.self.now c.self.view_is
+    (values_took (R.known source) (R.errors source) (R.raised source) (R.most source) (R.after source) (R.names source) (R.coming source) c.self.inside.held c.values.new.self c.args.self.now c.self.view_is
     c.args.k read.0 c.args.values.now c.values.new.values c.args.from c.values.result read.1 read.2).1
 
 pub returns-clause-drawn : goal.returns-clause-drawn
@@ -23,7 +23,7 @@ returns-clause-drawn g c =
     let R = g.R.Source in
     let source = c.self.inside.source in
     let read = c.values.ensures.read in
-    values_drawn (R.known source) (R.errors source) (R.raised source) (R.most source) (R.behind source) (R.names source) (R.coming source) c.self.inside.held c.values.new.self c.args.self.now c.self.view_is
+    values_drawn (R.known source) (R.errors source) (R.raised source) (R.most source) (R.after source) (R.names source) (R.coming source) c.self.inside.held c.values.new.self c.args.self.now c.self.view_is
     c.args.k read.0 c.args.values.now c.values.new.values c.args.from c.values.result read.1 read.2
 
 pub returns-then-k-gt-MOST_READY-clause-drawn : goal.returns-then-k-gt-MOST_READY-clause-drawn

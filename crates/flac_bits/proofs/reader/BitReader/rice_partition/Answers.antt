@@ -5,7 +5,7 @@ use Rattle.std.proofs.lemmas.List.Elements.{All-from_get_or}
 use Rattle.std.proofs.lemmas.Grind.{take-set_at}
 use Rattle.flac_bits.specs.State.{Cursor}
 use Rattle.flac_bits.specs.Layout.{run, and_then, Reason}
-use Rattle.flac_bits.specs.Lists.{list_of, behind}
+use Rattle.flac_bits.specs.Lists.{list_of, after}
 use Rattle.flac_bits.specs.Rice.{rice_value}
 use Rattle.flac_bits.specs.Rice.{IsResidual}
 use Rattle.flac_bits.proofs.Loops.{goes_on, goes_same}
@@ -28,7 +28,7 @@ loop-i-preserved g c =
     let values = ready.new.values in
     let short : i < length values = omega (arith, c.loop-i-test.true, ready.auto.values) in
     let within : i < n = omega (arith, c.loop-i-test.true, c.loop-i.auto.values) in
-    let more : ℤ → Cursor → _ = λ v d. and_then (run (list_of (n - (i + 1)) field) d) (behind (take i values ++ v ∷ [])) in
+    let more : ℤ → Cursor → _ = λ v d. and_then (run (list_of (n - (i + 1)) field) d) (after (take i values ++ v ∷ [])) in
     let v = c.in_ok-values.field-0 in
     let same = residual_kept v c.in_ok-values.ensures.fits in
     let last = get_or-set_same values i v (pos 0) short in
@@ -36,7 +36,7 @@ loop-i-preserved g c =
       goes = goes_on c.args.self.now mid c.rice_value.new.self (run field mid.cursor) v more _ _ _
           (goes_same c.args.self.now c.loop-i.self mid _ _ _ c.loop-i.invariant.goes got.went.1.0 got.went.1.1 got.went.1.2 got.went.1.3 got.went.1.4 got.reads)
           (list_more n i field mid.cursor (take i values) within)
-          (ap (λ front. and_then (run (list_of (n - (i + 1)) field) c.rice_value.new.self.cursor) (behind front)) (sym (take-set_at values i (i + 1) v refl short)))
+          (ap (λ front. and_then (run (list_of (n - (i + 1)) field) c.rice_value.new.self.cursor) (after front)) (sym (take-set_at values i (i + 1) v refl short)))
           c.in_ok-values.ensures.reading.counts c.in_ok-values.ensures.reading.reads;
       drawn = list_drawn n i field v c.args.self.now mid c.rice_value.new.self within (λ known. rw got.went.1.0 (c.loop-i.invariant.goes.known known))
           (draws_then c.args.self.now c.loop-i.self mid c.loop-i.invariant.goes.known c.loop-i.invariant.drawn got.drawn)
@@ -50,7 +50,7 @@ loop-i-init g c =
     let n = length c.args.values.now in
     let e : n - 0 ≡ n = omega arith in
     record {
-      goes = record { known = λ h. h; errors = refl; raised = refl; behind = λ _. refl; names = refl; reads = λ _. rw e (list_start _) };
+      goes = record { known = λ h. h; errors = refl; raised = refl; after = λ _. refl; names = refl; reads = λ _. rw e (list_start _) };
       drawn = list_none n (rice_value c.args.k) c.args.self.now;
       fits = λ j h. absurd (omega arith);
       spent = omega arith;

@@ -11,4 +11,4 @@ returns-clause-short g c = λ known none other.
     let room = c.self.inside.held.fence.room in
     let coming = g.R.Source.coming c.self.inside.source in
     let empty = no_bytes (allowed room coming) (c.self.inside.held.word ++ bits_of c.self.inside.held.bytes) (ap (λ (s : State). s.cursor.left) c.self.view_is ∙ none) in
-    short_is room coming (g.R.Source.behind c.self.inside.source) c.short.result c.short.ensures.fence c.short.ensures.over empty (λ e. other (sym is ∙ e)) ∙ is
+    short_is room coming (g.R.Source.after c.self.inside.source) c.short.result c.short.ensures.fence c.short.ensures.over empty (λ e. other (sym is ∙ e)) ∙ is

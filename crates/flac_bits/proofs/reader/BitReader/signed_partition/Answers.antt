@@ -5,7 +5,7 @@ use Rattle.std.proofs.lemmas.List.Elements.{All-from_get_or}
 use Rattle.std.proofs.lemmas.Grind.{take-set_at}
 use Rattle.flac_bits.specs.State.{Cursor}
 use Rattle.flac_bits.specs.Layout.{run, and_then, Reason}
-use Rattle.flac_bits.specs.Lists.{list_of, behind}
+use Rattle.flac_bits.specs.Lists.{list_of, after}
 use Rattle.flac_bits.specs.Signed.{signed_field}
 use Rattle.flac_bits.specs.Signed.{FitsBits}
 use Rattle.flac_bits.proofs.Loops.{goes_on}
@@ -39,14 +39,14 @@ loop-i-preserved g c =
     let n = length c.args.values.now in
     let i = c.loop-i.i in
     let field = signed_field c.args.n in
-    let more : ℤ → Cursor → _ = λ v d. and_then (run (list_of (n - (i + 1)) field) d) (behind (take i c.loop-i.values ++ v ∷ [])) in
+    let more : ℤ → Cursor → _ = λ v d. and_then (run (list_of (n - (i + 1)) field) d) (after (take i c.loop-i.values ++ v ∷ [])) in
     let v = c.in_ok-values.field-0 in
     let same = signed_kept c.args.n v c.requires.some c.requires.few c.in_ok-values.ensures.fits in
     let last = get_or-set_same c.loop-i.values i v (pos 0) (omega (arith, c.loop-i.auto.values, c.loop-i-test.true)) in
     rw same (record {
       goes = goes_on c.args.self.now c.loop-i.self c.take_signed.new.self (run field c.loop-i.self.cursor) v more _ _ _
           c.loop-i.invariant.goes (list_more n i field c.loop-i.self.cursor (take i c.loop-i.values) c.loop-i-test.true)
-          (ap (λ front. and_then (run (list_of (n - (i + 1)) field) c.take_signed.new.self.cursor) (behind front)) (sym (take-set_at c.loop-i.values i (i + 1) v refl (omega (arith, c.loop-i.auto.values, c.loop-i-test.true)))))
+          (ap (λ front. and_then (run (list_of (n - (i + 1)) field) c.take_signed.new.self.cursor) (after front)) (sym (take-set_at c.loop-i.values i (i + 1) v refl (omega (arith, c.loop-i.auto.values, c.loop-i-test.true)))))
           c.in_ok-values.ensures.reading.counts c.in_ok-values.ensures.reading.reads;
       fits = below_more _ i (λ j h. rw (get_or-set_other c.loop-i.values i j v (pos 0) (λ e. omega arith)) (c.loop-i.invariant.fits j h)) (rw last c.in_ok-values.ensures.fits);
       held = partly c.args.n i _ _ _ c.loop-i.invariant.held c.in_ok-values.ensures.needed;
@@ -58,7 +58,7 @@ loop-i-init g c =
     let n = length c.args.values.now in
     let e : n - 0 ≡ n = omega arith in
     record {
-      goes = record { known = λ h. h; errors = refl; raised = refl; behind = λ _. refl; names = refl; reads = λ _. rw e (list_start _) };
+      goes = record { known = λ h. h; errors = refl; raised = refl; after = λ _. refl; names = refl; reads = λ _. rw e (list_start _) };
       fits = λ j h. absurd (omega arith);
       held = omega arith;
       spent = omega arith;

@@ -53,7 +53,7 @@ loop-done-init g c =
       known = λ known. ap (λ (s : State). s.known) first ∙ known;
       errors = ap (λ (s : State). s.errors) first;
       raised = ap (λ (s : State). s.raised) first;
-      behind = λ _. ap (λ (s : State). s.behind) first;
+      after = λ _. ap (λ (s : State). s.after) first;
       names = ap (λ (s : State). s.names) first;
       taken = λ _. (sym (ap (λ (s : State). s.cursor.left) first), ap (λ (s : State). s.cursor.mark) first);
     }
@@ -77,7 +77,7 @@ loop-done-preserved g c =
       known = λ known. ap (λ (s : State). s.known) again ∙ got.counts.0 (inv.known known);
       errors = ap (λ (s : State). s.errors) again ∙ got.counts.1 ∙ inv.errors;
       raised = ap (λ (s : State). s.raised) again ∙ got.counts.2 ∙ inv.raised;
-      behind = λ known. ap (λ (s : State). s.behind) again ∙ got.counts.3 (inv.known known) ∙ inv.behind known;
+      after = λ known. ap (λ (s : State). s.after) again ∙ got.counts.3 (inv.known known) ∙ inv.after known;
       names = ap (λ (s : State). s.names) again ∙ got.counts.4 ∙ inv.names;
       taken = λ known. fills_more c.args.checked (take done xs) (take n ys) _ c.args.self.now.cursor c.loop-done.self.cursor c.some_bytes.new.self.cursor c.start_unless-in-loop-done.new.self.cursor
           (put_taken done (length xs - done) n xs ys room got.bound) (inv.taken known) (got.taken (inv.known known)) got.whole (ap (λ (s : State). s.cursor.left) again) (ap (λ (s : State). s.cursor.mark) again);
@@ -98,7 +98,7 @@ returns-in-Ok-eq0 g c =
       bound = within_long done _ (length xs) inv.within (put_long done xs ys inv.within long);
       spends = still_spent n done _ _ _ zero_is got.spends inv.spent;
       whole = got.whole;
-      counts = answered_then c.args.self.now c.loop-done.self c.some_bytes.new.self (inv.known, inv.errors, inv.raised, inv.behind, inv.names) got.counts;
+      counts = answered_then c.args.self.now c.loop-done.self c.some_bytes.new.self (inv.known, inv.errors, inv.raised, inv.after, inv.names) got.counts;
       taken = λ known.
           fills_still c.args.checked n (take done xs) ys _ c.args.self.now.cursor c.loop-done.self.cursor c.some_bytes.new.self.cursor zero_is
           (ap (λ k. take k (put_mid done (length xs - done) xs ys)) none ∙ put_taken done (length xs - done) n xs ys inv.within got.bound) (inv.taken known) (got.taken (inv.known known));
@@ -122,7 +122,7 @@ returns-in-Err g c =
       bound = tt;
       spends = tt;
       whole = tt;
-      counts = failed_then c.args.self.now c.loop-done.self c.some_bytes.new.self (inv.known, inv.errors, inv.raised, inv.behind, inv.names) c.in-Err.ensures.counts;
+      counts = failed_then c.args.self.now c.loop-done.self c.some_bytes.new.self (inv.known, inv.errors, inv.raised, inv.after, inv.names) c.in-Err.ensures.counts;
       taken = tt;
       over = tt;
       cut = (
@@ -144,7 +144,7 @@ returns g c =
       bound = inv.within;
       spends = inv.spent;
       whole = inv.whole;
-      counts = (inv.known, inv.errors, inv.raised, inv.behind, inv.names);
+      counts = (inv.known, inv.errors, inv.raised, inv.after, inv.names);
       taken = inv.taken;
       over = λ lt. absurd (all_done _ _ c.loop-done-test.false lt);
       cut = tt;

@@ -12,7 +12,7 @@ invariant-loop-done g l = record {
   known : l.fn.self.known ≡ true → l.self.known ≡ true;
   errors : l.self.errors ≡ l.fn.self.errors;
   raised : l.self.raised ≡ l.fn.self.raised;
-  behind : l.fn.self.known ≡ true → l.self.behind ≡ l.fn.self.behind;
+  after : l.fn.self.known ≡ true → l.self.after ≡ l.fn.self.after;
   names : l.self.names ≡ l.fn.self.names;
   taken : l.fn.self.known ≡ true → Fills l.checked (bits_of (take l.done l.out)) l.fn.self.cursor l.self.cursor;
 }

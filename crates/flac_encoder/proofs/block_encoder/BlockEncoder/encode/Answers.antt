@@ -1,10 +1,10 @@
 use Rattle.std.specs.Prelude.{⊤}
 use Rattle.std.proofs.Common.{◌≤◌, map, sym, subst, refl, ◌∙◌, arith}
-use Rattle.flac_subframe.specs.search.Room.{Room}
+use Rattle.flac_subframe.specs.search.Capacity.{Capacity}
 use Rattle.flac_bits.specs.Bits.{bits_of}
 use Rattle.flac_frame.specs.Audio.{samples_each}
 use Rattle.flac_native.specs.Writing.{SpellsLeast}
-use Rattle.flac_encoder.specs.Pushing.{Pushed, shape_of, sound_of, frame_with, behind_block}
+use Rattle.flac_encoder.specs.Pushing.{Pushed, shape_of, sound_of, frame_with, after_block}
 use Rattle.flac_encoder.proofs.Pushing.{never_write, not_refused, is_next}
 use Rattle.flac_encoder.proofs.block_encoder.BlockEncoder.encode.Goals as goal
 
@@ -21,7 +21,7 @@ pub encode_block-requires-clause-size : goal.encode_block-requires-clause-size
 encode_block-requires-clause-size c = let a = not_refused _ _ _ _ c.self.view_is c.self.invariant.shape c.push_fault.ensures c.in_default.is in a.most
 
 pub encode_block-requires-clause-room : goal.encode_block-requires-clause-room
-encode_block-requires-clause-room c = subst (λ (r : Room). c.self.inside.format.block_size ≤ r.block) (sym c.self.invariant.buffers) (omega arith)
+encode_block-requires-clause-room c = subst (λ (r : Capacity). c.self.inside.format.block_size ≤ r.block) (sym c.self.invariant.buffers) (omega arith)
 
 pub encode_block-requires-clause-number : goal.encode_block-requires-clause-number
 encode_block-requires-clause-number c = let a = not_refused _ _ _ _ c.self.view_is c.self.invariant.shape c.push_fault.ensures c.in_default.is in a.number
@@ -42,7 +42,7 @@ returns-clause-next c =
     let text = bits_of c.in-Ok.frame.items in
     let least : SpellsLeast old.predictors (sound_of old.shape block) (frame_with old.number block) text =
     subst (λ ps. SpellsLeast ps (sound_of old.shape block) (frame_with old.number block) text) c.as_slice-predictors.ensures.value c.in-Ok.ensures.least in
-    rw (← c.self.view_is) (is_next old (behind_block old (samples_each block) tt) block text c.self.invariant.shape a c.in-Ok.ensures.frame least refl)
+    rw (← c.self.view_is) (is_next old (after_block old (samples_each block) tt) block text c.self.invariant.shape a c.in-Ok.ensures.frame least refl)
 
 pub encode_block-requires-clause-format : goal.encode_block-requires-clause-format
 encode_block-requires-clause-format c = c.self.invariant.shape

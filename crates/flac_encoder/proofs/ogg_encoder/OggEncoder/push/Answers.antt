@@ -3,7 +3,7 @@ use Rattle.std.proofs.Common.{◌≡◌, ◌+◌, ◌++◌, ℕ, List, true, fal
 use Rattle.std.proofs.lemmas.Result.{err_from_is_err_and}
 use Rattle.flac_bits.specs.Bits.{bits_of}
 use Rattle.flac_frame.specs.Audio.{samples_each}
-use Rattle.flac_encoder.specs.Pushing.{Pushed, behind_block, spent_with, with_target, sound_of, frame_with, push_fault, IsFirst}
+use Rattle.flac_encoder.specs.Pushing.{Pushed, after_block, spent_with, with_target, sound_of, frame_with, push_fault, IsFirst}
 use Rattle.flac_native.specs.Writing.{SpellsFrame, SpellsLeast}
 use Rattle.flac_native.specs.declared.fault.EncodeFault.TheVariants as fault
 use Rattle.flac_encoder.proofs.Pushing.{accepted, same_fault, fault_seen}
@@ -87,8 +87,8 @@ returns-in-Ok-send_all g c =
     let packet : List ℕ = c.as_slice.result.now in
     let same = sym c.as_slice.ensures.value in
     let new : PushedOgg g.row.W.Denot = with_held c.sent.new.self t old.serial h.next h.middle.items h.last.items in
-    let pushed : new.pushed ≡ behind_block old.pushed (samples_each block) t =
-    ap (λ (x : Pushed ⊤). with_target x t) (c.sent.ensures ∙ ap (λ (x : Pushed ⊤). behind_block x (samples_each block) tt) c.encode.ensures.kept) in
+    let pushed : new.pushed ≡ after_block old.pushed (samples_each block) t =
+    ap (λ (x : Pushed ⊤). with_target x t) (c.sent.ensures ∙ ap (λ (x : Pushed ⊤). after_block x (samples_each block) tt) c.encode.ensures.kept) in
     rw (← c.self.view_is) (record {
       next = pushed;
       serial = refl;
@@ -128,7 +128,7 @@ returns g c =
     let h = c.in-Ok.held in
     let packet : List ℕ = c.as_slice.result.now in
     let same = sym c.as_slice.ensures.value in
-    let new : PushedOgg g.row.W.Denot = record { pushed = behind_block old.pushed (samples_each block) t; serial = old.serial; sequence = h.next; middle = h.middle.items; last = h.last.items } in
+    let new : PushedOgg g.row.W.Denot = record { pushed = after_block old.pushed (samples_each block) t; serial = old.serial; sequence = h.next; middle = h.middle.items; last = h.last.items } in
     let now : PushedOgg g.row.W.Denot = with_held c.failed.new.self t old.serial old.sequence old.middle old.last in
     rw (← c.self.view_is) (record {
       next = tt;

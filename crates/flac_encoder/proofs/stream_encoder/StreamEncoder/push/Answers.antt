@@ -1,7 +1,7 @@
 use Rattle.std.proofs.Common.{◌++◌, map, inr, refl, sym, ap, subst, ◌∙◌}
 use Rattle.std.proofs.lemmas.Result.{err_from_is_err_and}
 use Rattle.flac_frame.specs.Audio.{samples_each}
-use Rattle.flac_encoder.specs.Pushing.{Pushed, with_target, behind_block, spent_with, IsFirst}
+use Rattle.flac_encoder.specs.Pushing.{Pushed, with_target, after_block, spent_with, IsFirst}
 use Rattle.flac_encoder.proofs.Pushing.{fault_seen, pushes, begins_push}
 use Rattle.flac_encoder.proofs.stream_encoder.StreamEncoder.push.Goals as goal
 
@@ -35,7 +35,7 @@ returns-in-Ok g c =
     let block = map (λ x. x.now) c.args.block.now in
     let ok = c.in_ok-frame.ensures in
     let sends = c.in-Ok.ensures.sends in
-    let same = ap (λ x. with_target x t) (c.sent.ensures ∙ ap (λ x. behind_block x (samples_each block) tt) ok.kept) in
+    let same = ap (λ x. with_target x t) (c.sent.ensures ∙ ap (λ x. after_block x (samples_each block) tt) ok.kept) in
     rw (← c.self.view_is) (record {
       next = same;
       written = λ known.

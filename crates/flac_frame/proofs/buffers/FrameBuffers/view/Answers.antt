@@ -1,7 +1,7 @@
 use Rattle.std.proofs.Common.{◌≡◌, ℕ, ◌*◌, ◌≤◌, Fits, w64, sym, rules, arith}
 use Rattle.std.proofs.lemmas.List.{length-take-le}
 use Rattle.std.proofs.lemmas.Nat.{mul-le}
-use Rattle.flac_frame.proofs.Rooms.{few_of}
+use Rattle.flac_frame.proofs.Capacities.{few_of}
 use Rattle.flac_frame.proofs.buffers.FrameBuffers.view.Goals as goal
 
 places_fit : (used block channels most : ℕ) → used ≤ channels → channels ≤ 8 → block ≤ most → most ≤ 65535 → Fits w64 (used * block)

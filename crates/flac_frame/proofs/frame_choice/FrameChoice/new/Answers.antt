@@ -1,12 +1,12 @@
 use Rattle.std.proofs.Common.{◌≡◌, ◌∙◌, ℕ, ◌+◌, ◌≤◌, ◌^◌, length, [], ◌∷◌, vec_len, ap, sym, subst, arith}
 use Rattle.std.proofs.lemmas.List.{length_push}
 use Rattle.std.proofs.lemmas.List.Elements.{All-append, All-cons, All-nil}
-use Rattle.flac_subframe.specs.declared.search.wide.WideChoice.{WideChoice}
-use Rattle.flac_frame.specs.Chosen.{AllWide}
+use Rattle.flac_subframe.specs.declared.search.wide_choice.WideChoice.{WideChoice}
+use Rattle.flac_frame.specs.Chosen.{AllHaveCodings}
 use Rattle.flac_frame.proofs.frame_choice.FrameChoice.new.Goals as goal
 
-as_wide : (n m : ℕ) → n ≡ m → m ≤ n
-as_wide n m is = omega arith
+as_many_codings : (n m : ℕ) → n ≡ m → m ≤ n
+as_many_codings n m is = omega arith
 
 pub loop-channel-preserved : goal.loop-channel-preserved
 loop-channel-preserved c =
@@ -16,6 +16,6 @@ loop-channel-preserved c =
     let is = c.in_ok-push.ensures.items in
     record {
       many = ap length is ∙ length_push before one ∙ ap (λ n. n + 1) c.loop-channel.invariant.many;
-      wide = subst (AllWide most) (sym is) (All-append (λ (v : WideChoice). 2 ^ most ≤ vec_len v.codings) before (one ∷ []) c.loop-channel.invariant.wide
-          (All-cons (λ (v : WideChoice). 2 ^ most ≤ vec_len v.codings) one [] (as_wide _ _ c.in_ok-new.ensures.ok) (All-nil (λ (v : WideChoice). 2 ^ most ≤ vec_len v.codings))));
+      codings = subst (AllHaveCodings most) (sym is) (All-append (λ (v : WideChoice). 2 ^ most ≤ vec_len v.codings) before (one ∷ []) c.loop-channel.invariant.codings
+          (All-cons (λ (v : WideChoice). 2 ^ most ≤ vec_len v.codings) one [] (as_many_codings _ _ c.in_ok-new.ensures.ok) (All-nil (λ (v : WideChoice). 2 ^ most ≤ vec_len v.codings))));
     }

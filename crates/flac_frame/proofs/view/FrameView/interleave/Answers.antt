@@ -1,5 +1,5 @@
 use Rattle.std.proofs.Common.{◌≡◌, ◌+◌, ◌++◌, length, ap, sym, ◌∙◌, arith}
-use Rattle.flac_frame.specs.Lent.{frame_of}
+use Rattle.flac_frame.specs.Viewed.{frame_of}
 use Rattle.flac_frame.specs.Interleaved.{row, rows}
 use Rattle.flac_frame.proofs.Interleaved.{rows_more, drop_further}
 use Rattle.flac_frame.proofs.view.FrameView.interleave.Goals as goal

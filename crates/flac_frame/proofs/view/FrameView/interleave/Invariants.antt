@@ -1,5 +1,5 @@
 use Rattle.std.proofs.Common.{◌≡◌, ◌*◌, length, take, drop}
-use Rattle.flac_frame.specs.Lent.{frame_of}
+use Rattle.flac_frame.specs.Viewed.{frame_of}
 use Rattle.flac_frame.specs.Interleaved.{rows}
 use Rattle.flac_frame.proofs.view.FrameView.interleave.Given as goal
 

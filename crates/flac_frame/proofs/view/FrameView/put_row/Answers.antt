@@ -1,6 +1,6 @@
 use Rattle.std.proofs.Common.{rules, ◌≡◌, ◌<◌, ◌+◌, ◌++◌, [], ◌∷◌, length, take, refl, ap, sym, ◌∙◌, arith, w32, to_z, of_z}
 use Rattle.std.proofs.lemmas.Int.{to_z-of_z}
-use Rattle.flac_frame.specs.Lent.{frame_of}
+use Rattle.flac_frame.specs.Viewed.{frame_of}
 use Rattle.flac_frame.specs.Interleaved.{row}
 use Rattle.flac_frame.proofs.Interleaved.{row_more, row_put, rest_put}
 use Rattle.flac_frame.proofs.view.FrameView.put_row.Goals as goal

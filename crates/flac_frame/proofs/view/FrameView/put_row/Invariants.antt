@@ -1,5 +1,5 @@
 use Rattle.std.proofs.Common.{◌≡◌, ◌+◌, ◌++◌, take, drop}
-use Rattle.flac_frame.specs.Lent.{frame_of}
+use Rattle.flac_frame.specs.Viewed.{frame_of}
 use Rattle.flac_frame.specs.Interleaved.{row}
 use Rattle.flac_frame.proofs.view.FrameView.put_row.Given as goal
 

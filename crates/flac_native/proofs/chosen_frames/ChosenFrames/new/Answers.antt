@@ -7,7 +7,7 @@ use Rattle.flac_meta.specs.Listed.{block_fault}
 use Rattle.flac_meta.specs.declared.seek_table.SeekPoint.{SeekPoint}
 use Rattle.flac_meta.specs.declared.block.Block.TheVariants as block_of
 use Rattle.flac_header.specs.declared.subset.Profile.{Profile}
-use Rattle.flac_subframe.specs.search.Room.{Room}
+use Rattle.flac_subframe.specs.search.Capacity.{Capacity}
 use Rattle.flac_frame.specs.Audio.{Sound, samples_each}
 use Rattle.flac_frame.specs.Chosen.{IsChoiceWith, HasPlaces}
 use Rattle.flac_frame.specs.Encoding.{block_of, most_in}
@@ -26,10 +26,10 @@ many_channels : (vecs : List (Vec ℤ Global)) (channels : List (List ℤ)) → 
 many_channels vecs channels is = sym (length-map vecs (λ v. v.items)) ∙ ap length is
 
 -- the places that were made for the plan's profile
-first_places : (p : Cut) (a : Sound) (r : Room) (channels : ℕ) (profile : Profile) (c : FrameChoice) → channels ≡ length a.channels → profile ≡ p.profile → r ≡ room_of p → HasPlaces channels (most_in profile) c
+first_places : (p : Cut) (a : Sound) (r : Capacity) (channels : ℕ) (profile : Profile) (c : FrameChoice) → channels ≡ length a.channels → profile ≡ p.profile → r ≡ room_of p → HasPlaces channels (most_in profile) c
     → HasPlaces (length a.channels) r.most c
 first_places p a r channels profile c many same room places =
-    let most : most_in profile ≡ r.most = ap most_in same ∙ ap (λ (x : Room). x.most) (sym room) in
+    let most : most_in profile ≡ r.most = ap most_in same ∙ ap (λ (x : Capacity). x.most) (sym room) in
     subst (λ n. HasPlaces n r.most c) many (subst (λ m. HasPlaces channels m c) most places)
 
 ordered : (n least greatest bytes : ℕ) {l m : ℕ} → least ≤ greatest → l ≡ least_with n least bytes → m ≡ max greatest bytes → l ≤ m
@@ -168,7 +168,7 @@ choose_frame-requires-clause-orders c =
     orders_at p a _ (fit p a c.requires.fits) c.predictors_at-predictors.ensures.orders
 
 pub choose_frame-requires-clause-room : goal.choose_frame-requires-clause-room
-choose_frame-requires-clause-room c = room_at _ _ _ c.range-range.ensures.range.room (ap (λ (r : Room). r.block) c.loop-start.invariant.buffers)
+choose_frame-requires-clause-room c = room_at _ _ _ c.range-range.ensures.range.room (ap (λ (r : Capacity). r.block) c.loop-start.invariant.buffers)
 
 pub choose_frame-requires-clause-places : goal.choose_frame-requires-clause-places
 choose_frame-requires-clause-places c = c.loop-start.invariant.places
@@ -236,7 +236,7 @@ loop-start-preserved c =
       gathered = made;
       choices = kept.0;
       kept = kept.1;
-      places = subst (λ (r : Room). HasPlaces (length a.channels) r.most choice) (sym c.choose_frame.ensures.kept) c.choose_frame.ensures.places;
+      places = subst (λ (r : Capacity). HasPlaces (length a.channels) r.most choice) (sym c.choose_frame.ensures.kept) c.choose_frame.ensures.places;
       fed = subst (λ at. Holds c.feed_block.new.hasher (rows_bytes (sample_width a.bits) a.channels at 0)) to fed;
       buffers = c.choose_frame.ensures.kept ∙ inv.buffers;
       start = start_next b n total r.start r.end k.start k.size k.some more;

@@ -1,9 +1,9 @@
 use Rattle.std.proofs.Common.{◌≡◌, ◌∙◌, ap, sym, subst, nat_lt, ℕ, List, arith, []}
 use Rattle.flac_bits.specs.Bits.{bits_of}
 use Rattle.flac_bits.specs.Written.{Written}
-use Rattle.flac_native.specs.Room.{placed}
+use Rattle.flac_native.specs.FixedBuffer.{placed}
 use Rattle.flac_native.specs.Writing.{AreChoices}
-use Rattle.flac_native.proofs.Rooms.{spell_ok, spell_err}
+use Rattle.flac_native.proofs.FixedBuffers.{spell_ok, spell_err}
 use Rattle.flac_native.proofs.chosen_frames.ChosenFrames.write.Goals as goal
 
 pub write_next-outcome-requires-clause-ready : goal.write_next-outcome-requires-clause-ready

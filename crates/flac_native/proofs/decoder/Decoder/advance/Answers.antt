@@ -6,7 +6,7 @@ returns-in-Ok-None g c =
     let found = rw c.in-Ok-None.field-0-is at c.in-Ok-None.ensures in
     record {
       gives = λ p at known same quiet room items end still. found.gives p at known same quiet (λ e. absurd cc) items end still;
-      counts = record { met = found.counts.met; kept = found.counts.kept; read = tt; risen = tt; output = tt; behind = found.counts.behind; names = found.counts.names };
+      counts = record { met = found.counts.met; kept = found.counts.kept; read = tt; risen = tt; output = tt; after = found.counts.after; names = found.counts.names };
       passes = λ p at. tt;
       broken = λ p at. tt;
       memory = λ phase. tt;

@@ -8,5 +8,5 @@ pub returns-clause-reading : goal.returns-clause-reading
 returns-clause-reading g c = record {
   spends = search rules;
   counts = search rules;
-  reads = (λ room. means (λ x. x) (block (stand_of c.args.self.now).seen) c.args.bits.now c.block_here.new.bits c.block_here.result (c.block_here.ensures.reading.reads room));
+  reads = (λ room. means (λ x. x) (block (stand_of c.args.self.now).seen) c.args.bits.now c.block_by_layout.new.bits c.block_by_layout.result (c.block_by_layout.ensures.reading.reads room));
 }

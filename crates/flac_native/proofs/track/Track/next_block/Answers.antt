@@ -9,5 +9,5 @@ pub returns-clause-reading : goal.returns-clause-reading
 returns-clause-reading g c = record {
   spends = search rules;
   counts = search rules;
-  reads = (λ room. means (λ _. kept c.next_block_here.new.self) (layout_in Blocks (stand_of c.args.self.now)) c.args.bits.now c.next_block_here.new.bits c.next_block_here.result (c.next_block_here.ensures.reading.reads room));
+  reads = (λ room. means (λ _. kept c.next_block_by_layout.new.self) (layout_in Blocks (stand_of c.args.self.now)) c.args.bits.now c.next_block_by_layout.new.bits c.next_block_by_layout.result (c.next_block_by_layout.ensures.reading.reads room));
 }

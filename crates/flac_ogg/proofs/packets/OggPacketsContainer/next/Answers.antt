@@ -3,7 +3,7 @@ use Rattle.flac_bits.specs.Handing.{IsOutside}
 use Rattle.flac_native.specs.Track.{piece_of}
 use Rattle.flac_native.specs.declared.fault.Fault.{Fault}
 use Rattle.flac_ogg.specs.Decoding.{IsBrokenAt, BreaksInNext}
-use Rattle.flac_ogg.proofs.Arriving.{counts_both, read_risen, none_of_output, clear_behind, read_rises, gives_there}
+use Rattle.flac_ogg.proofs.Arriving.{counts_both, read_risen, none_of_output, clear_after, read_rises, gives_there}
 use Rattle.flac_ogg.proofs.packets.OggPacketsContainer.next.Goals as goal
 
 pub returns-clause-counts : goal.returns-clause-counts
@@ -11,7 +11,7 @@ returns-clause-counts g c = counts_both c.args.self.now.pages c.advance.new.page
 
 pub returns-clause-clear : goal.returns-clause-clear
 returns-clause-clear g c =
-    clear_behind c.args.self.now.pages c.advance.new.pages (λ part. piece_of c.advance.new.track part) c.args.track.now c.advance.new.track c.advance.result c.advance.ensures.steps c.advance.ensures.goes c.advance.ensures.next
+    clear_after c.args.self.now.pages c.advance.new.pages (λ part. piece_of c.advance.new.track part) c.args.track.now c.advance.new.track c.advance.result c.advance.ensures.steps c.advance.ensures.goes c.advance.ensures.next
 
 pub returns-clause-read : goal.returns-clause-read
 returns-clause-read g c =

@@ -69,7 +69,7 @@ invariant_of-self-in-Ok-true g c =
       memory = packet.memory;
       page = λ f some. absurd (none_some _ f calm some);
       follows = λ none. follows_then start c.find.new.self c.copy_in_page.new.self (follows_then start packet.pages.now c.find.new.self (packet.follows none) finds.follows) copies.follows;
-      same = λ none known. copies.behind ∙ finds.behind ((packet.follows none).known known) ∙ packet.same none known;
+      same = λ none known. copies.after ∙ finds.after ((packet.follows none).known known) ∙ packet.same none known;
       breaks = packet.breaks;
     }
 
@@ -87,6 +87,6 @@ invariant_of-self-in-Ok-false g c =
       memory = packet.memory;
       page = λ f some. absurd (none_some _ f calm some);
       follows = λ none. follows_then start packet.pages.now c.find.new.self (packet.follows none) finds.follows;
-      same = λ none known. finds.behind ((packet.follows none).known known) ∙ packet.same none known;
+      same = λ none known. finds.after ((packet.follows none).known known) ∙ packet.same none known;
       breaks = packet.breaks;
     }

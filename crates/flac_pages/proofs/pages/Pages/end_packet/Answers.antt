@@ -20,7 +20,7 @@ abbrev some_page : ℕ → Option ℕ
 some_page n = Some n
 
 passes_none : (p : Place) → Passes p p
-passes_none p = record { known = λ known. known; errors = refl; raised = refl; names = refl; room = omega arith; behind = λ known. refl; follows = follows_none p }
+passes_none p = record { known = λ known. known; errors = refl; raised = refl; names = refl; room = omega arith; after = λ known. refl; follows = follows_none p }
 
 passed : (old now mid new : Place) (out : List ℕ) (n : ℕ) (more : Bool) → more ≡ true → Passes old now → Finds now mid (found more) → Copies mid new out n → Passes old new
 passed old now mid new out n more t p f c = passed_more old now mid new out n p (subst (λ b. Finds now mid (found b)) t f) c

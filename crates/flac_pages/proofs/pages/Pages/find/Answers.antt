@@ -1,6 +1,6 @@
 use Rattle.std.proofs.Common.{◌≡◌, ◌*◌, ◌+◌, ◌<◌, ℕ, Bool, true, false, length, Result, Ok, Err, refl, subst, sym, ap, ◌∙◌, arith}
 use Rattle.flac_bits.specs.declared.why.Why.{Why}
-use Rattle.flac_bits.specs.State.{Behind}
+use Rattle.flac_bits.specs.State.{After}
 use Rattle.flac_pages.specs.Packets.{Place, broken_off}
 use Rattle.flac_pages.specs.inner.Packets.{Steps, Finds}
 use Rattle.flac_pages.proofs.Paged.{follows_none, follows_then}
@@ -20,7 +20,7 @@ positive : (n : ℕ) → (n ≡ 0 → ⊥) → 0 < n
 positive n some = omega (arith, some)
 
 kept_none : (p : Place) → Kept p p
-kept_none p = record { known = λ known. known; errors = refl; raised = refl; names = refl; room = omega arith; bytes = λ known. refl; behind = λ known. refl; follows = follows_none p }
+kept_none p = record { known = λ known. known; errors = refl; raised = refl; names = refl; room = omega arith; bytes = λ known. refl; after = λ known. refl; follows = follows_none p }
 
 kept_true : (old now new : Place) → Kept old now → Steps now new (gone true) → Kept old new
 kept_true old now new k s = record {
@@ -30,7 +30,7 @@ kept_true old now new k s = record {
   names = s.names ∙ k.names;
   room = omega (arith, k.room, s.room);
   bytes = λ known. s.bytes (k.known known) ∙ k.bytes known;
-  behind = λ known. s.behind (k.known known) ∙ k.behind known;
+  after = λ known. s.after (k.known known) ∙ k.after known;
   follows = follows_then old now new k.follows s.follows;
 }
 
@@ -49,7 +49,7 @@ found_err old now new why k s = record {
   met = met_then why old.raised now.raised new.raised k.raised s.met;
   names = s.names ∙ k.names;
   bytes = λ known same. sym (k.bytes known) ∙ s.bytes (k.known known) (same ∙ sym k.errors);
-  behind = λ known same. sym (k.behind known) ∙ s.behind (k.known known) (same ∙ sym k.errors) ∙ ap (λ n. broken_off (n, why)) (sym s.count);
+  after = λ known same. sym (k.after known) ∙ s.after (k.known known) (same ∙ sym k.errors) ∙ ap (λ n. broken_off (n, why)) (sym s.count);
   breaks = λ known. (k.follows.more s.breaks.0, k.follows.breaks known s.breaks.0 new.count s.breaks.1);
 }
 
@@ -61,9 +61,9 @@ found_none old now new k none s = subst (λ (p : Place). Finds old p (gone false
   names = k.names;
   room = k.room;
   bytes = k.bytes;
-  behind = k.behind;
+  after = k.after;
   byte = λ e. absurd (differ e);
-  over = λ e known. (sym (k.bytes known) ∙ s.bytes, ap (λ (b : Behind). b.fails) (sym (k.behind known)) ∙ s.fault);
+  over = λ e known. (sym (k.bytes known) ∙ s.bytes, ap (λ (b : After). b.fails) (sym (k.after known)) ∙ s.fault);
   stands = λ e. (none, s.none);
   follows = k.follows;
 })
@@ -76,7 +76,7 @@ found_byte old now rest k is some = record {
   names = k.names;
   room = k.room;
   bytes = k.bytes;
-  behind = k.behind;
+  after = k.after;
   byte = λ e. positive now.rest (λ z. some (is ∙ z));
   over = λ e. absurd (differ (sym e));
   stands = λ e. absurd (differ (sym e));

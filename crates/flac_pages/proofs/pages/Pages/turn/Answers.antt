@@ -3,7 +3,7 @@ use Rattle.std.specs.Prelude.{min}
 use Rattle.std.specs.List.{sum}
 use Rattle.std.proofs.lemmas.List.{drop_all}
 use Rattle.flac_pages.specs.declared.page.Head.{Head}
-use Rattle.flac_pages.specs.Page.{after, went_on, goes_on_behind, is_last}
+use Rattle.flac_pages.specs.Page.{after_page, went_on, goes_on_after, is_last}
 use Rattle.flac_bits.specs.Unchecked.{begun_anew}
 use Rattle.flac_pages.specs.Pages.{next_page}
 use Rattle.flac_pages.specs.Packets.{Place}
@@ -16,14 +16,14 @@ pub returns-in-Ok-clause-turns : goal.returns-in-Ok-clause-turns
 returns-in-Ok-clause-turns g c =
     let inside = c.self.inside in
     let is = c.self.view_is in
-    let page = c.next_page_here.new.room in
+    let page = c.next_page_by_layout.new.room in
     let rest = ap (λ (p : Place). p.rest) is ∙ c.requires.rest in
     let none = ap (λ (p : Place). p.lacing) is ∙ c.requires.read in
     let no_body : drop inside.at inside.page.body ≡ [] = drop_all inside.at inside.page.body (omega (arith, ap sum none, rest, c.self.invariant.2)) in
     let counts = c.in-Ok.ensures.reading.counts in
     let went : c.went_on-went_on.result ≡ went_on c.args.self.now.before = c.went_on-went_on.ensures ∙ ap (λ (p : Place). went_on p.before) is in
-    let going : c.goes_on_behind-goes_on.result ≡ goes_on_behind (went_on c.args.self.now.before) page.lacing = c.goes_on_behind-goes_on.ensures ∙ ap (goes_on_behind c.went_on-went_on.result) c.lacing.ensures.values ∙ ap (λ b. goes_on_behind b page.lacing) went in
-    let before_is : Some record { serial = c.head-head.result.serial; sequence = c.head-head.result.sequence; goes_on = c.goes_on_behind-goes_on.result } ≡ Some (after c.args.self.now.before page) = rw (c.head-head.ensures, going) refl in
+    let going : c.goes_on_after-goes_on.result ≡ goes_on_after (went_on c.args.self.now.before) page.lacing = c.goes_on_after-goes_on.ensures ∙ ap (goes_on_after c.went_on-went_on.result) c.lacing.ensures.values ∙ ap (λ b. goes_on_after b page.lacing) went in
+    let before_is : Some record { serial = c.head-head.result.serial; sequence = c.head-head.result.sequence; goes_on = c.goes_on_after-goes_on.result } ≡ Some (after_page c.args.self.now.before page) = rw (c.head-head.ensures, going) refl in
     let last = c.is_last-self-inside.ensures ∙ ap (λ (h : Head). is_last h.flags) c.head-head.ensures in
     let count = c.saturating_add-self-inside.ensures ∙ ap (λ (p : Place). min (p.count + 1) 18446744073709551615) is in
     let read = λ (known : c.args.self.now.known ≡ true). ap (λ (p : Place). begun_anew (next_page p.before p.cursor)) (sym is) ∙ c.in-Ok.ensures.reading.reads (ap (λ (p : Place). p.known) is ∙ known) counts.1 in

@@ -17,7 +17,7 @@ returns-in-Ok-find_frame-clause-found g c = λ known frames end is.
     let source = c.args.source in
     let info = c.args.self.info in
     finds_at info c.args.sample frames end c.before_frame.result c.find_frame.new.decoder c.before_frame.ensures.decoder c.before_frame.ensures.ahead
-    (seek_finds _ (by_grammar grammar (resumed c.args.profile info) (beginning (short_of ((S.behind source).fails))) (bits_of (S.coming source))) info c.args.sample c.in-Ok-find_frame.first
+    (seek_finds _ (by_grammar grammar (resumed c.args.profile info) (beginning (short_of ((S.after source).fails))) (bits_of (S.coming source))) info c.args.sample c.in-Ok-find_frame.first
     (stage_of c.in-Ok.decoder) (stage_of c.find_frame.new.decoder) (resumed c.args.profile info) c.in-Ok.ensures.course c.in-Ok.ensures.track
     (λ parts e read. subst (λ k. PartsCome (resumed c.args.profile info) k parts e) (sym c.in-Ok.ensures.cursor) read)
     (c.in-Ok.ensures.known ∙ known, c.in-Ok-find_frame.ensures.counts.met.1, c.in-Ok-find_frame.ensures.counts.met.2)
@@ -51,7 +51,7 @@ returns-clause-refused g c =
     let left = c.into_source-left.result in
     let first = c.in-Ok.ensures.errors in
     let last = c.into_source-left.ensures.errors in
-    seek_refuses (by_grammar grammar (resumed c.args.profile info) (beginning (short_of ((S.behind source).fails))) (bits_of (S.coming source))) info c.args.sample
+    seek_refuses (by_grammar grammar (resumed c.args.profile info) (beginning (short_of ((S.after source).fails))) (bits_of (S.coming source))) info c.args.sample
     c.in-Ok.decoder c.find_frame.new.decoder (resumed c.args.profile info) c.in-Err-find_frame.fault (S.known source) (S.errors source) (S.raised source) (S.errors left) (S.raised left)
     c.in-Ok.ensures.course c.in-Ok.ensures.track
     (λ parts e read. subst (λ k. PartsCome (resumed c.args.profile info) k parts e) (sym c.in-Ok.ensures.cursor) read)
@@ -66,7 +66,7 @@ returns-in-Err-clause-refused g c =
     let S = g.S.Source in
     let source = c.args.source in
     let info = c.args.self.info in
-    rw c.in-Err.ensures.left (seek_unread info c.args.sample (by_grammar grammar (resumed c.args.profile info) (beginning (short_of ((S.behind source).fails))) (bits_of (S.coming source)))
+    rw c.in-Err.ensures.left (seek_unread info c.args.sample (by_grammar grammar (resumed c.args.profile info) (beginning (short_of ((S.after source).fails))) (bits_of (S.coming source)))
     (S.known source) (S.errors source) (S.raised source) c.in-Err.refused.fault (ap (λ (f : Fault). f.why) c.in-Err.ensures.memory))
 
 pub returns-in-Err-clause-names : goal.returns-in-Err-clause-names

@@ -9,6 +9,6 @@ returns-clause-reading g c = record {
   spends = search rules;
   counts = search rules;
   memory = search rules;
-  reads = (means (λ fits. cond fits (Some c.read_here.new.samples) None) (subframe_samples c.args.depth c.args.block c.args.limits.now) c.args.bits.now c.read_here.new.bits c.read_here.result
-      (λ known same. rw (samples_run c.args.depth c.args.block c.args.limits.now c.args.bits.now.cursor) (c.read_here.ensures.reading.reads known same)));
+  reads = (means (λ fits. cond fits (Some c.read_by_layout.new.samples) None) (subframe_samples c.args.depth c.args.block c.args.limits.now) c.args.bits.now c.read_by_layout.new.bits c.read_by_layout.result
+      (λ known same. rw (samples_run c.args.depth c.args.block c.args.limits.now c.args.bits.now.cursor) (c.read_by_layout.ensures.reading.reads known same)));
 }

@@ -35,8 +35,8 @@ module _ (k f e m w : ℕ) (is : e ≡ min m (w + 1)) where
   narrow_all : e - f ≤ w + 1 - f
   narrow_all = omega arith
 
-  wide_all : (IsTrue (nat_lt e m) → ⊥) → m ≤ w + 1
-  wide_all f = elim (cases_lt (w + 1) m) [ inl more ↦ absurd (f (tested e m (omega (arith, more)))) | inr less ↦ less ]
+  within_all : (IsTrue (nat_lt e m) → ⊥) → m ≤ w + 1
+  within_all f = elim (cases_lt (w + 1) m) [ inl more ↦ absurd (f (tested e m (omega (arith, more)))) | inr less ↦ less ]
 
   at_end : f ≤ m → f ≤ w + 1 → (f ≤ e → k ≤ e) → e ≤ k → k ≡ e
   at_end h g le over = let from : f ≤ e = omega arith in omega (arith, le from)
@@ -107,7 +107,7 @@ returns-then-not-pass c =
           rw same (settled r.order h k r.values.now r.halves few small r.range c.loop-parameter.table none leaves p j _ 31 l b small
           (kept_by r.order h k r.values.now r.halves few small r.range c.loop-parameter.table none leaves p j l b (so p j l b)));
       long = c.pass.ensures.kept ∙ c.loop-parameter.auto.table;
-      wide = λ f. absurd (f refl);
+      within_width = λ f. absurd (f refl);
       few = few_first k c.args.from e m w is c.loop-parameter.auto.parameter c.loop-parameter-test.true;
       narrow = narrow_first k c.args.from e m w is c.loop-parameter.auto.parameter c.loop-parameter-test.true;
     }
@@ -130,7 +130,7 @@ returns c =
           let here = at_width k 0 e m w is at more in
           settled_above r.order r.partition_order w k 31 r.values.now r.folds.now r.halves few (under_31 k w m here more c.requires.parameters) r.range r.unsigned c.requires.bounded (past k w here) (under_31 k w m here more c.requires.parameters) c.loop-parameter.table so p j h b;
       long = c.loop-parameter.auto.table;
-      wide = wide_all 0 0 e m w is;
+      within_width = within_all 0 0 e m w is;
       few = few_all 0 c.args.from e m w is;
       narrow = narrow_all 0 c.args.from e m w is;
     }

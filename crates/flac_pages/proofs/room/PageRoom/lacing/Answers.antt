@@ -1,5 +1,0 @@
-use Rattle.std.proofs.Common.{rules}
-use Rattle.flac_pages.proofs.room.PageRoom.lacing.Goals as goal
-
-pub returns-clause-values : goal.returns-clause-values
-returns-clause-values c = search rules
