@@ -9,7 +9,7 @@ use Rattle.flac_bits.specs.declared.why.Why.TheVariants.{Truncated}
 use Rattle.flac_bits.specs.Layout.{Reason, number_at}
 use Rattle.flac_bits.specs.inner.Stretches.{top_bits, Agrees}
 use Rattle.flac_bits.proofs.Holding.{length-bits_of}
-use Rattle.flac_bits.proofs.Laws.{at_, number_again, unsigned_low}
+use Rattle.flac_bits.proofs.Readings.{at_, number_again, unsigned_low}
 use Rattle.flac_bits.proofs.Stretches.{first_bytes, last_bytes}
 use Rattle.flac_bits.proofs.Words.{split, length-unsigned, unsigned-mod, last_bits, last_small}
 

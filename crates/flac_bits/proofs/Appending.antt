@@ -3,7 +3,7 @@ use Rattle.std.proofs.Common.{◌≡◌, ℕ, ◌+◌, ◌-◌, ◌*◌, ◌/◌
 use Rattle.std.proofs.lemmas.Nat.{pow_pos, pow-add, shl-shr, shr_split, shr_high, shr_below, mod-pow-add, mod_low, mod_below, mul-add-lt, mul-mod_first}
 use Rattle.flac_bits.specs.Bits.{unsigned}
 use Rattle.flac_bits.specs.Check.{fed}
-use Rattle.flac_bits.proofs.Laws.{unsigned_low}
+use Rattle.flac_bits.proofs.Readings.{unsigned_low}
 use Rattle.flac_bits.proofs.Words.{split}
 use Rattle.flac_bits.proofs.Check.{fed-append}
 

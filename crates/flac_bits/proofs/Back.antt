@@ -6,7 +6,7 @@ use Rattle.flac_bits.specs.Bits.{bits_of}
 use Rattle.flac_bits.specs.State.{Mark, past}
 use Rattle.flac_bits.specs.Store.{passed}
 use Rattle.flac_bits.proofs.Holding.{length-bits_of, bits_of-append, passed_is}
-use Rattle.flac_bits.proofs.Laws.{past-append}
+use Rattle.flac_bits.proofs.Readings.{past-append}
 use Rattle.flac_bits.proofs.Partly.{held_fits, slice_is, begun_long}
 
 pub same_parts : (a b c d : List Bool) → a ++ b ≡ c ++ d → length b ≡ length d → (a ≡ c) × (b ≡ d)

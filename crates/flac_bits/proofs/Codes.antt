@@ -9,7 +9,7 @@ use Rattle.flac_bits.specs.Bits.{unsigned, bits_of}
 use Rattle.flac_bits.specs.Meaning.{unary_bits}
 use Rattle.flac_bits.specs.Signed.{modulo}
 use Rattle.flac_bits.proofs.Holding.{bits_of-append}
-use Rattle.flac_bits.proofs.Laws.{unsigned_low}
+use Rattle.flac_bits.proofs.Readings.{unsigned_low}
 use Rattle.flac_bits.proofs.Words.{split, one_bits, unsigned-mod}
 use Rattle.flac_bits.proofs.Appending.{shl_kept}
 

@@ -9,7 +9,7 @@ use Rattle.flac_bits.specs.Layout.{bits, run, because, Reason}
 use Rattle.flac_bits.specs.declared.why.Why.{Why}
 use Rattle.flac_bits.specs.Lists.{list_of}
 use Rattle.flac_bits.proofs.Holding.{length-bits_of, bits_of-append}
-use Rattle.flac_bits.proofs.Laws.{at_, number_again, number_reads, past-append}
+use Rattle.flac_bits.proofs.Readings.{at_, number_again, number_reads, past-append}
 use Rattle.flac_bits.proofs.Meaning.{past-short}
 
 -- bytes are read one after another as what they are

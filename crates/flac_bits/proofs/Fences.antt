@@ -10,7 +10,7 @@ use Rattle.flac_bits.specs.Reading.{Answers}
 use Rattle.flac_bits.specs.Fence.{InRoom, StopsIn, fenced, unfenced, read_in}
 use Rattle.flac_bits.specs.declared.why.Why.{Why}
 use Rattle.flac_bits.specs.declared.why.Why.TheVariants.{FrameTooLong}
-use Rattle.flac_bits.proofs.Laws.{at_}
+use Rattle.flac_bits.proofs.Readings.{at_}
 use Rattle.flac_bits.proofs.Fields.{past-with_short}
 use Rattle.flac_bits.proofs.Meaning.{read, failed_by, reading, again, shown, cut_short, is_ok_of, why_is, differ}
 

@@ -9,7 +9,7 @@ use Rattle.flac_bits.specs.inner.Store.{Takes}
 use Rattle.flac_bits.specs.Meaning.{unary_bits}
 use Rattle.flac_bits.specs.Layout.{next_bit, number_at, zeros_at, run}
 use Rattle.flac_bits.specs.Rice.{rice}
-use Rattle.flac_bits.proofs.Laws.{number_again, zeros_again, past-append}
+use Rattle.flac_bits.proofs.Readings.{number_again, zeros_again, past-append}
 
 -- the state of a store and the bits after it
 abbrev pub cursor_of : Why → Store → List Bool → Cursor

@@ -10,7 +10,7 @@ use Rattle.flac_bits.specs.Handing.{TakesAll, InputReading, Hands, by_grammar, I
 use Rattle.flac_bits.specs.inner.Handing.{IsCalm}
 use Rattle.flac_bits.specs.declared.why.Why.{Why}
 use Rattle.flac_bits.specs.declared.why.Why.TheVariants.{Memory}
-use Rattle.flac_bits.proofs.Laws.{at_}
+use Rattle.flac_bits.proofs.Readings.{at_}
 use Rattle.flac_bits.proofs.Items.{step_spelled, step_over, step_stops, one_way, stream_steps, refused_steps}
 
 -- ---- one item more

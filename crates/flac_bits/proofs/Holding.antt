@@ -7,7 +7,7 @@ use Rattle.flac_bits.specs.Bits.{unsigned, bits_of}
 use Rattle.flac_bits.specs.State.{Mark, past}
 use Rattle.flac_bits.specs.Store.{passed}
 use Rattle.flac_bits.specs.inner.Store.{four_at}
-use Rattle.flac_bits.proofs.Laws.{unsigned_low, past-append}
+use Rattle.flac_bits.proofs.Readings.{unsigned_low, past-append}
 use Rattle.flac_bits.proofs.Words.{split, length-unsigned}
 
 pub length-bits_of : (xs : List ℕ) → length (bits_of xs) ≡ 8 * length xs

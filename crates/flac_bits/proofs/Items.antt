@@ -9,7 +9,7 @@ use Rattle.flac_bits.specs.Fence.{InRoom, read_in}
 use Rattle.flac_bits.specs.Items.{Grammar, state_after, Joined, mark_after, Stream, StopsAt, Refused, Step, item, over, refused}
 use Rattle.flac_bits.specs.inner.Items.{stepped, judged, step_at, NeedsBits}
 use Rattle.flac_bits.specs.declared.why.Why.{Why}
-use Rattle.flac_bits.proofs.Laws.{at_}
+use Rattle.flac_bits.proofs.Readings.{at_}
 use Rattle.flac_bits.proofs.Meaning.{again, cut_short, differ}
 use Rattle.flac_bits.proofs.Fences.{again_in, stops_in, takes_in, refuses_in}
 

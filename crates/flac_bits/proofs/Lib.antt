@@ -7,7 +7,7 @@ pub mod Codes
 pub mod Rices
 pub mod LittleNumbers
 -- ---- layouts: what a reading means, and how its values are spelled
-pub mod Laws
+pub mod Readings
 pub mod Meaning
 pub mod Ties
 pub mod CodedTie

@@ -4,7 +4,7 @@ use Rattle.flac_bits.specs.Bits.{bit_value}
 use Rattle.std.proofs.Math.Nat.{pow-suc}
 use Rattle.std.proofs.lemmas.Nat.{pow-add, shl_whole, mul-add-lt}
 use Rattle.flac_bits.specs.State.{Mark, Cursor, State, step}
-use Rattle.flac_bits.proofs.Laws.{at_}
+use Rattle.flac_bits.proofs.Readings.{at_}
 use Rattle.flac_bits.specs.Layout.{next_bit, number_at, number_from, zeros_from, and_then, Reason}
 use Rattle.flac_bits.specs.inner.Reading.{Goes}
 

@@ -8,7 +8,7 @@ use Rattle.flac_bits.specs.Layout.{Layout, done, bind, bits, unary, judge, refus
 use Rattle.flac_bits.specs.State.{State}
 use Rattle.flac_bits.specs.Reading.{Decodes, Means, Reads, Answers}
 use Rattle.flac_bits.specs.Meaning.{AllKept, BreaksFirst, IsWithin, zeros_bits, Spells, Shows, IsCut}
-use Rattle.flac_bits.proofs.Laws.{at_, IsZeros, past-append, number_reads, number_again, zeros_read_all, zeros_again}
+use Rattle.flac_bits.proofs.Readings.{at_, IsZeros, past-append, number_reads, number_again, zeros_read_all, zeros_again}
 use Rattle.flac_bits.specs.declared.why.Why.{Why}
 
 abbrev pub read : {A : Type 0} → A × Cursor → Result (A × Cursor) Reason

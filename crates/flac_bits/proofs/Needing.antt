@@ -13,7 +13,7 @@ use Rattle.flac_bits.specs.inner.Reading.{Draws}
 use Rattle.flac_bits.specs.declared.why.Why.{Why}
 use Rattle.flac_bits.specs.declared.why.Why.TheVariants.{Read, BadNumber}
 use Rattle.flac_bits.proofs.Coming.{take_over}
-use Rattle.flac_bits.proofs.Laws.{at_}
+use Rattle.flac_bits.proofs.Readings.{at_}
 use Rattle.flac_bits.proofs.Meaning.{differ, reading, is_ok_of, one_way, no_fault, takes}
 use Rattle.flac_bits.proofs.Words.{length-unsigned}
 

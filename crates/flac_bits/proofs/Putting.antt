@@ -10,7 +10,7 @@ use Rattle.flac_bits.specs.Check.{fed}
 use Rattle.flac_bits.specs.State.{Mark, past}
 use Rattle.flac_bits.specs.Unsent.{Unsent}
 use Rattle.flac_bits.specs.declared.why.Why.TheVariants.{Truncated}
-use Rattle.flac_bits.proofs.Laws.{past-append}
+use Rattle.flac_bits.proofs.Readings.{past-append}
 use Rattle.flac_bits.proofs.Words.{split}
 use Rattle.flac_bits.proofs.Holding.{length-bits_of, bits_of-append}
 use Rattle.flac_bits.proofs.Marks.{past-unread, past-bytes, past_whole}

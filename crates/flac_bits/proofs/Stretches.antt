@@ -18,7 +18,7 @@ use Rattle.flac_bits.specs.inner.Stretches.{IsRead}
 use Rattle.flac_bits.proofs.Back.{same_parts, begun_more}
 use Rattle.flac_bits.proofs.Fields.{cursor_of, past-with_short}
 use Rattle.flac_bits.proofs.Holding.{length-bits_of, bits_of-append, four_left, came_tie, came_passed, took_tie, took_mark}
-use Rattle.flac_bits.proofs.Laws.{at_, number_again, zeros_again, past-append, unsigned_low}
+use Rattle.flac_bits.proofs.Readings.{at_, number_again, zeros_again, past-append, unsigned_low}
 use Rattle.flac_bits.proofs.Lists.{list_more}
 use Rattle.flac_bits.proofs.Meaning.{takes}
 use Rattle.flac_bits.proofs.Rices.{below_greatest, folded_small, ready_limit, value_read}

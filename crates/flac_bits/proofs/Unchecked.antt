@@ -8,7 +8,7 @@ use Rattle.flac_bits.specs.Lists.{list_of}
 use Rattle.flac_bits.specs.Unchecked.{Passes, begun_anew}
 use Rattle.flac_bits.specs.inner.Unchecked.{marked, Fills}
 use Rattle.flac_bits.specs.declared.why.Why.{Why}
-use Rattle.flac_bits.proofs.Laws.{at_}
+use Rattle.flac_bits.proofs.Readings.{at_}
 use Rattle.flac_bits.proofs.Copied.{consumes_more, exact, missing, bits_cut}
 use Rattle.flac_bits.proofs.Meaning.{past-short}
 

@@ -7,7 +7,7 @@ use Rattle.flac_bits.specs.Fence.{read_in}
 use Rattle.flac_bits.specs.Fencing.{lifted}
 use Rattle.flac_bits.specs.Within.{ReadsWithin, DecodesWithin, MeansWithin}
 use Rattle.flac_bits.specs.declared.why.Why.{Why}
-use Rattle.flac_bits.proofs.Laws.{at_}
+use Rattle.flac_bits.proofs.Readings.{at_}
 use Rattle.flac_bits.proofs.Meaning.{read, is_ok_of, why_is, differ}
 use Rattle.flac_bits.proofs.Fences.{again_in, stops_in, takes_in, refuses_in}
 

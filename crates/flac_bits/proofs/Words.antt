@@ -11,7 +11,7 @@ use Rattle.std.proofs.Math.Nat.{pow-suc, mul-mod_left}
 use Rattle.std.proofs.Common.{append_assoc}
 use Rattle.flac_bits.specs.Bits.{unsigned}
 use Rattle.flac_bits.specs.Meaning.{unary_bits}
-use Rattle.flac_bits.proofs.Laws.{unsigned_low}
+use Rattle.flac_bits.proofs.Readings.{unsigned_low}
 
 pub length-unsigned : (n v : ℕ) → length (unsigned n v) ≡ n
 length-unsigned zero v = refl

@@ -8,7 +8,7 @@ use Rattle.flac_bits.specs.Written.{Written, Adds, Writes, Fails, begins}
 use Rattle.flac_bits.specs.inner.Written.{Wrote, WritesParts, after_parts, past_parts}
 use Rattle.flac_bits.specs.declared.why.Why.{Why}
 use Rattle.flac_bits.proofs.Counting.{rises_then}
-use Rattle.flac_bits.proofs.Laws.{past-append}
+use Rattle.flac_bits.proofs.Readings.{past-append}
 
 -- ---- beginnings
 

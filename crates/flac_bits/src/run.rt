@@ -4,7 +4,7 @@ ghost use Rattle.std.specs.Prelude.{◌≡◌, ◌<◌, ◌≤◌, ◌+◌, ◌^
 ghost use Rattle.std.specs.Int.{bytes_high_first};
 ghost use Rattle.flac_bits.specs.Bits.{unsigned};
 ghost use Rattle.flac_bits.specs.Rice.{IsResidual, value_bits};
-ghost use Rattle.flac_bits.specs.inner.Runs.{ExtendsTo, Extended, IsCode, PutsValues};
+ghost use Rattle.flac_bits.specs.inner.Runs.{ExtendsTo, Extended, IsCode, AreNextCodes, PutsValues};
 
 use crate::rest::Rest;
 use crate::signed::folded;
@@ -83,8 +83,7 @@ fn next_codes(k: u32, values: &[i64], i: usize) -> Option<(u32, u64, usize)>
     requires k { k ≤ 32 }
     requires range { All IsResidual values.now }
     requires i { i < length values.now }
-    ensures { IfSome result (λ code. (code.0 ≤ 64) × (code.1 < 2 ^ code.0) × (i < code.2) × (code.2 ≤ length values.now)
-        × (flat_map (value_bits k) (drop i values.now) ≡ unsigned code.0 code.1 ++ flat_map (value_bits k) (drop code.2 values.now))) }
+    ensures { IfSome result (λ code. AreNextCodes k values.now i code) }
 {
     if i + 1 < values.len() {
         match pair_of(k, values[i], values[i + 1]) {

@@ -13,7 +13,7 @@ ghost use Rattle.flac_encoder.specs.PushingOgg.{open_fault, listed_fault, trying
 use crate::block_encoder::BlockEncoder;
 use crate::stream_encoder::StreamEncoder;
 use crate::stream_format::{StreamFormat, block_len};
-use flac_bits::{Collected, Target, Why, send_all};
+use flac_bits::{Collected, Target, Why, bytes_fit, send_all};
 use flac_frame::SetupFault;
 use flac_meta::BlockList;
 use flac_native::{EncodeFault, LinearPredictor, Profile};
@@ -59,11 +59,6 @@ impl<W: Target> Model for OggEncoder<W> {
       last = e.held.last.items;
     } };
 }
-
-/// Does nothing: it is called for the proof alone, that each byte is below 256.
-fn bytes_fit(bytes: &[u8])
-    ensures { AreBytes bytes.now }
-{}
 
 /// The marker and the metadata blocks of a native stream of a format, in memory. Its error `Setup` says why nothing of
 /// the format can be encoded.

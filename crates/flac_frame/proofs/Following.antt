@@ -3,6 +3,7 @@ use Rattle.std.proofs.Common.{◌≡◌, ℕ, ◌+◌, ◌≤◌, Bool, true, fa
 use Rattle.std.proofs.lemmas.Bool.Decides.{nat_tests}
 use Rattle.std.proofs.lemmas.List.{append-nil}
 use Rattle.std.proofs.lemmas.List.Elements.{All-nil, All-cons, All-head, All-tail}
+use Rattle.std.proofs.lemmas.Bool.{not-false, not_from_true}
 use Rattle.flac_bits.specs.State.{Mark, past, fresh}
 use Rattle.flac_bits.specs.Meaning.{Spells, AllKept}
 use Rattle.flac_bits.specs.Fence.{InRoom}
@@ -15,13 +16,6 @@ use Rattle.flac_frame.specs.Follows.{EachTwo, ButLast, NumberFollows, HasFormat,
 use Rattle.flac_frame.specs.declared.before.Before.{Before}
 
 -- ---- the rules of one header
-
-kept_true : (b : Bool) → not b ≡ false → b ≡ true
-kept_true true e = refl
-kept_true false e = absurd cc
-
-true_kept : (b : Bool) → b ≡ true → not b ≡ false
-true_kept b e = rw e refl
 
 three_same : (a b c d e f : ℕ) → not (nat_eq a b && nat_eq c d && nat_eq e f) ≡ false → (a ≡ b) × (c ≡ d) × (e ≡ f)
 three_same a b c d e f h = (grind (arith, nat_tests), grind (arith, nat_tests), grind (arith, nat_tests))
@@ -115,7 +109,7 @@ rest_of profile info first last (h ∷ hs) (rules, a) =
     let s = sizes h.variable info.greatest_block info.least_block first h.size last.size rules.1.1.1.0 in
     let r = rest_of profile info first h hs a in
     record {
-      allowed = All-cons (Allowed profile) h hs (kept_true (allowed profile h) rules.0) r.allowed;
+      allowed = All-cons (Allowed profile) h hs (not-false (allowed profile h) rules.0) r.allowed;
       format = All-cons (HasFormat profile info) h hs (format_of profile info h rules.1.0) r.format;
       strategy = All-cons (Has last.variable) h hs strategy (λ k d lt. r.strategy k d lt ∙ strategy);
       numbers = (number, r.numbers);
@@ -141,7 +135,7 @@ accepted_rest profile info first last (h ∷ hs) r =
       no_larger = λ fixed. All-tail (AtMost first) h hs (r.no_larger (back ∙ fixed));
     } in (
       (
-        true_kept (allowed profile h) (All-head (Allowed profile) h hs r.allowed),
+        not_from_true (allowed profile h) (All-head (Allowed profile) h hs r.allowed),
         (
           of_format profile info h (All-head (HasFormat profile info) h hs r.format),
           (
@@ -177,7 +171,7 @@ follows_all profile info (f ∷ fs) (rules, a) =
     record {
       variable = f.variable;
       size = f.size;
-      allowed = All-cons (Allowed profile) f fs (kept_true (allowed profile f) rules.0) r.allowed;
+      allowed = All-cons (Allowed profile) f fs (not-false (allowed profile f) rules.0) r.allowed;
       format = All-cons (HasFormat profile info) f fs (format_of profile info f rules.1.0) r.format;
       strategy = All-cons (Has f.variable) f fs refl r.strategy;
       numbers = r.numbers;
@@ -200,7 +194,7 @@ all_accepted profile info (f ∷ fs) w =
     let strategy : f.variable ≡ w.variable = All-head (Has w.variable) f fs w.strategy in
     let back : w.variable ≡ f.variable = sym strategy in (
       (
-        true_kept (allowed profile f) (All-head (Allowed profile) f fs w.allowed),
+        not_from_true (allowed profile f) (All-head (Allowed profile) f fs w.allowed),
         (of_format profile info f (All-head (HasFormat profile info) f fs w.format), (refl, (within info.greatest_block f.size (All-head (AtMost info.greatest_block) f fs w.greatest), tt))),
       ),
       accepted_rest profile info f.size f fs (record {

@@ -13,7 +13,7 @@ use Rattle.flac_bits.specs.Meaning.{Spells}
 use Rattle.flac_bits.specs.declared.why.Why.{Why}
 use Rattle.flac_bits.specs.declared.why.Why.TheVariants.{SampleRange}
 use Rattle.flac_bits.proofs.Check.{check16_is}
-use Rattle.flac_bits.proofs.Laws.{past-append}
+use Rattle.flac_bits.proofs.Readings.{past-append}
 use Rattle.flac_bits.proofs.Marks.{past-unread}
 use Rattle.flac_bits.proofs.Meaning.{again}
 use Rattle.flac_bits.proofs.Ties.{tie}

@@ -1,6 +1,8 @@
 -- Samples of channels, interleaved.
-use Rattle.std.proofs.Common.{◌≡◌, ℕ, zero, suc, ℤ, pos, ◌+◌, ◌<◌, List, [], ◌∷◌, ◌++◌, length, take, drop, set, refl, sym, ap, ◌∙◌, append_assoc, arith}
-use Rattle.std.proofs.lemmas.List.{append-nil, drop-drop, take_more_set, drop-set-lt}
+use Rattle.std.proofs.Common.{◌≡◌, ℕ, zero, suc, ℤ, pos, ◌+◌, ◌-◌, ◌<◌, ◌≤◌, List, [], ◌∷◌, ◌++◌, length, length-append, take, drop, set, cond, is_ok, Result, Ok, refl, sym, ap, ◌∙◌, append_assoc, arith}
+use Rattle.std.proofs.lemmas.List.{append-nil, drop-drop, take_more_set, drop-set-lt, length-take-le, take-append-le, take_at}
+use Rattle.std.proofs.lemmas.Slice.{take-put_mid}
+use borrow.Rule.Slice.PartMut.{put_mid}
 use Rattle.std.specs.Prelude.{slice_index_or}
 use Rattle.flac_frame.specs.Interleaved.{row, rows}
 
@@ -44,3 +46,22 @@ pub rest_put : (out before : List ℤ) (z : ℤ) (at c n : ℕ) → n ≡ at + (
 rest_put out before z at c n is so =
     let e : n ≡ at + c + 1 = omega (arith, is) in
     rw e (drop-set-lt (at + c + 1) out (at + c) z (omega arith) ∙ drop_further out before (at + c) 1 so)
+
+-- ---- samples after those of a vector
+
+-- a vector that was made longer
+pub grown : {X T E : Type 0} (old now front rest : List X) (r : Result T E) (x : T) → r ≡ Ok x → now ≡ cond (is_ok r) (front ++ rest) old → front ≡ old → now ≡ old ++ rest
+grown old now front rest r x is e same = e ∙ ap (λ k. cond (is_ok k) (front ++ rest) old) is ∙ ap (λ l. l ++ rest) same
+
+-- the places after its old elements were then written
+pub places_after : (n front : ℕ) (old rest places items ys : List ℤ) → front ≡ length old → items ≡ old ++ rest → places ≡ items → n ≡ front + length ys → length ys ≡ length places - front
+    → take n (put_mid front (length places - front) places ys ++ drop (length (put_mid front (length places - front) places ys)) items) ≡ old ++ ys
+places_after n front old rest places items ys many sized same all long =
+    let is : places ≡ old ++ rest = same ∙ sized in
+    let within : front ≤ length places = omega (arith, ap length is, length-append old rest, many) in
+    let k : ℕ = length places - front in
+    let put = put_mid front k places ys in
+    let post : List ℤ = drop k (drop front places) in
+    let few : n ≤ length put = (let a = length-append (take front places) (ys ++ post) in let b = length-append ys post in let t = length-take-le front places within in omega (arith, a, b, t, all)) in
+    take-append-le n put (drop (length put) items) few ∙ take-put_mid front k places ys n all within
+    ∙ ap (λ l. l ++ ys) (ap (take front) is ∙ take_at old rest front (sym many))

@@ -1,5 +1,6 @@
 -- A frame of the streamable subset is a frame without the subset's limits.
 use Rattle.std.proofs.Common.{◌≡◌, ℕ, ◌+◌, ◌-◌, ◌≤◌, Bool, true, false, not, cond, ◌&&◌, nat_eq, nat_le, List, [], ◌∷◌, length, Option, refl, arith}
+use Rattle.std.proofs.lemmas.Bool.{not-false}
 use Rattle.flac_bits.specs.State.{Mark}
 use Rattle.flac_bits.specs.Meaning.{Spells, AllKept}
 use Rattle.flac_info.specs.Info.{Info, KeepsRules}
@@ -41,15 +42,11 @@ stated false false c e = (refl, refl)
 stated false true c e = absurd cc
 stated true b c e = absurd cc
 
-kept_true : (b : Bool) → not b ≡ false → b ≡ true
-kept_true true e = refl
-kept_true false e = absurd cc
-
 -- a header that states rate and depth says the same with and without the subset
 rules : (info : Info) (before : Option Before) (h : Header) → AllKept (header_rules Subset info before h) → AllKept (header_rules Lax info before h)
 unfolding allowed
 rules info before h kept =
-    let codes = stated (nat_eq h.rate_code 0) (nat_eq h.depth_code 0) (nat_le h.size (greatest_block h.rate)) (kept_true _ kept.0) in
+    let codes = stated (nat_eq h.rate_code 0) (nat_eq h.depth_code 0) (nat_le h.size (greatest_block h.rate)) (not-false _ kept.0) in
     let same : differs Lax info h ≡ false = rw (codes.0, codes.1) kept.1.0 in
     (refl, (same, kept.1.1))
 

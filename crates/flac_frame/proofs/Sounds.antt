@@ -12,6 +12,7 @@ use Rattle.flac_frame.specs.declared.setup.SetupFault.TheVariants.{BadRate, BadD
 use Rattle.std.proofs.lemmas.List.Elements.{All-nil, All-cons}
 use Rattle.flac_bits.specs.Signed.{FitsBits}
 use Rattle.std.proofs.lemmas.Bool.Decides.{nat_tests}
+use Rattle.std.proofs.lemmas.Bool.{not-false}
 use Rattle.flac_header.specs.Choice.{depth_choice, depth_choice_in, rate_choice_in}
 use Rattle.flac_header.specs.declared.subset.Profile.{Profile}
 use Rattle.flac_header.specs.declared.subset.Profile.TheVariants.{Subset, Lax}
@@ -146,10 +147,6 @@ is_there : {X : Type 0} (o : Option X) → is_none o ≡ false → is_some o ≡
 is_there None e = absurd cc
 is_there (Some x) e = refl
 
-kept_true : (b : Bool) → not b ≡ false → b ≡ true
-kept_true true e = refl
-kept_true false e = absurd cc
-
 counts_are : (n : ℕ) → (nat_eq n 0 || nat_lt 8 n) ≡ false → (1 ≤ n) × (n ≤ 8)
 counts_are n e = (grind (arith, nat_tests), grind (arith, nat_tests))
 
@@ -172,7 +169,7 @@ sound_is profile rate bits cs e =
       bits = is_there (depth_choice_in profile bits) b.0;
       some = n.0;
       few = n.1;
-      long = all_of (λ c. length c ≡ samples_each cs) (λ c. nat_eq (length c) (samples_each cs)) (same_length (samples_each cs)) cs (kept_true (as_long cs) d.0);
-      small = all_of (λ c. All (FitsBits bits) c) (λ c. list_all (fits bits) c) (λ c h. all_of (FitsBits bits) (fits bits) (fits-to bits) c h) cs (kept_true (each_small bits cs) f.0);
+      long = all_of (λ c. length c ≡ samples_each cs) (λ c. nat_eq (length c) (samples_each cs)) (same_length (samples_each cs)) cs (not-false (as_long cs) d.0);
+      small = all_of (λ c. All (FitsBits bits) c) (λ c. list_all (fits bits) c) (λ c h. all_of (FitsBits bits) (fits bits) (fits-to bits) c h) cs (not-false (each_small bits cs) f.0);
       short = not_over (samples_each cs) g.0;
     }

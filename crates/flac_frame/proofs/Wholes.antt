@@ -8,7 +8,7 @@ use Rattle.flac_bits.specs.State.{Mark, past, fresh}
 use Rattle.flac_bits.specs.Signed.{FitsBits}
 use Rattle.flac_bits.specs.Written.{Written, Adds, Fails, Writes}
 use Rattle.flac_bits.specs.declared.why.Why.{Why}
-use Rattle.flac_bits.proofs.Laws.{past-append}
+use Rattle.flac_bits.proofs.Readings.{past-append}
 use Rattle.flac_bits.proofs.Writing.{fails_first, fails_then, writes_then}
 use Rattle.flac_bits.proofs.ItemSpellings.{fresh_unread, fresh_check16}
 use Rattle.flac_header.specs.Header.{Header}

@@ -233,7 +233,8 @@ impl FrameBuffers {
         requires channels { info.now.channels ≤ self.old.channels }
         requires block { longest_block profile info.now ≤ self.old.max_block }
         ensures reading { ReadsFrame frame_of profile info.now self.old.before bits.old bits.new result }
-        ensures* after { sem 𝓛 (follows_so the_row the_row self.entry.ghost_name none (λ _ _. ⊤) (λ last. Leaves self.old last frame_of result)) }
+        ensures* after { sem 𝓛 (follows_so the_row the_row self.entry.ghost_name none (λ _ _. ⊤)
+            (λ last. Leaves self.old last frame_of result)) }
     {
         self.fill(bits, info, profile)?;
         Ok(self.view())

@@ -7,7 +7,7 @@ use Rattle.flac_bits.specs.Bits.{unsigned}
 use Rattle.flac_bits.specs.State.{Mark, past}
 use Rattle.flac_bits.specs.Check.{remainder, power}
 use Rattle.flac_bits.specs.Forms.{joined}
-use Rattle.flac_bits.proofs.Laws.{past-append}
+use Rattle.flac_bits.proofs.Readings.{past-append}
 use Rattle.flac_bits.proofs.Check.{check8_is}
 
 -- the parts one after another, with more after them

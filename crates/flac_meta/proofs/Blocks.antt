@@ -3,6 +3,7 @@ use Rattle.std.proofs.Common.{◌≡◌, ℕ, ◌+◌, ◌-◌, ◌*◌, ◌/◌
 use Rattle.std.proofs.lemmas.List.{append-nil}
 use Rattle.std.proofs.lemmas.Nat.{pow_pos}
 use Rattle.std.proofs.lemmas.Bool.Decides.{nat_tests}
+use Rattle.std.proofs.lemmas.Bool.{not-false}
 use Rattle.flac_bits.specs.Bits.{unsigned, bits_of, bit_value}
 use Rattle.flac_bits.specs.State.{Mark, past}
 use Rattle.flac_bits.specs.Layout.{Layout, done, bind, bits, choose, first_broken}
@@ -311,10 +312,6 @@ reserved_from k h = grind (arith, nat_tests)
 reserved_below : (k : ℕ) → (nat_lt k 7 || nat_lt 126 k) ≡ false → k < 127
 reserved_below k h = grind (arith, nat_tests)
 
-not_false : (b : Bool) → not b ≡ false → b ≡ true
-not_false true h = refl
-not_false false h = absurd cc
-
 content_each : (b : Block) (text : List Bool) → s.length_of b < 2 ^ 24 → is_forbidden b ≡ false → is_out_of_order b ≡ false → has_bad_sheet b ≡ false → FitsFields b → ContentSpelled b text → (m : Mark)
     → Spells (content (s.kind_of b) (s.length_of b)) m text b
 unfolding content s.content_spelling
@@ -327,7 +324,7 @@ content_each (block_of.SeekTable points) text small kept order sheet fits is m =
     let e : 18 * length points / 18 ≡ length points = omega arith in
     subst (λ (n : ℕ). Spells (bind (seek_points n None) (λ points. done (block_of.SeekTable points))) m text (block_of.SeekTable points)) (sym e)
     (wrap (seek_points (length points) None) (λ points. block_of.SeekTable points) m (ArePoints (length points)) (s.each_spelled s.point_spelling) (points_tie (length points) m) points
-    (record { many = refl; all = fits; order = not_false (in_order None points) order }) text is)
+    (record { many = refl; all = fits; order = not-false (in_order None points) order }) text is)
 content_each (block_of.VorbisComment found) text small kept order sheet fits is m =
     wrap (comments (s.comments_length found)) (λ found. block_of.VorbisComment found) m (CommentsOf (s.comments_length found)) s.comments_spelling (comments_tie (s.comments_length found) small m) found
     (record { is = fits; size = refl }) text is

@@ -1,5 +1,6 @@
 -- What ties the content of each kind of block to its spelling.
 use Rattle.std.proofs.Common.{◌≡◌, ℕ, zero, suc, ◌+◌, ◌-◌, ◌*◌, ◌^◌, ◌<◌, ◌≤◌, Bool, true, false, not, ◌&&◌, Option, Some, None, List, [], ◌∷◌, ◌++◌, length, refl, sym, ap, ◌∙◌, arith}
+use Rattle.std.proofs.lemmas.Bool.{not-false}
 use Rattle.flac_bits.specs.Bits.{unsigned, bits_of}
 use Rattle.flac_bits.specs.State.{Mark}
 use Rattle.flac_bits.specs.Layout.{done, bits}
@@ -92,17 +93,13 @@ info_tie m = tie stream_info m IsInfo s.info_spelling
 
 -- ---- seek points
 
-not_false : (b : Bool) → not b ≡ false → b ≡ true
-not_false true h = refl
-not_false false h = absurd cc
-
 abbrev Follows : Option ℕ → SeekPoint → Type 0
 Follows before p = IsPoint p × (follows before p.sample ≡ true)
 
 point_tie : (before : Option ℕ) (m : Mark) → Ties (seek_point before) m (Follows before) s.point_spelling
 unfolding seek_point s.point_spelling
 point_tie before m = tie (seek_point before) m (Follows before) s.point_spelling
-    (λ sample a offset b size c kept. ((record { sample = a; offset = b; size = c }, not_false (follows before sample) kept.0), refl))
+    (λ sample a offset b size c kept. ((record { sample = a; offset = b; size = c }, not-false (follows before sample) kept.0), refl))
     (λ p v. (p.sample, v.0.sample, (p.offset, v.0.offset, (p.length, v.0.size, ((ap not v.1, tt), (refl, refl))))))
 
 done_tie : (m : Mark) → Ties (done (tt {0})) m (λ _. Unit {0}) (λ _. [])

@@ -11,7 +11,6 @@ pub mod Short
 pub mod Named
 pub mod Infos
 pub mod Repeated
-pub mod Small
 -- ---- writing: parts, one after another
 pub mod Steps
 pub mod Lengths
@@ -21,3 +20,4 @@ pub mod Pictures
 pub mod Sheets
 pub mod Contents
 pub mod Blocks
+pub mod Listed

@@ -9,12 +9,8 @@ use crate::cue_sheet::{CueIndex, CueSheet, CueTrack};
 use crate::lists::Bytes;
 use crate::picture::Picture;
 use crate::seek_table::SeekPoint;
+use flac_bits::bytes_fit;
 use flac_info::StreamInfo;
-
-/// Does nothing: it is called for the proof alone, that each byte is below 256.
-fn bytes_fit(bytes: &[u8])
-    ensures { AreBytes bytes.now }
-{}
 
 /// Each byte of each text is below 256.
 fn texts_fit(texts: &[Bytes])

@@ -35,7 +35,7 @@ pub struct Picture {
 
 /// Width, height, bits per pixel and number of colours of a picture.
 #[derive(Clone, Copy)]
-struct Sizes {
+struct PictureSizes {
     width: u32,
     height: u32,
     depth: u32,
@@ -44,7 +44,7 @@ struct Sizes {
 
 /// Reads the sizes of a picture, of a content of which `left` bytes are left.
 #[tactic(auto, unfolding(crate::specs::Picture::sizes))]
-fn read_sizes<R: Source>(bits: &mut BitReader<R>, left: u32) -> Result<Sizes, Why>
+fn read_sizes<R: Source>(bits: &mut BitReader<R>, left: u32) -> Result<PictureSizes, Why>
     requires { left < 2 ^ 24 }
     ensures fits { OnOk result (16 ≤ left) }
     ensures reading { Call 0 (Reads (λ s. (s.width, s.height, s.depth, s.colours)) (sizes left))
@@ -54,7 +54,7 @@ fn read_sizes<R: Source>(bits: &mut BitReader<R>, left: u32) -> Result<Sizes, Wh
     let height = read_number_32(bits, left - 4)?;
     let depth = read_number_32(bits, left - 8)?;
     let colours = read_number_32(bits, left - 12)?;
-    Ok(Sizes {
+    Ok(PictureSizes {
         width,
         height,
         depth,

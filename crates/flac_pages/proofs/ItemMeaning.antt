@@ -8,7 +8,7 @@ use Rattle.flac_bits.specs.Meaning.{Spells}
 use Rattle.flac_bits.specs.Fence.{InRoom, StopsIn, read_in}
 use Rattle.flac_bits.specs.declared.why.Why.{Why}
 use Rattle.flac_bits.specs.declared.why.Why.TheVariants.{FrameTooLong}
-use Rattle.flac_bits.proofs.Laws.{at_}
+use Rattle.flac_bits.proofs.Readings.{at_}
 use Rattle.flac_bits.proofs.Fences.{again_in, stops_in, takes_in, refuses_in}
 use Rattle.flac_pages.specs.Items.{PacketEnd, whole, unended, cut_at, Packet, cut_off, in_packet, IsItem, IsNoItem, breaks_rule, bits_missing, too_many_bytes, bits_left, not_ended, TellsItem, at_last_bit, after_item, judged, item_in}
 use Rattle.flac_pages.specs.inner.Items.{short_at}

@@ -5,7 +5,7 @@ use Rattle.flac_bits.specs.Layout.{run, number_at, Reason, because}
 use Rattle.flac_bits.specs.Reading.{Answers, Gives}
 use Rattle.flac_bits.specs.Unchecked.{begun_anew}
 use Rattle.flac_bits.specs.declared.why.Why.{Why}
-use Rattle.flac_bits.proofs.Laws.{at_}
+use Rattle.flac_bits.proofs.Readings.{at_}
 use Rattle.flac_bits.proofs.Meaning.{takes, is_ok_of, why_is, differ}
 use Rattle.flac_pages.specs.declared.page.Before.{Before}
 use Rattle.flac_pages.specs.Page.{Page, page, page_after}

@@ -6,7 +6,7 @@ use Rattle.flac_bits.specs.State.{Mark, Cursor, past}
 use Rattle.flac_bits.specs.Layout.{bits, run, number_at, and_then, Reason, because}
 use Rattle.flac_bits.specs.Meaning.{Spells, Shows, IsCut}
 use Rattle.flac_bits.specs.declared.why.Why.{Why}
-use Rattle.flac_bits.proofs.Laws.{at_, past-append}
+use Rattle.flac_bits.proofs.Readings.{at_, past-append}
 use Rattle.flac_bits.proofs.Meaning.{again, shown, cut_short, takes, refuses, past-short, why_is}
 use Rattle.flac_pages.specs.declared.page.Before.{Before}
 use Rattle.flac_pages.specs.Page.{Page, page, page_after, is_last, after_page}

@@ -8,7 +8,7 @@ use Rattle.flac_bits.specs.Layout.{Layout, done, bind, bits, unary, judge, refus
 use Rattle.flac_bits.specs.Lists.{list_of}
 use Rattle.flac_bits.specs.LittleEndian.{little_32, little_64}
 use Rattle.flac_bits.specs.Unchecked.{begun_anew}
-use Rattle.flac_bits.proofs.Laws.{at_}
+use Rattle.flac_bits.proofs.Readings.{at_}
 use Rattle.flac_bits.proofs.Unchecked.{strip_fresh}
 use Rattle.flac_bits.specs.declared.why.Why.{Why}
 use Rattle.flac_pages.specs.declared.page.Before.{Before}

@@ -7,7 +7,7 @@ use Rattle.flac_bits.specs.Fence.{StopsIn, read_in}
 use Rattle.flac_bits.specs.State.{past}
 use Rattle.flac_bits.specs.declared.why.Why.{Why}
 use Rattle.flac_bits.specs.declared.why.Why.TheVariants.{Truncated}
-use Rattle.flac_bits.proofs.Laws.{at_}
+use Rattle.flac_bits.proofs.Readings.{at_}
 use Rattle.flac_bits.proofs.Meaning.{differ}
 use Rattle.flac_bits.proofs.Fences.{again_in, stops_in}
 use Rattle.flac_bits.proofs.Holding.{bits_of-append}

@@ -31,7 +31,8 @@ fn fill_frame(
     ensures room { (buffers.new.channels ≡ buffers.old.channels) × (buffers.new.max_block ≡ buffers.old.max_block) }
     ensures first { OnErr result (buffers.new.before ≡ None) }
     ensures found { IfOk result (λ n. IsFrameAt profile info.now bytes.now buffers.new.held n) }
-    ensures only { (f : Frame) → (n : ℕ) → IsFrameAt profile info.now bytes.now f n → IsOkAnd result (λ m. (buffers.new.held ≡ f) × (m ≡ n)) }
+    ensures only { (f : Frame) → (n : ℕ) → IsFrameAt profile info.now bytes.now f n
+        → IsOkAnd result (λ m. (buffers.new.held ≡ f) × (m ≡ n)) }
 {
     // Read only for the proof, which then knows that a slice is shorter than 2^64 bytes.
     let _len = bytes.len();
@@ -83,7 +84,8 @@ fn fill_at(
     ensures room { (buffers.new.channels ≡ buffers.old.channels) × (buffers.new.max_block ≡ buffers.old.max_block) }
     ensures first { OnErr result (buffers.new.before ≡ None) }
     ensures found { IfOk result (λ n. Stands profile info.now bytes.now at buffers.new.held n) }
-    ensures only { (f : Frame) → (n : ℕ) → Stands profile info.now bytes.now at f n → IsOkAnd result (λ m. (buffers.new.held ≡ f) × (m ≡ n)) }
+    ensures only { (f : Frame) → (n : ℕ) → Stands profile info.now bytes.now at f n
+        → IsOkAnd result (λ m. (buffers.new.held ≡ f) × (m ≡ n)) }
 {
     if !has_sync(bytes, at) {
         return Err(Why::BadSync);
@@ -112,9 +114,11 @@ pub fn next_whole(
     requires block { info.now.greatest_block ≤ buffers.old.max_block }
     requires first { buffers.old.before ≡ None }
     ensures room { (buffers.new.channels ≡ buffers.old.channels) × (buffers.new.max_block ≡ buffers.old.max_block) }
-    ensures found { IfOk result (λ o. IfSome o (λ p. IsNextWhole profile info.now bytes.now from p.0 buffers.new.held p.1)) }
+    ensures found { IfOk result (λ o. IfSome o (λ p.
+        IsNextWhole profile info.now bytes.now from p.0 buffers.new.held p.1)) }
     ensures none { result ≡ Ok None → (buffers.new.before ≡ None) × NoneStands profile info.now bytes.now from }
-    ensures spent { IfErr result (λ at. (buffers.new.before ≡ None) × (budget.new ≡ 0) × (from ≤ at) × NoneBetween profile info.now bytes.now from at) }
+    ensures spent { IfErr result (λ at. (buffers.new.before ≡ None) × (budget.new ≡ 0) × (from ≤ at)
+        × NoneBetween profile info.now bytes.now from at) }
 {
     // Asked only for the proof, which then knows that STREAMINFO keeps its rules.
     let _channels = info.channels();

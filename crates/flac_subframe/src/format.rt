@@ -26,4 +26,4 @@ pub(crate) mod subframe;
 pub(crate) mod writing;
 
 // laws
-pub(crate) mod promises;
+pub(crate) mod laws;

@@ -8,11 +8,11 @@
 mod format;
 mod search;
 
+pub use format::laws::{samples_are_restored, subframes_are_read_again, subframes_are_spelled};
 pub use format::limits::Limits;
 pub use format::linear::LinearPredictor;
 pub use format::numbers::offset_binary;
 pub use format::predictors::{predict_fixed, predict_linear};
-pub use format::promises::{samples_are_restored, subframes_are_read_again, subframes_are_spelled};
 pub use format::subframe::read_subframe;
 pub use search::chosen::{Choice, choose, choose_with};
 pub use search::family_laws::{family_is_plain, family_with_is_plain};

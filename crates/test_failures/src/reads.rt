@@ -173,8 +173,10 @@ struct Noting {
 impl Noting {
     /// One call more, which may be the one that fails.
     fn turn(&mut self) -> Result<(), SinkFault>
-        ensures counted { OnOk result (failed self.new.turns.at self.new.turns.calls ≡ failed self.old.turns.at self.old.turns.calls) }
-        ensures rises { OnErr result (failed self.old.turns.at self.old.turns.calls < failed self.new.turns.at self.new.turns.calls) }
+        ensures counted { OnOk result (failed self.new.turns.at self.new.turns.calls
+            ≡ failed self.old.turns.at self.old.turns.calls) }
+        ensures rises { OnErr result (failed self.old.turns.at self.old.turns.calls
+            < failed self.new.turns.at self.new.turns.calls) }
     {
         match self.turns.pull(&mut []) {
             Ok(_) => Ok(()),

@@ -18,6 +18,11 @@ Extended rest rest' end old to new text = Extends text rest rest' (take end old)
 abbrev pub IsCode : List Bool → ℕ × ℕ → Type 0
 IsCode text code = (code.0 ≤ 64) × (code.1 < 2 ^ code.0) × (unsigned code.0 code.1 ≡ text)
 
+-- the codes of the values from one index up to another, as one number: how many bits it has, the number, and the other index
+abbrev pub AreNextCodes : ℕ → List ℤ → ℕ → ℕ × ℕ × ℕ → Type 0
+AreNextCodes k values from code = (code.0 ≤ 64) × (code.1 < 2 ^ code.0) × (from < code.2) × (code.2 ≤ length values)
+    × (flat_map (value_bits k) (drop from values) ≡ unsigned code.0 code.1 ++ flat_map (value_bits k) (drop code.2 values))
+
 -- the values from one index up to another were put, as bits of which P holds
 abbrev pub PutsValues : ℕ → List ℤ → ℕ → ℕ → (List Bool → Type 0) → Type 0
 PutsValues k values from to P = (text : List Bool) × (flat_map (value_bits k) (drop from values) ≡ text ++ flat_map (value_bits k) (drop to values)) × P text

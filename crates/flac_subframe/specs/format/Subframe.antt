@@ -1,7 +1,10 @@
 -- A subframe: its form, its layout, and its samples (RFC 9639, section 9.2).
-use Rattle.std.specs.Prelude.{ℕ, ◌+◌, ◌-◌, ◌^◌, Bool, cond, nat_eq, nat_lt, ◌&&◌, ◌||◌, not, ℤ, pos, ◌*ℤ◌, List, [], ◌∷◌, ◌++◌, length, map, replicate, Option, Some, None}
+use Rattle.std.specs.Prelude.{ℕ, ◌+◌, ◌-◌, ◌^◌, Bool, cond, nat_eq, nat_lt, ◌&&◌, ◌||◌, not, ℤ, pos, ◌*ℤ◌, List, [], ◌∷◌, ◌++◌, length, map, replicate, Option, Some, None, Result}
 use Rattle.flac_bits.specs.Layout.{Layout, bind, done, bits, unary, judge, refuse, choose, ◌>>=◌}
 use Rattle.flac_bits.specs.Lists.{list_of}
+use Rattle.flac_bits.specs.Reading.{CallInPlace, Means}
+use Rattle.flac_bits.specs.State.{State}
+use Rattle.flac_bits.specs.declared.why.Why.{Why}
 use Rattle.flac_bits.specs.declared.why.Why.TheVariants.{NotSubset, BadSubframe, BadPredictor, BadPartition}
 use Rattle.flac_subframe.specs.declared.format.limits.Limits.{Limits}
 use Rattle.flac_subframe.specs.format.Numbers.{all_fit}
@@ -153,6 +156,10 @@ content_samples kind depth block limit = content kind depth block limit >>= λ c
 
 unfoldable pub subframe_samples : ℕ → ℕ → Limits → Layout (Option (List ℤ))
 subframe_samples depth block limits = subframe depth block limits >>= λ form. done (samples_of depth block form)
+
+-- What a call reads of a subframe: its samples, in their places, or that one of them does not fit.
+abbrev pub ReadsSubframe : ℕ → ℕ → Limits → List ℤ → State → State → Result Bool Why → Type 0
+ReadsSubframe depth block limits after old new result = CallInPlace 8 (Means (if_fit after) (subframe_samples depth block limits)) old new result
 
 -- the same from a header on
 abbrev pub samples_by_layout : ℕ → ℕ → Limits → Layout (Option (List ℤ))

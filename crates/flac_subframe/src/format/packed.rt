@@ -8,7 +8,7 @@ ghost use Rattle.std.specs.Int.RustNames.{unsigned_abs};
 ghost use Rattle.flac_bits.specs.Signed.{FitsBits};
 ghost use Rattle.flac_subframe.specs.format.Numbers.{sample_at};
 ghost use Rattle.flac_subframe.specs.format.Prediction.{Restored};
-ghost use Rattle.flac_subframe.specs.format.inner.Packing.{packed, paired, ArePaired};
+ghost use Rattle.flac_subframe.specs.format.inner.Packing.{packed, paired, ArePaired, IsSampleOf};
 ghost use Rattle.flac_subframe.specs.format.inner.Summing.{IsHeld, IsNear, AreAdded};
 ghost use Rattle.flac_subframe.specs.format.inner.Sums.{MustFit};
 
@@ -97,7 +97,7 @@ fn word_after(first: i64) -> i64
 fn sample_of(first: i64, shift: u32, residual: i64) -> i64
     requires shift { shift < 16 }
     requires residual { FitsBits 32 residual }
-    ensures value { (high low : ℤ) → unsigned_abs low < 2 ^ 31 → first ≡ packed high low → result ≡ int_shr high shift +ℤ residual }
+    ensures value { IsSampleOf first shift residual result }
     // proof only
     ensures near { IsNear result }
 {

@@ -8,7 +8,7 @@ ghost use Rattle.flac_bits.specs.Reading.{Reads, CallInPlace};
 ghost use Rattle.flac_bits.specs.Signed.{FitsBits};
 ghost use Rattle.flac_subframe.specs.format.inner.Codes.{method_code};
 ghost use Rattle.flac_subframe.specs.format.Residual.{residual_header};
-ghost use Rattle.flac_subframe.specs.format.inner.Reading.{ReadsAs, partition_values, partitions_values, values_read};
+ghost use Rattle.flac_subframe.specs.format.inner.Reading.{ReadsAs, ReadsPartitions, ReadsResidual, ReadsResidualHeader, partition_values, partitions_values, values_read};
 
 use crate::format::coding_method::CodingMethod;
 use crate::format::numbers::power;
@@ -55,7 +55,7 @@ fn read_partitions<R: Source>(
     requires small { size ≤ 65535 }
     requires cut { length out.old + order ≡ count * size }
     ensures fits { OnOk result (All (FitsBits 32) out.new) }
-    ensures reading { ReadsAs (λ _. out.new) (partitions_values method (size - order) size count) bits.old bits.new result }
+    ensures reading { ReadsPartitions method order size count out.new bits.old bits.new result }
 {
     let mut start = 0;
     let mut end = size - order;
@@ -79,7 +79,7 @@ fn read_residual_header<R: Source>(
     ensures partition_order { IfOk result (λ h. h.1 ≤ 15) }
     ensures whole { IfOk result (λ h. block ≡ 2 ^ h.1 * (block / 2 ^ h.1)) }
     ensures room { IfOk result (λ h. order < block / 2 ^ h.1) }
-    ensures reading { ReadsAs (λ h. (method_code h.0, h.1)) (residual_header limit order block) bits.old bits.new result }
+    ensures reading { ReadsResidualHeader limit order block bits.old bits.new result }
 {
     let code = bits.take(2)?;
     let Some(method) = CodingMethod::of_code(code) else {
@@ -108,7 +108,7 @@ pub(crate) fn read_residual<R: Source>(
     requires limit { limit ≤ 15 }
     requires few { length out.old + order ≤ 65535 }
     ensures fits { OnOk result (All (FitsBits 32) out.new) }
-    ensures reading { ReadsAs (λ _. out.new) (values_read limit order (length out.old + order)) bits.old bits.new result }
+    ensures reading { ReadsResidual limit order out.old out.new bits.old bits.new result }
 {
     let block = out.len() + order;
     let (method, partition_order) = read_residual_header(bits, limit, order, block)?;

@@ -4,9 +4,9 @@ ghost use Rattle.std.specs.Prelude.{◌≡◌, ◌≤◌, ◌<◌, ◌+◌, ◌-
 ghost use Rattle.flac_bits.specs.Reading.{Reads, Means, CallInPlace};
 ghost use Rattle.flac_bits.specs.Signed.{FitsBits};
 ghost use Rattle.flac_subframe.specs.format.inner.Codes.{IsType, type_code, type_order};
-ghost use Rattle.flac_subframe.specs.format.Subframe.{constant, verbatim, fixed, predictor, linear, content_samples, wasted_bits, header, subframe_samples, if_fit, samples_by_layout};
+ghost use Rattle.flac_subframe.specs.format.Subframe.{constant, verbatim, fixed, predictor, linear, content_samples, wasted_bits, header, subframe_samples, if_fit, samples_by_layout, ReadsSubframe};
 ghost use Rattle.flac_bits.specs.Layout.{bind, done, zeros_at};
-ghost use Rattle.flac_subframe.specs.format.inner.Reading.{ReadsAs, header_of, ReadsContent};
+ghost use Rattle.flac_subframe.specs.format.inner.Reading.{ReadsAs, header_of, ReadsByLayout, ReadsContent, ReadsFixed, ReadsLinear, ReadsLinearInto, ReadsPredictor, ReadsType, ReadsVerbatim};
 
 use crate::format::fixed::restore_fixed;
 use crate::format::limits::Limits;
@@ -101,7 +101,7 @@ fn read_verbatim<R: Source>(
 ) -> Result<bool, Why>
     requires depth { (1 ≤ depth) × (depth ≤ 33) }
     ensures fits { IfOk result (λ fits. IsTrue fits → All (FitsBits depth) samples.new) }
-    ensures reading { ReadsContent depth samples.old samples.new (verbatim depth (length samples.old)) bits.old bits.new result }
+    ensures reading { ReadsVerbatim depth samples.old samples.new bits.old bits.new result }
 {
     bits.signed_partition(depth, samples)?;
     Ok(true)
@@ -121,7 +121,7 @@ fn read_fixed<R: Source>(
     requires order { order ≤ 4 }
     requires places { (order < length samples.old) × (length samples.old ≤ 65535) }
     ensures fits { IfOk result (λ fits. IsTrue fits → All (FitsBits depth) samples.new) }
-    ensures reading { ReadsContent depth samples.old samples.new (fixed depth (length samples.old) limit order) bits.old bits.new result }
+    ensures reading { ReadsFixed depth limit order samples.old samples.new bits.old bits.new result }
 {
     let places = order as usize;
     bits.signed_partition(depth, &mut samples[..places])?;
@@ -137,7 +137,7 @@ fn read_predictor<R: Source>(
 ) -> Result<(u32, u32), Why>
     ensures shift { IfOk result (λ p. p.1 < 16) }
     ensures fits { OnOk result (All (FitsBits 15) coefficients.new) }
-    ensures reading { ReadsAs (λ p. record { precision = p.0; shift = p.1; coefficients = coefficients.new }) (predictor (length coefficients.old)) bits.old bits.new result }
+    ensures reading { ReadsPredictor coefficients.old coefficients.new bits.old bits.new result }
 {
     let low = bits.take(4)? as u32;
     if low == 15 {
@@ -165,7 +165,7 @@ fn read_linear_into<R: Source>(
     requires order { (1 ≤ length coefficients.old) × (length coefficients.old ≤ 32) }
     requires places { (length coefficients.old < length samples.old) × (length samples.old ≤ 65535) }
     ensures fits { IfOk result (λ fits. IsTrue fits → All (FitsBits depth) samples.new) }
-    ensures reading { ReadsContent depth samples.old samples.new (linear depth (length samples.old) limit (length coefficients.old)) bits.old bits.new result }
+    ensures reading { ReadsLinearInto depth limit coefficients.old samples.old samples.new bits.old bits.new result }
 {
     let order = coefficients.len();
     bits.signed_partition(depth, &mut samples[..order])?;
@@ -187,7 +187,7 @@ fn read_linear<R: Source>(
     requires order { (1 ≤ order) × (order ≤ 32) }
     requires places { (order < length samples.old) × (length samples.old ≤ 65535) }
     ensures fits { IfOk result (λ fits. IsTrue fits → All (FitsBits depth) samples.new) }
-    ensures reading { ReadsContent depth samples.old samples.new (linear depth (length samples.old) limit order) bits.old bits.new result }
+    ensures reading { ReadsLinear depth limit order samples.old samples.new bits.old bits.new result }
 {
     let mut coefficients: ArrayVec<i64, 32> = ArrayVec::from([0; 32]);
     coefficients.truncate(order as usize);
@@ -208,7 +208,7 @@ fn read_content<R: Source>(
     requires kind { IsType kind }
     requires places { (type_order kind < length samples.old) × (length samples.old ≤ 65535) }
     ensures fits { IfOk result (λ fits. IsTrue fits → All (FitsBits depth) samples.new) }
-    ensures reading { ReadsAs (if_fit samples.new) (content_samples (type_code kind) depth (length samples.old) limit) bits.old bits.new result }
+    ensures reading { ReadsType kind depth limit samples.old samples.new bits.old bits.new result }
 {
     match kind {
         SubframeType::Constant => read_constant(bits, depth, samples),
@@ -271,7 +271,7 @@ pub fn read_subframe<R: Source>(
     requires places { length samples.old ≡ block }
     requires limits { (limits.now.partition ≤ 15) × (limits.now.linear ≤ 32) }
     ensures small { IfOk result (λ fits. IsTrue fits → All (FitsBits 34) samples.new) }
-    ensures reading { CallInPlace 8 (Means (if_fit samples.new) (subframe_samples depth block limits.now)) bits.old bits.new result }
+    ensures reading { ReadsSubframe depth block limits.now samples.new bits.old bits.new result }
 {
     read_by_layout(bits, depth, block, limits, samples)
 }
@@ -290,7 +290,7 @@ fn read_by_layout<R: Source>(
     requires limits { (limits.now.partition ≤ 15) × (limits.now.linear ≤ 32) }
     // proof only
     ensures small { IfOk result (λ fits. IsTrue fits → All (FitsBits 34) samples.new) }
-    ensures reading { CallInPlace 8 (Reads (if_fit samples.new) (samples_by_layout depth block limits.now)) bits.old bits.new result }
+    ensures reading { ReadsByLayout depth block limits.now samples.new bits.old bits.new result }
 {
     let header = read_header(bits, depth, block, limits)?;
     let fits = read_content(

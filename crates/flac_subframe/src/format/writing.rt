@@ -13,7 +13,7 @@ ghost use Rattle.flac_subframe.specs.format.Handed.{coefficients_in, predictor_o
 ghost use Rattle.flac_subframe.specs.format.Cost.{MayCode, MayCodeEach, MayWrite, coding_of, parameter_bits_of};
 ghost use Rattle.flac_subframe.specs.format.inner.Cost.{codings_lent};
 ghost use Rattle.flac_subframe.specs.format.Spelling.{coding_spelling, residual_spelling, predictor_spelling, header_spelling, subframe_spelling};
-ghost use Rattle.flac_subframe.specs.format.inner.Writing.{CanPredict, body_chosen, body_lent, form_chosen, parts_spelling, residual_lent, rest_spelling};
+ghost use Rattle.flac_subframe.specs.format.inner.Writing.{CanEncode, CanPredict, body_lent, content_chosen, linear_spelled, parts_spelling, residual_lent, rest_spelling, subframe_chosen};
 
 use crate::format::coding::Coding;
 use crate::format::coding_method::CodingMethod;
@@ -201,7 +201,7 @@ fn write_linear<W: Target>(
     requires fits { All (FitsBits 33) samples.now }
     requires places { length samples.now ≤ length values.old }
     requires predicts { CanPredict (predictor_of predictor.now) choice.now samples.now }
-    ensures { Writes (spelled depth (body_lent (predictor_of predictor.now) choice.now samples.now)) writer.old writer.new result }
+    ensures { Writes (linear_spelled depth predictor.now choice.now samples.now) writer.old writer.new result }
 {
     let order = predictor.order();
     let places = &mut values[..samples.len() - order];
@@ -225,8 +225,8 @@ fn write_content<W: Target>(
     requires fits { All (FitsBits 33) samples.now }
     requires places { length samples.now ≤ length values.old }
     requires handed { HasPredictor predictors.now choice.now.form.content }
-    requires stands { StandsFor 15 (offered predictors.now) (body_chosen predictors.now choice.now samples.now) samples.now }
-    ensures { Writes (spelled depth (body_chosen predictors.now choice.now samples.now)) writer.old writer.new result }
+    requires stands { CanEncode predictors.now choice.now samples.now }
+    ensures { Writes (content_chosen depth predictors.now choice.now samples.now) writer.old writer.new result }
 {
     match choice.form.content {
         ContentKind::Constant => writer.put_signed(depth, samples[0]),
@@ -296,7 +296,7 @@ pub(crate) fn write_chosen<W: Target>(
     requires fits { All (FitsBits depth) samples.now }
     requires places { 2 * length samples.now + 256 ≤ length places.old }
     requires made { IsMadeAs 15 predictors.now choice.now.form choice.now.codings.now samples.now }
-    ensures { Writes (subframe_spelling depth (form_chosen predictors.now choice.now samples.now)) writer.old writer.new result }
+    ensures { Writes (subframe_chosen depth predictors.now choice.now samples.now) writer.old writer.new result }
 {
     let count = samples.len();
     let (shortened, values) = places.split_at_mut(count + APART);

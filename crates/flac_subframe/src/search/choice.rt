@@ -8,10 +8,11 @@ ghost use Rattle.flac_bits.specs.Rice.{IsResidual, folded};
 ghost use Rattle.flac_subframe.specs.format.Bodies.{coefficients_of, differences};
 ghost use Rattle.flac_subframe.specs.format.Chosen.{IsNamed, fixed_below, offered};
 ghost use Rattle.flac_subframe.specs.format.Spelling.{subframe_spelling};
-ghost use Rattle.flac_subframe.specs.search.inner.Chosen.{IsBest, way_of};
+ghost use Rattle.flac_subframe.specs.search.inner.Chosen.{IsBestOfNone};
 ghost use Rattle.flac_subframe.specs.search.inner.Halves.{HasPlaces, HasResidual, HasRoom};
 ghost use Rattle.flac_subframe.specs.declared.format.linear.LinearPredictor.{LinearPredictor};
-ghost use Rattle.flac_subframe.specs.search.inner.Views.{GoesOnWith, IsBestOf, IsLeastForm, IsMadeFor, IsShortestFor, NoneIsBelow, bits_in_form, for_each, form_found, left_by, left_of, named, for_each_of};
+ghost use Rattle.flac_subframe.specs.search.inner.Views.{GoesOnWith, IsBestOf, IsLeastForm, IsMadeFor, IsShortestFor, NoneIsBelow, StaysWithin, bits_in_form, for_samples, form_found, left_by, left_of, named, for_each_of};
+ghost use Rattle.flac_subframe.specs.search.Choices.{for_each};
 
 use crate::format::content::{ContentKind, PredictorKind, SubframeForm};
 use crate::format::leaving::{take_differences, take_weighed};
@@ -246,8 +247,8 @@ fn least_form(
     // proof only
     ensures places { HasPlaces subject.now.most tables.new }
     ensures same { tables.new.codings.ghost_name ≡ tables.old.codings.ghost_name }
-    ensures coarse { subject.now.most ≤ 8 → tables.new.priced ≤ tables.old.priced + 32 * length subject.now.samples.now }
-    ensures priced { tables.new.priced ≤ tables.old.priced + 93 * length subject.now.samples.now }
+    ensures coarse { subject.now.most ≤ 8 → tables.new.priced ≤ tables.old.priced + for_samples 32 subject.now }
+    ensures priced { tables.new.priced ≤ tables.old.priced + for_samples 93 subject.now }
 {
     let count = subject.samples.len() - order;
     let values = &values[..count];
@@ -276,12 +277,12 @@ fn improve(
     requires small { best.old.bits ≤ 2 ^ 60 }
     ensures best { GoesOnWith subject.now kind best.old tables.old best.new tables.new }
     ensures less { best.new.bits ≤ best.old.bits }
-    ensures within { best.old.residual.partition_order ≤ subject.now.most → best.new.residual.partition_order ≤ subject.now.most }
+    ensures within { StaysWithin subject.now.most best.old best.new }
     ensures arrays { HasRoom (length subject.now.samples.now) arrays.new }
     ensures tables { HasPlaces subject.now.most tables.new }
     ensures same { tables.new.codings.ghost_name ≡ tables.old.codings.ghost_name }
-    ensures coarse { subject.now.most ≤ 8 → tables.new.priced ≤ tables.old.priced + 32 * length subject.now.samples.now }
-    ensures priced { tables.new.priced ≤ tables.old.priced + 93 * length subject.now.samples.now }
+    ensures coarse { subject.now.most ≤ 8 → tables.new.priced ≤ tables.old.priced + for_samples 32 subject.now }
+    ensures priced { tables.new.priced ≤ tables.old.priced + for_samples 93 subject.now }
 {
     let order = subject.order(kind);
     if order >= subject.samples.len() {
@@ -312,7 +313,7 @@ fn begin(samples: &[i64], bits: u32) -> Best
     requires some { 0 < length samples.now }
     requires few { length samples.now ≤ 65535 }
     requires bits { bits ≤ 33 }
-    ensures best { (handed : List LinearPredictor) (most : ℕ) (codings : List ℕ) → IsBest handed most bits samples.now (fixed_below 0) (way_of result codings) }
+    ensures best { IsBestOfNone bits samples.now result }
     ensures none { result.residual.partition_order ≡ 0 }
 {
     let residual = ResidualForm::none();

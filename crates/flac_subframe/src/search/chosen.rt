@@ -7,9 +7,9 @@ ghost use Rattle.std.proofs.lemmas.Cmp.{and_equiv, nat_eq_equiv, nat_list_eq_equ
 ghost use Rattle.std.specs.Ordering.{on, eq_of_both};
 ghost use Rattle.flac_bits.specs.Signed.{FitsBits};
 ghost use Rattle.flac_subframe.specs.format.Chosen.{fixed_below, offered};
-ghost use Rattle.flac_subframe.specs.search.Choices.{IsMadeOf, IsMadeWith, form_of, form_with, bytes_used, IsShortest, IsAllowed};
+ghost use Rattle.flac_subframe.specs.search.Choices.{ChoosesAllowedWith, ChoosesShortestWith, IsAllowedFrom, IsMadeOf, IsMadeWith, IsShortest, RestoresWith, bytes_used, form_of, form_with};
 ghost use Rattle.flac_subframe.specs.format.Handed.{AreWithin};
-ghost use Rattle.flac_subframe.specs.format.Spelling.{subframe_spelling, IsSubframe};
+ghost use Rattle.flac_subframe.specs.format.Spelling.{subframe_spelling};
 ghost use Rattle.flac_subframe.specs.format.Subframe.{samples_of};
 ghost use Rattle.flac_subframe.specs.declared.format.limits.Limits.{Limits};
 ghost use Rattle.flac_subframe.specs.search.inner.Views.{first_codings};
@@ -136,7 +136,7 @@ pub fn choose(samples: &[i64], depth: u32) -> Choice
     ensures least { IsShortest 8 (fixed_below 5) depth samples.now (form_of result samples.now) }
     ensures bits { result.bits ≡ length (subframe_spelling depth (form_of result samples.now)) }
     ensures made { IsMadeOf result samples.now }
-    ensures valid { (limits : Limits) → 8 ≤ limits.partition → IsSubframe depth (length samples.now) limits (form_of result samples.now) }
+    ensures valid { IsAllowedFrom 8 depth samples.now (form_of result samples.now) }
     ensures restored { samples_of depth (length samples.now) (form_of result samples.now) ≡ Some samples.now }
     ensures small { result.bits ≤ 2 ^ 61 }
     ensures priced { result.priced ≤ 5 * (32 * length samples.now) }
@@ -171,11 +171,11 @@ pub fn choose_with(
     requires fits { All (FitsBits depth) samples.now }
     requires partition { limits.now.partition ≤ 8 }
     requires orders { AreWithin limits.now.linear predictors.now }
-    ensures least { IsShortest limits.now.partition (offered predictors.now) depth samples.now (form_with predictors.now result samples.now) }
+    ensures least { ChoosesShortestWith limits.now.partition predictors.now result depth samples.now }
     ensures bits { result.bits ≡ length (subframe_spelling depth (form_with predictors.now result samples.now)) }
     ensures made { IsMadeWith predictors.now result samples.now }
-    ensures valid { IsAllowed limits.now.partition predictors.now depth samples.now (form_with predictors.now result samples.now) }
-    ensures restored { samples_of depth (length samples.now) (form_with predictors.now result samples.now) ≡ Some samples.now }
+    ensures valid { ChoosesAllowedWith limits.now.partition predictors.now result depth samples.now }
+    ensures restored { RestoresWith predictors.now result depth samples.now }
     ensures small { result.bits ≤ 2 ^ 61 }
     ensures priced { result.priced ≤ (5 + length predictors.now) * (32 * length samples.now) }
 {

@@ -6,11 +6,11 @@ ghost use Rattle.std.specs.List.{sum_by};
 ghost use Rattle.flac_bits.specs.Rice.{IsResidual};
 ghost use Rattle.flac_subframe.specs.declared.format.coding_method.CodingMethod.{CodingMethod};
 ghost use Rattle.flac_subframe.specs.format.Least.{IsLeast};
-ghost use Rattle.flac_subframe.specs.search.inner.Least.{IsLeastCost};
+ghost use Rattle.flac_subframe.specs.search.inner.Least.{IsLeastCoding, IsLeastCost};
 ghost use Rattle.flac_subframe.specs.format.Cost.{MayCode, codings_in, parameter_bits_of};
 ghost use Rattle.flac_subframe.specs.format.inner.Cost.{coding_cost};
 ghost use Rattle.flac_subframe.specs.search.inner.Halves.{Halves, HasPlaces, LeastBelow, IsWidth};
-ghost use Rattle.flac_subframe.specs.search.inner.Views.{AreLeastParts, ArePriced, HasEntriesOf, HasWidthsOf, IsShortestAt, IsShortestIn, IsShortestTo, MayHave, MayHaveBy, TakesAtLeast, TakesAtLeastAbove, bits_under, TakesAtLeastTo, IsLeastPartsCost, IsLeastCostAt, parts_bits};
+ghost use Rattle.flac_subframe.specs.search.inner.Views.{AreLeastParts, ArePriced, HasEntriesOf, HasWidthsOf, IsShortestAt, IsShortestIn, IsShortestTo, MayHave, MayHaveBy, TakesAtLeast, TakesAtLeastAbove, bits_under, TakesAtLeastTo, IsLeastPartsCost, IsLeastCostAt, parts_bits, priced_after};
 
 use crate::format::coding::Coding;
 use crate::format::coding_method::CodingMethod;
@@ -48,7 +48,7 @@ fn finish(values: &[i32], method: CodingMethod, best: Entry, width: u8) -> Codin
     requires best { LeastBelow (2 ^ parameter_bits_of method - 1) values.now best }
     requires small_width { width ≤ 32 }
     requires width { IsWidth values.now width }
-    ensures least { IsLeast (MayCode (parameter_bits_of method) values.now) (λ c. coding_cost c values.now) result.coding }
+    ensures least { IsLeastCoding method values.now result.coding }
     ensures bits { result.bits ≡ coding_cost result.coding values.now }
     // proof only
     ensures small { result.bits ≤ 2 ^ 33 * length values.now + 5 }
@@ -464,8 +464,8 @@ pub(crate) fn least_residual(
     // proof only
     ensures places { (most : ℕ) → HasPlaces most tables.old → HasPlaces most tables.new }
     ensures same { tables.new.codings.ghost_name ≡ tables.old.codings.ghost_name }
-    ensures coarse { residual.now.partition_order ≤ 8 → tables.new.priced ≤ tables.old.priced + 32 * length residual.now.values.now }
-    ensures priced { tables.new.priced ≤ tables.old.priced + 93 * length residual.now.values.now }
+    ensures coarse { residual.now.partition_order ≤ 8 → tables.new.priced ≤ priced_after 32 residual.now tables.old }
+    ensures priced { tables.new.priced ≤ priced_after 93 residual.now tables.old }
 {
     if residual.partition_order <= COARSE {
         return least_at_once(residual, tables, below);

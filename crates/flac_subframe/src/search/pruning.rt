@@ -7,7 +7,7 @@ ghost use Rattle.flac_subframe.specs.format.inner.Cost.{value_cost};
 ghost use Rattle.flac_bits.specs.Rice.{folded};
 ghost use Rattle.flac_subframe.specs.format.Spelling.{FitsWidth};
 ghost use Rattle.flac_subframe.specs.search.inner.Halves.{IsWidth};
-ghost use Rattle.flac_subframe.specs.search.inner.Views.{ArePriced, HasWidthsOf, TakesAtLeast, TakesAtLeastAbove, TakesAtLeastAt};
+ghost use Rattle.flac_subframe.specs.search.inner.Views.{ArePriced, HasWidthsOf, TakesAtLeast, TakesAtLeastAbove, TakesAtLeastAt, TakesAtLeastFinest};
 
 use crate::format::numbers::power;
 use crate::search::cost::quotients;
@@ -202,7 +202,7 @@ fn bound_parts(residual: &ResidualView<'_>, sums: &[u64], widths: &[u8], below: 
     requires widths { HasWidthsOf residual.now residual.now.partition_order widths.now }
     requires widths_long { 2 * 2 ^ residual.now.partition_order ≤ length widths.now }
     ensures all { TakesAtLeast residual.now result.bits }
-    ensures last { TakesAtLeastAt residual.now residual.now.partition_order (result.bits + (6 + 4 * 2 ^ residual.now.partition_order)) }
+    ensures last { TakesAtLeastFinest residual.now result.bits }
     ensures seen { result.seen ≤ length residual.now.values.now }
 {
     let size = (residual.values.len() + residual.order) >> residual.partition_order;

@@ -5,7 +5,7 @@ ghost use Rattle.flac_bits.specs.Signed.{FitsBits};
 ghost use Rattle.flac_bits.specs.Written.{Writes};
 ghost use Rattle.flac_bits.specs.declared.why.Why.{Why};
 ghost use Rattle.flac_subframe.specs.format.Chosen.{offered};
-ghost use Rattle.flac_subframe.specs.search.Choices.{IsMadeIn, bytes_kept, form_in, IsShortest, IsAllowed};
+ghost use Rattle.flac_subframe.specs.search.Choices.{ChoosesAllowedIn, ChoosesShortestIn, IsMadeIn, RestoresIn, bytes_kept, for_each, form_in, spelling_in};
 ghost use Rattle.flac_subframe.specs.format.Handed.{AreWithin};
 ghost use Rattle.flac_subframe.specs.format.Spelling.{subframe_spelling};
 ghost use Rattle.flac_subframe.specs.format.Subframe.{samples_of};
@@ -166,14 +166,14 @@ pub fn choose_in(
     requires partition { limits.now.partition ≤ workspace.old.most }
     requires places { 2 ^ limits.now.partition ≤ vec_len choice.old.codings }
     requires orders { AreWithin limits.now.linear predictors.now }
-    ensures least { IsShortest limits.now.partition (offered predictors.now) depth samples.now (form_in predictors.now choice.new samples.now) }
+    ensures least { ChoosesShortestIn limits.now.partition predictors.now choice.new depth samples.now }
     ensures bits { choice.new.bits ≡ length (subframe_spelling depth (form_in predictors.now choice.new samples.now)) }
     ensures made { IsMadeIn predictors.now choice.new samples.now }
-    ensures valid { IsAllowed limits.now.partition predictors.now depth samples.now (form_in predictors.now choice.new samples.now) }
-    ensures restored { samples_of depth (length samples.now) (form_in predictors.now choice.new samples.now) ≡ Some samples.now }
+    ensures valid { ChoosesAllowedIn limits.now.partition predictors.now choice.new depth samples.now }
+    ensures restored { RestoresIn predictors.now choice.new depth samples.now }
     ensures small { choice.new.bits ≤ 2 ^ 61 }
-    ensures priced { limits.now.partition ≤ 8 → choice.new.priced ≤ (5 + length predictors.now) * (32 * length samples.now) }
-    ensures priced_bound { choice.new.priced ≤ (5 + length predictors.now) * (93 * length samples.now) }
+    ensures priced { limits.now.partition ≤ 8 → choice.new.priced ≤ for_each 32 predictors.now samples.now }
+    ensures priced_bound { choice.new.priced ≤ for_each 93 predictors.now samples.now }
     ensures places { vec_len choice.new.codings ≡ vec_len choice.old.codings }
     ensures room { workspace.new ≡ workspace.old }
 {
@@ -219,7 +219,7 @@ pub fn write_subframe_in<W: Target>(
     requires depth { (1 ≤ depth) × (depth ≤ 33) }
     requires fits { All (FitsBits depth) samples.now }
     requires made { IsMadeIn predictors.now choice.now samples.now }
-    ensures text { Writes (subframe_spelling depth (form_in predictors.now choice.now samples.now)) writer.old writer.new result }
+    ensures text { Writes (spelling_in predictors.now choice.now depth samples.now) writer.old writer.new result }
     ensures room { workspace.new ≡ workspace.old }
 {
     write_chosen(

@@ -3,7 +3,7 @@
 ghost use Rattle.std.specs.Prelude.{◌≡◌, ◌<◌, ◌≤◌, length, All};
 ghost use Rattle.flac_bits.specs.Signed.{FitsBits};
 ghost use Rattle.flac_bits.specs.Written.{Writes};
-ghost use Rattle.flac_subframe.specs.search.Choices.{form_of, form_with, IsMadeOf, IsMadeWith};
+ghost use Rattle.flac_subframe.specs.search.Choices.{form_of, IsMadeOf, IsMadeWith, spelling_with};
 ghost use Rattle.flac_subframe.specs.format.Spelling.{subframe_spelling};
 
 use crate::format::linear::LinearPredictor;
@@ -56,7 +56,7 @@ pub fn write_subframe_with<W: Target>(
     requires depth { (1 ≤ depth) × (depth ≤ 33) }
     requires fits { All (FitsBits depth) samples.now }
     requires made { IsMadeWith predictors.now choice.now samples.now }
-    ensures { Writes (subframe_spelling depth (form_with predictors.now choice.now samples.now)) bits.old bits.new result }
+    ensures { Writes (spelling_with predictors.now choice.now depth samples.now) bits.old bits.new result }
 {
     let mut places: [i64; 2 * MOST_SAMPLES + APART] = filled(0);
     write_chosen(

@@ -1,6 +1,6 @@
 -- The tie of a subframe's header, and of the whole.
 use Rattle.std.proofs.Common.{◌≡◌, ℕ, zero, suc, ◌+◌, ◌-◌, ◌^◌, ◌≤◌, ◌<◌, refl, sym, subst, arith, Bool, true, false, List, [], ◌++◌, length, Option, Some, None, nat_lt, nat_eq, eq-eqb, ◌&&◌, ◌||◌, inl, inr}
-use Rattle.std.proofs.lemmas.Bool.{lt-ltb, le-ltb, ltb-true, ltb-false, eqb-true, eqb-false, false≢true, cases_lt}
+use Rattle.std.proofs.lemmas.Bool.{lt-ltb, le-ltb, ltb-true, ltb-false, eqb-true, eqb-false, false≢true, cases_lt, not-false, not_from_true}
 use Rattle.std.proofs.lemmas.List.{append-nil}
 use Rattle.flac_bits.specs.Bits.{unsigned}
 use Rattle.flac_bits.specs.State.{Mark, past}
@@ -13,7 +13,7 @@ use Rattle.flac_bits.proofs.Ties.{ForEach, ForSome, tie, each_tied, some_tied, c
 use Rattle.flac_subframe.specs.declared.format.limits.Limits.{Limits}
 use Rattle.flac_subframe.specs.format.Subframe.{Content, Constant, Verbatim, Fixed, Linear, Header, is_reserved, predictor_order, linear_order, content, one_more, wasted_bits, header, subframe}
 use Rattle.flac_subframe.specs.format.Spelling.{content_spelling, type_of, flag_of, wasted_spelling, header_spelling, subframe_spelling, MayHold, IsSubframe}
-use Rattle.flac_subframe.proofs.lemmas.format.SubframeTie.{Holds, each_constant, each_verbatim, each_fixed, each_linear, some_content, not_false, not_true}
+use Rattle.flac_subframe.proofs.lemmas.format.SubframeTie.{Holds, each_constant, each_verbatim, each_fixed, each_linear, some_content}
 
 -- ---- tests
 
@@ -106,7 +106,7 @@ module _ (depth block : ℕ) (limits : Limits) (some : 1 ≤ depth) (m : Mark) w
       let is_zero : z ≡ 0 = omega (arith, zero_small, eqb-false z 1 first.0) in
       each_wasted depth some _ flag (λ text k. IsHeader depth block limits (record { kind = kind; wasted = k }) × (unsigned 1 z ++ (unsigned 6 kind ++ (unsigned 1 flag ++ text)) ≡ header_spelling kind k)) flag_few second.1
       (λ k e lt. (
-        record { kind = kind_is kind few second.0; allowed = ltb-false limits.linear (linear_order kind) kept.1.0; room = ltb-true (predictor_order kind) block (not_false (nat_lt (predictor_order kind) block) kept.1.1.0); left = lt },
+        record { kind = kind_is kind few second.0; allowed = ltb-false limits.linear (linear_order kind) kept.1.0; room = ltb-true (predictor_order kind) block (not-false (nat_lt (predictor_order kind) block) kept.1.1.0); left = lt },
         rw (is_zero, ← e) refl,
       )))
       (λ h v. (
@@ -121,7 +121,7 @@ module _ (depth block : ℕ) (limits : Limits) (some : 1 ≤ depth) (m : Mark) w
             (
               (
                 or_both (nat_eq 0 1) (is_reserved h.kind || (nat_eq (flag_of h.wasted) 1 && nat_lt depth 2)) refl (or_both (is_reserved h.kind) _ (not_reserved h.kind v.kind.eight v.kind.later) (flag_deep h.wasted depth v.left)),
-                (le-ltb limits.linear (linear_order h.kind) v.allowed, (not_true (nat_lt (predictor_order h.kind) block) (lt-ltb (predictor_order h.kind) block v.room), tt)),
+                (le-ltb limits.linear (linear_order h.kind) v.allowed, (not_from_true (nat_lt (predictor_order h.kind) block) (lt-ltb (predictor_order h.kind) block v.room), tt)),
               ),
               some_wasted depth some _ h.wasted _ v.left (refl, refl),
             ),

@@ -1,6 +1,6 @@
 -- The tie of a subframe.
-use Rattle.std.proofs.Common.{◌≡◌, ℕ, ◌+◌, ◌-◌, ◌/◌, ◌^◌, ◌≤◌, ◌<◌, refl, sym, arith, Bool, true, false, List, [], ◌∷◌, length, flat_map, nat_lt, nat_eq, not}
-use Rattle.std.proofs.lemmas.Bool.{lt-ltb, le-ltb, ltb-false, eqb-false, false≢true}
+use Rattle.std.proofs.Common.{◌≡◌, ℕ, ◌+◌, ◌-◌, ◌/◌, ◌^◌, ◌≤◌, ◌<◌, refl, arith, Bool, true, List, [], ◌∷◌, length, flat_map, nat_lt, nat_eq}
+use Rattle.std.proofs.lemmas.Bool.{lt-ltb, le-ltb, ltb-false, eqb-false, not-false, not_from_true}
 use Rattle.std.proofs.lemmas.List.{append-nil}
 use Rattle.flac_bits.specs.Bits.{unsigned}
 use Rattle.flac_bits.specs.State.{Mark}
@@ -16,13 +16,6 @@ use Rattle.flac_subframe.specs.format.Spelling.{partition_spelling, residual_spe
 use Rattle.flac_subframe.proofs.lemmas.format.FieldTies.{signed_tie, list_tie, Many}
 use Rattle.flac_subframe.proofs.lemmas.format.RiceTies.{Parts, partitions_tie, eqb-ne}
 
-pub not_false : (b : Bool) → not b ≡ false → b ≡ true
-not_false true e = refl
-not_false false e = absurd (false≢true (sym e))
-
-pub not_true : (b : Bool) → b ≡ true → not b ≡ false
-not_true b e = rw e refl
-
 -- ---- the residual
 
 abbrev IsHeaderOf : ℕ → ℕ → ℕ → ℕ × ℕ → Type 0
@@ -35,8 +28,8 @@ module _ (limit order block : ℕ) (m : Mark) where
   method_tie : Ties (residual_header limit order block) m (IsHeaderOf limit order block) method_spelling
   unfolding residual_header
   method_tie = tie (residual_header limit order block) m (IsHeaderOf limit order block) method_spelling
-      (λ method small kept partition_order field allowed. ((omega (arith, ltb-false 1 method kept.0), field, ltb-false limit partition_order allowed.0, not_false (can_halve block partition_order order) allowed.1.0), refl))
-      (λ h v. (h.0, omega (arith, v.0), ((le-ltb 1 h.0 (omega (arith, v.0)), tt), (h.1, v.1, ((le-ltb limit h.1 v.2, (not_true (can_halve block h.1 order) v.3, tt)), (refl, refl))))))
+      (λ method small kept partition_order field allowed. ((omega (arith, ltb-false 1 method kept.0), field, ltb-false limit partition_order allowed.0, not-false (can_halve block partition_order order) allowed.1.0), refl))
+      (λ h v. (h.0, omega (arith, v.0), ((le-ltb 1 h.0 (omega (arith, v.0)), tt), (h.1, v.1, ((le-ltb limit h.1 v.2, (not_from_true (can_halve block h.1 order) v.3, tt)), (refl, refl))))))
 
   pub residual_tie : Ties (residual limit order block) m (MayLeave limit order block) residual_spelling
   unfolding residual residual_spelling

@@ -4,14 +4,14 @@ use Rattle.std.specs.Int.{int_shr}
 use Rattle.flac_subframe.specs.declared.format.coding_method.CodingMethod.{CodingMethod}
 use Rattle.flac_subframe.specs.declared.format.content.ChoiceView.{ChoiceView}
 use Rattle.flac_subframe.specs.declared.format.linear.LinearPredictor.{LinearPredictor}
-use Rattle.flac_subframe.specs.format.Bodies.{Body, Chooses, Predicts, coefficients_of, cut, differences, order_of, residual_of, shift_of}
-use Rattle.flac_subframe.specs.format.Chosen.{body_as, body_under}
+use Rattle.flac_subframe.specs.format.Bodies.{Body, Chooses, Predicts, StandsFor, coefficients_of, cut, differences, order_of, residual_of, shift_of, spelled}
+use Rattle.flac_subframe.specs.format.Chosen.{body_as, body_under, offered}
 use Rattle.flac_subframe.specs.format.Cost.{coding_of, parameter_bits_of}
 use Rattle.flac_subframe.specs.format.Family.{form_as}
-use Rattle.flac_subframe.specs.format.Handed.{coefficients_in, handed}
+use Rattle.flac_subframe.specs.format.Handed.{coefficients_in, handed, predictor_of}
 use Rattle.flac_subframe.specs.format.Numbers.{sample_at}
 use Rattle.flac_subframe.specs.format.Residual.{Residual}
-use Rattle.flac_subframe.specs.format.Spelling.{partition_spelling, predictor_spelling, residual_spelling}
+use Rattle.flac_subframe.specs.format.Spelling.{partition_spelling, predictor_spelling, residual_spelling, subframe_spelling}
 use Rattle.flac_subframe.specs.format.Subframe.{Form}
 use Rattle.flac_subframe.specs.format.inner.Cost.{codings_lent}
 
@@ -40,6 +40,20 @@ body_chosen ps choice s = body_as ps choice.form.content (codings_lent choice) s
 
 abbrev pub form_chosen : List LinearPredictor → ChoiceView → List ℤ → Form
 form_chosen ps choice s = form_as ps choice.form choice.codings.now s
+
+-- what is written: the content of a linear predictor, that of the choice, and a whole subframe
+abbrev pub linear_spelled : ℕ → LinearPredictor → ChoiceView → List ℤ → List Bool
+linear_spelled depth p choice s = spelled depth (body_lent (predictor_of p) choice s)
+
+abbrev pub content_chosen : ℕ → List LinearPredictor → ChoiceView → List ℤ → List Bool
+content_chosen depth ps choice s = spelled depth (body_chosen ps choice s)
+
+abbrev pub subframe_chosen : ℕ → List LinearPredictor → ChoiceView → List ℤ → List Bool
+subframe_chosen depth ps choice s = subframe_spelling depth (form_chosen ps choice s)
+
+-- the body of the choice encodes the samples
+abbrev pub CanEncode : List LinearPredictor → ChoiceView → List ℤ → Type 0
+CanEncode ps choice s = StandsFor 15 (offered ps) (body_chosen ps choice s) s
 
 -- each sample is twice its half
 abbrev pub AreEven : List ℤ → Type 0

@@ -9,7 +9,7 @@ use Rattle.flac_subframe.specs.declared.format.content.ContentKind.{ContentKind}
 use Rattle.flac_subframe.specs.declared.search.choice.Best.{Best}
 use Rattle.flac_subframe.specs.declared.format.linear.LinearPredictor.{LinearPredictor}
 use Rattle.flac_subframe.specs.format.Bodies.{Chooses, coefficients_of, shift_of, differences, StandsFor, spelled}
-use Rattle.flac_subframe.specs.format.Chosen.{body_as, HasPredictor}
+use Rattle.flac_subframe.specs.format.Chosen.{body_as, fixed_below, HasPredictor}
 
 -- the residual of a predictor
 abbrev pub residual_by : Chooses → List ℤ → List ℤ
@@ -31,6 +31,10 @@ pub record IsBest (handed : List LinearPredictor) (most bits : ℕ) (s : List �
   pub least : IsLeast (λ b. StandsFor most tried b s) (λ b. length (spelled bits b)) (body_as handed w.content w.codings s)
   pub priced : w.bits ≡ length (spelled bits (body_as handed w.content w.codings s))
   pub small : w.bits ≤ 2 ^ 60
+
+-- the best before a predictor was tried, whatever the list and the bytes of codings
+abbrev pub IsBestOfNone : ℕ → List ℤ → Best → Type 0
+IsBestOfNone bits s best = (handed : List LinearPredictor) (most : ℕ) (codings : List ℕ) → IsBest handed most bits s (fixed_below 0) (way_of best codings)
 
 -- codings are the shortest for the residual of a predictor, and take n bits
 pub record IsLeastOf (most : ℕ) (cs : List ℤ) (shift : ℕ) (s : List ℤ) (f : Codings) (n : ℕ) : Type 0 where

@@ -26,7 +26,7 @@ use Rattle.flac_subframe.specs.search.inner.Chosen.{IsBest, residual_by, way_of}
 use Rattle.flac_subframe.specs.search.inner.Entry.{entry_number}
 use Rattle.flac_subframe.specs.search.inner.Least.{IsLeastCost}
 use Rattle.flac_subframe.specs.search.inner.Halves.{HasEntries, HasWidths, IsWidth, entry, part}
-use Rattle.flac_subframe.specs.search.Choices.{IsMadeIn, IsShortest, form_in}
+use Rattle.flac_subframe.specs.search.Choices.{IsMadeIn, IsShortest, for_each, form_in}
 
 -- ---- the residual
 
@@ -62,6 +62,10 @@ TakesAtLeastAt r p n = (f : Codings) → MayHave r f → f.partition_order ≡ p
 
 abbrev pub TakesAtLeastAbove : ResidualView → ℕ → ℕ → Type 0
 TakesAtLeastAbove r p n = (f : Codings) → MayHave r f → p < f.partition_order → n ≤ bits_under r f
+
+-- n bits of the values take at least, at the finest order, with 6 of the header and 4 of each parameter
+abbrev pub TakesAtLeastFinest : ResidualView → ℕ → Type 0
+TakesAtLeastFinest r n = TakesAtLeastAt r r.partition_order (n + (6 + 4 * 2 ^ r.partition_order))
 
 -- the codings of a form are the shortest of its method and partition order
 abbrev pub IsShortestAt : ResidualView → ResidualForm → List ℕ → Type 0
@@ -147,6 +151,10 @@ NoneIsLess k sums best = (j : ℕ) → j < length best → slice_index best j �
 abbrev pub ArePairSums : ℕ → List ℕ → List ℕ → Type 0
 ArePairSums n old new = (j : ℕ) → j < n → slice_index new j ≡ slice_index old (2 * j) + slice_index old (2 * j + 1)
 
+-- how many were priced if n are for each value
+abbrev pub priced_after : ℕ → ResidualView → Tables → ℕ
+priced_after n r t = t.priced + n * length r.values.now
+
 -- ---- the samples
 
 -- the residual of a predictor of an order, at the front of an array; the codings of a form and their bits
@@ -181,9 +189,13 @@ IsBestOf v tried best bytes = IsBest v.predictors.now v.most v.bits v.samples.no
 abbrev pub GoesOnWith : SampleView → PredictorKind → Best → Tables → Best → Tables → Type 0
 GoesOnWith v kind old before new after = (tried : List Chooses) → IsBestOf v tried old before.codings.now → IsBestOf v (tried ++ named v kind ∷ []) new after.codings.now
 
--- n for each sample and predictor
-abbrev pub for_each : ℕ → List LinearPredictor → List ℤ → ℕ
-for_each n ps s = (5 + length ps) * (n * length s)
+-- the partition order stays within a limit
+abbrev pub StaysWithin : ℕ → Best → Best → Type 0
+StaysWithin most old new = old.residual.partition_order ≤ most → new.residual.partition_order ≤ most
+
+-- n for each sample, and for each sample and predictor
+abbrev pub for_samples : ℕ → SampleView → ℕ
+for_samples n v = n * length v.samples.now
 
 abbrev pub for_each_of : ℕ → SampleView → ℕ
 for_each_of n v = for_each n v.predictors.now v.samples.now

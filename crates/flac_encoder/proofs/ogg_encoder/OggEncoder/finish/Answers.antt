@@ -5,25 +5,10 @@ use Rattle.flac_bits.specs.declared.target.Target as target
 use Rattle.flac_bits.proofs.Holding.{bits_of-append}
 use Rattle.flac_native.specs.declared.fault.EncodeFault.{EncodeFault}
 use Rattle.flac_native.specs.declared.fault.EncodeFault.TheVariants as fault
+use Rattle.flac_native.proofs.EncodeFaults.{done_fails, failed, same_fault, write_spent}
 use Rattle.flac_encoder.specs.Pushing.{FailsIn}
 use Rattle.flac_encoder.specs.PushingOgg.{PushedOgg, EndsOgg}
 use Rattle.flac_encoder.proofs.ogg_encoder.OggEncoder.finish.Goals as goal
-
-abbrev done : {X : Type 0} → X → Result X EncodeFault
-done x = Ok x
-
-abbrev failed : {X : Type 0} → EncodeFault → Result X EncodeFault
-failed e = Err e
-
--- which fault is told
-same_fault : {X : Type 0} (e f : EncodeFault) → failed {X = X} e ≡ failed f → e ≡ f
-same_fault e f is = cc
-
-done_fails : {X : Type 0} (x : X) (e : EncodeFault) → done x ≡ failed e → ⊥
-done_fails x e is = absurd cc
-
-write_spent : fault.Write ≡ fault.Spent → ⊥
-write_spent e = absurd cc
 
 -- the encoder is not spent
 not_spent : (found spent : Bool) → found ≡ spent → found ≡ false → spent ≡ true → ⊥

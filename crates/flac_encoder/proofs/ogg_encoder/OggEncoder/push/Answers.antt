@@ -5,7 +5,7 @@ use Rattle.flac_bits.specs.Bits.{bits_of}
 use Rattle.flac_frame.specs.Audio.{samples_each}
 use Rattle.flac_encoder.specs.Pushing.{Pushed, after_block, spent_with, with_target, sound_of, frame_with, push_fault, IsFirst}
 use Rattle.flac_native.specs.Writing.{SpellsFrame, SpellsLeast}
-use Rattle.flac_native.specs.declared.fault.EncodeFault.TheVariants as fault
+use Rattle.flac_native.proofs.EncodeFaults.{memory_write}
 use Rattle.flac_encoder.proofs.Pushing.{accepted, same_fault, fault_seen}
 use Rattle.flac_pages.specs.Written.{packet_spelling}
 use Rattle.flac_pages.specs.declared.writing.PacketKind.TheVariants.{Frame}
@@ -15,9 +15,6 @@ use Rattle.flac_encoder.proofs.ogg_encoder.OggEncoder.push.Goals as goal
 
 abbrev with_held : {S : Type 0} → Pushed ⊤ → S → ℕ → ℕ → List ℕ → List ℕ → PushedOgg S
 with_held b t serial sequence middle last = record { pushed = with_target b t; serial = serial; sequence = sequence; middle = middle; last = last }
-
-memory_write : fault.Memory ≡ fault.Write → ⊥
-memory_write e = absurd cc
 
 pub overflow_add-end : goal.overflow_add-end
 overflow_add-end g c =

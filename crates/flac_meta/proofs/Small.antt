@@ -1,7 +1,0 @@
--- Bytes by their places.
-use Rattle.std.proofs.Common.{ℕ, suc, ◌<◌, ◌^◌, List, [], ◌∷◌, length, get_or, arith}
-use Rattle.flac_bits.specs.Forms.{AreBytes}
-
-pub are_bytes : (xs : List ℕ) → ((k : ℕ) → k < length xs → get_or xs k 0 < 2 ^ 8) → AreBytes xs
-are_bytes [] small = tt
-are_bytes (x ∷ xs) small = (small 0 (omega arith), are_bytes xs (λ k within. small (suc k) (omega arith)))

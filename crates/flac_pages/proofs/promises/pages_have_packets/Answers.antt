@@ -1,5 +1,0 @@
-use Rattle.flac_pages.proofs.Cut.{pages_have_packets}
-use Rattle.flac_pages.proofs.promises.pages_have_packets.Goals as goal
-
-pub returns : goal.returns
-returns c = pages_have_packets
