@@ -5,9 +5,10 @@ usage: conformance/checks/search.py [--quick] [--only TEXT]
        conformance/checks/search.py --sizes [--turns N] [NAME..]
 
 Each file is read by `flac -t`, by ffmpeg and by the program, and has the samples. The model, search_model.c, takes from each frame the
-predictors that its subframes name, and counts the bits of each coding of the family over these: each subframe has the bits that are
-counted, none is shorter, and the channel code is the first of the shortest. No frame is longer than without `--search`, nor than with
-less of it; in Ogg the frames are the same. Files of `flac -8` are counted too, so that the model is tried by another encoder.
+predictors that its subframes name, each for its plane, and counts the bits of each coding of the family over these: each subframe has the
+bits that are counted, none of its plane is shorter, and the channel code is the first of the shortest. No frame is longer than without
+`--search`, nor than with less of it; in Ogg the frames are the same. Files of `flac -8` are counted too, so that the model is tried by
+another encoder.
 
 With --sizes: bytes and processor time of whole files beside `flac -5` and `-8`, each the least of N turns (default 3), of made sounds and
 of those of Debian packages, which are downloaded once into SOUNDS (default /tmp/flac-search); with NAMEs those whose name has one of them.

@@ -2,9 +2,10 @@
 
    usage: search_model FILE GREATEST_PARTITION_ORDER
 
-   The family is that of docs/definitions.md: constant, verbatim and fixed predictors, and the linear predictors that the subframes of the
-   same frame name; every partition order up to the greatest, both residual methods, every Rice parameter and escape, as many wasted bits as
-   all samples lack; and, of two channels, left, right, side and mid as RFC 9639 (section 4.2) allows them. It shares no code with the program,
+   The family is that of docs/definitions.md: constant, verbatim and fixed predictors, and for each plane (left, right, side and middle of two
+   channels, else each channel) the linear predictor that its subframe of the same frame names, if it is stored; every partition order up to the
+   greatest, both residual methods, every Rice parameter and escape, as many wasted bits as all samples lack; and, of two channels, left, right,
+   side and middle as RFC 9639 (section 4.2) allows them. A plane's predictor is counted for no other plane. It shares no code with the program,
    nor with predictors/cost.c, and trusts the stream: others test whether it is one.
 
    A line for each frame: number, block size, channel code, bits of the subframes, the fewest bits, the smallest channel code that takes
@@ -18,7 +19,7 @@
 #define NONE (UINT64_MAX / 4)
 
 struct predictor {
-    unsigned linear, order, precision, shift;
+    unsigned linear, order, precision, shift, plane;
     int64_t coefficients[32];
 };
 
@@ -28,7 +29,7 @@ struct part {
 };
 
 static const struct predictor FIXED[5] = {
-    {0, 0, 0, 0, {0}}, {0, 1, 0, 0, {1}}, {0, 2, 0, 0, {2, -1}}, {0, 3, 0, 0, {3, -3, 1}}, {0, 4, 0, 0, {4, -6, 4, -1}},
+    {0, 0, 0, 0, 0, {0}}, {0, 1, 0, 0, 0, {1}}, {0, 2, 0, 0, 0, {2, -1}}, {0, 3, 0, 0, 0, {3, -3, 1}}, {0, 4, 0, 0, 0, {4, -6, 4, -1}},
 };
 
 static const uint8_t *data;
@@ -148,8 +149,11 @@ static unsigned wasted_bits(const int64_t *samples, size_t size) {
     return n;
 }
 
-/* The fewest bits of a subframe. */
-static uint64_t least_cost(const int64_t *given, size_t size, unsigned depth, unsigned greatest, const struct predictor *more, size_t count) {
+static struct predictor named[8];
+static size_t names;
+
+/* The fewest bits of the subframe of a plane. */
+static uint64_t least_cost(const int64_t *given, unsigned plane, size_t size, unsigned depth, unsigned greatest) {
     static int64_t samples[MOST];
     unsigned wasted = wasted_bits(given, size), equal = 1;
     for (size_t i = 0; i < size; i++) {
@@ -159,17 +163,15 @@ static uint64_t least_cost(const int64_t *given, size_t size, unsigned depth, un
     depth -= wasted;
     uint64_t best = size * (uint64_t)depth;
     if (equal) best = depth;
-    for (size_t i = 0; i < 5 + count; i++) {
-        uint64_t cost = predicted_cost(i < 5 ? &FIXED[i] : &more[i - 5], samples, size, depth, greatest);
+    for (size_t i = 0; i < 5 + names; i++) {
+        if (i >= 5 && named[i - 5].plane != plane) continue;
+        uint64_t cost = predicted_cost(i < 5 ? &FIXED[i] : &named[i - 5], samples, size, depth, greatest);
         if (cost < best) best = cost;
     }
     return 8 + wasted + best;
 }
 
 /* ---- reading */
-
-static struct predictor named[8];
-static size_t names;
 
 /* Reads a residual, and returns the bits that the counting above gives to its own codings. */
 static uint64_t read_residual(int64_t *values, size_t size, unsigned order) {
@@ -195,8 +197,8 @@ static uint64_t read_residual(int64_t *values, size_t size, unsigned order) {
     return cost;
 }
 
-/* Reads a subframe; returns whether it takes the bits that its own coding is counted to take. */
-static int read_subframe(int64_t *samples, size_t size, unsigned depth) {
+/* Reads the subframe of a plane; returns whether it takes the bits that its own coding is counted to take. */
+static int read_subframe(int64_t *samples, unsigned plane, size_t size, unsigned depth) {
     static int64_t left[MOST];
     size_t start = at;
     unsigned kind = (unsigned)take(7), wasted = take(1) ? (unsigned)unary() + 1 : 0;
@@ -211,7 +213,7 @@ static int read_subframe(int64_t *samples, size_t size, unsigned depth) {
         cost = size * (uint64_t)depth;
     } else {
         if (kind < 8 || (kind > 12 && kind < 32) || kind > 63) stop("no type of a subframe");
-        struct predictor p = kind < 32 ? FIXED[kind - 8] : (struct predictor){1, kind - 31, 0, 0, {0}};
+        struct predictor p = kind < 32 ? FIXED[kind - 8] : (struct predictor){1, kind - 31, 0, 0, plane, {0}};
         for (unsigned i = 0; i < p.order; i++) samples[i] = take_signed(depth);
         if (p.linear) {
             p.precision = (unsigned)take(4) + 1;
@@ -271,9 +273,15 @@ static size_t read_frame_header(unsigned *code, size_t *number) {
     return found;
 }
 
-static int64_t planes[8][MOST]; /* of two channels: left, right, side and mid */
+static int64_t planes[8][MOST]; /* of two channels: left, right, side and middle */
 
-/* Left, right, side and mid, from the two channels that a code stores. */
+/* The plane of a channel under a code. */
+static unsigned plane_of(unsigned code, unsigned channel) {
+    static const unsigned STORED[3][2] = {{0, 2}, {2, 1}, {3, 2}};
+    return code < 8 ? channel : STORED[code - 8][channel];
+}
+
+/* Left, right, side and middle, from the two channels that a code stores. */
 static void part_planes(unsigned code, size_t size) {
     for (size_t i = 0; i < size; i++) {
         int64_t a = planes[0][i], b = planes[1][i], left = a, right = b;
@@ -296,11 +304,11 @@ static void read_frame(struct format format, unsigned greatest) {
     size_t number, size = read_frame_header(&code, &number), start = at;
     names = 0;
     for (unsigned c = 0; c < format.channels; c++)
-        priced &= (unsigned)read_subframe(planes[c], size, format.bits + (c == (code != 9) && code > 7));
+        priced &= (unsigned)read_subframe(planes[c], plane_of(code, c), size, format.bits + (c == (code != 9) && code > 7));
     uint64_t bits = at - start, least = 0, costs[8];
     if (format.channels == 2) part_planes(code, size);
     for (unsigned c = 0; c < (format.channels == 2 ? 4 : format.channels); c++) {
-        costs[c] = least_cost(planes[c], size, format.bits + (format.channels == 2 && c == 2), greatest, named, names);
+        costs[c] = least_cost(planes[c], c, size, format.bits + (format.channels == 2 && c == 2), greatest);
         least += costs[c];
         least_code = c;
     }

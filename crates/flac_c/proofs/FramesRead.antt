@@ -13,7 +13,7 @@ use Rattle.flac_bits.specs.Within.{MeansWithin}
 use Rattle.flac_bits.specs.Reading.{Answers}
 use Rattle.flac_bits.specs.declared.why.Why.{Why}
 use Rattle.flac_bits.specs.declared.why.Why.TheVariants.{Truncated}
-use Rattle.flac_bits.proofs.Laws.{at_}
+use Rattle.flac_bits.proofs.Readings.{at_}
 use Rattle.flac_bits.proofs.Marks.{past-bytes}
 use Rattle.flac_bits.proofs.Meaning.{differ, one_way}
 use Rattle.flac_bits.proofs.Fences.{again_in, takes_in, refuses_in}

@@ -10,7 +10,7 @@ use Rattle.flac_bits.specs.Fence.{InRoom, StopsIn}
 use Rattle.flac_bits.specs.Items.{state_after, mark_after}
 use Rattle.flac_bits.specs.declared.why.Why.{Why}
 use Rattle.flac_bits.specs.declared.why.Why.TheVariants.{Memory}
-use Rattle.flac_bits.proofs.Laws.{at_}
+use Rattle.flac_bits.proofs.Readings.{at_}
 use Rattle.flac_bits.proofs.Meaning.{takes, refuses}
 use Rattle.flac_bits.proofs.Handing.{Joined-append, state_after-append}
 use Rattle.flac_meta.specs.Block.{block as block_layout, seen_after}

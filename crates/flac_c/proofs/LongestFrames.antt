@@ -11,11 +11,11 @@ use Rattle.flac_header.specs.Spelling.{header_spelling}
 use Rattle.flac_header.specs.declared.subset.Profile.{Profile}
 use Rattle.flac_header.specs.declared.subset.Profile.TheVariants.{Subset, Lax}
 use Rattle.flac_subframe.specs.declared.format.limits.Limits.{Limits}
-use Rattle.flac_subframe.specs.declared.format.linear.LinearPredictor.{LinearPredictor}
 use Rattle.flac_subframe.proofs.lemmas.search.Family.{none_within}
 use Rattle.flac_frame.specs.Audio.{Sound, IsSound, samples_each}
-use Rattle.flac_frame.specs.Encoding.{block_of, EachStands, IsEncoding, IsOfFamilyWith, IsLeastWith, partition_limit, subframes_cost}
+use Rattle.flac_frame.specs.Encoding.{block_of, EachStandsByPlane, IsEncoding, IsOfPlanes, IsLeastByPlane, partition_limit, subframes_cost}
 use Rattle.flac_frame.specs.Frame.{limits_at}
+use Rattle.flac_frame.specs.PlaneLists.{Lists, lists_kept}
 use Rattle.flac_frame.specs.Spelling.{FrameForm, frame_spelling, subframes_spelling, HaveSamples}
 use Rattle.flac_frame.proofs.Encoded.{is_block}
 use Rattle.flac_frame.proofs.Family.{coded_as, kept_same}
@@ -24,7 +24,7 @@ use Rattle.flac_frame.proofs.Short.{whole_long}
 use Rattle.flac_frame.proofs.Sounds.{depth_small}
 use Rattle.flac_frame.proofs.Wholes.{texts_are, subframes_are, samples_are, as_many, not_joined, all_fit_in}
 use Rattle.flac_native.specs.Given.{Cut, tried, blocks_in, size_of, frame_of}
-use Rattle.flac_native.specs.Writing.{AreFrames, AreLeastFrames, SpellsLeast}
+use Rattle.flac_native.specs.Writing.{AreFrames, AreLeastFrames, SpellsLeastByPlane}
 use Rattle.flac_native.proofs.Encoded.{least_part}
 use Rattle.flac_native.proofs.Planned.{either_false}
 use Rattle.flac_c.proofs.Verbatims.{Plain, plain_block}
@@ -79,12 +79,12 @@ limit_some Lax rate = omega arith
 as_coded : (code : ℕ) → code ≤ 7 → channels_of code ≡ code + 1
 as_coded code few = let a : nat_lt code 8 ≡ true = grind (arith, nat_tests) in rw a refl
 
-module _ (predictors : List LinearPredictor) (sound : Sound) (size number : ℕ) (block : List (List ℤ)) (f : FrameForm) (deep : 1 ≤ sound.bits) (some : 1 ≤ size) (one : 1 ≤ length block) (few : length block ≤ 8)
-    (long : All (λ s. length s ≡ size) block) (fits : All (λ s. All (FitsBits sound.bits) s) block) (least : IsLeastWith predictors sound size number block f) where
+module _ (lists : Lists) (sound : Sound) (size number : ℕ) (block : List (List ℤ)) (f : FrameForm) (deep : 1 ≤ sound.bits) (some : 1 ≤ size) (one : 1 ≤ length block) (few : length block ≤ 8)
+    (long : All (λ s. length s ≡ size) block) (fits : All (λ s. All (FitsBits sound.bits) s) block) (least : IsLeastByPlane lists sound size number block f) where
   plain : Plain sound.bits size block
   plain = plain_block sound.bits size deep some block long fits
 
-  plain_cost : (c : ℕ) → c + 1 ≡ length block → (g : FrameForm) → g ≡ record { header = record f.header { channel_code = c }; subframes = plain.forms } → IsOfFamilyWith predictors sound size number block g × (subframes_cost sound.bits g ≤ length block * (8 + sound.bits * size))
+  plain_cost : (c : ℕ) → c + 1 ≡ length block → (g : FrameForm) → g ≡ record { header = record f.header { channel_code = c }; subframes = plain.forms } → IsOfPlanes lists sound size number block g × (subframes_cost sound.bits g ≤ length block * (8 + sound.bits * size))
   plain_cost c each g is =
       let depth : ℕ = sound.bits in
       let low : c ≤ 7 = omega (arith, each, few) in
@@ -105,7 +105,7 @@ module _ (predictors : List LinearPredictor) (sound : Sound) (size number : ℕ)
         subframes = subframes_are depth c size low 8 [] limits (limit_some sound.profile sound.rate) (none_within limits.linear) 0 plain.forms block plain.are;
         samples = record { kept = block; subframes = have; joined = not_joined depth c size low block; fit = all_fit_in depth c size low block fits };
       } in
-      rw is (record { encoding = encoding; stand = subst (EachStands (partition_limit sound) predictors plain.forms) (sym (kept_same c block low)) (plain.stand (partition_limit sound) predictors) }, cost)
+      rw is (record { encoding = encoding; stand = subst (EachStandsByPlane (partition_limit sound) (lists_kept c lists) plain.forms) (sym (kept_same c block low)) (plain.stand (partition_limit sound) (lists_kept c lists)) }, cost)
 
   pub least_cost : subframes_cost sound.bits f ≤ length block * (8 + sound.bits * size)
   least_cost =
@@ -128,7 +128,7 @@ module _ (p : Cut) (a : Sound) (good : IsSound a) (some : 16 ≤ p.block_size) w
   abbrev total : ℕ
   total = samples_each a.channels
 
-  one_long : (number : ℕ) (text : List Bool) → number < blocks_in p.block_size total → SpellsLeast (tried p number) a (frame_of p.block_size a number) text
+  one_long : (number : ℕ) (text : List Bool) → number < blocks_in p.block_size total → SpellsLeastByPlane (tried p number) a (frame_of p.block_size a number) text
       → length text ≤ 151 + length a.channels * (8 + a.bits * size_of p.block_size total number)
   one_long number text lt spells =
       let start : ℕ = p.block_size * number in

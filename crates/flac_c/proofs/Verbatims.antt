@@ -20,7 +20,8 @@ use Rattle.flac_subframe.proofs.lemmas.search.Family.{wasted_less, may_stand}
 use Rattle.flac_subframe.proofs.lemmas.search.Lengths.{length-samples}
 use Rattle.flac_subframe.proofs.lemmas.format.Powers.{half_low, times_more, all_times, even, none_wasted, silent}
 use Rattle.flac_subframe.proofs.lemmas.search.WholeLeast.{length-subframe}
-use Rattle.flac_frame.specs.Encoding.{EachStands}
+use Rattle.flac_frame.specs.Encoding.{EachStandsByPlane}
+use Rattle.flac_frame.specs.PlaneLists.{Lists, later}
 use Rattle.flac_frame.specs.inner.Encoding.{AreForms}
 
 -- ---- whether all samples are even
@@ -146,14 +147,14 @@ verbatim_few depth deep s fits some =
 pub record Plain (depth size : ℕ) (block : List (List ℤ)) : Type 0 where
   pub forms : List Form
   pub are : AreForms 8 [] depth size forms block
-  pub stand : (most : ℕ) (ps : List LinearPredictor) → EachStands most ps forms block
+  pub stand : (most : ℕ) (lists : Lists) → EachStandsByPlane most lists forms block
   pub few : length (flat_map (subframe_spelling depth) forms) ≤ length block * (8 + depth * size)
 
 one_more : (n m a b c : ℕ) → c ≡ a + b → a ≤ m → b ≤ n * m → c ≤ suc n * m
 one_more n m a b c e h k = omega (arith, e, h, k)
 
 pub plain_block : (depth size : ℕ) → 1 ≤ depth → 1 ≤ size → (block : List (List ℤ)) → All (λ s. length s ≡ size) block → All (λ s. All (FitsBits depth) s) block → Plain depth size block
-plain_block depth size deep some [] long fits = record { forms = []; are = tt; stand = λ most ps. tt; few = omega arith }
+plain_block depth size deep some [] long fits = record { forms = []; are = tt; stand = λ most lists. tt; few = omega arith }
 plain_block depth size deep some (s ∷ ss) long fits =
     let here : length s ≡ size = All-head (λ s. length s ≡ size) s ss long in
     let fit : All (FitsBits depth) s = All-head (λ s. All (FitsBits depth) s) s ss fits in
@@ -167,6 +168,6 @@ plain_block depth size deep some (s ∷ ss) long fits =
     record {
       forms = f ∷ rest.forms;
       are = (λ limits enough within. valid limits enough, samples, rest.are);
-      stand = λ most ps. (verbatim_stands depth deep s fit most ps, rest.stand most ps);
+      stand = λ most lists. (verbatim_stands depth deep s fit most (lists 0), rest.stand most (later lists));
       few = one_more (length ss) (8 + depth * size) _ _ _ (length-append (subframe_spelling depth f) (flat_map (subframe_spelling depth) rest.forms)) few rest.few;
     }

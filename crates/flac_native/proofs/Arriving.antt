@@ -9,7 +9,7 @@ use Rattle.flac_bits.specs.Handing.{reason_of}
 use Rattle.flac_bits.specs.inner.Handing.{StepIs}
 use Rattle.flac_bits.specs.declared.why.Why.{Why}
 use Rattle.flac_bits.specs.declared.why.Why.TheVariants.{Memory}
-use Rattle.flac_bits.proofs.Laws.{at_}
+use Rattle.flac_bits.proofs.Readings.{at_}
 use Rattle.flac_bits.proofs.Items.{final, spelled_step, over_step, stops_step}
 use Rattle.flac_native.specs.Stream.{Piece, Progress, grammar, next}
 use Rattle.flac_native.specs.Item.{fault_pair}

@@ -21,8 +21,8 @@ use Rattle.flac_frame.specs.Frame.{Frame}
 use Rattle.flac_native.specs.Stream.{Piece, marked, block, framed, Progress, Stand, grammar, opening, next, layout, layout_in, marker}
 use Rattle.flac_native.specs.Given.{closing}
 use Rattle.flac_native.specs.Track.{is_after_blocks}
-use Rattle.flac_native.specs.Retag.{unless_comment, without_comments}
-use Rattle.flac_native.specs.inner.Retag.{AreKept, keeps}
+use Rattle.flac_native.specs.Retag.{AreRead, unless_comment, without_comments}
+use Rattle.flac_native.specs.inner.Retag.{AreKept, kept_one, kept_of, keeps}
 use Rattle.flac_native.specs.declared.track.Phase.{Phase}
 use Rattle.flac_native.specs.declared.track.Phase.TheVariants.{Opening, Blocks, Frames}
 use Rattle.flac_native.proofs.WholeBytes.{Whole, content_whole, header_long, length-joined}
@@ -61,8 +61,21 @@ marker_there s m text x phase h = marker_at s m text x (subst (λ k. Spells (lay
 pub frame_at : (s : Stand) (m : Mark) (text : List Bool) (x : Piece) → Spells (layout_in Frames s) m text x → (f : Frame) × (x ≡ framed f)
 frame_at s m text x (f, front, rest, split, spelled, (none, same)) = (f, sym same)
 
-no_frame_there : (old new : List Block) (x : Piece) (f : Frame) → x ≡ framed f → keeps old x new → ⊥
-no_frame_there old new x f e k = subst (λ y. keeps old y new) e k
+no_frame_there : (all : Bool) (old new : List Block) (x : Piece) (f : Frame) → x ≡ framed f → keeps all old x new → ⊥
+no_frame_there all old new x f e k = subst (λ y. keeps all old y new) e k
+
+-- which blocks are kept, one after another
+kept_more : (all : Bool) (b : Block) (bs : List Block) → kept_one all b ++ kept_of all bs ≡ kept_of all (b ∷ bs)
+kept_more true b bs = refl
+kept_more false b bs = refl
+
+kept_last : (all : Bool) (b : Block) → kept_of all (b ∷ []) ≡ kept_one all b
+kept_last true b = refl
+kept_last false b = append-nil (unless_comment b)
+
+kept_first : (all : Bool) (info : Info) (bs : List Block) → kept_of all (block_of.StreamInfo info ∷ bs) ≡ block_of.StreamInfo info ∷ kept_of all bs
+kept_first true info bs = refl
+kept_first false info bs = refl
 
 -- ---- in whole bytes
 
@@ -82,66 +95,66 @@ block_long last b text (content, spelled, is) =
     record { bytes = omega (arith, ap (λ (k : List Bool). length k) is, length-joined (s.header_spelling last (s.kind_of b) (s.length_of b) ∷ content ∷ []), header_long last (s.kind_of b) (s.length_of b), whole.bytes) }
 
 -- a part that is no frame
-part_whole : (s : Stand) (m : Mark) (text : List Bool) (x : Piece) (old new : List Block) → keeps old x new → Spells (layout s) m text x → Whole text
+part_whole : (all : Bool) (s : Stand) (m : Mark) (text : List Bool) (x : Piece) (old new : List Block) → keeps all old x new → Spells (layout s) m text x → Whole text
 unfolding layout
-part_whole s m text x old new kept h = go s.phase h
+part_whole all s m text x old new kept h = go s.phase h
   where
     go : (k : Phase) → Spells (layout_in k s) m text x → Whole text
     go Opening h = let e = (marker_at s m text x h).1 in record { bytes = omega (arith, e) }
     go Blocks h = let t = there s m text x h in block_long t.last t.is text t.spelled
-    go Frames h = let f = frame_at s m text x h in absurd (no_frame_there old new x f.0 f.1 kept)
+    go Frames h = let f = frame_at s m text x h in absurd (no_frame_there all old new x f.0 f.1 kept)
 
-pub aligned : (p : Progress) (m : Mark) (items : List Piece) (text : List Bool) (old new : List Block) (j : Joined grammar p m items text) → m.unread ≡ 0 → TakesAll keeps old items new → (mark_after grammar p m items text j).unread ≡ 0
-aligned p m [] text old new j z took = z
-aligned p m (x ∷ xs) text old new (front, rest, split, spelled, fits, others) z (mid, kept, took) =
-    let whole = part_whole p.stand (fresh m) front x old mid kept spelled in
-    aligned (next p x) (past front (fresh m)) xs rest mid new others (after_whole front (fresh m) (fresh_unread m z) whole.bytes) took
+pub aligned : (all : Bool) (p : Progress) (m : Mark) (items : List Piece) (text : List Bool) (old new : List Block) (j : Joined grammar p m items text) → m.unread ≡ 0 → TakesAll (keeps all) old items new → (mark_after grammar p m items text j).unread ≡ 0
+aligned all p m [] text old new j z took = z
+aligned all p m (x ∷ xs) text old new (front, rest, split, spelled, fits, others) z (mid, kept, took) =
+    let whole = part_whole all p.stand (fresh m) front x old mid kept spelled in
+    aligned all (next p x) (past front (fresh m)) xs rest mid new others (after_whole front (fresh m) (fresh_unread m z) whole.bytes) took
 
 -- ---- all parts
 
 -- after the last block nothing comes that is no frame
-over_then : (p : Progress) (m : Mark) (items : List Piece) (text : List Bool) (old new : List Block) → p.stand.phase ≡ Frames → Joined grammar p m items text → TakesAll keeps old items new → (items ≡ []) × (old ≡ new)
+over_then : (all : Bool) (p : Progress) (m : Mark) (items : List Piece) (text : List Bool) (old new : List Block) → p.stand.phase ≡ Frames → Joined grammar p m items text → TakesAll (keeps all) old items new → (items ≡ []) × (old ≡ new)
 unfolding layout
-over_then p m [] text old new phase j took = (refl, took)
-over_then p m (x ∷ xs) text old new phase (front, rest, split, spelled, fits, others) (mid, kept, took) =
+over_then all p m [] text old new phase j took = (refl, took)
+over_then all p m (x ∷ xs) text old new phase (front, rest, split, spelled, fits, others) (mid, kept, took) =
     let f = frame_at p.stand (fresh m) front x (subst (λ k. Spells (layout_in k p.stand) (fresh m) front x) phase spelled) in
-    absurd (no_frame_there old mid x f.0 f.1 kept)
+    absurd (no_frame_there all old mid x f.0 f.1 kept)
 
 -- blocks, of which the last is marked, and which of them were kept
-pub record AreBlocks (seen : Seen) (items : List Piece) (old new : List Block) : Type 0 where
+pub record AreBlocks (all : Bool) (seen : Seen) (items : List Piece) (old new : List Block) : Type 0 where
   pub first : Block
   pub others : List Block
   pub are : items ≡ closing (first ∷ others)
-  pub kept : new ≡ old ++ without_comments (first ∷ others)
+  pub kept : new ≡ old ++ kept_of all (first ∷ others)
   pub valid : IsBlock seen first
 
-pub are_blocks : (p : Progress) (m : Mark) (items : List Piece) (text : List Bool) (old new : List Block) → p.stand.phase ≡ Blocks → Joined grammar p m items text → TakesAll keeps old items new
-    → is_after_blocks (state_after grammar p items).stand.phase ≡ true → AreBlocks p.stand.seen items old new
-are_blocks p m [] text old new phase j took end = let e = ap is_after_blocks phase in absurd cc
-are_blocks p m (marked ∷ xs) text old new phase (front, rest, split, spelled, fits, others) took end =
+pub are_blocks : (all : Bool) (p : Progress) (m : Mark) (items : List Piece) (text : List Bool) (old new : List Block) → p.stand.phase ≡ Blocks → Joined grammar p m items text → TakesAll (keeps all) old items new
+    → is_after_blocks (state_after grammar p items).stand.phase ≡ true → AreBlocks all p.stand.seen items old new
+are_blocks all p m [] text old new phase j took end = let e = ap is_after_blocks phase in absurd cc
+are_blocks all p m (marked ∷ xs) text old new phase (front, rest, split, spelled, fits, others) took end =
     let t = block_there p.stand (fresh m) front marked phase spelled in
     let e = t.part in absurd cc
-are_blocks p m (framed f ∷ xs) text old new phase j (mid, kept, took) end = absurd kept
-are_blocks p m (block true b ∷ xs) text old new phase (front, rest, split, spelled, fits, others) (mid, kept, took) end =
+are_blocks all p m (framed f ∷ xs) text old new phase j (mid, kept, took) end = absurd kept
+are_blocks all p m (block true b ∷ xs) text old new phase (front, rest, split, spelled, fits, others) (mid, kept, took) end =
     let t = block_there p.stand (fresh m) front (block true b) phase spelled in
-    let none = over_then (next p (block true b)) (past front (fresh m)) xs rest mid new refl others took in
+    let none = over_then all (next p (block true b)) (past front (fresh m)) xs rest mid new refl others took in
     let same : b ≡ t.is = let e = t.part in cc in
     record {
       first = b;
       others = [];
       are = ap (λ k. block true b ∷ k) none.0;
-      kept = sym none.1 ∙ kept ∙ ap (λ k. old ++ k) (sym (append-nil (unless_comment b)));
+      kept = sym none.1 ∙ kept ∙ ap (λ k. old ++ k) (sym (kept_last all b));
       valid = subst (λ k. IsBlock p.stand.seen k) (sym same) t.valid;
     }
-are_blocks p m (block false b ∷ xs) text old new phase (front, rest, split, spelled, fits, others) (mid, kept, took) end =
+are_blocks all p m (block false b ∷ xs) text old new phase (front, rest, split, spelled, fits, others) (mid, kept, took) end =
     let t = block_there p.stand (fresh m) front (block false b) phase spelled in
-    let more = are_blocks (next p (block false b)) (past front (fresh m)) xs rest mid new refl others took end in
+    let more = are_blocks all (next p (block false b)) (past front (fresh m)) xs rest mid new refl others took end in
     let same : b ≡ t.is = let e = t.part in cc in
     record {
       first = b;
       others = more.first ∷ more.others;
       are = ap (λ k. block false b ∷ k) more.are;
-      kept = more.kept ∙ ap (λ k. k ++ without_comments (more.first ∷ more.others)) kept ∙ append_assoc old (unless_comment b) (without_comments (more.first ∷ more.others));
+      kept = more.kept ∙ ap (λ k. k ++ kept_of all (more.first ∷ more.others)) kept ∙ append_assoc old (kept_one all b) (kept_of all (more.first ∷ more.others)) ∙ ap (λ k. old ++ k) (kept_more all b (more.first ∷ more.others));
       valid = subst (λ k. IsBlock p.stand.seen k) (sym same) t.valid;
     }
 
@@ -161,34 +174,34 @@ first_is (block_of.Picture found) e none = absurd (omega (arith, e))
 first_is (block_of.Other kind bytes) e none = absurd (forbidden kind bytes e none)
 
 -- the marker, STREAMINFO and a list, and which of the blocks were kept
-pub record AreHead (items : List Piece) (new : List Block) : Type 0 where
+pub record AreHead (all : Bool) (items : List Piece) (new : List Block) : Type 0 where
   pub info : Info
   pub list : List Block
   pub are : items ≡ marked ∷ closing (block_of.StreamInfo info ∷ list)
-  pub kept : new ≡ block_of.StreamInfo info ∷ without_comments list
+  pub kept : new ≡ block_of.StreamInfo info ∷ kept_of all list
 
-pub are_head : (m : Mark) (items : List Piece) (text : List Bool) (new : List Block) → Joined grammar (opening Subset) m items text → TakesAll keeps [] items new → is_after_blocks (state_after grammar (opening Subset) items).stand.phase ≡ true → AreHead items new
-are_head m [] text new j took end = absurd cc
-are_head m (x ∷ xs) text new (front, rest, split, spelled, fits, others) (mid, kept, took) end =
+pub are_head : (all : Bool) (m : Mark) (items : List Piece) (text : List Bool) (new : List Block) → Joined grammar (opening Subset) m items text → TakesAll (keeps all) [] items new → is_after_blocks (state_after grammar (opening Subset) items).stand.phase ≡ true → AreHead all items new
+are_head all m [] text new j took end = absurd cc
+are_head all m (x ∷ xs) text new (front, rest, split, spelled, fits, others) (mid, kept, took) end =
     let first = marker_there (opening Subset).stand (fresh m) front x refl spelled in
     let here = subst (λ y. Joined grammar (next (opening Subset) y) (past front (fresh m)) xs rest) first.0 others in
     let at_end = subst (λ y. is_after_blocks (state_after grammar (next (opening Subset) y) xs).stand.phase ≡ true) first.0 end in
-    let nothing : mid ≡ [] = subst (λ y. keeps [] y mid) first.0 kept in
-    let all = are_blocks (next (opening Subset) marked) (past front (fresh m)) xs rest mid new refl here took at_end in
-    let i = first_is all.first (all.valid.first refl) all.valid.written in
+    let nothing : mid ≡ [] = subst (λ y. keeps all [] y mid) first.0 kept in
+    let found = are_blocks all (next (opening Subset) marked) (past front (fresh m)) xs rest mid new refl here took at_end in
+    let i = first_is found.first (found.valid.first refl) found.valid.written in
     record {
       info = i.0;
-      list = all.others;
-      are = ap (λ y. y ∷ xs) first.0 ∙ ap (λ k. marked ∷ k) (all.are ∙ ap (λ b. closing (b ∷ all.others)) i.1);
-      kept = all.kept ∙ ap (λ k. k ++ without_comments (all.first ∷ all.others)) nothing ∙ ap (λ b. unless_comment b ++ without_comments all.others) i.1;
+      list = found.others;
+      are = ap (λ y. y ∷ xs) first.0 ∙ ap (λ k. marked ∷ k) (found.are ∙ ap (λ b. closing (b ∷ found.others)) i.1);
+      kept = found.kept ∙ ap (λ k. k ++ kept_of all (found.first ∷ found.others)) nothing ∙ ap (λ b. kept_of all (b ∷ found.others)) i.1 ∙ kept_first all i.0 found.others;
     }
 
 -- ---- what was kept where the blocks are over
 
-pub kept_are : (old now : Cursor) (p : Progress) (none kept : List Block) → none ≡ [] → Far grammar keeps (opening Subset) p old now none kept → is_after_blocks p.stand.phase ≡ true → AreKept old kept now.left
-kept_are old now p none kept empty far end =
-    let took = subst (λ k. TakesAll keeps k far.items kept) empty far.took in
-    let head = are_head old.mark far.items far.text kept far.spelled took (subst (λ (q : Progress). is_after_blocks q.stand.phase ≡ true) far.state_is end) in
+pub kept_are : (all : Bool) (old now : Cursor) (p : Progress) (none kept : List Block) → none ≡ [] → Far grammar (keeps all) (opening Subset) p old now none kept → is_after_blocks p.stand.phase ≡ true → AreKept all old kept now.left
+kept_are all old now p none kept empty far end =
+    let took = subst (λ k. TakesAll (keeps all) k far.items kept) empty far.took in
+    let head = are_head all old.mark far.items far.text kept far.spelled took (subst (λ (q : Progress). is_after_blocks q.stand.phase ≡ true) far.state_is end) in
     record {
       info = head.info;
       list = head.list;
@@ -196,5 +209,9 @@ kept_are old now p none kept empty far end =
       are = head.kept;
     }
 
-pub kept_whole : (old now : Cursor) (p : Progress) (none kept : List Block) → old.mark.unread ≡ 0 → Far grammar keeps (opening Subset) p old now none kept → now.mark.unread ≡ 0
-kept_whole old now p none kept z far = ap (λ (m : Mark). m.unread) far.mark_is ∙ aligned (opening Subset) old.mark far.items far.text none kept far.spelled z far.took
+-- all of them are the blocks of the stream
+pub are_read : {c : Cursor} {kept : List Block} {rest : List Bool} → AreKept true c kept rest → AreRead c kept rest
+are_read k = record { info = k.info; others = k.list; begins = k.input; are = k.are }
+
+pub kept_whole : (all : Bool) (old now : Cursor) (p : Progress) (none kept : List Block) → old.mark.unread ≡ 0 → Far grammar (keeps all) (opening Subset) p old now none kept → now.mark.unread ≡ 0
+kept_whole all old now p none kept z far = ap (λ (m : Mark). m.unread) far.mark_is ∙ aligned all (opening Subset) old.mark far.items far.text none kept far.spelled z far.took

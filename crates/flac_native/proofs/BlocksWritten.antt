@@ -1,17 +1,18 @@
 -- Blocks that are written one after another.
-use Rattle.std.proofs.Common.{◌≡◌, ℕ, zero, suc, ◌+◌, ◌<◌, Bool, true, false, cond, nat_eq, List, [], ◌∷◌, ◌++◌, length, length-append, drop, get_or, Option, Some, None, Result, refl, sym, ap, subst, ◌∙◌, arith}
+use Rattle.std.proofs.Common.{◌≡◌, ℕ, zero, suc, ◌+◌, ◌<◌, true, false, nat_eq, List, [], ◌∷◌, ◌++◌, length, length-append, drop, get_or, None, Result, refl, sym, ap, subst, ◌∙◌, arith}
 use Rattle.std.proofs.lemmas.List.{append-nil}
 use Rattle.std.proofs.Math.ListN.{get_or-append}
 use Rattle.std.proofs.lemmas.Bool.Decides.{nat_tests}
 use Rattle.flac_bits.specs.Bits.{is_nil}
 use Rattle.flac_bits.specs.declared.why.Why.{Why}
 use Rattle.flac_meta.specs.Block.{seen_after}
-use Rattle.flac_meta.specs.Listed.{came, block_fault, fault_after, or_else, list_fault}
+use Rattle.flac_meta.specs.Listed.{block_fault, fault_after, list_fault}
 use Rattle.flac_meta.specs.Spelling.{block_spelling}
 use Rattle.flac_meta.specs.declared.block.Seen.{Seen}
 use Rattle.flac_meta.specs.declared.block.Block.{Block}
 use Rattle.flac_meta.specs.declared.seek_table.SeekPoint.{SeekPoint}
 use Rattle.flac_meta.specs.declared.block.Block.TheVariants as block_of
+use Rattle.flac_meta.proofs.Listed.{fault_none, or_else_none}
 use Rattle.flac_bits.specs.Written.{Written, Adds, Writes}
 use Rattle.flac_bits.proofs.Writing.{towards_start, towards_end}
 use Rattle.flac_native.specs.Seeking.{table_of}
@@ -32,19 +33,11 @@ blocks_step (x ∷ xs) (suc i) b lt is =
     let e : suc i + 1 ≡ suc (i + 1) = omega arith in
     blocks_step xs i b (omega (arith, lt)) is ∙ ap (λ l. block_spelling l b ++ blocks_spelling (drop (i + 1) xs)) (shifted i (length xs)) ∙ ap (λ n. block_spelling (nat_eq (suc i + 1) (suc (length xs))) b ++ blocks_spelling (drop n (x ∷ xs))) (sym e)
 
-first_none : {A : Type 0} (b : Bool) (x : A) (rest : Option A) → cond b (Some x) rest ≡ None → rest ≡ None
-first_none true x rest e = absurd cc
-first_none false x rest e = e
-
-both_none : (x y : Option Why) → or_else x y ≡ None → (x ≡ None) × (y ≡ None)
-both_none None y e = (refl, e)
-both_none (Some w) y e = absurd cc
-
 -- each block of a list may be written
 pub each_written : (bs : List Block) (seen : Seen) (i : ℕ) (b : Block) → list_fault seen bs ≡ None → i < length bs → b ≡ get_or bs i b → block_fault b ≡ None
 each_written [] seen i b e lt is = absurd (omega (arith, lt))
-each_written (x ∷ xs) seen zero b e lt is = ap block_fault is ∙ first_none (came seen x) _ (block_fault x) (both_none (fault_after seen x) _ e).0
-each_written (x ∷ xs) seen (suc i) b e lt is = each_written xs (seen_after seen x) i b (both_none (fault_after seen x) _ e).1 (omega (arith, lt)) is
+each_written (x ∷ xs) seen zero b e lt is = ap block_fault is ∙ (fault_none seen x (or_else_none (fault_after seen x) _ e).0).1
+each_written (x ∷ xs) seen (suc i) b e lt is = each_written xs (seen_after seen x) i b (or_else_none (fault_after seen x) _ e).1 (omega (arith, lt)) is
 
 pub nil_is : (bs : List Block) → is_nil bs ≡ nat_eq (length bs) 0
 nil_is [] = refl

@@ -18,8 +18,8 @@ use Rattle.flac_native.specs.declared.fault.Place.TheVariants as place
 use Rattle.flac_native.specs.declared.retagging.RetagFault.{RetagFault}
 
 -- among the marker and the blocks
-pub breaks_at : (old now : Cursor) (p : Progress) (none kept : List Block) (at : Place) → Far grammar keeps (opening Subset) p old now none kept → at ≡ grammar.place p → BreaksAt old.mark old.left at
-breaks_at old now p none kept at far there = record {
+pub breaks_at : (all : Bool) (old now : Cursor) (p : Progress) (none kept : List Block) (at : Place) → Far grammar (keeps all) (opening Subset) p old now none kept → at ≡ grammar.place p → BreaksAt old.mark old.left at
+breaks_at all old now p none kept at far there = record {
   items = far.items;
   front = far.text;
   left = now.left;
@@ -33,7 +33,7 @@ after_closing : (p : Progress) (b : Block) (bs : List Block) → place.Frame 0 �
 after_closing p b [] = refl
 after_closing p b (c ∷ cs) = after_closing (next p (block false b)) c cs
 
-pub breaks_after : {kept : List Block} {rest : List Bool} (c : Cursor) → AreKept c kept rest → BreaksAt c.mark c.left (place.Frame 0)
+pub breaks_after : {kept : List Block} {rest : List Bool} (c : Cursor) → AreKept false c kept rest → BreaksAt c.mark c.left (place.Frame 0)
 breaks_after {rest = rest} c are = record {
   items = marked ∷ closing (blocks.StreamInfo are.info ∷ are.list);
   front = are.input.head;

@@ -25,3 +25,8 @@ pub copied_part : (old mid new piece some others : List ℕ) (left rest whole : 
 copied_part old mid new piece some others left rest whole so_far split cut more =
     let k = copied_more old mid new some left (bits_of others ++ rest) whole so_far (split ∙ ap (λ k. bits_of k ++ rest) cut ∙ ap (λ k. k ++ rest) (bits_of-append some others) ∙ append_assoc (bits_of some) (bits_of others) rest) more in
     (k.0, bits_of others ++ rest, k.1, k.2)
+
+-- what stands before the rest, and the rest
+pub rest_sent : (old mid new head : List ℕ) (text rest : List Bool) → bits_of head ≡ text → mid ≡ old ++ head → bits_of new ≡ bits_of mid ++ rest → bits_of new ≡ bits_of old ++ (text ++ rest)
+rest_sent old mid new head text rest is sent more =
+    more ∙ ap (λ k. k ++ rest) (ap bits_of sent ∙ bits_of-append old head) ∙ append_assoc (bits_of old) (bits_of head) rest ∙ ap (λ k. bits_of old ++ (k ++ rest)) is

@@ -7,12 +7,12 @@ use Rattle.std.proofs.Math.Seq.{get_or-append_seam}
 use Rattle.std.proofs.Math.Nat.{lt_of_mul-lt-mul_left}
 use Rattle.flac_meta.specs.declared.seek_table.SeekPoint.{SeekPoint}
 use Rattle.flac_frame.specs.Audio.{Sound, samples_each}
-use Rattle.flac_frame.specs.Chosen.{IsChoiceWith}
-use Rattle.flac_frame.specs.Encoding.{IsEncoding, IsLeastWith, block_of}
+use Rattle.flac_frame.specs.Chosen.{IsChoiceByPlane}
+use Rattle.flac_frame.specs.Encoding.{IsEncoding, IsLeastByPlane, block_of}
 use Rattle.flac_frame.specs.Spelling.{frame_spelling}
 use Rattle.flac_frame.specs.declared.frame_choice.FrameChoice.{FrameChoice}
 use Rattle.flac_native.specs.Given.{Cut, tried, IsRange, blocks_in, size_of, frame_of}
-use Rattle.flac_native.specs.Writing.{SpellsFrame, SpellsLeast, AreSizes, AreCounted, IsChoiceOf, AreChoices}
+use Rattle.flac_native.specs.Writing.{SpellsFrame, SpellsLeastByPlane, AreSizes, AreCounted, IsChoiceOf, AreChoices}
 use Rattle.flac_native.specs.inner.Writing.{IsKept}
 use Rattle.flac_native.specs.Seeking.{point_at, points_of}
 use Rattle.flac_native.proofs.Encoded.{least_part, all_parts}
@@ -104,7 +104,7 @@ pub record Gathered (p : Cut) (a : Sound) (number offset least greatest : ℕ) (
   pub frames : List (List Bool)
   pub many : length frames ≡ number
   pub each : (i : ℕ) → i < length frames → SpellsFrame a (frame_of p.block_size a i) (nth frames i)
-  pub each_least : (i : ℕ) → i < length frames → SpellsLeast (tried p i) a (frame_of p.block_size a i) (nth frames i)
+  pub each_least : (i : ℕ) → i < length frames → SpellsLeastByPlane (tried p i) a (frame_of p.block_size a i) (nth frames i)
   pub sizes : AreSizes frames least greatest
   pub count : offset ≤ 16777215 * number
   pub placed : offset ≡ bytes_of frames
@@ -114,14 +114,14 @@ pub gathered_none : (p : Cut) (a : Sound) → Gathered p a 0 0 0 0 []
 gathered_none p a = record { frames = []; many = refl; each = λ i h. absurd (omega arith); each_least = λ i h. absurd (omega arith); sizes = no_sizes; count = omega arith; placed = refl; pointed = refl }
 
 -- what was chosen of a block makes the frame of its number
-pub choice_of : (p : Cut) (a : Sound) (number start n : ℕ) (c : FrameChoice) → start ≡ p.block_size * number → n ≡ size_of p.block_size (samples_each a.channels) number → IsChoiceWith (tried p number) a n number (block_of start n a.channels) c
-    → IsChoiceWith (tried p number) a (size_of p.block_size (samples_each a.channels) number) number (block_of (p.block_size * number) (size_of p.block_size (samples_each a.channels) number) a.channels) c
-choice_of p a number start n c start_is n_is is = subst (λ k. IsChoiceWith (tried p number) a k number (block_of (p.block_size * number) k a.channels) c) n_is (subst (λ k. IsChoiceWith (tried p number) a n number (block_of k n a.channels) c) start_is is)
+pub choice_of : (p : Cut) (a : Sound) (number start n : ℕ) (c : FrameChoice) → start ≡ p.block_size * number → n ≡ size_of p.block_size (samples_each a.channels) number → IsChoiceByPlane (tried p number) a n number (block_of start n a.channels) c
+    → IsChoiceByPlane (tried p number) a (size_of p.block_size (samples_each a.channels) number) number (block_of (p.block_size * number) (size_of p.block_size (samples_each a.channels) number) a.channels) c
+choice_of p a number start n c start_is n_is is = subst (λ k. IsChoiceByPlane (tried p number) a k number (block_of (p.block_size * number) k a.channels) c) n_is (subst (λ k. IsChoiceByPlane (tried p number) a n number (block_of k n a.channels) c) start_is is)
 
 pub choice_back : (p : Cut) (a : Sound) (number start n : ℕ) (c : FrameChoice) → start ≡ p.block_size * number → n ≡ size_of p.block_size (samples_each a.channels) number
-    → IsChoiceWith (tried p number) a (size_of p.block_size (samples_each a.channels) number) number (block_of (p.block_size * number) (size_of p.block_size (samples_each a.channels) number) a.channels) c → IsChoiceWith (tried p number) a n number (block_of start n a.channels) c
+    → IsChoiceByPlane (tried p number) a (size_of p.block_size (samples_each a.channels) number) number (block_of (p.block_size * number) (size_of p.block_size (samples_each a.channels) number) a.channels) c → IsChoiceByPlane (tried p number) a n number (block_of start n a.channels) c
 choice_back p a number start n c start_is n_is is =
-    subst (λ k. IsChoiceWith (tried p number) a n number (block_of k n a.channels) c) (sym start_is) (subst (λ k. IsChoiceWith (tried p number) a k number (block_of (p.block_size * number) k a.channels) c) (sym n_is) is)
+    subst (λ k. IsChoiceByPlane (tried p number) a n number (block_of k n a.channels) c) (sym start_is) (subst (λ k. IsChoiceByPlane (tried p number) a k number (block_of (p.block_size * number) k a.channels) c) (sym n_is) is)
 
 -- what is kept of a choice is a choice of the same frame
 pub kept_choice : (p : Cut) (a : Sound) (number : ℕ) (c kept : FrameChoice) → IsKept c kept → IsChoiceOf p a number c → IsChoiceOf p a number kept
@@ -131,27 +131,27 @@ kept_choice p a number c kept k is = record {
 }
 
 pub itself : (c : FrameChoice) → IsKept c c
-itself c = record { same = λ ps a size number block is. is; many = refl }
+itself c = record { same = λ lists a size number block is. is; many = refl }
 
 pub gathered_more : (p : Cut) (a : Sound) (number offset least greatest bytes start n : ℕ) (c : FrameChoice) (points more : List SeekPoint) → Gathered p a number offset least greatest points
     → more ≡ points ++ point_at p number offset → start ≡ p.block_size * number → n ≡ size_of p.block_size (samples_each a.channels) number
-    → (is : IsChoiceWith (tried p number) a n number (block_of start n a.channels) c) → length (frame_spelling a.bits is.form) ≡ 8 * bytes
+    → (is : IsChoiceByPlane (tried p number) a n number (block_of start n a.channels) c) → length (frame_spelling a.bits is.form) ≡ 8 * bytes
     → Gathered p a (number + 1) (offset + bytes) (least_with number least bytes) (max greatest bytes) more × (bytes ≤ 16777215)
 gathered_more p a number offset least greatest bytes start n c points more g noted start_is n_is is long =
     let size = size_of p.block_size (samples_each a.channels) number in
     let t = frame_spelling a.bits is.form in
     let encoding : IsEncoding a size number (block_of (p.block_size * number) size a.channels) is.form =
     subst (λ k. IsEncoding a k number (block_of (p.block_size * number) k a.channels) is.form) n_is (subst (λ k. IsEncoding a n number (block_of k n a.channels) is.form) start_is is.encoding) in
-    let least_frame : IsLeastWith (tried p number) a size number (block_of (p.block_size * number) size a.channels) is.form =
-    subst (λ k. IsLeastWith (tried p number) a k number (block_of (p.block_size * number) k a.channels) is.form) n_is (subst (λ k. IsLeastWith (tried p number) a n number (block_of k n a.channels) is.form) start_is is.least) in
+    let least_frame : IsLeastByPlane (tried p number) a size number (block_of (p.block_size * number) size a.channels) is.form =
+    subst (λ k. IsLeastByPlane (tried p number) a k number (block_of (p.block_size * number) k a.channels) is.form) n_is (subst (λ k. IsLeastByPlane (tried p number) a n number (block_of k n a.channels) is.form) start_is is.least) in
     let few : bytes ≤ 16777215 = omega (arith, long, is.short) in
     let here : SpellsFrame a (frame_of p.block_size a number) t = record { form = is.form; encoding = encoding; spelling = refl; short = is.short } in
-    let here_least : SpellsLeast (tried p number) a (frame_of p.block_size a number) t = record { form = is.form; least = least_frame; spelling = refl } in (
+    let here_least : SpellsLeastByPlane (tried p number) a (frame_of p.block_size a number) t = record { form = is.form; least = least_frame; spelling = refl } in (
       record {
         frames = snoc g.frames t;
         many = omega (arith, length-snoc g.frames t, g.many);
         each = each_more (λ i k. SpellsFrame a (frame_of p.block_size a i) k) g.frames t g.each (subst (λ n. SpellsFrame a (frame_of p.block_size a n) t) (sym g.many) here);
-        each_least = each_more (λ i k. SpellsLeast (tried p i) a (frame_of p.block_size a i) k) g.frames t g.each_least (subst (λ n. SpellsLeast (tried p n) a (frame_of p.block_size a n) t) (sym g.many) here_least);
+        each_least = each_more (λ i k. SpellsLeastByPlane (tried p i) a (frame_of p.block_size a i) k) g.frames t g.each_least (subst (λ n. SpellsLeastByPlane (tried p n) a (frame_of p.block_size a n) t) (sym g.many) here_least);
         sizes = sizes_with g.frames t number least greatest bytes g.many long g.sizes;
         count = omega (arith, g.count, few);
         placed = omega (arith, long, g.placed, bytes_more g.frames t);

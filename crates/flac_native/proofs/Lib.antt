@@ -34,6 +34,7 @@ pub mod EachFrame
 pub mod Gathered
 pub mod WrittenFrames
 pub mod Spelled
+pub mod EncodeFaults
 pub mod Sendings
 pub mod FixedBuffers
 pub mod Lending

@@ -124,7 +124,7 @@ each_valid seen (x ∷ xs) zero b all lt at = ap block_fault at ∙ all.0.writte
 each_valid seen (x ∷ xs) (suc i) b all lt at = each_valid (seen_after seen x) xs i b all.1 (omega (arith, lt)) at
 
 -- no block that was kept is refused in writing
-pub kept_may_be_head : (comments : Comments) (c : Cursor) (kept : List Block) (rest : List Bool) → comments_length comments ≤ 16777215 → AreKept c kept rest → MayBeHead comments kept
+pub kept_may_be_head : (comments : Comments) (c : Cursor) (kept : List Block) (rest : List Bool) → comments_length comments ≤ 16777215 → AreKept false c kept rest → MayBeHead comments kept
 kept_may_be_head comments c kept rest short are =
     let list = without_comments are.list in
     let all = valid_after Subset c.mark are.info are.list are.input.head are.input.spelled in

@@ -6,7 +6,7 @@ use Rattle.flac_bits.specs.Fence.{InRoom}
 use Rattle.flac_bits.specs.Items.{Step, item, refused, state_after, Joined}
 use Rattle.flac_bits.specs.inner.Items.{step_at}
 use Rattle.flac_bits.specs.declared.why.Why.{Why}
-use Rattle.flac_bits.proofs.Laws.{at_}
+use Rattle.flac_bits.proofs.Readings.{at_}
 use Rattle.flac_bits.proofs.Items.{Steps, spelled_step, step_spelled, step_stops, refused_steps}
 use Rattle.flac_info.specs.Info.{Info}
 use Rattle.flac_meta.specs.declared.block.Block.{Block}

@@ -1,7 +1,9 @@
 -- What holds of a plan.
-use Rattle.std.proofs.Common.{◌≡◌, ℕ, ◌^◌, ◌<◌, ◌≤◌, Bool, true, false, not, cond, ◌&&◌, ◌||◌, nat_eq, nat_lt, nat_le, length, Option, Some, None, is_none, List, All, get_or, inl, inr, sym, refl, ap, subst, ◌∙◌, arith}
+use Rattle.std.proofs.Common.{◌≡◌, ℕ, ◌^◌, ◌<◌, ◌≤◌, Bool, true, false, not, cond, ◌&&◌, ◌||◌, nat_eq, nat_lt, nat_le, length, Option, Some, None, is_none, List, [], Vec, Global, All, get_or, inl, inr, sym, refl, ap, subst, ◌∙◌, arith}
 use Rattle.std.specs.Option.{option_or}
-use Rattle.std.proofs.lemmas.Bool.{cases_lt}
+use Rattle.std.proofs.lemmas.Bool.{cases_lt, not-false}
+use Rattle.std.proofs.lemmas.List.{get_or-map, length-map}
+use Rattle.std.proofs.lemmas.List.Elements.{All-nil}
 use Rattle.std.proofs.Math.ListN.{get_or-eq_default}
 use Rattle.std.proofs.lemmas.Bool.Decides.{nat_tests}
 use Rattle.flac_info.specs.Info.{KeepsRules}
@@ -14,10 +16,11 @@ use Rattle.flac_subframe.specs.search.Capacity.{Capacity}
 use Rattle.flac_subframe.specs.declared.format.linear.LinearPredictor.{LinearPredictor}
 use Rattle.flac_frame.specs.Encoding.{partition_limit, most_in}
 use Rattle.flac_frame.specs.Frame.{limits_at}
+use Rattle.flac_frame.specs.PlaneLists.{Lists, AreAllWithin}
 use Rattle.flac_frame.specs.Setup.{format_fault}
 use Rattle.flac_frame.specs.declared.setup.SetupFault.TheVariants.{TooLong, BadBlockSize, TooManyPoints}
 use Rattle.flac_frame.specs.Audio.{Sound, samples_each}
-use Rattle.flac_native.specs.Given.{Cut, with_predictors, with_found, same_profile, fits_plan, room_of, blocks_in, points_before, predictors_fault, cutting_fault, plan_fault, info_of}
+use Rattle.flac_native.specs.Given.{Cut, with_predictors, with_found, tried, AreFoundWithin, plane_lists, frame_lists, same_profile, fits_plan, room_of, blocks_in, points_before, predictors_fault, cutting_fault, plan_fault, info_of}
 use Rattle.flac_native.proofs.Predictors.{within, partition_is}
 
 -- ---- tests in a row
@@ -50,13 +53,9 @@ not_at_most a b e = grind (arith, nat_tests)
 at_most : (a b : ℕ) → nat_le a b ≡ true → a ≤ b
 at_most a b e = grind (arith, nat_tests)
 
-not_false : (b : Bool) → not b ≡ false → b ≡ true
-not_false true e = refl
-not_false false e = absurd cc
-
 pub allowed_sizes : (profile : Profile) (size rate : ℕ) → not (allows_block profile size rate) ≡ false → (16 ≤ size) × (size ≤ greatest_in profile rate)
 allowed_sizes profile size rate e =
-    let both = both_true _ _ (not_false (allows_block profile size rate) e) in
+    let both = both_true _ _ (not-false (allows_block profile size rate) e) in
     (at_most 16 size both.0, at_most size (greatest_in profile rate) both.1)
 
 same : (a b : ℕ) → nat_eq a b ≡ true → a ≡ b
@@ -182,24 +181,45 @@ orders_of p a q f =
     subst (λ x. AreWithin (limits_at x a.rate).linear p.predictors) f.profile (subst (λ r. AreWithin (limits_at p.profile r).linear p.predictors) f.rate (within p.profile p.rate p.predictors q.predictors))
 
 -- what the profile allows of the plan it allows of the samples
-pub orders_at : (p : Cut) (a : Sound) (ps : List LinearPredictor) → Fit p a → AreWithin (limits_at p.profile p.rate).linear ps → AreWithin (limits_at a.profile a.rate).linear ps
-orders_at p a ps f h = subst (λ x. AreWithin (limits_at x a.rate).linear ps) f.profile (subst (λ r. AreWithin (limits_at p.profile r).linear ps) f.rate h)
+pub orders_at : (p : Cut) (a : Sound) (lists : Lists) → Fit p a → AreAllWithin (limits_at p.profile p.rate).linear lists → AreAllWithin (limits_at a.profile a.rate).linear lists
+orders_at p a lists f h = subst (λ x. AreAllWithin (limits_at x a.rate).linear lists) f.profile (subst (λ r. AreAllWithin (limits_at p.profile r).linear lists) f.rate h)
 
 -- the plan's own
 pub own_orders : (p : Cut) → Planned p → AreWithin (limits_at p.profile p.rate).linear p.predictors
 own_orders p q = within p.profile p.rate p.predictors q.predictors
 
 -- so it is with lists for the frames
-pub still_found : (p : Cut) (found : List (List LinearPredictor)) → plan_fault p ≡ None → plan_fault (with_found p found) ≡ None
+pub still_found : (p : Cut) (found : List (List (List LinearPredictor))) → plan_fault p ≡ None → plan_fault (with_found p found) ≡ None
 unfolding plan_fault cutting_fault
 still_found p found e = e
 
--- the list of a number, or another
-pub orders_in : (limit : ℕ) (lists : List (List LinearPredictor)) (n : ℕ) (other : List LinearPredictor) → All (AreWithin limit) lists → AreWithin limit other → AreWithin limit (get_or lists n other)
-orders_in limit lists n other all one = elim (cases_lt n (length lists)) [
+-- what holds of all holds of the one at a place, or of another
+all_or : {A : Type 0} (P : A → Type 0) (xs : List A) (n : ℕ) (other : A) → All P xs → P other → P (get_or xs n other)
+all_or P xs n other all one = elim (cases_lt n (length xs)) [
   | inl b ↦ all n other b
-  | inr b ↦ subst (AreWithin limit) (sym (get_or-eq_default lists other (omega (arith, b)))) one
+  | inr b ↦ subst P (sym (get_or-eq_default xs other (omega (arith, b)))) one
 ]
+
+-- what is tried for a frame
+pub orders_tried : (limit : ℕ) (p : Cut) (n : ℕ) → AreFoundWithin limit p.found → AreWithin limit p.predictors → AreAllWithin limit (tried p n)
+orders_tried limit p n all own plane = all_or (AreWithin limit) (get_or p.found n []) plane p.predictors (all_or (All (AreWithin limit)) p.found n [] all (All-nil (AreWithin limit))) own
+
+-- the list of each plane, or another
+abbrev list_or : List (List LinearPredictor) → List LinearPredictor → Lists
+list_or lists other = λ plane. get_or lists plane other
+
+-- the lists of a frame, and of one after the last that has some
+pub lists_in : (frames : List (Vec (Vec LinearPredictor Global) Global)) (n : ℕ) (f : Vec (Vec LinearPredictor Global) Global) → n < length frames → f ≡ get_or frames n f → plane_lists f.items ≡ get_or (frame_lists frames) n []
+lists_in frames n f lt is =
+    let items : Vec (Vec LinearPredictor Global) Global → List (List LinearPredictor) = λ v. plane_lists v.items in
+    sym (get_or-map items frames n f [] lt ∙ ap items (sym is))
+
+pub lists_past : (frames : List (Vec (Vec LinearPredictor Global) Global)) (n : ℕ) → length frames ≤ n → [] ≡ get_or (frame_lists frames) n []
+lists_past frames n over = sym (get_or-eq_default (frame_lists frames) [] (omega (arith, over, length-map frames (λ (v : Vec (Vec LinearPredictor Global) Global). plane_lists v.items))))
+
+pub tried_is : (p : Cut) (n : ℕ) (lists : List (List LinearPredictor)) (frames : List (List (List LinearPredictor))) (others : List LinearPredictor) → lists ≡ get_or frames n [] → frames ≡ p.found → others ≡ p.predictors
+    → list_or lists others ≡ tried p n
+tried_is p n lists frames others at found own = ap (λ ls. list_or ls others) (at ∙ ap (λ f. get_or f n []) found) ∙ ap (list_or (get_or p.found n [])) own
 
 -- arrays that were made for the plan
 pub room_is : (p : Cut) (r : Capacity) (size : ℕ) (profile : Profile) → size ≡ p.block_size → profile ≡ p.profile → r ≡ record { block = size; most = most_in profile } → r ≡ room_of p

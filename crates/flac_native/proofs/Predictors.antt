@@ -1,8 +1,9 @@
 -- Linear predictors that can be tried.
-use Rattle.std.proofs.Common.{◌≡◌, ℕ, ◌<◌, ◌≤◌, Bool, true, false, not, cond, ◌&&◌, nat_lt, nat_le, List, [], ◌∷◌, length, IsTrue, ◌↔◌, Some, None, refl, sym, subst, inl, inr, Option, arith}
-use Rattle.std.proofs.lemmas.Bool.{cases_Bool}
+use Rattle.std.proofs.Common.{◌≡◌, ℕ, ◌<◌, ◌≤◌, Bool, true, false, not, cond, ◌&&◌, nat_lt, nat_le, List, [], ◌∷◌, length, map, take, get_or, All, Vec, Global, IsTrue, ◌↔◌, Some, None, refl, sym, subst, inl, inr, Option, arith}
+use Rattle.std.proofs.lemmas.Bool.{cases_Bool, not-false}
 use Rattle.std.proofs.lemmas.Bool.Decides.{nat_tests}
-use Rattle.std.proofs.lemmas.List.Elements.{All-nil, All-cons, All-head, All-tail}
+use Rattle.std.proofs.lemmas.List.{take_all}
+use Rattle.std.proofs.lemmas.List.Elements.{All-nil, All-cons, All-head, All-tail, All-map}
 use Rattle.flac_header.specs.declared.subset.Profile.{Profile}
 use Rattle.flac_header.specs.declared.subset.Profile.TheVariants.{Subset, Lax}
 use Rattle.flac_subframe.specs.format.Handed.{coefficients_in, AreWithin}
@@ -10,7 +11,7 @@ use Rattle.flac_subframe.specs.declared.format.linear.LinearPredictor.{LinearPre
 use Rattle.flac_frame.specs.Encoding.{most_in}
 use Rattle.flac_frame.specs.Frame.{limits_at}
 use Rattle.flac_frame.specs.declared.setup.SetupFault.TheVariants.{PredictorOrder, TooManyPredictors}
-use Rattle.flac_native.specs.Given.{orders_fit, predictors_fault}
+use Rattle.flac_native.specs.Given.{orders_fit, predictors_fault, plane_lists}
 
 -- ---- the orders
 
@@ -43,17 +44,13 @@ none_here : {A : Type 0} (b : Bool) (x : A) (rest : Option A) → cond b (Some x
 none_here true x rest e = absurd cc
 none_here false x rest e = (refl, e)
 
-not_false : (b : Bool) → not b ≡ false → b ≡ true
-not_false true e = refl
-not_false false e = absurd cc
-
 -- what can be tried has orders that the profile allows
 pub within : (profile : Profile) (rate : ℕ) (ps : List LinearPredictor) → predictors_fault profile rate ps ≡ None → AreWithin (limits_at profile rate).linear ps
 unfolding predictors_fault
 within profile rate ps e =
     let a = none_here (nat_lt 64 (length ps)) TooManyPredictors _ e in
     let b = none_here (not (orders_fit (limits_at profile rate).linear ps)) PredictorOrder None a.1 in
-    orders_are (limits_at profile rate).linear ps (not_false _ b.0)
+    orders_are (limits_at profile rate).linear ps (not-false _ b.0)
 
 -- an empty list can always be tried
 pub none_tried : (profile : Profile) (rate : ℕ) (ps : List LinearPredictor) → ps ≡ [] → predictors_fault profile rate ps ≡ None
@@ -92,3 +89,23 @@ module _ (profile : Profile) (rate : ℕ) (ps : List LinearPredictor) where
 pub partition_is : (profile : Profile) (rate : ℕ) → (limits_at profile rate).partition ≡ most_in profile
 partition_is Subset rate = refl
 partition_is Lax rate = refl
+
+-- ---- lists in vectors
+
+abbrev pub predictors_of : Vec LinearPredictor Global → List LinearPredictor
+predictors_of v = v.items
+
+abbrev pub lists_of_frame : Vec (Vec LinearPredictor Global) Global → List (List LinearPredictor)
+lists_of_frame f = plane_lists f.items
+
+-- what holds of all that vectors hold holds of each vector
+module _ {X Y : Type 0} (P : Y → Type 0) (f : X → Y) where
+  pub unmapped : (xs : List X) → All P (map f xs) → All (λ x. P (f x)) xs
+  unmapped [] h = All-nil (λ x. P (f x))
+  unmapped (x ∷ xs) h = All-cons (λ x. P (f x)) x xs (All-head P (f x) (map f xs) h) (unmapped xs (All-tail P (f x) (map f xs) h))
+
+  pub all_taken : (xs : List X) (i : ℕ) → length xs ≤ i → All (λ x. P (f x)) (take i xs) → All P (map f xs)
+  all_taken xs i over all = All-map P f xs (subst (All (λ x. P (f x))) (take_all i xs over) all)
+
+  pub one_taken : (xs : List X) (i : ℕ) (x : X) → All P (map f xs) → i < length xs → x ≡ get_or xs i x → P (f x)
+  one_taken xs i x all lt is = subst (λ y. P (f y)) (sym is) (unmapped xs all i x lt)

@@ -5,7 +5,7 @@ use Rattle.flac_bits.specs.State.{Mark, Cursor, past, fresh}
 use Rattle.flac_bits.specs.Items.{Joined, state_after}
 use Rattle.flac_bits.specs.Handing.{TakesAll, InputReading, Hands, Decides, by_grammar, IsRead}
 use Rattle.flac_bits.specs.declared.why.Why.{Why}
-use Rattle.flac_bits.proofs.Laws.{at_}
+use Rattle.flac_bits.proofs.Readings.{at_}
 use Rattle.flac_native.specs.Stream.{Piece, Progress, grammar, next}
 use Rattle.flac_native.specs.Coming.{ReadAs, PartsCome, HandsFirst}
 use Rattle.flac_native.specs.declared.fault.Place.{Place}

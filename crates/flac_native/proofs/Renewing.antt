@@ -44,6 +44,11 @@ all_added bs d e (Ok x) h =
     let a = h [] (ap (λ (l : List Block). length l) (sym none)) in
     subst (λ l. Adds (blocks_spelling l) d e) none (record { known = a.known; errors = a.errors; names = a.names; mark = a.mark; bits = λ k. sym (append-nil e.bits) ∙ a.bits k })
 
+-- the marker and all blocks, one after another
+pub marker_and_all : {X : Type 0} (bs : List Block) (a b c : Written) (r : Result X Why) → Adds (unsigned 32 0x664C6143) a b → OnOk r (Adds (blocks_spelling bs) b c) → OnOk r (Adds (unsigned 32 0x664C6143 ++ blocks_spelling bs) a c)
+marker_and_all bs a b c (Err w) p q = tt
+marker_and_all bs a b c (Ok x) p q = adds_then p q
+
 -- ---- a target that failed
 
 -- the blocks of a head, one by one
@@ -83,9 +88,13 @@ module _ (comments : Comments) (first : Block) (others kept : List Block) (is : 
       let there : Adds (block_spelling (is_nil others) (block_of.VorbisComment comments)) c d = subst (λ l. Adds (block_spelling l (block_of.VorbisComment comments)) c d) at s in
       whole_failed a w e (fails_then (blocks_spelling (first ∷ block_of.VorbisComment comments ∷ others)) p (fails_then (blocks_spelling (block_of.VorbisComment comments ∷ others)) q (fails_then (blocks_spelling others) there f)))
 
+-- the marker and blocks are of whole bytes
+pub head_whole : (list : List Block) → Whole (unsigned 32 0x664C6143 ++ blocks_spelling list)
+head_whole list =
+    let marker : Whole (unsigned 32 0x664C6143) = record { bytes = refl } in
+    whole_append (unsigned 32 0x664C6143) (blocks_spelling list) marker (blocks_whole list)
+
 -- it is of whole bytes
 pub new_head_whole : (comments : Comments) (kept : List Block) → Whole (new_head comments kept)
 new_head_whole comments [] = whole_nil
-new_head_whole comments (b ∷ bs) =
-    let marker : Whole (unsigned 32 0x664C6143) = record { bytes = refl } in
-    whole_append (unsigned 32 0x664C6143) (blocks_spelling (b ∷ block_of.VorbisComment comments ∷ bs)) marker (blocks_whole (b ∷ block_of.VorbisComment comments ∷ bs))
+new_head_whole comments (b ∷ bs) = head_whole (b ∷ block_of.VorbisComment comments ∷ bs)

@@ -70,7 +70,7 @@ pub long_device : (too_long ≡ not_read) ⊎ (too_long ≡ not_written) → ⊥
 long_device (inl e) = length_no_read (ap (λ (f : RetagFault). f.why) e)
 long_device (inr e) = long_written e
 
-pub has_head : {kept : List Block} {rest : List Bool} (c : Cursor) → AreKept c kept rest → HasHead c.mark c.left
+pub has_head : {kept : List Block} {rest : List Bool} (c : Cursor) → AreKept false c kept rest → HasHead c.mark c.left
 has_head {rest = rest} c are = record { info = are.info; list = are.list; rest = rest; begins = are.input }
 
 pub no_fewer : (m n : ℕ) → n ≡ m → m ≤ n

@@ -1,5 +1,5 @@
 -- What was written of a stream with other comments.
-use Rattle.std.proofs.Common.{◌≡◌, ◌≢◌, ℕ, Bool, List, ◌∷◌, ◌++◌, Result, Ok, Err, Option, Some, None, sym, ap, subst, ◌∙◌, append_assoc}
+use Rattle.std.proofs.Common.{◌≡◌, ◌≢◌, ℕ, Bool, false, List, ◌∷◌, ◌++◌, Result, Ok, Err, Option, Some, None, sym, ap, subst, ◌∙◌, append_assoc}
 use Rattle.std.specs.Prelude.{IfErr, IfSome}
 use Rattle.flac_bits.specs.declared.why.Why.{Why}
 use Rattle.flac_bits.specs.declared.why.Why.TheVariants as why
@@ -15,7 +15,7 @@ use Rattle.flac_native.specs.Writing.{head_spelling}
 use Rattle.flac_native.specs.Retag.{BeginsWith, Retags, BeginsRetagging, CopiesPart, without_comments}
 use Rattle.flac_native.specs.inner.Retag.{AreKept, new_head}
 
-module _ (c : Cursor) (kept : List Block) (rest : List Bool) (comments : Comments) (head : List ℕ) (are : AreKept c kept rest) (is : bits_of head ≡ new_head comments kept) where
+module _ (c : Cursor) (kept : List Block) (rest : List Bool) (comments : Comments) (head : List ℕ) (are : AreKept false c kept rest) (is : bits_of head ≡ new_head comments kept) where
   -- what stands before the frames
   written : List Bool
   written = head_spelling are.info (block_of.VorbisComment comments ∷ without_comments are.list)

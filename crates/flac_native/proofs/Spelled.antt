@@ -9,39 +9,39 @@ use Rattle.flac_bits.specs.declared.target.Target as target
 use Rattle.flac_bits.proofs.Counting.{rises_then}
 use Rattle.flac_bits.proofs.Holding.{bits_of-append}
 use Rattle.flac_frame.specs.Audio.{Sound, samples_each}
-use Rattle.flac_frame.specs.Encoding.{block_of, IsEncoding, IsLeastWith, IsShort, WritesFrameWith}
+use Rattle.flac_frame.specs.Encoding.{block_of, IsEncoding, IsLeastByPlane, IsShort, WritesFrameByPlane}
 use Rattle.flac_frame.specs.Frame.{Frame}
-use Rattle.flac_subframe.specs.declared.format.linear.LinearPredictor.{LinearPredictor}
+use Rattle.flac_frame.specs.PlaneLists.{Lists}
 use Rattle.flac_frame.specs.Spelling.{FrameForm, frame_spelling}
 use Rattle.flac_native.specs.Given.{Cut, tried, IsRange, size_of, frame_of}
 use Rattle.flac_native.specs.Seeking.{points_from, points_of, point_at}
-use Rattle.flac_native.specs.Writing.{SpellsLeast, AreFrames, AreLeastFrames, AreSizes, IsSpelled}
+use Rattle.flac_native.specs.Writing.{SpellsLeastByPlane, AreFrames, AreLeastFrames, AreSizes, IsSpelled}
 use Rattle.flac_native.specs.inner.Writing.{WritesChosen}
 use Rattle.flac_native.proofs.Gathered.{nth}
 use Rattle.flac_native.specs.Sent.{SendsBits}
 
 -- ---- least frames of a block are as long
 
-pub as_long : (ps : List LinearPredictor) (a : Sound) (f : Frame) (t u : List Bool) → SpellsLeast ps a f t → SpellsLeast ps a f u → length t ≡ length u
-as_long ps a f t u x y =
+pub as_long : (lists : Lists) (a : Sound) (f : Frame) (t u : List Bool) → SpellsLeastByPlane lists a f t → SpellsLeastByPlane lists a f u → length t ≡ length u
+as_long lists a f t u x y =
     let p : length (frame_spelling a.bits x.form) ≤ length (frame_spelling a.bits y.form) = x.least.least.least y.form y.least.least.member in
     let q : length (frame_spelling a.bits y.form) ≤ length (frame_spelling a.bits x.form) = y.least.least.least x.form x.least.least.member in
     omega (arith, p, q, ap (λ (k : List Bool). length k) x.spelling, ap (λ (k : List Bool). length k) y.spelling)
 
 -- what is written of a block is the frame of its number
 pub spelled_of : (p : Cut) (a : Sound) (number start n : ℕ) (f : FrameForm) → start ≡ p.block_size * number → n ≡ size_of p.block_size (samples_each a.channels) number → IsEncoding a n number (block_of start n a.channels) f
-    → IsLeastWith (tried p number) a n number (block_of start n a.channels) f → IsShort a.bits f → IsSpelled p a number (frame_spelling a.bits f)
+    → IsLeastByPlane (tried p number) a n number (block_of start n a.channels) f → IsShort a.bits f → IsSpelled p a number (frame_spelling a.bits f)
 spelled_of p a number start n f start_is n_is encoding least short =
     let size = size_of p.block_size (samples_each a.channels) number in
     let e : IsEncoding a size number (block_of (p.block_size * number) size a.channels) f = subst (λ k. IsEncoding a k number (block_of (p.block_size * number) k a.channels) f) n_is (subst (λ k. IsEncoding a n number (block_of k n a.channels) f) start_is encoding) in
-    let l : IsLeastWith (tried p number) a size number (block_of (p.block_size * number) size a.channels) f = subst (λ k. IsLeastWith (tried p number) a k number (block_of (p.block_size * number) k a.channels) f) n_is (subst (λ k. IsLeastWith (tried p number) a n number (block_of k n a.channels) f) start_is least) in
+    let l : IsLeastByPlane (tried p number) a size number (block_of (p.block_size * number) size a.channels) f = subst (λ k. IsLeastByPlane (tried p number) a k number (block_of (p.block_size * number) k a.channels) f) n_is (subst (λ k. IsLeastByPlane (tried p number) a n number (block_of k n a.channels) f) start_is least) in
     record { frame = record { form = f; encoding = e; spelling = refl; short = short }; least = record { form = f; least = l; spelling = refl } }
 
 -- so it was written
-pub chosen_of : (p : Cut) (a : Sound) (number start end : ℕ) (ps : List LinearPredictor) (old new : Written) (r : Result (Unit {0}) Why) → IsRange p a number start end → ps ≡ tried p number
-    → WritesFrameWith ps a (end - start) number (block_of start (end - start) a.channels) old new r → WritesChosen p a number old new r
-chosen_of p a number start end ps old new r k tried w =
-    let least = subst (λ l. IsLeastWith l a (end - start) number (block_of start (end - start) a.channels) w.0) tried w.2.0 in
+pub chosen_of : (p : Cut) (a : Sound) (number start end : ℕ) (lists : Lists) (old new : Written) (r : Result (Unit {0}) Why) → IsRange p a number start end → lists ≡ tried p number
+    → WritesFrameByPlane lists a (end - start) number (block_of start (end - start) a.channels) old new r → WritesChosen p a number old new r
+chosen_of p a number start end lists old new r k tried w =
+    let least = subst (λ (l : Lists). IsLeastByPlane l a (end - start) number (block_of start (end - start) a.channels) w.0) tried w.2.0 in
     (w.0, spelled_of p a number start (end - start) w.0 k.start k.size w.1 least w.2.1, w.3)
 
 -- ---- a beginning is no longer

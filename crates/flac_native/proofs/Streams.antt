@@ -1,5 +1,5 @@
 -- What is written is a stream of what was given.
-use Rattle.std.proofs.Common.{◌≡◌, ℕ, ◌+◌, ◌*◌, ◌^◌, ◌<◌, min, Bool, true, false, not, cond, ◌&&◌, nat_eq, List, [], ◌∷◌, ◌++◌, length, append_assoc, map, Option, Some, None, inl, refl, sym, ap, subst, arith}
+use Rattle.std.proofs.Common.{◌≡◌, ℕ, ◌+◌, ◌*◌, ◌^◌, ◌<◌, min, Bool, true, false, not, cond, ◌&&◌, nat_eq, List, [], ◌∷◌, ◌++◌, length, append_assoc, map, Some, None, inl, refl, sym, ap, subst, arith}
 use Rattle.std.specs.Prelude.{slice_index_or}
 use Rattle.std.specs.Str.{bytes_eq}
 use Rattle.std.proofs.lemmas.Bool.Decides.{nat_tests}
@@ -10,13 +10,12 @@ use Rattle.flac_bits.specs.Bits.{unsigned}
 use Rattle.flac_bits.specs.State.{Mark, past, fresh}
 use Rattle.flac_bits.specs.Forms.{joined}
 use Rattle.flac_bits.specs.Meaning.{Spells, AllKept}
-use Rattle.flac_bits.specs.declared.why.Why.{Why}
 use Rattle.flac_bits.specs.declared.why.Why.TheVariants.{Truncated}
 use Rattle.flac_bits.proofs.ItemSpellings.{fresh_unread, after_whole}
 use Rattle.flac_info.specs.Info.{Info}
 use Rattle.flac_meta.specs.Header.{nothing_seen}
 use Rattle.flac_meta.specs.Block.{seen_after}
-use Rattle.flac_meta.specs.Listed.{came, block_fault, fault_after, or_else, list_fault, info_seen}
+use Rattle.flac_meta.specs.Listed.{came, fault_after, list_fault, info_seen}
 use Rattle.flac_meta.specs.Spelling.{content_spelling, block_spelling}
 use Rattle.flac_meta.specs.Valid.{AllAre, FitsFields, IsInfo, IsBlock, ContentSpelled, BlockSpelled}
 use Rattle.flac_meta.specs.declared.block.Seen.{Seen}
@@ -24,6 +23,7 @@ use Rattle.flac_meta.specs.declared.block.Block.{Block}
 use Rattle.flac_meta.specs.declared.block.Block.TheVariants as blocks
 use Rattle.flac_meta.proofs.Blocks.{blocks_spelled}
 use Rattle.flac_meta.proofs.Steps.{zeros_are}
+use Rattle.flac_meta.proofs.Listed.{listed, or_else_none}
 use Rattle.flac_header.specs.declared.subset.Profile.{Profile}
 use Rattle.flac_frame.specs.Audio.{Sound, samples_each}
 use Rattle.flac_native.specs.Decoding.{beginning}
@@ -71,20 +71,6 @@ block_by_layout s m last b phase is = go s.phase phase
     go Opening e = absurd cc
     go Frames e = absurd cc
 
--- a block of the list may stand where it stands
-first_none : {A : Type 0} (b : Bool) (x : A) (rest : Option A) → cond b (Some x) rest ≡ None → (b ≡ false) × (rest ≡ None)
-first_none true x rest e = absurd cc
-first_none false x rest e = (refl, e)
-
-both_none : (x y : Option Why) → or_else x y ≡ None → (x ≡ None) × (y ≡ None)
-both_none None y e = (refl, e)
-both_none (Some w) y e = absurd cc
-
-listed : (seen : Seen) (b : Block) → seen.stream_info ≡ true → fault_after seen b ≡ None → FitsFields b → IsBlock seen b
-listed seen b first e fits =
-    let k = first_none (came seen b) _ (block_fault b) e in
-    record { first = λ h. absurd (two seen.stream_info first h); once = k.0; written = k.1; fits = fits }
-
 module _ (profile : Profile) (i : Info) where
   -- among the blocks, after STREAMINFO
   abbrev pub at_block : ℕ → Seen → Progress
@@ -108,7 +94,7 @@ module _ (profile : Profile) (i : Info) where
     blocks_run : (b : Block) (bs : List Block) (index : ℕ) (seen : Seen) (m : Mark) → seen.stream_info ≡ true → m.unread ≡ 0 → list_fault seen (b ∷ bs) ≡ None → AllAre FitsFields (b ∷ bs)
         → Runs i message (at_block index seen) m (closing (b ∷ bs) ++ items) (blocks_spelling (b ∷ bs) ++ text)
     blocks_run b [] index seen m first z e fits =
-        let faults = both_none (fault_after seen b) None e in
+        let faults = or_else_none (fault_after seen b) None e in
         let is = listed seen b first faults.0 fits.0 in
         let on = goes_on true b index seen first is.once in
         let u = fresh_unread m z in
@@ -117,7 +103,7 @@ module _ (profile : Profile) (i : Info) where
         let run = one_more i message (at_block index seen) m (block true b) items (block_spelling true b) text (block_by_layout (at_block index seen).stand (fresh m) true b refl is) tt rest in
         subst (λ t. Runs i message (at_block index seen) m (block true b ∷ items) (t ++ text)) (sym (append-nil (block_spelling true b))) run
     blocks_run b (c ∷ cs) index seen m first z e fits =
-        let faults = both_none (fault_after seen b) _ e in
+        let faults = or_else_none (fault_after seen b) _ e in
         let is = listed seen b first faults.0 fits.0 in
         let on = goes_on false b index seen first is.once in
         let u = fresh_unread m z in

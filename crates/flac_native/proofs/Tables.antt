@@ -13,6 +13,7 @@ use Rattle.flac_meta.specs.declared.block.Seen.{Seen}
 use Rattle.flac_meta.specs.declared.seek_table.SeekPoint.{SeekPoint}
 use Rattle.flac_meta.specs.declared.block.Block.{Block}
 use Rattle.flac_meta.specs.declared.block.Block.TheVariants as blocks
+use Rattle.flac_meta.proofs.Listed.{or_else_none}
 use Rattle.flac_bits.specs.declared.why.Why.{Why}
 use Rattle.flac_frame.specs.Audio.{Sound}
 use Rattle.flac_native.specs.Given.{Cut, blocks_in, size_of, has_point, points_before}
@@ -175,17 +176,13 @@ no_table seen (blocks.CueSheet found ∷ bs) e h = no_table seen bs e h
 no_table seen (blocks.Picture found ∷ bs) e h = no_table seen bs e h
 no_table seen (blocks.Other kind bytes ∷ bs) e h = no_table seen bs e h
 
-both_none : (x y : Option Why) → or_else x y ≡ None → (x ≡ None) × (y ≡ None)
-both_none None y e = (refl, e)
-both_none (Some w) y e = absurd cc
-
 then_none : (x y : Option Why) → x ≡ None → y ≡ None → or_else x y ≡ None
 then_none x y e f = rw (e, f) refl
 
 one_after : (seen : Seen) (list : List Block) (b : Block) → list_fault seen list ≡ None → fault_after (seen_after_list seen list) b ≡ None → list_fault seen (list ++ b ∷ []) ≡ None
 one_after seen [] b e h = then_none (fault_after seen b) None h refl
 one_after seen (x ∷ xs) b e h =
-    let k = both_none (fault_after seen x) (list_fault (seen_after seen x) xs) e in
+    let k = or_else_none (fault_after seen x) (list_fault (seen_after seen x) xs) e in
     then_none (fault_after seen x) (list_fault (seen_after seen x) (xs ++ b ∷ [])) k.0 (one_after (seen_after seen x) xs b k.1 h)
 
 all_after : (list : List Block) (b : Block) → AllAre FitsFields list → FitsFields b → AllAre FitsFields (list ++ b ∷ [])

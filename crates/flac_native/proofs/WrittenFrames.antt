@@ -15,7 +15,7 @@ use Rattle.flac_frame.specs.Spelling.{FrameForm, frame_spelling}
 use Rattle.flac_frame.proofs.FrameTie.{frames_bytes}
 use Rattle.flac_meta.specs.declared.seek_table.SeekPoint.{SeekPoint}
 use Rattle.flac_native.specs.Given.{Cut, tried, blocks_in, frame_of}
-use Rattle.flac_native.specs.Writing.{SpellsFrame, SpellsLeast, AreFrames, AreLeastFrames, AreCounted, IsSpelled}
+use Rattle.flac_native.specs.Writing.{SpellsFrame, SpellsLeastByPlane, AreFrames, AreLeastFrames, AreCounted, IsSpelled}
 use Rattle.flac_native.specs.inner.Writing.{HaveFrames, WritesOn, WritesAll, WritesFrames}
 use Rattle.flac_native.proofs.Gathered.{nth, snoc, length-snoc, each_more}
 use Rattle.flac_native.proofs.FixedBuffers.{unstarted}
@@ -101,7 +101,7 @@ pub record WrittenFrames (p : Cut) (a : Sound) (number : ℕ) (old now : Written
   pub frames : List (List Bool)
   pub many : length frames ≡ number
   pub each : (i : ℕ) → i < length frames → SpellsFrame a (frame_of p.block_size a i) (nth frames i)
-  pub each_least : (i : ℕ) → i < length frames → SpellsLeast (tried p i) a (frame_of p.block_size a i) (nth frames i)
+  pub each_least : (i : ℕ) → i < length frames → SpellsLeastByPlane (tried p i) a (frame_of p.block_size a i) (nth frames i)
   pub wrote : WritesOn (joined frames) old now came_out
 
 module _ (p : Cut) (a : Sound) where
@@ -116,7 +116,7 @@ module _ (p : Cut) (a : Sound) where
     frames = snoc s.frames t;
     many = omega (arith, length-snoc s.frames t, s.many);
     each = each_more (λ i k. SpellsFrame a (frame_of p.block_size a i) k) s.frames t s.each (subst (λ n. SpellsFrame a (frame_of p.block_size a n) t) (sym s.many) is.frame);
-    each_least = each_more (λ i k. SpellsLeast (tried p i) a (frame_of p.block_size a i) k) s.frames t s.each_least (subst (λ n. SpellsLeast (tried p n) a (frame_of p.block_size a n) t) (sym s.many) is.least);
+    each_least = each_more (λ i k. SpellsLeastByPlane (tried p i) a (frame_of p.block_size a i) k) s.frames t s.each_least (subst (λ n. SpellsLeastByPlane (tried p n) a (frame_of p.block_size a n) t) (sym s.many) is.least);
     wrote = subst (λ k. WritesOn k old new came_out) (one_more s.frames t) (on_then came_out s.wrote wrote);
   }
 
@@ -128,9 +128,9 @@ module _ (p : Cut) (a : Sound) where
       let rest = drop (number + 1) others in
       let long : length front ≡ number + 1 = omega (arith, length-snoc s.frames t, s.many) in
       let each_front = each_more (λ i k. SpellsFrame a (frame_of p.block_size a i) k) s.frames t s.each (subst (λ n. SpellsFrame a (frame_of p.block_size a n) t) (sym s.many) is.frame) in
-      let least_front = each_more (λ i k. SpellsLeast (tried p i) a (frame_of p.block_size a i) k) s.frames t s.each_least (subst (λ n. SpellsLeast (tried p n) a (frame_of p.block_size a n) t) (sym s.many) is.least) in
+      let least_front = each_more (λ i k. SpellsLeastByPlane (tried p i) a (frame_of p.block_size a i) k) s.frames t s.each_least (subst (λ n. SpellsLeastByPlane (tried p n) a (frame_of p.block_size a n) t) (sym s.many) is.least) in
       let each_rest = each_drop (λ i k. SpellsFrame a (frame_of p.block_size a i) k) (number + 1) others are.each in
-      let least_rest = each_drop (λ i k. SpellsLeast (tried p i) a (frame_of p.block_size a i) k) (number + 1) others least in
+      let least_rest = each_drop (λ i k. SpellsLeastByPlane (tried p i) a (frame_of p.block_size a i) k) (number + 1) others least in
       let stopped : WritesOn (joined s.frames ++ t) old new (gave_out e) = on_then (gave_out e) s.wrote wrote in
       let failed : WritesOn ((joined s.frames ++ t) ++ joined rest) old new (gave_out e) = on_fault (joined rest) stopped in (
         front ++ rest,
@@ -138,7 +138,7 @@ module _ (p : Cut) (a : Sound) where
           many = omega (arith, length-append front rest, length-drop (number + 1) others, long, lt, are.many);
           each = each_append (λ i k. SpellsFrame a (frame_of p.block_size a i) k) front rest each_front (λ j h. subst (λ n. SpellsFrame a (frame_of p.block_size a (n + j)) (nth rest j)) (sym long) (each_rest j h));
         },
-        each_append (λ i k. SpellsLeast (tried p i) a (frame_of p.block_size a i) k) front rest least_front (λ j h. subst (λ n. SpellsLeast (tried p (n + j)) a (frame_of p.block_size a (n + j)) (nth rest j)) (sym long) (least_rest j h)),
+        each_append (λ i k. SpellsLeastByPlane (tried p i) a (frame_of p.block_size a i) k) front rest least_front (λ j h. subst (λ n. SpellsLeastByPlane (tried p (n + j)) a (frame_of p.block_size a (n + j)) (nth rest j)) (sym long) (least_rest j h)),
         subst (λ k. WritesOn k old new (gave_out e)) (ap (λ k. k ++ joined rest) (one_more s.frames t) ∙ joined_append front rest) failed,
       )
 

@@ -1,6 +1,6 @@
 -- What is encoded: STREAMINFO, blocks, and samples that are cut into frames.
-use Rattle.flac_subframe.specs.format.Handed.{coefficients_in}
-use Rattle.std.specs.Prelude.{◌≡◌, ◌<◌, ◌≤◌, ℕ, zero, suc, ◌+◌, ◌-◌, ◌*◌, ◌/◌, ◌^◌, min, Bool, true, false, not, cond, ◌&&◌, ◌||◌, nat_eq, nat_lt, nat_le, List, [], ◌∷◌, ◌++◌, length, map, slice_index_or, Option, Some, None, Vec}
+use Rattle.flac_subframe.specs.format.Handed.{coefficients_in, AreWithin}
+use Rattle.std.specs.Prelude.{◌≡◌, ◌<◌, ◌≤◌, ℕ, zero, suc, ◌+◌, ◌-◌, ◌*◌, ◌/◌, ◌^◌, min, Bool, true, false, not, cond, ◌&&◌, ◌||◌, nat_eq, nat_lt, nat_le, List, [], ◌∷◌, ◌++◌, length, map, slice_index_or, All, Option, Some, None, Vec}
 use Rattle.std.specs.Global.{Global}
 use Rattle.std.specs.List.{list_all}
 use Rattle.std.specs.Option.{option_or}
@@ -16,6 +16,7 @@ use Rattle.flac_subframe.specs.declared.format.linear.LinearPredictor.{LinearPre
 use Rattle.flac_frame.specs.Frame.{Frame, limits_at}
 use Rattle.flac_frame.specs.Audio.{Sound, samples_each}
 use Rattle.flac_frame.specs.Encoding.{block_of, most_in}
+use Rattle.flac_frame.specs.PlaneLists.{Lists}
 use Rattle.flac_frame.specs.Setup.{format_fault}
 use Rattle.flac_frame.specs.declared.setup.SetupFault.{SetupFault}
 use Rattle.flac_frame.specs.declared.setup.SetupFault.TheVariants.{TooLong, BadBlockSize, TooManyPoints, PredictorOrder, TooManyPredictors}
@@ -28,7 +29,8 @@ use Rattle.md5.specs.Md5.{md5}
 
 -- How samples are cut: the samples of a block; the profile, the sample rate, the bits per sample, the channels and the
 -- samples of each that the plan was made for; the samples from one seek point to the next, 0 if there are none; and the
--- linear predictors that are tried beside the fixed ones: one list for all frames, and a list for each of the first frames.
+-- linear predictors that are tried beside the fixed ones: one list for all frames, and for each of the first frames a
+-- list for each plane, or for the first planes.
 pub record Cut : Type 0 where
   pub profile : Profile
   pub block_size : ℕ
@@ -38,7 +40,7 @@ pub record Cut : Type 0 where
   pub total : ℕ
   pub seek_every : ℕ
   pub predictors : List LinearPredictor
-  pub found : List (List LinearPredictor)
+  pub found : List (List (List LinearPredictor))
 
 -- a plan for these samples, without predictors
 abbrev pub cut_in : Profile → (block_size : ℕ) → Sound → (seek_every : ℕ) → Cut
@@ -81,19 +83,30 @@ listed (Some v) = v.items
 abbrev pub with_predictors : Cut → List LinearPredictor → Cut
 with_predictors p ps = record p { predictors = ps; found = [] }
 
--- the lists in an optional vector of vectors
-abbrev pub listed_each : Option (Vec (Vec LinearPredictor Global) Global) → List (List LinearPredictor)
-listed_each None = []
-listed_each (Some v) = map (λ (l : Vec LinearPredictor Global). l.items) v.items
+-- the lists in vectors: of the planes of a frame, and of the first frames
+abbrev pub plane_lists : List (Vec LinearPredictor Global) → List (List LinearPredictor)
+plane_lists lists = map (λ (l : Vec LinearPredictor Global). l.items) lists
 
--- the same plan with a list of predictors for each of the first frames
-abbrev pub with_found : Cut → List (List LinearPredictor) → Cut
+abbrev pub frame_lists : List (Vec (Vec LinearPredictor Global) Global) → List (List (List LinearPredictor))
+frame_lists frames = map (λ (f : Vec (Vec LinearPredictor Global) Global). plane_lists f.items) frames
+
+abbrev pub listed_frames : Option (Vec (Vec (Vec LinearPredictor Global) Global) Global) → List (List (List LinearPredictor))
+listed_frames None = []
+listed_frames (Some v) = frame_lists v.items
+
+-- no order in them is above a limit
+abbrev pub AreFoundWithin : (limit : ℕ) → List (List (List LinearPredictor)) → Type 0
+AreFoundWithin limit found = All (All (AreWithin limit)) found
+
+-- the same plan with lists of predictors for the planes of the first frames
+abbrev pub with_found : Cut → List (List (List LinearPredictor)) → Cut
 with_found p found = record p { found = found }
 
--- the linear predictors that are tried for the frame of a number: those of its own list, or if it has none, those of the
--- list for all frames
-abbrev pub tried : Cut → (number : ℕ) → List LinearPredictor
-tried p number = slice_index_or p.found number p.predictors
+-- The linear predictors that are tried for each plane of the frame of a number: those of the plane's own list, or if it
+-- has none, those of the list for all frames. Two channels have the planes left, right, side and middle; otherwise each
+-- channel is one (RFC 9639, section 4.2).
+abbrev pub tried : Cut → (number : ℕ) → Lists
+tried p number = λ plane. slice_index_or (slice_index_or p.found number []) plane p.predictors
 
 abbrev pub same_profile : Profile → Profile → Bool
 same_profile Subset Subset = true

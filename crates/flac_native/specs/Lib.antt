@@ -15,6 +15,7 @@ pub mod Writing
 pub mod Points
 pub mod Numbers
 pub mod Retag
+pub mod Rewriting
 pub mod Resuming
 pub mod ReadBack
 pub mod Whole

@@ -50,6 +50,13 @@ pub record Begins (profile : Profile) (m : Mark) (text : List Bool) (info : Info
 abbrev pub BeginsWith : Mark → List Bool → Info → List Block → List Bool → Type 0
 BeginsWith m text info list rest = Begins Subset m text info list rest
 
+-- The bits of a cursor begin with the marker and these blocks, STREAMINFO the first, and go on with the rest.
+pub record AreRead (c : Cursor) (list : List Block) (rest : List Bool) : Type 0 where
+  pub info : Info
+  pub others : List Block
+  pub begins : BeginsWith c.mark c.left info others rest
+  pub are : list ≡ blocks.StreamInfo info ∷ others
+
 -- the marker or a block
 abbrev pub is_before_frames : Place → Bool
 is_before_frames place.Marker = true

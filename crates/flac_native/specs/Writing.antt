@@ -13,10 +13,11 @@ use Rattle.flac_meta.specs.declared.block.Block.{Block}
 use Rattle.flac_meta.specs.declared.block.Block.TheVariants as blocks
 use Rattle.flac_frame.specs.Audio.{Sound, samples_each}
 use Rattle.flac_subframe.specs.declared.format.linear.LinearPredictor.{LinearPredictor}
-use Rattle.flac_frame.specs.Chosen.{IsChoiceWith}
-use Rattle.flac_frame.specs.Encoding.{IsEncoding, IsLeastWith}
+use Rattle.flac_frame.specs.Chosen.{IsChoiceByPlane}
+use Rattle.flac_frame.specs.Encoding.{IsEncoding, IsLeastByPlane}
 use Rattle.flac_frame.specs.declared.frame_choice.FrameChoice.{FrameChoice}
 use Rattle.flac_frame.specs.Frame.{Frame}
+use Rattle.flac_frame.specs.PlaneLists.{Lists, same_list}
 use Rattle.flac_frame.specs.Spelling.{FrameForm, frame_spelling}
 use Rattle.flac_native.specs.Decoding.{beginning}
 use Rattle.flac_native.specs.Stream.{grammar, opening}
@@ -39,15 +40,20 @@ pub record AreFrames (p : Cut) (a : Sound) (frames : List (List Bool)) : Type 0 
   pub many : length frames ≡ blocks_in p.block_size (samples_each a.channels)
   pub each : (i : ℕ) → i < length frames → SpellsFrame a (frame_of p.block_size a i) (slice_index_or frames i [])
 
--- the bits spell the shortest frame of a block of samples, if these linear predictors are tried beside the fixed ones
-pub record SpellsLeast (ps : List LinearPredictor) (a : Sound) (f : Frame) (text : List Bool) : Type 0 where
+-- the bits spell the shortest frame of a block of samples, if beside the fixed predictors the linear ones of a plane's
+-- list are tried for the plane
+pub record SpellsLeastByPlane (lists : Lists) (a : Sound) (f : Frame) (text : List Bool) : Type 0 where
   pub form : FrameForm
-  pub least : IsLeastWith ps a f.size f.number f.channels form
+  pub least : IsLeastByPlane lists a f.size f.number f.channels form
   pub spelling : text ≡ frame_spelling a.bits form
 
--- each frame is the shortest of its block, with the plan's predictors for it
+-- the same with one list for all planes
+abbrev pub SpellsLeast : List LinearPredictor → Sound → Frame → (text : List Bool) → Type 0
+SpellsLeast ps = SpellsLeastByPlane (same_list ps)
+
+-- each frame is the shortest of its block, with the plan's predictors for each of its planes
 abbrev pub AreLeastFrames : Cut → Sound → List (List Bool) → Type 0
-AreLeastFrames p a frames = (i : ℕ) → i < length frames → SpellsLeast (tried p i) a (frame_of p.block_size a i) (slice_index_or frames i [])
+AreLeastFrames p a frames = (i : ℕ) → i < length frames → SpellsLeastByPlane (tried p i) a (frame_of p.block_size a i) (slice_index_or frames i [])
 
 -- the smallest and the largest size of the frames in bytes, 0 if there is no frame
 pub record AreSizes (frames : List (List Bool)) (least greatest : ℕ) : Type 0 where
@@ -96,11 +102,11 @@ IsDigest a digest = digest ≡ md5 (sound_message a)
 -- the bits are those of the shortest frame of a number, of at most 16777215 bytes
 pub record IsSpelled (p : Cut) (a : Sound) (number : ℕ) (text : List Bool) : Type 0 where
   pub frame : SpellsFrame a (frame_of p.block_size a number) text
-  pub least : SpellsLeast (tried p number) a (frame_of p.block_size a number) text
+  pub least : SpellsLeastByPlane (tried p number) a (frame_of p.block_size a number) text
 
 -- it was chosen how the frame of a number is written
 pub record IsChoiceOf (p : Cut) (a : Sound) (number : ℕ) (c : FrameChoice) : Type 0 where
-  pub chosen : IsChoiceWith (tried p number) a (frame_of p.block_size a number).size number (frame_of p.block_size a number).channels c
+  pub chosen : IsChoiceByPlane (tried p number) a (frame_of p.block_size a number).size number (frame_of p.block_size a number).channels c
   pub places : length a.channels ≤ length c.subframes.items
 
 -- these are the choices of the first frames

@@ -14,7 +14,10 @@ use crate::digest::{digest_of, feed_block};
 use crate::plan::Plan;
 use crate::targets::FixedBuffer;
 use flac_bits::{BitWriter, Target, Why};
-use flac_frame::{Audio, EncodeBuffers, FrameChoice, choose_frame, encode_frame_with, write_frame};
+use flac_frame::{
+    Audio, EncodeBuffers, FrameChoice, choose_frame_by_plane, encode_frame_by_plane,
+    write_frame_by_plane,
+};
 use flac_meta::{SeekPoint, StreamInfo};
 use md5::{Digest, Md5};
 use std::alloc::Global;
@@ -123,8 +126,8 @@ impl ChosenFrames {
             plan.note_point(number, offset, &mut points)?;
             feed_block(&mut hasher, audio, range.start, len);
             let predictors = plan.predictors_at(number);
-            choose_frame(audio, range, number, predictors, buffers, &mut choice);
-            let bytes = choice.frame_bytes(audio, len, number);
+            choose_frame_by_plane(audio, range, number, &predictors, buffers, &mut choice);
+            let bytes = choice.frame_bytes_by_plane(audio, len, number);
             keep(alloc, &mut choices, &choice, most)?;
             least = least_with(number, least, bytes);
             greatest = greatest_with(greatest, bytes);
@@ -271,9 +274,9 @@ fn write_chosen<W: Target>(
     let at = number as usize;
     if at < choices.len() {
         let choice = &choices[at];
-        return write_frame(audio, range, number, choice, predictors, buffers, writer);
+        return write_frame_by_plane(audio, range, number, choice, &predictors, buffers, writer);
     }
-    match encode_frame_with(audio, range, number, predictors, buffers, writer) {
+    match encode_frame_by_plane(audio, range, number, &predictors, buffers, writer) {
         Ok(_) => Ok(()),
         Err(why) => Err(why),
     }

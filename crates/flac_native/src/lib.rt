@@ -9,6 +9,8 @@
 //! | encode outside the streamable subset | [`Audio::new_in`] |
 //! | try linear predictors of one's own | [`LinearPredictor`] and [`Plan::with_predictors`] |
 //! | replace the comments | [`retag`] |
+//! | read the metadata blocks alone | [`read_blocks`] |
+//! | write a stream with other metadata blocks | [`send_with_blocks`] |
 //!
 //! It re-exports what its users need from the crates below: sources and targets, metadata blocks, frames, and errors. A
 //! program names this crate alone.
@@ -22,12 +24,14 @@ mod digest;
 mod encoding;
 mod fault;
 mod format;
+mod found;
 mod item;
 mod laws;
 mod native;
 mod plan;
 mod position;
 mod retagging;
+mod rewriting;
 mod sample_bytes;
 mod sinks;
 mod targets;
@@ -42,7 +46,9 @@ pub use fault::{EncodeFault, Fault, Place, Refused};
 pub use flac_bits::{
     BitReader, BitWriter, Collected, Counted, Memory, Pieces, Source, Target, Why,
 };
-pub use flac_frame::{Audio, EncodeBuffers, FrameView, SetupFault, greatest_order};
+pub use flac_frame::{
+    Audio, EncodeBuffers, FrameView, PlanePredictors, SetupFault, greatest_order,
+};
 pub use flac_header::Profile;
 pub use flac_meta::{
     Block, BlockList, Bytes, Comments, CueIndex, CueIndices, CueSheet, CueTrack, CueTracks,
@@ -58,7 +64,8 @@ pub use laws::{
 };
 pub use native::{MARKER, read_marker};
 pub use plan::{Plan, predictors_fault};
-pub use retagging::{RetagFault, retag};
+pub use retagging::{RetagFault, read_blocks, retag};
+pub use rewriting::send_with_blocks;
 pub use sample_bytes::{put_rows, sample_width};
 pub use sinks::{Failures, SampleWriter};
 pub use targets::FixedBuffer;

@@ -1,15 +1,16 @@
 //! How samples are divided into frames.
 
-ghost use Rattle.std.specs.Prelude.{◌≡◌, ◌<◌, ◌≤◌, ◌*◌, ◌^◌, ◌++◌, [], map, slice_index_or, All, MatchResult, IfOk, OnOk, IfErr, true, Some, None};
-ghost use Rattle.flac_native.specs.Given.{IsRange, blocks_in, has_point, points_before, cut_in, cut_asked, with_predictors, with_found, tried, fits_plan, predictors_fault, cutting_fault, plan_fault};
+ghost use Rattle.std.specs.Prelude.{◌≡◌, ◌<◌, ◌≤◌, ◌*◌, ◌^◌, ◌++◌, [], ◌↔◌, IsTrue, slice_index_or, MatchResult, IfOk, OnOk, IfErr, true, Some, None};
+ghost use Rattle.flac_native.specs.Given.{IsRange, blocks_in, has_point, points_before, cut_in, cut_asked, with_predictors, with_found, plane_lists, frame_lists, AreFoundWithin, tried, fits_plan, predictors_fault, cutting_fault, plan_fault};
 ghost use Rattle.flac_native.specs.Seeking.{point_at};
 ghost use Rattle.flac_frame.specs.Audio.{samples_each};
 ghost use Rattle.flac_frame.specs.Frame.{limits_at};
+ghost use Rattle.flac_frame.specs.PlaneLists.{lists_of, AreAllWithin};
 ghost use Rattle.flac_subframe.specs.format.Handed.{AreWithin};
-ghost use Rattle.flac_subframe.specs.declared.format.linear.LinearPredictor.{LinearPredictor};
 
+use crate::found::found_are_within;
 use flac_bits::Why;
-use flac_frame::{Audio, SetupFault, format_fault, greatest_order};
+use flac_frame::{Audio, PlanePredictors, SetupFault, format_fault, greatest_order};
 use flac_header::Profile;
 use flac_meta::SeekPoint;
 use flac_subframe::LinearPredictor;
@@ -20,7 +21,7 @@ use std::ops::Range;
 /// sections 8.1 and 8.5).
 const MOST_POINTS: u64 = 932067;
 
-/// The most linear predictors that are tried for each frame.
+/// The most linear predictors that are given for all frames.
 const MOST_PREDICTORS: usize = 64;
 
 /// How samples of one format and length are divided into frames, which frames have a seek point, and which linear
@@ -31,8 +32,8 @@ pub struct Plan {
     asked: Asked,
     /// `None` stands for an empty list.
     predictors: Option<Vec<LinearPredictor>>,
-    /// A list for each of the first frames; `None` stands for no list.
-    found: Option<Vec<Vec<LinearPredictor>>>,
+    /// The lists of the planes of each of the first frames; `None` stands for no frame.
+    found: Option<Vec<Vec<Vec<LinearPredictor>>>>,
 }
 
 impl Drop for Plan {
@@ -58,10 +59,9 @@ struct Asked {
 }
 
 impl Model for Plan {
-    ghost use Rattle.std.specs.Prelude.{◌≡◌, None, All};
+    ghost use Rattle.std.specs.Prelude.{◌≡◌, None};
     ghost use Rattle.flac_frame.specs.Frame.{limits_at};
-    ghost use Rattle.flac_subframe.specs.format.Handed.{AreWithin};
-    ghost use Rattle.flac_native.specs.Given.{Cut, listed, listed_each, plan_fault};
+    ghost use Rattle.flac_native.specs.Given.{Cut, listed, listed_frames, AreFoundWithin, plan_fault};
 
     ghost Value = { Cut };
 
@@ -74,7 +74,7 @@ impl Model for Plan {
       total = p.asked.total;
       seek_every = p.asked.seek_every;
       predictors = listed p.predictors;
-      found = listed_each p.found;
+      found = listed_frames p.found;
     } };
 
     ghost invariant = { λ p. record {
@@ -87,9 +87,9 @@ impl Model for Plan {
         total = p.asked.total;
         seek_every = p.asked.seek_every;
         predictors = listed p.predictors;
-        found = listed_each p.found;
+        found = listed_frames p.found;
       }) ≡ None;
-      orders : All (AreWithin (limits_at p.asked.profile p.asked.rate).linear) (listed_each p.found);
+      orders : AreFoundWithin (limits_at p.asked.profile p.asked.rate).linear (listed_frames p.found);
     } };
 }
 
@@ -112,19 +112,15 @@ pub fn predictors_fault(
     None
 }
 
-/// The list of this number, or `other` if there are not that many lists.
-fn list_at<'a>(
-    lists: &'a [Vec<LinearPredictor>],
-    number: u64,
-    other: &'a [LinearPredictor],
-) -> &'a [LinearPredictor]
-    ensures { result.now ≡ slice_index_or (map (λ l. l.items) lists.now) number other.now }
+/// The lists of the planes of the frame of this number; none if it has none.
+fn lists_at(frames: &[Vec<Vec<LinearPredictor>>], number: u64) -> &[Vec<LinearPredictor>]
+    ensures { plane_lists result.now ≡ slice_index_or (frame_lists frames.now) number [] }
 {
     let at = number as usize;
-    if at < lists.len() {
-        return lists[at].as_slice();
+    if at < frames.len() {
+        return frames[at].as_slice();
     }
-    other
+    &[]
 }
 
 /// Whether the frame of this number holds a sample whose index is a multiple of `every`; false if `every` is 0.
@@ -289,24 +285,33 @@ impl Plan {
         })
     }
 
-    /// The same plan, with lists of linear predictors, one for each frame from the first one on. The frame of a number
-    /// is then a shortest one over constant, verbatim and fixed predictors and those of the list of this number; a frame
-    /// after the last list is as without: those of [`Plan::with_predictors`] are tried for it. The lists take the place
-    /// of those that an earlier call of this function gave. Each order must be at
-    /// most 32 in [`Profile::Lax`] and above 48000 Hz, else at most 12 (RFC 9639, sections 7 and 9.2.6).
+    /// The same plan, with lists of linear predictors for each plane of each frame, from the first frame on. Each frame
+    /// is then a shortest one whose subframes are constant, verbatim, by a fixed predictor, or by a linear one of the
+    /// list of their own plane. Two channels have four planes, in this order: left, right, side and middle; otherwise
+    /// each channel is a plane (RFC 9639, section 4.2). For a plane after the last list of its frame, and in a frame
+    /// after the last one that has lists, those of [`Plan::with_predictors`] are tried.
+    ///
+    /// The lists take the place of those that an earlier call of this function gave. Each order must be at most 32 in
+    /// [`Profile::Lax`] and above 48000 Hz, else at most 12 (sections 7 and 9.2.6): [`Plan::takes`] tests it. There
+    /// may be any number of lists, and of predictors in each.
     ///
     /// ```
-    /// let mut first = Vec::new(rt.alloc());
+    /// let mut left = Vec::new(rt.alloc());
     /// if let Some(doubled) = LinearPredictor::new(3, 0, &[2, -1]) {
-    ///     first.push(doubled)?;
+    ///     left.push(doubled)?;
     /// }
+    /// let mut first = Vec::new(rt.alloc());
+    /// first.push(left)?;
     /// let mut found = Vec::new(rt.alloc());
     /// found.push(first)?;
-    /// let plan = Plan::new(4096, &audio, 0)?.with_found(found);
+    /// let mut plan = Plan::new(4096, &audio, 0)?;
+    /// if plan.takes(&found) {
+    ///     plan = plan.with_found(found);
+    /// }
     /// ```
-    pub fn with_found(self, found: Vec<Vec<LinearPredictor>>) -> Plan
-        requires orders { All (λ l. AreWithin (limits_at self.profile self.rate).linear l.items) found.items }
-        ensures { result ≡ with_found self (map (λ l. l.items) found.items) }
+    pub fn with_found(self, found: Vec<Vec<Vec<LinearPredictor>>>) -> Plan
+        requires orders { AreFoundWithin (limits_at self.profile self.rate).linear (frame_lists found.items) }
+        ensures { result ≡ with_found self (frame_lists found.items) }
     {
         let Plan {
             asked,
@@ -318,6 +323,13 @@ impl Plan {
             predictors,
             found: Some(found),
         }
+    }
+
+    /// Whether [`Plan::with_found`] takes these lists: no order in them is above that of the plan's profile and rate.
+    pub fn takes(&self, found: &[Vec<Vec<LinearPredictor>>]) -> bool
+        ensures { IsTrue result ↔ AreFoundWithin (limits_at self.now.profile self.now.rate).linear (frame_lists found.now) }
+    {
+        found_are_within(found, greatest_order(self.asked.profile, self.asked.rate))
     }
 
     /// Whether these samples have the profile, rate, depth, channels and length of those that the plan was made for.
@@ -338,7 +350,7 @@ impl Plan {
         self.asked.profile
     }
 
-    /// The linear predictors of the one list, at most 64: those that are tried for a frame that has no list of its own.
+    /// The linear predictors of the one list, at most 64: those that are tried for a plane that has no list of its own.
     pub fn predictors(&self) -> &[LinearPredictor]
         ensures list { result.now ≡ self.now.predictors }
         ensures orders { AreWithin (limits_at self.now.profile self.now.rate).linear self.now.predictors }
@@ -349,19 +361,22 @@ impl Plan {
         }
     }
 
-    /// The linear predictors that are tried for the frame of a number, counted from 0: those of its own list
-    /// ([`Plan::with_found`]), or, if it has none, those of [`Plan::predictors`].
-    pub fn predictors_at(&self, number: u64) -> &[LinearPredictor]
-        ensures tried { result.now ≡ tried self.now number }
-        ensures orders { AreWithin (limits_at self.now.profile self.now.rate).linear result.now }
+    /// The linear predictors that are tried for each plane of the frame of a number, counted from 0: those of the
+    /// plane's own list ([`Plan::with_found`]), or, if it has none, those of [`Plan::predictors`].
+    pub fn predictors_at(&self, number: u64) -> PlanePredictors<'_>
+        ensures tried { lists_of result ≡ tried self.now number }
+        ensures orders { AreAllWithin (limits_at self.now.profile self.now.rate).linear (lists_of result) }
     {
-        list_at(self.found(), number, self.predictors())
+        PlanePredictors {
+            lists: lists_at(self.found(), number),
+            others: self.predictors(),
+        }
     }
 
     /// The lists of linear predictors of the first frames.
-    fn found(&self) -> &[Vec<LinearPredictor>]
-        ensures lists { map (λ l. l.items) result.now ≡ self.now.found }
-        ensures orders { All (AreWithin (limits_at self.now.profile self.now.rate).linear) self.now.found }
+    fn found(&self) -> &[Vec<Vec<LinearPredictor>>]
+        ensures lists { frame_lists result.now ≡ self.now.found }
+        ensures orders { AreFoundWithin (limits_at self.now.profile self.now.rate).linear self.now.found }
     {
         match &self.found {
             Some(found) => found.as_slice(),

@@ -12,8 +12,8 @@ ghost use Rattle.flac_native.specs.Stream.{Piece, Progress, Stand, grammar, layo
 ghost use Rattle.flac_native.specs.Track.{is_after_blocks, position_of};
 ghost use Rattle.flac_native.specs.Item.{fault_pair};
 ghost use Rattle.flac_native.specs.Places.{retag_text};
-ghost use Rattle.flac_native.specs.Retag.{is_before_frames, IsRefusedAt, IsPlaceAt, HasHeadAt, SendsRetagged, SendsPrefix, SendsHeadAndPart, IsOfDevice, IsBeforeOrOutside, not_read, not_written, BeginsWith, retagged, too_long};
-ghost use Rattle.flac_native.specs.inner.Retag.{stand_at, piece_in, keeps, AreKept, MayBeHead, new_head};
+ghost use Rattle.flac_native.specs.Retag.{is_before_frames, IsRefusedAt, IsPlaceAt, AreRead, is_comment, HasHeadAt, SendsRetagged, SendsPrefix, SendsHeadAndPart, IsOfDevice, IsBeforeOrOutside, not_read, not_written, BeginsWith, retagged, too_long};
+ghost use Rattle.flac_native.specs.inner.Retag.{stand_at, piece_in, kept_one, keeps, AreKept, MayBeHead, new_head};
 ghost use Rattle.flac_bits.specs.Bits.{bits_of};
 ghost use Rattle.flac_bits.specs.Written.{Adds, Fails};
 ghost use Rattle.flac_bits.specs.State.{Rises, started};
@@ -60,22 +60,36 @@ impl fmt::Display for RetagFault {
 
 impl std::error::Error for RetagFault {}
 
-/// Keeps a block that is no comment block. Its only error is `Memory`: an allocation failed.
-fn keep(kept: &mut Vec<Block>, part: Option<(bool, Block)>) -> Result<(), Why>
-    ensures keeps { OnOk result (keeps kept.old.items (piece_in part) kept.new.items) }
+/// Whether this is a comment block.
+fn is_comment(block: &Block) -> bool
+    ensures { result ≡ is_comment block.now }
+{
+    matches!(block, Block::VorbisComment(_))
+}
+
+/// Keeps a block; comments only if `all` says so. Its only error is `Memory`: an allocation failed.
+fn keep_block(kept: &mut Vec<Block>, block: Block, all: bool) -> Result<(), Why>
+    ensures keeps { OnOk result (kept.new.items ≡ kept.old.items ++ kept_one all block) }
+    ensures memory { IfErr result (λ e. e ≡ Why.Memory) }
+{
+    if !all && is_comment(&block) {
+        drop(block);
+        return Ok(());
+    }
+    kept.push(block)?;
+    Ok(())
+}
+
+/// Keeps the block of a part, if it has one; comments only if `all` says so. Its only error is `Memory`: an allocation
+/// failed.
+fn keep(kept: &mut Vec<Block>, part: Option<(bool, Block)>, all: bool) -> Result<(), Why>
+    ensures keeps { OnOk result (keeps all kept.old.items (piece_in part) kept.new.items) }
     ensures memory { IfErr result (λ e. e ≡ Why.Memory) }
     ensures none { IfErr result (λ _. is_some part ≡ true) }
 {
     match part {
         None => Ok(()),
-        Some((_, Block::VorbisComment(comments))) => {
-            drop(comments);
-            Ok(())
-        }
-        Some((_, block)) => {
-            kept.push(block)?;
-            Ok(())
-        }
+        Some((_, block)) => keep_block(kept, block, all),
     }
 }
 
@@ -113,19 +127,20 @@ fn read_next<R: Source>(
     }
 }
 
-/// Reads the marker or the next block, and keeps a block that is no comment block.
+/// Reads the marker or the next block, and keeps a block; comments only if `all` says so.
 fn keep_next<R: Source>(
     alloc: Global,
     reader: &mut BitReader<R>,
     position: &mut Position,
     kept: &mut Vec<Block>,
+    all: bool,
 ) -> Result<(), Fault>
     requires { is_after_blocks position.old.phase ≡ false }
     // proof only
     ensures spends { OnOk result (reader.new.most + 32 ≤ reader.old.most) }
     ensures counts { Counts (lifted reader.old) reader.new (reason_of fault_pair result) }
     ensures keeps { OnOk result ((p : Progress) → position_of p.stand ≡ position.old
-        → (x : Piece) × (position_of (next p x).stand ≡ position.new) × keeps kept.old.items x kept.new.items
+        → (x : Piece) × (position_of (next p x).stand ≡ position.new) × keeps all kept.old.items x kept.new.items
         × (reader.old.known ≡ true → step_at grammar p (lifted reader.old).cursor ≡ item x reader.new.cursor)) }
     ensures refused { IfErr result (λ f. (p : Progress) → position_of p.stand ≡ position.old
         → reader.old.known ≡ true → reader.new.errors ≡ reader.old.errors → f.why ≢ Why.Memory
@@ -136,7 +151,7 @@ fn keep_next<R: Source>(
 {
     let at = position.place();
     match read_next(alloc, reader, position) {
-        Ok(part) => match keep(kept, part) {
+        Ok(part) => match keep(kept, part, all) {
             Ok(()) => Ok(()),
             Err(why) => Err(Fault { at, why }),
         },
@@ -144,11 +159,12 @@ fn keep_next<R: Source>(
     }
 }
 
-/// Reads the marker and all blocks, and keeps those that are no comment blocks, in their order.
+/// Reads the marker and all blocks, and keeps them in their order; comments only if `all` says so.
 fn keep_all<R: Source>(
     alloc: Global,
     reader: &mut BitReader<R>,
     kept: &mut Vec<Block>,
+    all: bool,
 ) -> Result<(), Fault>
     requires whole { reader.old.cursor.mark.unread ≡ 0 }
     requires none { kept.old.items ≡ [] }
@@ -156,7 +172,7 @@ fn keep_all<R: Source>(
     ensures counts { Counts (lifted reader.old) reader.new (reason_of fault_pair result) }
     ensures whole { OnOk result (reader.new.cursor.mark.unread ≡ 0) }
     ensures kept { OnOk result (reader.old.known ≡ true
-        → AreKept (lifted reader.old).cursor kept.new.items reader.new.cursor.left) }
+        → AreKept all (lifted reader.old).cursor kept.new.items reader.new.cursor.left) }
     ensures refused { IfErr result (λ f. reader.old.known ≡ true → reader.new.errors ≡ reader.old.errors
         → f.why ≢ Why.Memory → IsRefusedAt (lifted reader.old).cursor f.at f.why) }
     ensures placed { IfErr result (λ f. reader.old.known ≡ true → IsPlaceAt (lifted reader.old).cursor f.at) }
@@ -165,7 +181,7 @@ fn keep_all<R: Source>(
 {
     let mut position = Position::start();
     while !position.is_past_metadata() {
-        keep_next(alloc, reader, &mut position, kept)?;
+        keep_next(alloc, reader, &mut position, kept, all)?;
     }
     reader.lift();
     if reader.unread() != 0 {
@@ -188,7 +204,7 @@ pub(crate) fn read_kept<R: Source>(
     ensures counts { Counts (lifted reader.old) reader.new (reason_of fault_pair result) }
     ensures whole { OnOk result (reader.new.cursor.mark.unread ≡ 0) }
     ensures kept { IfOk result (λ kept. reader.old.known ≡ true
-        → AreKept (lifted reader.old).cursor kept.items reader.new.cursor.left) }
+        → AreKept false (lifted reader.old).cursor kept.items reader.new.cursor.left) }
     ensures refused { IfErr result (λ f. reader.old.known ≡ true → reader.new.errors ≡ reader.old.errors
         → f.why ≢ Why.Memory → IsRefusedAt (lifted reader.old).cursor f.at f.why) }
     ensures placed { IfErr result (λ f. reader.old.known ≡ true → IsPlaceAt (lifted reader.old).cursor f.at) }
@@ -196,7 +212,41 @@ pub(crate) fn read_kept<R: Source>(
     ensures memory { IfErr result (λ f. f.why ≡ Why.Memory → f.at ≢ Place.Marker) }
 {
     let mut kept = Vec::new(alloc);
-    match keep_all(alloc, reader, &mut kept) {
+    match keep_all(alloc, reader, &mut kept, false) {
+        Ok(()) => Ok(kept),
+        Err(fault) => Err(fault),
+    }
+}
+
+/// Reads the marker and all metadata blocks of a native stream, and stops before the first frame (RFC 9639, sections 6
+/// and 8). STREAMINFO is the first of them. No frame is read, and no memory is taken for one.
+///
+/// ```
+/// let mut reader = BitReader::new(source);
+/// let blocks = read_blocks(rt.alloc(), &mut reader)?;
+/// ```
+///
+/// # Errors
+/// A reason of the marker or of a metadata block, at its place, as [`crate::decode`] refuses it; [`Why::Read`] there if
+/// the source returned an error, [`Why::Memory`] at a block if an allocation failed.
+pub fn read_blocks<R: Source>(alloc: Global, reader: &mut BitReader<R>) -> Result<Vec<Block>, Fault>
+    requires { reader.old.cursor.mark.unread ≡ 0 }
+    ensures counts { Counts (lifted reader.old) reader.new (reason_of fault_pair result) }
+    // The reader is at the first frame.
+    ensures whole { OnOk result (reader.new.cursor.mark.unread ≡ 0) }
+    // Ok only if the input begins with a marker and these blocks; what is left to read comes after them.
+    ensures read { IfOk result (λ list. reader.old.known ≡ true
+        → AreRead (lifted reader.old).cursor list.items reader.new.cursor.left) }
+    // Refused only as the marker and the blocks are, at that place and for that reason.
+    ensures refused { IfErr result (λ f. reader.old.known ≡ true → reader.new.errors ≡ reader.old.errors
+        → f.why ≢ Why.Memory → IsRefusedAt (lifted reader.old).cursor f.at f.why) }
+    ensures placed { IfErr result (λ f. reader.old.known ≡ true → IsPlaceAt (lifted reader.old).cursor f.at) }
+    ensures at { IfErr result (λ f. reader.old.known ≡ true → is_before_frames f.at ≡ true) }
+    // No allocation fails at the marker.
+    ensures memory { IfErr result (λ f. f.why ≡ Why.Memory → f.at ≢ Place.Marker) }
+{
+    let mut kept = Vec::new(alloc);
+    match keep_all(alloc, reader, &mut kept, true) {
         Ok(()) => Ok(kept),
         Err(fault) => Err(fault),
     }

@@ -5,7 +5,7 @@ use Rattle.std.proofs.lemmas.List.{length-take-le, length-drop, take-append-drop
 use Rattle.std.proofs.lemmas.Nat.{div-mul-add}
 use Rattle.flac_bits.specs.Bits.{unsigned, bits_of, bit_value}
 use Rattle.flac_bits.specs.Forms.{AreBytes}
-use Rattle.flac_bits.proofs.Laws.{unsigned_low}
+use Rattle.flac_bits.proofs.Readings.{unsigned_low}
 
 -- the number whose bits these are
 abbrev number : List Bool → ℕ

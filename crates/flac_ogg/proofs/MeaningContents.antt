@@ -1,7 +1,7 @@
 -- What an input has: good pages and the packets in them, in just one way.
 use Rattle.std.proofs.Common.{◌≡◌, ℕ, ◌+◌, Bool, false, List, [], length, None, refl, sym, ap, subst, ◌∙◌, arith}
 use Rattle.flac_bits.specs.State.{Mark}
-use Rattle.flac_bits.proofs.Laws.{at_}
+use Rattle.flac_bits.proofs.Readings.{at_}
 use Rattle.flac_pages.specs.Pages.{Run, pages_of}
 use Rattle.flac_pages.specs.Packets.{Place, Ahead, ahead, fault_of, stop_of}
 use Rattle.flac_pages.specs.Given.{PacketsAhead}

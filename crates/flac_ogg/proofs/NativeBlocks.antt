@@ -1,25 +1,25 @@
 -- Blocks, each in a packet of its own, are items.
-use Rattle.std.proofs.Common.{◌≡◌, ◌^◌, ◌<◌, ℕ, Bool, true, false, cond, List, [], ◌∷◌, ◌++◌, map, Option, Some, None, refl, sym, subst, arith}
+use Rattle.std.proofs.Common.{◌≡◌, ◌^◌, ◌<◌, ℕ, Bool, true, false, cond, List, [], ◌∷◌, ◌++◌, map, Some, None, refl, sym, subst, arith}
 use Rattle.flac_bits.specs.Bits.{unsigned, bits_of}
 use Rattle.flac_bits.specs.State.{Mark, past}
 use Rattle.flac_bits.specs.Layout.{Layout}
 use Rattle.flac_bits.specs.Fence.{InRoom}
 use Rattle.flac_bits.specs.Meaning.{Spells}
-use Rattle.flac_bits.specs.declared.why.Why.{Why}
 use Rattle.flac_info.specs.Info.{Info}
 use Rattle.flac_meta.specs.Header.{nothing_seen}
 use Rattle.flac_meta.specs.Block.{seen_after}
-use Rattle.flac_meta.specs.Listed.{came, block_fault, fault_after, or_else, list_fault, info_seen}
+use Rattle.flac_meta.specs.Listed.{fault_after, list_fault, info_seen}
 use Rattle.flac_meta.specs.Spelling.{block_spelling}
 use Rattle.flac_meta.specs.Valid.{AllAre, FitsFields, IsInfo, IsBlock}
 use Rattle.flac_meta.specs.declared.block.Seen.{Seen}
 use Rattle.flac_meta.specs.declared.block.Block.{Block}
 use Rattle.flac_meta.specs.declared.block.Block.TheVariants as blocks
+use Rattle.flac_meta.proofs.Listed.{listed, or_else_none}
 use Rattle.flac_header.specs.declared.subset.Profile.{Profile}
 use Rattle.flac_native.specs.Stream.{Piece, block, Progress, layout, next, raised, phase_after, room_in}
 use Rattle.flac_native.specs.Given.{closing}
 use Rattle.flac_native.specs.declared.track.Phase.TheVariants.{Blocks}
-use Rattle.flac_native.proofs.Streams.{block_by_layout}
+use Rattle.flac_native.proofs.Streams.{block_by_layout, goes_on}
 use Rattle.flac_pages.specs.Items.{whole, IsItem}
 use Rattle.flac_ogg.specs.Mapping.{mapping, is_first_block, packet_layout}
 use Rattle.flac_ogg.specs.Stream.{start, packet_start, AreItems}
@@ -51,25 +51,6 @@ packed_later p text x later spelled fits = record {
   ended = refl;
 }
 
--- ---- a block of the list may stand where it stands
-
-two : (b : Bool) → b ≡ true → b ≡ false → ⊥
-two true e f = absurd cc
-two false e f = absurd cc
-
-first_none : {A : Type 0} (b : Bool) (x : A) (rest : Option A) → cond b (Some x) rest ≡ None → (b ≡ false) × (rest ≡ None)
-first_none true x rest e = absurd cc
-first_none false x rest e = (refl, e)
-
-both_none : (x y : Option Why) → or_else x y ≡ None → (x ≡ None) × (y ≡ None)
-both_none None y e = (refl, e)
-both_none (Some w) y e = absurd cc
-
-listed : (seen : Seen) (b : Block) → seen.stream_info ≡ true → fault_after seen b ≡ None → FitsFields b → IsBlock seen b
-listed seen b first e fits =
-    let k = first_none (came seen b) _ (block_fault b) e in
-    record { first = λ h. absurd (two seen.stream_info first h); once = k.0; written = k.1; fits = fits }
-
 -- ---- the blocks after STREAMINFO
 
 module _ (profile : Profile) (i : Info) where
@@ -79,31 +60,21 @@ module _ (profile : Profile) (i : Info) where
   abbrev pub after : Bool → ℕ → Seen → Progress
   after last index seen = record { stand = record { profile = profile; phase = phase_after last; index = cond last 0 (raised index); seen = seen; info = Some i; before = None }; samples = 0; message = [] }
 
-  goes_on : (last : Bool) (b : Block) (index : ℕ) (seen : Seen) → seen.stream_info ≡ true → came seen b ≡ false → (next (at_block index seen) (block last b) ≡ after last index (seen_after seen b)) × ((seen_after seen b).stream_info ≡ true)
-  goes_on last (blocks.StreamInfo info) index seen first e = absurd (two seen.stream_info first e)
-  goes_on last (blocks.Padding n) index seen first e = (refl, first)
-  goes_on last (blocks.Application id bytes) index seen first e = (refl, first)
-  goes_on last (blocks.SeekTable points) index seen first e = (refl, first)
-  goes_on last (blocks.VorbisComment found) index seen first e = (refl, first)
-  goes_on last (blocks.CueSheet found) index seen first e = (refl, first)
-  goes_on last (blocks.Picture found) index seen first e = (refl, first)
-  goes_on last (blocks.Other kind bytes) index seen first e = (refl, first)
-
   -- where what follows them is there
   module _ (items : List Piece) (texts : List (List Bool)) (there : (seen : Seen) → ArePacked (after true 0 seen) texts items) where
     blocks_packed : (b : Block) (bs : List Block) (index : ℕ) (seen : Seen) → seen.stream_info ≡ true → is_first_block Blocks index ≡ false → list_fault seen (b ∷ bs) ≡ None → AllAre FitsFields (b ∷ bs)
         → ArePacked (at_block index seen) (block_spellings (b ∷ bs) ++ texts) (closing (b ∷ bs) ++ items)
     blocks_packed b [] index seen first later e fits =
-        let faults = both_none (fault_after seen b) None e in
+        let faults = or_else_none (fault_after seen b) None e in
         let is = listed seen b first faults.0 fits.0 in
-        let on = goes_on true b index seen first is.once in (
+        let on = goes_on profile i true b index seen first is.once in (
           packed_later (at_block index seen) (block_spelling true b) (block true b) later (block_by_layout (at_block index seen).stand (packet_start None) true b refl is) tt,
           subst (λ s. ArePacked s texts items) (sym on.0) (there (seen_after seen b)),
         )
     blocks_packed b (c ∷ cs) index seen first later e fits =
-        let faults = both_none (fault_after seen b) _ e in
+        let faults = or_else_none (fault_after seen b) _ e in
         let is = listed seen b first faults.0 fits.0 in
-        let on = goes_on false b index seen first is.once in
+        let on = goes_on profile i false b index seen first is.once in
         let more = blocks_packed c cs (raised index) (seen_after seen b) on.1 (after_block false index) faults.1 fits.1 in (
           packed_later (at_block index seen) (block_spelling false b) (block false b) later (block_by_layout (at_block index seen).stand (packet_start None) false b refl is) tt,
           subst (λ s. ArePacked s (block_spellings (c ∷ cs) ++ texts) (closing (c ∷ cs) ++ items)) (sym on.0) more,

@@ -1,5 +1,6 @@
 -- Without the subset's limits no Ogg stream is refused as outside the subset.
 use Rattle.std.proofs.Common.{◌≡◌, ℕ, Bool, true, false, not, cond, ◌&&◌, nat_eq, List, [], ◌∷◌, ◌++◌, Option, Some, None, refl, sym, ap, subst, inl, inr, ◌⊎◌}
+use Rattle.std.proofs.lemmas.Bool.{not-false}
 use Rattle.flac_bits.specs.Bits.{bits_of, is_nil}
 use Rattle.flac_bits.specs.State.{Mark, past}
 use Rattle.flac_bits.specs.Layout.{Layout, choose}
@@ -63,15 +64,11 @@ never_info = (
   λ sizes. ((tt, λ a. (tt, λ b. (tt, λ c. (tt, λ d. tt)))), λ format. (never_list NotSubset 16, λ digest. (info_rule _, λ good. tt))),
 )
 
-not_other : (b : Bool) → not b ≡ false → b ≡ true
-not_other true e = refl
-not_other false e = absurd cc
-
 -- the first block is STREAMINFO
 first_kind : (m : Mark) (text : List Bool) (h : BlockHeader) → Spells (block_header nothing_seen) m text h → nat_eq h.kind 0 ≡ true
 unfolding block_header
 first_kind m text h (last, a, b, c, d, (kind, e, f, g, i, (length, j, k, l, n, (good, o, p, q, (none, kept), (nothing, same))))) =
-    subst (λ (x : BlockHeader). nat_eq x.kind 0 ≡ true) same (not_other (nat_eq kind 0) kept.0)
+    subst (λ (x : BlockHeader). nat_eq x.kind 0 ≡ true) same (not-false (nat_eq kind 0) kept.0)
 
 chosen_first : {A : Type 0} (b : Bool) (l r : Layout A) (m : Mark) (front : List Bool) → b ≡ true → Never NotSubset l → Shows (choose b l r) m front NotSubset → ⊥
 chosen_first true l r m front e never shows = never_shown l m front NotSubset never shows

@@ -9,7 +9,7 @@ use Rattle.flac_bits.specs.Forms.{AreBytes}
 use Rattle.flac_bits.specs.Handing.{InputReading, ReadsOnce, by_grammar}
 use Rattle.flac_bits.specs.Layout.{Reason, number_at}
 use Rattle.flac_bits.specs.declared.why.Why.TheVariants.{Truncated}
-use Rattle.flac_bits.proofs.Laws.{at_, number_again}
+use Rattle.flac_bits.proofs.Readings.{at_, number_again}
 use Rattle.flac_meta.specs.declared.block.Block.{Block}
 use Rattle.flac_frame.specs.Audio.{Sound}
 use Rattle.flac_native.specs.Decoding.{beginning}

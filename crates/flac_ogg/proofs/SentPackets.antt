@@ -20,7 +20,7 @@ use Rattle.flac_meta.specs.declared.seek_table.SeekPoint.{SeekPoint}
 use Rattle.flac_frame.specs.Audio.{Sound, samples_each}
 use Rattle.flac_frame.proofs.FrameTie.{frames_bytes}
 use Rattle.flac_native.specs.Given.{Cut, tried, blocks_in, frame_of}
-use Rattle.flac_native.specs.Writing.{SpellsFrame, SpellsLeast, AreFrames, AreLeastFrames, AreCounted, IsSpelled}
+use Rattle.flac_native.specs.Writing.{SpellsFrame, SpellsLeastByPlane, AreFrames, AreLeastFrames, AreCounted, IsSpelled}
 use Rattle.flac_native.proofs.Encoded.{least_part, all_parts}
 use Rattle.flac_native.proofs.WholeBytes.{length-joined}
 use Rattle.flac_native.proofs.Gathered.{nth, snoc, length-snoc, each_more}
@@ -150,7 +150,7 @@ pub record SentPackets {S : Type 0} (g : target.Ghosts S) (serial from : ℕ) (p
   pub packets : List Placed
   pub many : length frames ≡ number
   pub each : (i : ℕ) → i < length frames → SpellsFrame a (frame_of p.block_size a i) (nth frames i)
-  pub each_least : (i : ℕ) → i < length frames → SpellsLeast (tried p i) a (frame_of p.block_size a i) (nth frames i)
+  pub each_least : (i : ℕ) → i < length frames → SpellsLeastByPlane (tried p i) a (frame_of p.block_size a i) (nth frames i)
   pub texts : texts_of packets ≡ frames
   pub kinds : kinds_in packets ≡ frames_to p.block_size (samples_each a.channels) number
   pub good : All IsPlaced packets
@@ -183,7 +183,7 @@ module _ {S : Type 0} (g : target.Ghosts S) (serial from : ℕ) (p : Cut) (a : S
         packets = s.packets ++ q ∷ [];
         many = length-snoc s.frames t ∙ ap (λ n. n + 1) s.many;
         each = each_more (λ i k. SpellsFrame a (frame_of p.block_size a i) k) s.frames t s.each (subst (λ n. SpellsFrame a (frame_of p.block_size a n) t) (sym s.many) is.frame);
-        each_least = each_more (λ i k. SpellsLeast (tried p i) a (frame_of p.block_size a i) k) s.frames t s.each_least (subst (λ n. SpellsLeast (tried p n) a (frame_of p.block_size a n) t) (sym s.many) is.least);
+        each_least = each_more (λ i k. SpellsLeastByPlane (tried p i) a (frame_of p.block_size a i) k) s.frames t s.each_least (subst (λ n. SpellsLeastByPlane (tried p n) a (frame_of p.block_size a n) t) (sym s.many) is.least);
         texts = texts_append s.packets (q ∷ []) ∙ ap (λ (l : List (List Bool)). l ++ t ∷ []) s.texts;
         kinds = kinds_append s.packets (q ∷ []) ∙ ap (λ (l : List PacketKind). l ++ q.kind ∷ []) s.kinds ∙ ap (frames_to p.block_size total) up;
         good = All-append IsPlaced s.packets (q ∷ []) s.good (All-cons IsPlaced q [] (record { bytes = small; position = position }) (All-nil IsPlaced));
@@ -194,7 +194,7 @@ module _ {S : Type 0} (g : target.Ghosts S) (serial from : ℕ) (p : Cut) (a : S
   -- The packet of a number, and frames after it.
   pub packets_end : {X E : Type 0} (number sequence : ℕ) (old mid new : S) (packet : List ℕ) (last : Bool) (rest : List (List Bool)) (r : Result X E) → total < 2 ^ 64 → AreBytes packet → (s : SentPackets g serial from p a number sequence old mid)
       → IsSpelled p a number (bits_of packet) → number + 1 + length rest ≡ blocks_in p.block_size total → is_nil rest ≡ last
-      → ((j : ℕ) → j < length rest → SpellsFrame a (frame_of p.block_size a (number + 1 + j)) (nth rest j)) → ((j : ℕ) → j < length rest → SpellsLeast (tried p (number + 1 + j)) a (frame_of p.block_size a (number + 1 + j)) (nth rest j))
+      → ((j : ℕ) → j < length rest → SpellsFrame a (frame_of p.block_size a (number + 1 + j)) (nth rest j)) → ((j : ℕ) → j < length rest → SpellsLeastByPlane (tried p (number + 1 + j)) a (frame_of p.block_size a (number + 1 + j)) (nth rest j))
       → ((more : List Bool) → (rest ≡ [] → more ≡ []) → SendsBits g ((open_from serial from false (s.packets) ++ packet_spelling (marks_of serial sequence false last (frame_packet number packet)) packet) ++ more) old new r)
       → SendsPackets g serial from p a old new r
   packets_end number sequence old mid new packet last rest r few small s is all end each_rest least_rest sends =
@@ -219,14 +219,14 @@ module _ {S : Type 0} (g : target.Ghosts S) (serial from : ℕ) (p : Cut) (a : S
       ∙ ap (λ l. so_far ++ (packet_spelling (marks_of serial sequence false l q) packet ++ tail)) (same_end b total (suc number) rest ∙ end)
       ∙ sym (append_assoc so_far here tail) in
       let each_front = each_more (λ i k. SpellsFrame a (frame_of b a i) k) s.frames t s.each (subst (λ n. SpellsFrame a (frame_of b a n) t) (sym s.many) is.frame) in
-      let least_front = each_more (λ i k. SpellsLeast (tried p i) a (frame_of b a i) k) s.frames t s.each_least (subst (λ n. SpellsLeast (tried p n) a (frame_of b a n) t) (sym s.many) is.least) in
+      let least_front = each_more (λ i k. SpellsLeastByPlane (tried p i) a (frame_of b a i) k) s.frames t s.each_least (subst (λ n. SpellsLeastByPlane (tried p n) a (frame_of b a n) t) (sym s.many) is.least) in
       record {
         frames = front ++ rest;
         are = record {
           many = length-append front rest ∙ ap (λ n. n + length rest) long ∙ all;
           each = each_append (λ i k. SpellsFrame a (frame_of b a i) k) front rest each_front (λ j h. subst (λ n. SpellsFrame a (frame_of b a (n + j)) (nth rest j)) (sym long) (each_rest j h));
         };
-        are_least = each_append (λ i k. SpellsLeast (tried p i) a (frame_of b a i) k) front rest least_front (λ j h. subst (λ n. SpellsLeast (tried p (n + j)) a (frame_of b a (n + j)) (nth rest j)) (sym long) (least_rest j h));
+        are_least = each_append (λ i k. SpellsLeastByPlane (tried p i) a (frame_of b a i) k) front rest least_front (λ j h. subst (λ n. SpellsLeastByPlane (tried p (n + j)) a (frame_of b a (n + j)) (nth rest j)) (sym long) (least_rest j h));
         packets = s.packets ++ q ∷ after;
         texts = texts_append s.packets (q ∷ after) ∙ ap (λ (l : List (List Bool)). l ++ (t ∷ texts_of after)) s.texts ∙ ap (λ (l : List (List Bool)). s.frames ++ (t ∷ l)) (texts_packed b total (suc number) rest whole)
             ∙ sym (append_assoc s.frames (t ∷ []) rest);
@@ -253,7 +253,7 @@ module _ {S : Type 0} (g : target.Ghosts S) (serial from : ℕ) (p : Cut) (a : S
       let rest = drop (number + 1) others in
       let many : number + 1 + length rest ≡ blocks_in p.block_size total = drop_rest number (length rest) (length others) (blocks_in p.block_size total) (length-drop (number + 1) others) are.many lt in
       packets_end number sequence old mid new packet last rest (Err f) few small s is many (ends_with rest (number + 1) (blocks_in p.block_size total) many ∙ test)
-      (each_drop (λ i k. SpellsFrame a (frame_of p.block_size a i) k) (number + 1) others are.each) (each_drop (λ i k. SpellsLeast (tried p i) a (frame_of p.block_size a i) k) (number + 1) others least)
+      (each_drop (λ i k. SpellsFrame a (frame_of p.block_size a i) k) (number + 1) others are.each) (each_drop (λ i k. SpellsLeastByPlane (tried p i) a (frame_of p.block_size a i) k) (number + 1) others least)
       (λ more none. bits_fault g more (bits_then g (Err e) s.sends sends))
 
 -- ---- where the loop stands

@@ -13,9 +13,8 @@ ghost use Rattle.flac_frame.specs.Audio.{samples_each};
 ghost use Rattle.flac_pages.specs.Placed.{sequence_after};
 ghost use Rattle.flac_pages.specs.Written.{packet_spelling};
 
-use crate::bytes::bytes_fit;
 use crate::headers::{Headers, header_packets};
-use flac_bits::{BitWriter, Target, Why, send_all};
+use flac_bits::{BitWriter, Target, Why, bytes_fit, send_all};
 use flac_frame::{Audio, EncodeBuffers};
 use flac_meta::{Block, BlockList};
 use flac_native::{ChosenFrames, EncodeFault, FixedBuffer, Plan};

@@ -4,10 +4,9 @@ ghost use Rattle.std.specs.Prelude.{◌≡◌, ◌≤◌, ◌∷◌, [], length,
 ghost use Rattle.flac_bits.specs.Bits.{bits_of};
 ghost use Rattle.flac_ogg.specs.Headers.{AreHeaders, AreHeadersOf, AreHeadersOfHead, AddsHeader, AddsBlocks};
 
-use crate::bytes::bytes_fit;
 use crate::held_packet::HeldPacket;
 use crate::mapping::{block_packet, first_packet, mapped};
-use flac_bits::Why;
+use flac_bits::{Why, bytes_fit};
 use flac_meta::{BlockList, StreamInfo};
 use flac_pages::{PacketKind, PacketMarks};
 use std::alloc::Global;

@@ -15,7 +15,6 @@
 //! It re-exports what its users need from the crates below.
 #![tactic(auto)]
 
-mod bytes;
 mod decoding;
 mod encoding;
 mod headers;

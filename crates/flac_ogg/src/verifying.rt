@@ -11,10 +11,9 @@ ghost use Rattle.flac_native.specs.Stream.{Piece};
 ghost use Rattle.flac_ogg.specs.RoundTrip.{EncodedBytes, IsJust, NativeBytes, OggBytes, is_no_ogg, is_repeated};
 ghost use Rattle.flac_ogg.specs.Writing.{may_be_ogg};
 
-use crate::bytes::bytes_fit;
 use crate::decoding::decode_any;
 use crate::encoding::encode_ogg;
-use flac_bits::{Collected, Memory, Why};
+use flac_bits::{Collected, Memory, Why, bytes_fit};
 use flac_frame::{Audio, FrameView};
 use flac_meta::{Block, BlockList};
 use flac_native::{EncodeFault, Fault, Plan, Profile, Sink, SinkFault, encode};

@@ -14,12 +14,13 @@ use Rattle.flac_subframe.specs.declared.format.linear.LinearPredictor.{LinearPre
 use Rattle.flac_subframe.specs.format.Handed.{predictor_of}
 use Rattle.flac_frame.specs.Audio.{Sound}
 use Rattle.flac_frame.specs.Frame.{Frame}
+use Rattle.flac_frame.specs.PlaneLists.{Lists, same_list}
 use Rattle.flac_native.specs.Given.{Cut, with_found, tried, has_point, info_of, frame_of, sound_message}
 use Rattle.flac_native.specs.Seeking.{point_at, points_from, points_of, table_of}
-use Rattle.flac_native.specs.Writing.{SpellsLeast, blocks_spelling, stream_spelling}
+use Rattle.flac_native.specs.Writing.{SpellsLeastByPlane, blocks_spelling, stream_spelling}
 use Rattle.flac_native.proofs.Digests.{digest_is_bytes}
 use Rattle.flac_native.proofs.WholeBytes.{length-joined, header_long, info_long}
-use Rattle.flac_predict.specs.Found.{IsPrefixOf}
+use Rattle.flac_predict.specs.Found.{IsPrefixOf, AllBegin}
 use Rattle.flac_predict.specs.Searched.{SearchesShorten}
 use Rattle.flac_predict.proofs.Longer.{more_shorten}
 
@@ -28,11 +29,16 @@ use Rattle.flac_predict.proofs.Longer.{more_shorten}
 itself : (ps : List LinearPredictor) → IsPrefixOf ps ps
 itself ps = ([], sym (append-nil (map predictor_of ps)))
 
--- what is tried for each frame begins with the plan's
-tried_begins : (p : Cut) (found : List (List LinearPredictor)) (i : ℕ) → All (IsPrefixOf p.predictors) found → IsPrefixOf p.predictors (tried (with_found p found) i)
-tried_begins p [] i h = itself p.predictors
-tried_begins p (l ∷ found) zero h = h 0 l (omega arith)
-tried_begins p (l ∷ found) (suc i) h = tried_begins p found i (λ j d lt. h (suc j) d (omega (arith, lt)))
+-- what is tried for each plane of each frame begins with the plan's
+begins_at : (ps : List LinearPredictor) (lists : List (List LinearPredictor)) (plane : ℕ) → All (IsPrefixOf ps) lists → IsPrefixOf ps (slice_index_or lists plane ps)
+begins_at ps [] plane h = itself ps
+begins_at ps (l ∷ lists) zero h = h 0 l (omega arith)
+begins_at ps (l ∷ lists) (suc plane) h = begins_at ps lists plane (λ j d lt. h (suc j) d (omega (arith, lt)))
+
+tried_begins : (p : Cut) (found : List (List (List LinearPredictor))) (i plane : ℕ) → AllBegin p.predictors found → IsPrefixOf p.predictors (tried (with_found p found) i plane)
+tried_begins p [] i plane h = itself p.predictors
+tried_begins p (f ∷ found) zero plane h = begins_at p.predictors f plane (h 0 f (omega arith))
+tried_begins p (f ∷ found) (suc i) plane h = tried_begins p found i plane (λ j d lt. h (suc j) d (omega (arith, lt)))
 
 together : (fs gs : List (List Bool)) → length gs ≡ length fs → ((i : ℕ) → i < length fs → length (slice_index_or gs i []) ≤ length (slice_index_or fs i [])) → length (joined gs) ≤ length (joined fs)
 together [] [] e h = omega arith
@@ -41,9 +47,9 @@ together (f ∷ fs) [] e h = absurd (omega (arith, e))
 together (f ∷ fs) (g ∷ gs) e h =
     omega (arith, length-append f (joined fs), length-append g (joined gs), h 0 (omega arith), together fs gs (omega (arith, e)) (λ i lt. h (suc i) (omega (arith, lt))))
 
-spelled_shorter : (front ps : List LinearPredictor) (a : Sound) (b : Frame) → IsPrefixOf front ps → (f g : List Bool) → SpellsLeast front a b f → SpellsLeast ps a b g → length g ≤ length f
-spelled_shorter front ps a b begins f g x y =
-    let le = more_shorten front ps a b.size b.number b.channels x.form y.form begins x.least y.least in
+spelled_shorter : (front lists : Lists) (a : Sound) (b : Frame) → ((plane : ℕ) → IsPrefixOf (front plane) (lists plane)) → (f g : List Bool) → SpellsLeastByPlane front a b f → SpellsLeastByPlane lists a b g → length g ≤ length f
+spelled_shorter front lists a b begins f g x y =
+    let le = more_shorten front lists a b.size b.number b.channels x.form y.form begins x.least y.least in
     omega (arith, le, ap (λ (k : List Bool). length k) x.spelling, ap (λ (k : List Bool). length k) y.spelling)
 
 -- ---- the seek table
@@ -124,7 +130,7 @@ searches_shorten p found list a before without after begins x y =
     let gs = y.frames in
     let many : length gs ≡ length fs = y.are.many ∙ sym x.are.many in
     let least : length (joined gs) ≤ length (joined fs) = together fs gs many (λ i lt.
-    spelled_shorter p.predictors (tried (with_found p found) i) a (frame_of p.block_size a i) (tried_begins p found i begins) _ _ (x.are_least i lt) (y.are_least i (omega (arith, lt, many)))) in
+    spelled_shorter (same_list p.predictors) (tried (with_found p found) i) a (frame_of p.block_size a i) (λ plane. tried_begins p found i plane begins) _ _ (x.are_least i lt) (y.are_least i (omega (arith, lt, many)))) in
     let xs = points_of p fs in
     let ys = points_of p gs in
     let blocks = same_blocks list xs ys (as_many p fs gs 0 0 0 many) in

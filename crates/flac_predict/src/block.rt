@@ -1,16 +1,14 @@
 //! What is known of a block, and the predictors of its autocorrelations.
 
-ghost use Rattle.std.specs.Prelude.{◌≡◌, ◌≤◌, ◌<◌, ◌+◌, length, IfSome, IfErr};
-ghost use Rattle.flac_predict.specs.Found.{Extends};
-ghost use Rattle.flac_subframe.specs.format.Handed.{coefficients_in};
+ghost use Rattle.std.specs.Prelude.{◌≡◌, ◌≤◌, length, map, IfOk, IfSome, IfErr};
+ghost use Rattle.flac_predict.specs.Found.{Extends, IsFoundAfter};
+ghost use Rattle.flac_subframe.specs.format.Handed.{coefficients_in, predictor_of};
 
-use crate::correlate::autocorrelation;
-use crate::levinson::{Solutions, levinson_durbin};
-use crate::pairs::likely_stored;
+use crate::levinson::levinson_durbin;
 use crate::quantised::quantise;
-use crate::windows::put_weighed;
 use flac_bits::Why;
 use flac_subframe::LinearPredictor;
+use std::alloc::Global;
 use std::num::nearest_usize_to_f64;
 
 /// What rounding a prediction to a whole number adds to the energy of a sample, about.
@@ -25,13 +23,16 @@ pub(crate) struct Block {
     size: usize,
 }
 
-/// The predictors of an autocorrelation, which order is likely to take the fewest bits, 0 for none, and how many.
-#[derive(Clone, Copy)]
-struct Estimate {
-    solutions: Solutions,
-    order: usize,
-    bits: f64,
-    ghost few: { order ≤ 12 },
+/// A list of the same predictors.
+fn copied(alloc: Global, given: &[LinearPredictor]) -> Result<Vec<LinearPredictor>, Why>
+    ensures same { IfOk result (λ list. map predictor_of list.items ≡ map predictor_of given.now) }
+    ensures memory { IfErr result (λ e. e ≡ Why.Memory) }
+{
+    let mut list = Vec::new(alloc);
+    for predictor in given {
+        list.push(predictor.clone()?)?;
+    }
+    Ok(list)
 }
 
 impl Block {
@@ -46,30 +47,16 @@ impl Block {
         }
     }
 
-    /// The estimate that an autocorrelation gives.
-    fn estimate(&self, sums: &[f64; 13]) -> Estimate {
+    /// The predictor of the order that is likely to take the fewest bits, `None` if there is none.
+    fn predictor(&self, sums: &[f64; 13]) -> Option<LinearPredictor>
+        ensures { IfSome result (λ p. length (coefficients_in p) ≤ 12) }
+    {
         let count = nearest_usize_to_f64(self.size);
         let mut noisy = *sums;
         noisy[0] += NOISE * count;
         let solutions = levinson_durbin(&noisy);
         let each = f64::from(self.depth) + f64::from(self.precision);
-        let (order, bits) = solutions.likely(count, each);
-        Estimate {
-            solutions,
-            order,
-            bits,
-        }
-    }
-
-    /// The predictor of the order that is likely to take the fewest bits, `None` if there is none.
-    fn predictor(&self, sums: &[f64; 13]) -> Option<LinearPredictor>
-        ensures { IfSome result (λ p. length (coefficients_in p) ≤ 12) }
-    {
-        let Estimate {
-            solutions,
-            order,
-            ..
-        } = self.estimate(sums);
+        let order = solutions.likely(count, each);
         if order == 0 {
             return None;
         }
@@ -90,49 +77,20 @@ impl Block {
         Ok(())
     }
 
-    /// Adds the predictor that is found for a channel by a window. The places are a working array.
-    pub(crate) fn push_one(
+    /// The list of a plane: the given predictors, and after them those of its autocorrelations.
+    pub(crate) fn list(
         &self,
-        samples: &[i32],
-        weights: &[f64],
-        places: &mut [f64],
-        list: &mut Vec<LinearPredictor>,
-    ) -> Result<(), Why>
-        requires weights { length weights.now ≡ length samples.now }
-        requires places { length samples.now + 16 ≤ length places.old }
-        ensures more { Extends list.old.items list.new.items }
-        ensures memory { IfErr result (λ e. e ≡ Why.Memory) }
-        ensures long { length places.new ≡ length places.old }
-    {
-        put_weighed(samples, weights, places);
-        let sums = autocorrelation(places, samples.len());
-        self.push_likely(&sums, list)
-    }
-
-    /// Which of left, right, side and mid a frame is likely to store, by their autocorrelations.
-    pub(crate) fn likely_stored(&self, sums: &[[f64; 13]; 4]) -> [bool; 4] {
-        let mut bits = [0.0; 4];
-        for plane in 0..4 {
-            bits[plane] = self.estimate(&sums[plane]).bits;
-        }
-        likely_stored(&bits)
-    }
-
-    /// Adds the predictors of the autocorrelations that are stored.
-    pub(crate) fn push_stored(
-        &self,
-        sums: &[[f64; 13]; 4],
-        stored: &[bool; 4],
-        list: &mut Vec<LinearPredictor>,
-    ) -> Result<(), Why>
-        ensures more { Extends list.old.items list.new.items }
+        alloc: Global,
+        given: &[LinearPredictor],
+        windows: &[[f64; 13]],
+    ) -> Result<Vec<LinearPredictor>, Why>
+        ensures after { IfOk result (λ v. IsFoundAfter given.now v.items) }
         ensures memory { IfErr result (λ e. e ≡ Why.Memory) }
     {
-        for plane in 0..4 {
-            if stored[plane] {
-                self.push_likely(&sums[plane], list)?;
-            }
+        let mut list = copied(alloc, given)?;
+        for sums in windows {
+            self.push_likely(sums, &mut list)?;
         }
-        Ok(())
+        Ok(list)
     }
 }

@@ -2,6 +2,7 @@
 
 ghost use Rattle.std.specs.Prelude.{◌≡◌, ◌≤◌, ◌<◌, ◌+◌, length};
 
+use crate::windows::put_weighed;
 use std::simd::prelude::*;
 
 /// The autocorrelation of the first `count` samples for 0 to 12 places. The 16 samples after them must be zeros.
@@ -31,4 +32,14 @@ pub(crate) fn autocorrelation(samples: &[f64], count: usize) -> [f64; 13]
     sums[8..12].copy_from_slice(&four);
     sums[12] = two[0];
     sums
+}
+
+/// The autocorrelation of samples that are weighed. The places are a working array.
+pub(crate) fn weighed_sums(samples: &[i32], weights: &[f64], places: &mut [f64]) -> [f64; 13]
+    requires weights { length weights.now ≡ length samples.now }
+    requires places { length samples.now + 16 ≤ length places.old }
+    ensures { length places.new ≡ length places.old }
+{
+    put_weighed(samples, weights, places);
+    autocorrelation(places, samples.len())
 }

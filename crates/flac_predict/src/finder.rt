@@ -1,10 +1,12 @@
 //! The finder of linear predictors.
 
-ghost use Rattle.std.specs.Prelude.{◌≡◌, ◌≤◌, ◌<◌, ◌+◌, length, IfOk, IfErr};
+ghost use Rattle.std.specs.Prelude.{◌≡◌, ◌≤◌, ◌<◌, ◌+◌, ◌-◌, length, All, IfOk, IfErr};
 ghost use Rattle.flac_frame.specs.Audio.{samples_each};
-ghost use Rattle.flac_predict.specs.Found.{Extends};
+ghost use Rattle.flac_native.specs.Given.{plane_lists};
+ghost use Rattle.flac_predict.specs.Found.{IsFoundAfter, lists_due};
 
 use crate::block::Block;
+use crate::correlate::weighed_sums;
 use crate::pairs::pair_sums;
 use crate::search::Search;
 use crate::windows::put_window;
@@ -13,11 +15,12 @@ use flac_frame::Audio;
 use flac_subframe::LinearPredictor;
 use std::alloc::Global;
 use std::marker::Model;
+use std::ops::Range;
 
 /// A block of fewer samples is not searched.
 const LEAST_BLOCK: usize = 64;
 
-/// The slopes of the windows: a fourth and a twelfth of a block, at each end.
+/// The slopes of the windows: a fourth of a block at each end, and a twelfth of a half.
 const BROAD: usize = 4;
 
 const NARROW: usize = 12;
@@ -26,14 +29,17 @@ const NARROW: usize = 12;
 ///
 /// ```
 /// let mut finder = Finder::new(rt.alloc(), 4096)?;
-/// let mut list = Vec::new(rt.alloc());
-/// finder.find(&audio, 0, 4096, Search::Quick, &mut list)?;
+/// let lists = finder.find(rt.alloc(), &audio, 0..4096, &given, Search::Quick)?;
+/// let planes = PlanePredictors { lists: &lists, others: &given };
+/// encode_frame_by_plane(&audio, 0..4096, 0, &planes, &mut buffers, &mut writer)?;
 /// ```
 pub struct Finder {
     block_size: usize,
     /// The size of the blocks for which there are weights.
     weighed: usize,
+    /// The weights of a block.
     broad: Vec<f64>,
+    /// Those of half of it.
     narrow: Vec<f64>,
     first: Vec<f64>,
     second: Vec<f64>,
@@ -95,97 +101,153 @@ impl Finder {
     {
         if self.weighed != size {
             put_window(&mut self.broad[..size], size / BROAD);
-            put_window(&mut self.narrow[..size], size / NARROW);
+            let half = size / 2;
+            put_window(&mut self.narrow[..half], half / NARROW);
             self.weighed = size;
         }
     }
 
-    /// Adds the predictors that are found for two channels.
-    fn find_pair(
-        &mut self,
-        block: &Block,
-        left: &[i32],
-        right: &[i32],
-        search: Search,
-        list: &mut Vec<LinearPredictor>,
-    ) -> Result<(), Why>
+    /// The autocorrelations of left, right, side and middle, by each window of a search.
+    fn sums_of_pair(&mut self, left: &[i32], right: &[i32], search: Search) -> [[[f64; 13]; 4]; 3]
         requires right { length right.now ≡ length left.now }
         requires room { length left.now ≤ self.old }
-        ensures more { Extends list.old.items list.new.items }
-        ensures memory { IfErr result (λ e. e ≡ Why.Memory) }
-        ensures room { self.new ≡ self.old }
+        ensures { self.new ≡ self.old }
     {
-        let broad = &self.broad[..left.len()];
-        let sums = pair_sums(left, right, broad, &mut self.first, &mut self.second);
-        let stored = block.likely_stored(&sums);
-        block.push_stored(&sums, &stored, list)?;
-        if search == Search::Full {
-            let narrow = &self.narrow[..left.len()];
-            let sums = pair_sums(left, right, narrow, &mut self.first, &mut self.second);
-            block.push_stored(&sums, &stored, list)?;
+        let size = left.len();
+        let half = size / 2;
+        let broad = &self.broad[..size];
+        let whole = pair_sums(left, right, broad, &mut self.first, &mut self.second);
+        if search == Search::Quick {
+            return [whole, whole, whole];
         }
-        Ok(())
+        let narrow = &self.narrow[..half];
+        let early_left = &left[..half];
+        let early_right = &right[..half];
+        let first = pair_sums(
+            early_left,
+            early_right,
+            narrow,
+            &mut self.first,
+            &mut self.second,
+        );
+        let late_left = &left[half..2 * half];
+        let late_right = &right[half..2 * half];
+        let second = pair_sums(
+            late_left,
+            late_right,
+            narrow,
+            &mut self.first,
+            &mut self.second,
+        );
+        [whole, first, second]
     }
 
-    /// Adds the predictors that are found for a channel by itself.
-    fn find_one(
-        &mut self,
-        block: &Block,
-        samples: &[i32],
-        search: Search,
-        list: &mut Vec<LinearPredictor>,
-    ) -> Result<(), Why>
+    /// The autocorrelations of a channel by itself, by each window of a search.
+    fn sums_of_one(&mut self, samples: &[i32], search: Search) -> [[f64; 13]; 3]
         requires room { length samples.now ≤ self.old }
-        ensures more { Extends list.old.items list.new.items }
-        ensures memory { IfErr result (λ e. e ≡ Why.Memory) }
-        ensures room { self.new ≡ self.old }
+        ensures { self.new ≡ self.old }
     {
-        let broad = &self.broad[..samples.len()];
-        block.push_one(samples, broad, &mut self.first, list)?;
-        if search == Search::Full {
-            let narrow = &self.narrow[..samples.len()];
-            block.push_one(samples, narrow, &mut self.first, list)?;
+        let size = samples.len();
+        let half = size / 2;
+        let whole = weighed_sums(samples, &self.broad[..size], &mut self.first);
+        if search == Search::Quick {
+            return [whole, whole, whole];
         }
-        Ok(())
+        let narrow = &self.narrow[..half];
+        let first = weighed_sums(&samples[..half], narrow, &mut self.first);
+        let second = weighed_sums(&samples[half..2 * half], narrow, &mut self.first);
+        [whole, first, second]
     }
 
-    /// Adds the predictors that are found for the `size` samples of each channel from index `start` on, counted from 0:
-    /// at most as many samples as the finder was made for. Their orders are 1 to 12, their coefficients have 14 bits, or
-    /// 12 if a sample has more than 16 (RFC 9639, section 9.2.6).
-    ///
-    /// Of two channels, those are searched that a frame is likely to store ([`Search`]); of another number, each by
-    /// itself. A block of fewer than 64 samples has no predictors, and silence has none.
-    ///
-    /// # Errors
-    /// [`Why::Memory`] if an allocation fails. What was found before is in the list then.
-    pub fn find(
+    /// The lists of the planes of a block, which has 64 samples or more.
+    fn lists(
         &mut self,
+        alloc: Global,
         audio: &Audio,
-        start: usize,
-        size: usize,
+        range: Range<usize>,
+        given: &[LinearPredictor],
         search: Search,
-        list: &mut Vec<LinearPredictor>,
-    ) -> Result<(), Why>
-        requires within { start + size ≤ samples_each audio.now.channels }
-        requires room { size ≤ self.old }
-        ensures more { Extends list.old.items list.new.items }
+    ) -> Result<Vec<Vec<LinearPredictor>>, Why>
+        requires some { range.start ≤ range.end }
+        requires within { range.end ≤ samples_each audio.now.channels }
+        requires room { range.end - range.start ≤ self.old }
+        ensures after { IfOk result (λ v. All (IsFoundAfter given.now) (plane_lists v.items)) }
+        ensures pair { IfOk result (λ v. length audio.now.channels ≡ 2 → length v.items ≡ 4) }
+        ensures apart { IfOk result (λ v. (length audio.now.channels ≡ 2 → ⊥) → length v.items ≡ length audio.now.channels) }
         ensures memory { IfErr result (λ e. e ≡ Why.Memory) }
         ensures room { self.new ≡ self.old }
     {
-        if size < LEAST_BLOCK {
-            return Ok(());
-        }
-        self.weigh(size);
+        let start = range.start;
+        let size = range.end - start;
         let block = Block::new(audio.bits(), size);
         let channels = audio.channels().len();
         if channels == 2 {
             let left = audio.part(0, start, size);
             let right = audio.part(1, start, size);
-            return self.find_pair(&block, left, right, search, list);
+            let windows = self.sums_of_pair(left, right, search);
+            return pair_lists(alloc, &block, &windows, given, search);
         }
+        let mut lists = Vec::new(alloc);
         for channel in 0..channels {
-            self.find_one(&block, audio.part(channel, start, size), search, list)?;
+            let windows = self.sums_of_one(audio.part(channel, start, size), search);
+            let list = block.list(alloc, given, &windows[..search.windows()])?;
+            lists.push(list)?;
         }
-        Ok(())
+        Ok(lists)
     }
+
+    /// Finds linear predictors for the block that samples `range` of each channel are: at most as many samples as the
+    /// finder was made for. Returns a list for each plane, which begins with the given ones; after these it has at most
+    /// one by [`Search::Quick`], three by [`Search::Full`], of orders 1 to 12, whose coefficients have 14 bits, or 12 if
+    /// a sample has more than 16 (RFC 9639, section 9.2.6). Two channels have the planes left, right, side and middle;
+    /// otherwise each channel is one (section 4.2). Silence has no predictors. A block of fewer than 64 samples has no
+    /// lists.
+    ///
+    /// # Errors
+    /// [`Why::Memory`] if an allocation fails.
+    pub fn find(
+        &mut self,
+        alloc: Global,
+        audio: &Audio,
+        range: Range<usize>,
+        given: &[LinearPredictor],
+        search: Search,
+    ) -> Result<Vec<Vec<LinearPredictor>>, Why>
+        requires some { range.start ≤ range.end }
+        requires within { range.end ≤ samples_each audio.now.channels }
+        requires room { range.end - range.start ≤ self.old }
+        ensures after { IfOk result (λ v. All (IsFoundAfter given.now) (plane_lists v.items)) }
+        ensures planes { IfOk result (λ v. length v.items ≡ lists_due audio.now (range.end - range.start)) }
+        ensures memory { IfErr result (λ e. e ≡ Why.Memory) }
+        ensures room { self.new ≡ self.old }
+    {
+        let size = range.end - range.start;
+        if size < LEAST_BLOCK {
+            return Ok(Vec::new(alloc));
+        }
+        self.weigh(size);
+        let lists = self.lists(alloc, audio, range, given, search)?;
+        Ok(lists)
+    }
+}
+
+/// The lists of left, right, side and middle, by their autocorrelations.
+fn pair_lists(
+    alloc: Global,
+    block: &Block,
+    windows: &[[[f64; 13]; 4]; 3],
+    given: &[LinearPredictor],
+    search: Search,
+) -> Result<Vec<Vec<LinearPredictor>>, Why>
+    ensures after { IfOk result (λ v. All (IsFoundAfter given.now) (plane_lists v.items)) }
+    ensures planes { IfOk result (λ v. length v.items ≡ 4) }
+    ensures memory { IfErr result (λ e. e ≡ Why.Memory) }
+{
+    let mut lists = Vec::new(alloc);
+    for plane in 0..4 {
+        let sums = [windows[0][plane], windows[1][plane], windows[2][plane]];
+        let list = block.list(alloc, given, &sums[..search.windows()])?;
+        lists.push(list)?;
+    }
+    Ok(lists)
 }

@@ -96,10 +96,10 @@ fn logarithm(number: f64) -> f64 {
 }
 
 impl Solutions {
-    /// The order that is likely to take the fewest bits, and how many, if each coefficient and its warm-up sample take
-    /// `each` bits; order 0 if there is no predictor. A block has `count` samples.
-    pub(crate) fn likely(&self, count: f64, each: f64) -> (usize, f64)
-        ensures { result.0 ≤ 12 }
+    /// The order that is likely to take the fewest bits, if each coefficient and its warm-up sample take `each` bits; 0
+    /// if there is no predictor. A block has `count` samples.
+    pub(crate) fn likely(&self, count: f64, each: f64) -> usize
+        ensures { result ≤ 12 }
     {
         let mut best = 0;
         let mut least = 0.0;
@@ -115,6 +115,6 @@ impl Solutions {
                 least = all;
             }
         }
-        (best.min(12), least)
+        best.min(12)
     }
 }

@@ -2,7 +2,7 @@
 //!
 //! | To | Begin with |
 //! |---|---|
-//! | find predictors for each block of some samples | [`found_in`] |
+//! | find predictors for each plane of each block of some samples | [`found_in`] |
 //! | find them block by block | [`Finder::new`] and [`Finder::find`] |
 //!
 //! The samples are weighed with a window; their autocorrelation gives the predictor of each order by the Levinson-Durbin

@@ -1,4 +1,4 @@
-//! Two channels: their side, and which of left, right, side and mid a frame is likely to store (RFC 9639, section 4.2).
+//! Two channels, their side and their middle (RFC 9639, section 4.2).
 
 ghost use Rattle.std.specs.Prelude.{◌≡◌, ◌≤◌, ◌<◌, ◌+◌, length};
 
@@ -16,8 +16,8 @@ fn subtract(left: &mut [f64], right: &[f64], count: usize)
     }
 }
 
-/// The autocorrelation of the mid channel, half the sum of two, from those of both and of their side.
-fn mid_sums(left: &[f64; 13], right: &[f64; 13], side: &[f64; 13]) -> [f64; 13] {
+/// The autocorrelation of the middle, half the sum of two, from those of both and of their side.
+fn middle_sums(left: &[f64; 13], right: &[f64; 13], side: &[f64; 13]) -> [f64; 13] {
     let mut sums = [0.0; 13];
     for lag in 0..13 {
         sums[lag] = (left[lag] + right[lag]) * 0.5 - side[lag] * 0.25;
@@ -25,7 +25,7 @@ fn mid_sums(left: &[f64; 13], right: &[f64; 13], side: &[f64; 13]) -> [f64; 13] 
     sums
 }
 
-/// The autocorrelations of left, right, side and mid, for samples that are weighed. Two places are working arrays.
+/// The autocorrelations of left, right, side and middle, for samples that are weighed. Two places are working arrays.
 pub(crate) fn pair_sums(
     left: &[i32],
     right: &[i32],
@@ -47,25 +47,6 @@ pub(crate) fn pair_sums(
     let rights = autocorrelation(second, count);
     subtract(first, second, count);
     let sides = autocorrelation(first, count);
-    let mids = mid_sums(&lefts, &rights, &sides);
-    [lefts, rights, sides, mids]
-}
-
-/// Which of left, right, side and mid a frame is likely to store, from the bits that each is likely to take.
-pub(crate) fn likely_stored(bits: &[f64; 4]) -> [bool; 4] {
-    let [left, right, side, mid] = *bits;
-    let mut stored = [true, true, false, false];
-    let mut least = left + right;
-    if left + side < least {
-        stored = [true, false, true, false];
-        least = left + side;
-    }
-    if side + right < least {
-        stored = [false, true, true, false];
-        least = side + right;
-    }
-    if mid + side < least {
-        stored = [false, false, true, true];
-    }
-    stored
+    let middles = middle_sums(&lefts, &rights, &sides);
+    [lefts, rights, sides, middles]
 }

@@ -4,6 +4,8 @@
 #![tactic(auto)]
 
 #[cfg(test)]
+mod by_plane;
+#[cfg(test)]
 mod chosen;
 #[cfg(test)]
 mod decoding;

@@ -33,85 +33,147 @@ fn audio(alloc: Global, channels: i32, len: usize, push: i32) -> Result<Option<A
     Ok(Audio::new(44100, 16, lists).ok())
 }
 
-/// How many predictors the list of each block has, 1000 for one that does not begin with the given ones.
+/// How many predictors the list of each plane has beside the given ones, 1000 for one that does not begin with these.
+fn counts_of(
+    alloc: Global,
+    lists: &[Vec<LinearPredictor>],
+    given: &[LinearPredictor],
+) -> Result<Vec<usize>, Fail> {
+    let mut counts = Vec::new(alloc);
+    for list in lists {
+        let begins = list.len() >= given.len() && &list.as_slice()[..given.len()] == given;
+        counts.push(if begins {
+            list.len() - given.len()
+        } else {
+            1000
+        })?;
+    }
+    Ok(counts)
+}
+
+/// The counts of each block in turn.
 fn counts(
     alloc: Global,
     audio: &Audio,
     block_size: usize,
     given: &[LinearPredictor],
     search: Search,
-) -> Result<Vec<usize>, Fail> {
-    let mut found = Vec::new(alloc);
+) -> Result<Vec<Vec<usize>>, Fail> {
+    let mut counts = Vec::new(alloc);
     let limit = greatest_order(audio.profile(), audio.rate());
     if block_size < 1 || block_size > 65535 || !LinearPredictor::are_within(given, limit) {
-        return Ok(found);
+        return Ok(counts);
     }
-    let lists = found_in(alloc, audio, block_size, given, search)?;
-    for list in lists.as_slice() {
-        let begins = list.len() >= given.len() && &list.as_slice()[..given.len()] == given;
-        found.push(if begins { list.len() } else { 1000 })?;
+    let frames = found_in(alloc, audio, block_size, given, search)?;
+    for lists in frames.as_slice() {
+        counts.push(counts_of(alloc, lists.as_slice(), given)?)?;
     }
-    Ok(found)
+    Ok(counts)
 }
 
-/// Whether each block has as many predictors as this.
-fn are_found(
+/// Whether the planes of each block but the last have as many predictors as this. The last block has 52 samples, which
+/// are not searched, and no lists.
+fn are_found(alloc: Global, audio: &Audio, search: Search, due: &[usize]) -> Result<bool, Fail> {
+    let counts = counts(alloc, audio, 1024, &[], search)?;
+    let mut blocks = counts.len() == 3;
+    for number in 0..counts.len() {
+        let each = if number < 2 { due } else { &[] };
+        blocks &= counts[number].as_slice() == each;
+    }
+    Ok(blocks)
+}
+
+/// Whether this is so of channels that differ.
+fn are_found_of(
     alloc: Global,
     channels: i32,
     push: i32,
     search: Search,
     due: &[usize],
 ) -> Result<bool, Fail> {
-    let Some(audio) = audio(alloc, channels, 2100, push)? else {
-        return Ok(false);
-    };
-    Ok(counts(alloc, &audio, 1024, &[], search)?.as_slice() == due)
+    match audio(alloc, channels, 2100, push)? {
+        Some(audio) => are_found(alloc, &audio, search, due),
+        None => Ok(false),
+    }
+}
+
+/// Whether this is so of two channels that are the same.
+fn are_found_twice(alloc: Global, search: Search, due: &[usize]) -> Result<bool, Fail> {
+    let mut lists = Vec::new(alloc);
+    for _ in 0..2 {
+        lists.push(resonance(alloc, 2100, 900)?)?;
+    }
+    match Audio::new(44100, 16, lists) {
+        Ok(audio) => are_found(alloc, &audio, search, due),
+        Err(_) => Ok(false),
+    }
 }
 
 #[test]
 fn finds_predictors(rt: HostRuntime) -> Result<(), Fail> {
     let alloc = rt.alloc();
-    // The last block has 52 samples, which are not searched.
-    assert!(rt; are_found(alloc, 1, 900, Search::Quick, &[1, 1, 0])?);
-    assert!(rt; are_found(alloc, 1, 900, Search::Full, &[2, 2, 0])?);
-    assert!(rt; are_found(alloc, 2, 900, Search::Quick, &[2, 2, 0])?);
-    assert!(rt; are_found(alloc, 2, 900, Search::Full, &[4, 4, 0])?);
-    assert!(rt; are_found(alloc, 3, 900, Search::Quick, &[3, 3, 0])?);
-    assert!(rt; are_found(alloc, 1, 0, Search::Full, &[0, 0, 0])?);
+    assert!(rt; are_found_of(alloc, 1, 900, Search::Quick, &[1])?);
+    assert!(rt; are_found_of(alloc, 1, 900, Search::Full, &[3])?);
+    assert!(rt; are_found_of(alloc, 2, 900, Search::Quick, &[1, 1, 1, 1])?);
+    assert!(rt; are_found_of(alloc, 2, 900, Search::Full, &[3, 3, 3, 3])?);
+    assert!(rt; are_found_of(alloc, 3, 900, Search::Quick, &[1, 1, 1])?);
+    assert!(rt; are_found_of(alloc, 1, 0, Search::Full, &[0])?);
     Ok(())
+}
+
+#[test]
+fn finds_predictors_of_planes(rt: HostRuntime) -> Result<(), Fail> {
+    let alloc = rt.alloc();
+    // The side of channels that are the same is silence.
+    assert!(rt; are_found_twice(alloc, Search::Quick, &[1, 1, 0, 1])?);
+    assert!(rt; are_found_twice(alloc, Search::Full, &[3, 3, 0, 3])?);
+    Ok(())
+}
+
+/// A list of one predictor, the line through the last two samples.
+fn line(alloc: Global) -> Result<Vec<LinearPredictor>, Fail> {
+    let mut given = Vec::new(alloc);
+    if let Some(predictor) = LinearPredictor::new(3, 0, &[2, -1]) {
+        given.push(predictor)?;
+    }
+    Ok(given)
 }
 
 #[test]
 fn keeps_those_given(rt: HostRuntime) -> Result<(), Fail> {
     let alloc = rt.alloc();
-    let mut given = Vec::new(alloc);
-    if let Some(predictor) = LinearPredictor::new(3, 0, &[2, -1]) {
-        given.push(predictor)?;
-    }
+    let given = line(alloc)?;
+    assert!(rt; given.len() == 1);
     let Some(audio) = audio(alloc, 1, 200, 900)? else {
         assert!(rt; false);
         return Ok(());
     };
-    let found = counts(alloc, &audio, 150, given.as_slice(), Search::Full)?;
-    assert!(rt; found.as_slice() == [3, 1].as_slice());
+    let counts = counts(alloc, &audio, 150, given.as_slice(), Search::Full)?;
+    assert!(rt; counts.len() == 2);
+    if counts.len() == 2 {
+        assert!(rt; counts[0].as_slice() == [3].as_slice());
+        assert!(rt; counts[1].len() == 0);
+    }
     Ok(())
 }
 
 #[test]
 fn finds_block_by_block(rt: HostRuntime) -> Result<(), Fail> {
     let alloc = rt.alloc();
+    let given = line(alloc)?;
     let Some(audio) = audio(alloc, 1, 300, 900)? else {
         assert!(rt; false);
         return Ok(());
     };
     let mut finder = Finder::new(alloc, 200)?;
-    let mut list = Vec::new(alloc);
     if audio.len() >= 300 {
-        finder.find(&audio, 100, 200, Search::Quick, &mut list)?;
-        finder.find(&audio, 0, 64, Search::Quick, &mut list)?;
-        finder.find(&audio, 0, 63, Search::Quick, &mut list)?;
+        let whole = finder.find(alloc, &audio, 100..300, &given, Search::Quick)?;
+        assert!(rt; counts_of(alloc, &whole, &given)?.as_slice() == [1].as_slice());
+        let shortest = finder.find(alloc, &audio, 0..64, &given, Search::Full)?;
+        assert!(rt; counts_of(alloc, &shortest, &given)?.as_slice() == [3].as_slice());
+        let short = finder.find(alloc, &audio, 0..63, &given, Search::Quick)?;
+        assert!(rt; short.len() == 0);
     }
-    assert!(rt; list.len() == 2);
     // A law: nothing happens.
     more_predictors_shorten();
     Ok(())

@@ -1,5 +1,5 @@
 -- For proofs of encoding: what was written or sent so far.
-use Rattle.std.specs.Prelude.{ℤ, ◌≡◌, ℕ, ◌<◌, Bool, true, cond, nat_lt, List, [], ◌∷◌, ◌++◌, length, Result, OnOk, IfErr}
+use Rattle.std.specs.Prelude.{◌≡◌, ℕ, ◌<◌, Bool, true, cond, nat_lt, List, [], ◌∷◌, ◌++◌, length, Result, OnOk, IfErr}
 use Rattle.flac_bits.specs.Bits.{bits_of}
 use Rattle.flac_bits.specs.Written.{Written, Fails, Writes}
 use Rattle.flac_bits.specs.declared.why.Why.{Why}
@@ -9,8 +9,7 @@ use Rattle.flac_header.specs.Spelling.{restarted}
 use Rattle.flac_frame.specs.Audio.{Sound, samples_each}
 use Rattle.flac_frame.specs.Spelling.{FrameForm, frame_spelling}
 use Rattle.flac_subframe.specs.search.Capacity.{Capacity}
-use Rattle.flac_subframe.specs.declared.format.linear.LinearPredictor.{LinearPredictor}
-use Rattle.flac_frame.specs.Chosen.{IsChoiceWith}
+use Rattle.flac_frame.specs.Chosen.{SameByPlane}
 use Rattle.flac_frame.specs.declared.frame_choice.FrameChoice.{FrameChoice}
 use Rattle.flac_meta.specs.declared.block.Block.{Block}
 use Rattle.flac_native.specs.Given.{Cut, fits_plan, blocks_in, room_of, info_of}
@@ -55,7 +54,7 @@ WritesNext p a number old new result = (text : List Bool) × IsSpelled p a numbe
 
 -- the second choice is the first, whatever was chosen
 pub record IsKept (c kept : FrameChoice) : Type 0 where
-  pub same : (ps : List LinearPredictor) (a : Sound) (size number : ℕ) (block : List (List ℤ)) → IsChoiceWith ps a size number block c → IsChoiceWith ps a size number block kept
+  pub same : SameByPlane c kept
   pub many : length kept.subframes.items ≡ length c.subframes.items
 
 -- a choice was kept after these, if they were fewer than `most`

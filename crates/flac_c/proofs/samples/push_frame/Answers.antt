@@ -2,7 +2,7 @@ use Rattle.std.proofs.Common.{◌≡◌, ◌+◌, ◌-◌, ◌*◌, ◌++◌, �
 use Rattle.std.proofs.lemmas.List.{take_all, length-take, length-drop}
 use Rattle.flac_frame.specs.Viewed.{frame_of}
 use Rattle.flac_frame.specs.Interleaved.{interleaved}
-use Rattle.flac_c.proofs.Collecting.{grown, places_after}
+use Rattle.flac_frame.proofs.Interleaved.{grown, places_after}
 use Rattle.flac_c.proofs.HandedOver.{few_samples, filled}
 use Rattle.flac_c.proofs.samples.push_frame.Goals as goal
 

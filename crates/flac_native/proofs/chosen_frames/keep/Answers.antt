@@ -14,4 +14,4 @@ returns-clause-kept c =
     let old = c.args.choices.now.items in
     let kept = c.in_ok-kept.kept in
     let below : nat_lt (length old) c.args.most ≡ true = grind (arith, nat_tests) in
-    (kept, record { same = c.in_ok-kept.ensures.same; many = c.in_ok-kept.ensures.many }, c.in_ok-push.ensures.items ∙ ap (λ b. cond b (old ++ kept ∷ []) old) (sym below))
+    (kept, record { same = c.in_ok-kept.ensures.same_by_plane; many = c.in_ok-kept.ensures.many }, c.in_ok-push.ensures.items ∙ ap (λ b. cond b (old ++ kept ∷ []) old) (sym below))

@@ -1,44 +1,9 @@
-use Rattle.std.proofs.Common.{◌≡◌, Bool, true, false, Result, Ok, Err, refl, sym, ◌∙◌, arith}
+use Rattle.std.proofs.Common.{◌≡◌, Bool, true, false, refl, sym, ◌∙◌, arith}
 use Rattle.flac_bits.specs.Bits.{bits_of}
-use Rattle.flac_native.specs.declared.fault.EncodeFault.{EncodeFault}
-use Rattle.flac_native.specs.declared.fault.EncodeFault.TheVariants as fault
+use Rattle.flac_native.proofs.EncodeFaults.{done_fails, memory_mapping, memory_repeated, memory_write, repeated_mapping, repeated_write, same_fault, write_mapping, write_repeated}
 use Rattle.flac_native.proofs.Planned.{planned, block_small}
 use Rattle.flac_native.proofs.Sendings.{given_encodes, all_sent, some_sent}
 use Rattle.flac_native.proofs.encoding.encode.Goals as goal
-
-abbrev done : {X : Type 0} → X → Result X EncodeFault
-done x = Ok x
-
-abbrev failed : {X : Type 0} → EncodeFault → Result X EncodeFault
-failed e = Err e
-
--- which fault is told
-same_fault : {X : Type 0} (e f : EncodeFault) → failed {X = X} e ≡ failed f → e ≡ f
-same_fault e f is = cc
-
-done_fails : {X : Type 0} (x : X) (e : EncodeFault) → done x ≡ failed e → ⊥
-done_fails x e is = absurd cc
-
-repeated_write : fault.RepeatedBlock ≡ fault.Write → ⊥
-repeated_write e = absurd cc
-
-repeated_mapping : fault.RepeatedBlock ≡ fault.BadMapping → ⊥
-repeated_mapping e = absurd cc
-
-memory_write : fault.Memory ≡ fault.Write → ⊥
-memory_write e = absurd cc
-
-memory_repeated : fault.Memory ≡ fault.RepeatedBlock → ⊥
-memory_repeated e = absurd cc
-
-memory_mapping : fault.Memory ≡ fault.BadMapping → ⊥
-memory_mapping e = absurd cc
-
-write_repeated : fault.Write ≡ fault.RepeatedBlock → ⊥
-write_repeated e = absurd cc
-
-write_mapping : fault.Write ≡ fault.BadMapping → ⊥
-write_mapping e = absurd cc
 
 -- the list repeats no seek table
 not_repeated : (found repeats : Bool) → found ≡ repeats → found ≡ false → repeats ≡ true → ⊥

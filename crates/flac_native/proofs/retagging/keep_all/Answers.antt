@@ -20,7 +20,7 @@ use Rattle.flac_header.specs.declared.subset.Profile.TheVariants.{Subset}
 pub loop-alloc-init : goal.loop-alloc-init
 loop-alloc-init g c = record {
   went = (λ k. k, refl, refl, λ k. refl, refl);
-  far = (opening Subset, sym c.start-position.ensures, starts grammar keeps no_errors (opening Subset) (lifted c.args.reader.now) _);
+  far = (opening Subset, sym c.start-position.ensures, starts grammar (keeps c.args.all) no_errors (opening Subset) (lifted c.args.reader.now) _);
 }
 
 pub loop-alloc-preserved : goal.loop-alloc-preserved
@@ -34,8 +34,8 @@ loop-alloc-preserved g c =
           let more = step.keeps far.0 far.1 in (
             next far.0 more.0,
             more.1,
-            so_far_lifted grammar keeps no_errors (opening Subset) (next far.0 more.0) (lifted c.args.reader.now) c.keep_next.new.reader c.args.kept.now.items c.keep_next.new.kept.items
-                (one_more grammar keeps no_errors (opening Subset) far.0 (next far.0 more.0) (lifted c.args.reader.now) (lifted c.loop-alloc.reader) c.keep_next.new.reader c.args.kept.now.items c.loop-alloc.kept.items c.keep_next.new.kept.items more.0
+            so_far_lifted grammar (keeps c.args.all) no_errors (opening Subset) (next far.0 more.0) (lifted c.args.reader.now) c.keep_next.new.reader c.args.kept.now.items c.keep_next.new.kept.items
+                (one_more grammar (keeps c.args.all) no_errors (opening Subset) far.0 (next far.0 more.0) (lifted c.args.reader.now) (lifted c.loop-alloc.reader) c.keep_next.new.reader c.args.kept.now.items c.loop-alloc.kept.items c.keep_next.new.kept.items more.0
                 far.2 step.counts (λ told. more.3 told) refl more.2 refl)
                 (λ known.
                 let told = far.2.known known in
@@ -62,7 +62,7 @@ returns g c =
       kept = λ known.
           let far = inv.far in
           let end = over c.loop-alloc.position far.0 far.1 (sym c.is_past_metadata.ensures ∙ c.loop-alloc-test.false) in
-          rw c.lift.ensures (kept_are (lifted c.args.reader.now).cursor (lifted c.loop-alloc.reader).cursor far.0 c.args.kept.now.items c.loop-alloc.kept.items c.requires.none (far.2.far known) end);
+          rw c.lift.ensures (kept_are c.args.all (lifted c.args.reader.now).cursor (lifted c.loop-alloc.reader).cursor far.0 c.args.kept.now.items c.loop-alloc.kept.items c.requires.none (far.2.far known) end);
       refused = tt;
       placed = tt;
       at = tt;
@@ -75,7 +75,7 @@ returns-then-unread-ne0 g c =
     let went = inv.went in
     let none = λ (known : c.args.reader.now.known ≡ true).
     let far = inv.far in
-    let whole = kept_whole (lifted c.args.reader.now).cursor (lifted c.loop-alloc.reader).cursor far.0 c.args.kept.now.items c.loop-alloc.kept.items c.requires.whole (far.2.far known) in
+    let whole = kept_whole c.args.all (lifted c.args.reader.now).cursor (lifted c.loop-alloc.reader).cursor far.0 c.args.kept.now.items c.loop-alloc.kept.items c.requires.whole (far.2.far known) in
     let zero : c.unread.result ≡ 0 = c.unread.ensures.0 ∙ ap (λ (s : State). s.cursor.mark.unread) c.lift.ensures ∙ whole in
     c.if-unread-ne0.true zero in
     record {
@@ -115,12 +115,12 @@ returns-in_err-keep_next g c =
       refused = λ known same room.
           let far = c.loop-alloc.invariant.far in
           let end = record c.keep_next.new.reader { raised = c.args.reader.now.raised } in
-          let r = step_refused grammar keeps no_errors (opening Subset) far.0 (lifted c.args.reader.now) (lifted c.loop-alloc.reader) end c.args.kept.now.items c.loop-alloc.kept.items _ _ far.2
+          let r = step_refused grammar (keeps c.args.all) no_errors (opening Subset) far.0 (lifted c.args.reader.now) (lifted c.loop-alloc.reader) end c.args.kept.now.items c.loop-alloc.kept.items _ _ far.2
           (λ told quiet calm some. e.refused far.0 far.1 told quiet some) known (same, refl) room in
           record { items = r.0; refused = r.1; place = e.at };
       placed = λ known.
           let far = c.loop-alloc.invariant.far in
-          breaks_at (lifted c.args.reader.now).cursor (lifted c.loop-alloc.reader).cursor far.0 c.args.kept.now.items c.loop-alloc.kept.items _ (far.2.far known) (e.place ∙ ap (λ (k : Position). place_in k.phase k.index) (sym far.1));
+          breaks_at c.args.all (lifted c.args.reader.now).cursor (lifted c.loop-alloc.reader).cursor far.0 c.args.kept.now.items c.loop-alloc.kept.items _ (far.2.far known) (e.place ∙ ap (λ (k : Position). place_in k.phase k.index) (sym far.1));
       at = λ known. e.at;
       memory = e.memory;
     })

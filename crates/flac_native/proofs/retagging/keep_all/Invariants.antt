@@ -11,7 +11,7 @@ use Rattle.flac_native.proofs.retagging.keep_all.Given as goal
 abbrev pub invariant-loop-alloc : goal.invariant-loop-alloc
 invariant-loop-alloc g l = record {
   went : Went (lifted l.initial.reader) (lifted l.reader);
-  far : (p : Progress) × (position_of p.stand ≡ l.position) × SoFar grammar keeps no_errors (opening Subset) p (lifted l.initial.reader) (lifted l.reader) l.initial.kept.items l.kept.items;
+  far : (p : Progress) × (position_of p.stand ≡ l.position) × SoFar grammar (keeps l.initial.all) no_errors (opening Subset) p (lifted l.initial.reader) (lifted l.reader) l.initial.kept.items l.kept.items;
 }
 
 abbrev pub decreases-loop-alloc : goal.decreases-loop-alloc

@@ -1,4 +1,4 @@
-use Rattle.std.proofs.Common.{◌≡◌, ◌≤◌, ◌++◌, List, Some, Bool, true, Result, Ok, Err, ◌∙◌, inl, inr, refl, sym, ap, subst, arith}
+use Rattle.std.proofs.Common.{◌≡◌, ◌≤◌, ◌++◌, List, Some, Bool, true, false, Result, Ok, Err, ◌∙◌, inl, inr, refl, sym, ap, subst, arith}
 use Rattle.std.proofs.lemmas.Result.{IfErr-weaker}
 use Rattle.std.specs.Prelude.{OnOk, OnErr, IfErr}
 use Rattle.flac_bits.specs.State.{Cursor}
@@ -25,7 +25,7 @@ when_err : {X E : Type 0} {A : Type 0} {B : E → Type 0} (r : Result X E) → (
 when_err (Ok x) f a = tt
 when_err (Err e) f a = f e a
 
-may_be : (comments : Comments) (c : Cursor) (kept slice : List Block) (rest : List Bool) → comments_length comments ≤ 16777215 → slice ≡ kept → AreKept c kept rest → MayBeHead comments slice
+may_be : (comments : Comments) (c : Cursor) (kept slice : List Block) (rest : List Bool) → comments_length comments ≤ 16777215 → slice ≡ kept → AreKept false c kept rest → MayBeHead comments slice
 may_be comments c kept slice rest short is are = subst (λ l. MayBeHead comments l) (sym is) (kept_may_be_head comments c kept rest short are)
 
 pub returns-in-Err : goal.returns-in-Err

@@ -1,51 +1,16 @@
-use Rattle.std.proofs.Common.{◌≡◌, [], ◌++◌, List, Bool, true, false, Result, Ok, Err, length, refl, sym, subst, ◌∙◌, arith}
+use Rattle.std.proofs.Common.{◌≡◌, [], ◌++◌, List, Bool, true, false, length, refl, sym, subst, ◌∙◌, arith}
 use Rattle.flac_bits.specs.Bits.{bits_of, is_nil}
 use Rattle.flac_meta.specs.Spelling.{block_spelling}
 use Rattle.flac_meta.specs.declared.block.Block.TheVariants as block_of
 use Rattle.flac_native.specs.Given.{info_of}
 use Rattle.flac_native.specs.Writing.{AreCounted}
-use Rattle.flac_native.specs.declared.fault.EncodeFault.{EncodeFault}
-use Rattle.flac_native.specs.declared.fault.EncodeFault.TheVariants as fault
+use Rattle.flac_native.proofs.EncodeFaults.{done_fails, mapping_repeated, mapping_write, memory_mapping, memory_repeated, memory_write, same_fault, write_mapping, write_repeated}
 use Rattle.flac_native.proofs.Planned.{planned, block_small, room_is}
 use Rattle.flac_ogg.specs.Native.{mapping_spelling, block_spellings}
 use Rattle.flac_ogg.specs.Writing.{header_count, EncodesOgg, BeginsOgg}
 use Rattle.flac_ogg.proofs.SentOgg.{ogg_encodes}
 use Rattle.flac_ogg.proofs.Whole.{all_sent, some_sent}
 use Rattle.flac_ogg.proofs.encoding.encode_ogg.Goals as goal
-
-abbrev done : {X : Type 0} → X → Result X EncodeFault
-done x = Ok x
-
-abbrev failed : {X : Type 0} → EncodeFault → Result X EncodeFault
-failed e = Err e
-
--- which fault is told
-same_fault : {X : Type 0} (e f : EncodeFault) → failed {X = X} e ≡ failed f → e ≡ f
-same_fault e f is = cc
-
-done_fails : {X : Type 0} (x : X) (e : EncodeFault) → done x ≡ failed e → ⊥
-done_fails x e is = absurd cc
-
-mapping_write : fault.BadMapping ≡ fault.Write → ⊥
-mapping_write e = absurd cc
-
-mapping_repeated : fault.BadMapping ≡ fault.RepeatedBlock → ⊥
-mapping_repeated e = absurd cc
-
-memory_write : fault.Memory ≡ fault.Write → ⊥
-memory_write e = absurd cc
-
-memory_repeated : fault.Memory ≡ fault.RepeatedBlock → ⊥
-memory_repeated e = absurd cc
-
-memory_mapping : fault.Memory ≡ fault.BadMapping → ⊥
-memory_mapping e = absurd cc
-
-write_repeated : fault.Write ≡ fault.RepeatedBlock → ⊥
-write_repeated e = absurd cc
-
-write_mapping : fault.Write ≡ fault.BadMapping → ⊥
-write_mapping e = absurd cc
 
 -- the list can be in an Ogg stream
 may_be : (found may : Bool) → found ≡ may → found ≡ true → may ≡ false → ⊥

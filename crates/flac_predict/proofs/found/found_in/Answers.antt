@@ -1,10 +1,9 @@
-use Rattle.std.proofs.Common.{◌≡◌, ◌∙◌, sym, ap, subst, ◌+◌, [], ◌∷◌, ◌++◌, length, length-append, All, Vec, Global}
-use Rattle.std.proofs.lemmas.List.Elements.{All-push}
-use Rattle.flac_subframe.specs.declared.format.linear.LinearPredictor.{LinearPredictor}
-use Rattle.flac_subframe.specs.format.Handed.{AreWithin}
+use Rattle.std.proofs.Common.{◌∙◌, All}
 use Rattle.flac_frame.specs.Frame.{limits_at}
+use Rattle.flac_native.specs.Given.{plane_lists}
+use Rattle.flac_subframe.specs.format.Handed.{AreWithin}
 use Rattle.flac_predict.specs.Found.{IsPrefixOf}
-use Rattle.flac_predict.proofs.Lists.{begins, within}
+use Rattle.flac_predict.proofs.Lists.{lists_items, all_pushed, one_more, all_begin, all_within}
 use Rattle.flac_predict.proofs.found.found_in.Goals as goal
 
 pub loop-number-preserved : goal.loop-number-preserved
@@ -12,16 +11,14 @@ loop-number-preserved c =
     let profile = c.args.audio.now.profile in
     let rate = c.args.audio.now.rate in
     let given = c.args.given.now in
-    let old = c.loop-number.lists.items in
-    let list = c.find.new.list in
-    let copy = c.in_ok-list.list.items in
+    let old = c.loop-number.frames.items in
+    let new = c.push.new.self.items in
+    let lists = plane_lists c.in_ok-lists.lists.items in
     let so = c.loop-number.invariant in
-    let pushed : c.push.new.self.items ≡ old ++ list ∷ [] = c.in_ok-push.ensures.items in
-    let front = begins given copy list.items c.in_ok-list.ensures.same c.find.ensures.more in
-    let few = within profile rate given copy list.items c.in_ok-list.ensures.same c.find.ensures.more c.requires.within in
+    let after = c.in_ok-lists.ensures.after in
     record {
-      room = c.find.ensures.room ∙ so.room;
-      many = ap (λ ls. length ls) pushed ∙ length-append old (list ∷ []) ∙ ap (λ n. n + 1) so.many;
-      begins = subst (All (λ (v : Vec LinearPredictor Global). IsPrefixOf given v.items)) (sym pushed) (All-push (λ (v : Vec LinearPredictor Global). IsPrefixOf given v.items) old list so.begins front);
-      orders = subst (All (λ (v : Vec LinearPredictor Global). AreWithin (limits_at profile rate).linear v.items)) (sym pushed) (All-push (λ (v : Vec LinearPredictor Global). AreWithin (limits_at profile rate).linear v.items) old list so.orders few);
+      room = c.in_ok-lists.ensures.room ∙ so.room;
+      many = one_more old new _ c.loop-number.number c.in_ok-push.ensures.items so.many;
+      begins = all_pushed lists_items (All (IsPrefixOf given)) old new _ c.in_ok-push.ensures.items so.begins (all_begin given lists after);
+      orders = all_pushed lists_items (All (AreWithin (limits_at profile rate).linear)) old new _ c.in_ok-push.ensures.items so.orders (all_within profile rate given lists c.requires.within after);
     }

@@ -9,8 +9,9 @@ use Rattle.flac_meta.specs.declared.block.Block.TheVariants as block_of
 use Rattle.flac_header.specs.declared.subset.Profile.{Profile}
 use Rattle.flac_subframe.specs.search.Capacity.{Capacity}
 use Rattle.flac_frame.specs.Audio.{Sound, samples_each}
-use Rattle.flac_frame.specs.Chosen.{IsChoiceWith, HasPlaces}
+use Rattle.flac_frame.specs.Chosen.{IsChoiceByPlane, HasPlaces}
 use Rattle.flac_frame.specs.Encoding.{block_of, most_in}
+use Rattle.flac_frame.specs.PlaneLists.{Lists}
 use Rattle.flac_frame.specs.declared.frame_choice.FrameChoice.{FrameChoice}
 use Rattle.flac_native.specs.Given.{Cut, tried, blocks_in, size_of, room_of, sound_message}
 use Rattle.flac_native.specs.Message.{sample_width, rows_bytes}
@@ -102,7 +103,7 @@ returns-in_err-note_point c =
 pub returns-in_err-keep : goal.returns-in_err-keep
 returns-in_err-keep c =
     let p = err_from_is_err_and c.from_residual-in_err-keep.result c.from_residual-in_err-keep.ensures.1 in
-    rw (p.1, p.2) (record { kept = c.choose_frame.ensures.kept ∙ c.loop-start.invariant.buffers ∙ sym c.requires.room; counted = tt; choices = tt; table = tt; sizes = tt; digest = tt; memory = c.in_err-keep.ensures.memory })
+    rw (p.1, p.2) (record { kept = c.choose_frame_by_plane.ensures.kept ∙ c.loop-start.invariant.buffers ∙ sym c.requires.room; counted = tt; choices = tt; table = tt; sizes = tt; digest = tt; memory = c.in_err-keep.ensures.memory })
 
 pub range-range-requires-clause-fits : goal.range-range-requires-clause-fits
 range-range-requires-clause-fits c = c.requires.fits
@@ -136,11 +137,11 @@ loop-start-init c = record {
   least = zero_least _;
 }
 
-pub choose_frame-requires-clause-some : goal.choose_frame-requires-clause-some
-choose_frame-requires-clause-some c = c.range-range.ensures.range.some
+pub choose_frame_by_plane-requires-clause-some : goal.choose_frame_by_plane-requires-clause-some
+choose_frame_by_plane-requires-clause-some c = c.range-range.ensures.range.some
 
-pub choose_frame-requires-clause-number : goal.choose_frame-requires-clause-number
-choose_frame-requires-clause-number c = c.range-range.ensures.range.few
+pub choose_frame_by_plane-requires-clause-number : goal.choose_frame_by_plane-requires-clause-number
+choose_frame_by_plane-requires-clause-number c = c.range-range.ensures.range.few
 
 pub range-range-requires-clause-few : goal.range-range-requires-clause-few
 range-range-requires-clause-few c =
@@ -155,29 +156,29 @@ overflow_sub-len c = least_of _ _ c.range-range.ensures.range.some
 pub feed_block-requires : goal.feed_block-requires
 feed_block-requires c = omega (arith, c.range-range.ensures.range.some, c.range-range.ensures.range.within)
 
-pub choose_frame-requires-clause-within : goal.choose_frame-requires-clause-within
-choose_frame-requires-clause-within c = c.range-range.ensures.range.within
+pub choose_frame_by_plane-requires-clause-within : goal.choose_frame_by_plane-requires-clause-within
+choose_frame_by_plane-requires-clause-within c = c.range-range.ensures.range.within
 
-pub choose_frame-requires-clause-partition : goal.choose_frame-requires-clause-partition
-choose_frame-requires-clause-partition c = partition_of c.args.plan.now c.args.audio.now _ (fit c.args.plan.now c.args.audio.now c.requires.fits) c.loop-start.invariant.buffers
+pub choose_frame_by_plane-requires-clause-partition : goal.choose_frame_by_plane-requires-clause-partition
+choose_frame_by_plane-requires-clause-partition c = partition_of c.args.plan.now c.args.audio.now _ (fit c.args.plan.now c.args.audio.now c.requires.fits) c.loop-start.invariant.buffers
 
-pub choose_frame-requires-clause-orders : goal.choose_frame-requires-clause-orders
-choose_frame-requires-clause-orders c =
+pub choose_frame_by_plane-requires-clause-orders : goal.choose_frame_by_plane-requires-clause-orders
+choose_frame_by_plane-requires-clause-orders c =
     let p = c.args.plan.now in
     let a = c.args.audio.now in
     orders_at p a _ (fit p a c.requires.fits) c.predictors_at-predictors.ensures.orders
 
-pub choose_frame-requires-clause-room : goal.choose_frame-requires-clause-room
-choose_frame-requires-clause-room c = room_at _ _ _ c.range-range.ensures.range.room (ap (λ (r : Capacity). r.block) c.loop-start.invariant.buffers)
+pub choose_frame_by_plane-requires-clause-room : goal.choose_frame_by_plane-requires-clause-room
+choose_frame_by_plane-requires-clause-room c = room_at _ _ _ c.range-range.ensures.range.room (ap (λ (r : Capacity). r.block) c.loop-start.invariant.buffers)
 
-pub choose_frame-requires-clause-places : goal.choose_frame-requires-clause-places
-choose_frame-requires-clause-places c = c.loop-start.invariant.places
+pub choose_frame_by_plane-requires-clause-places : goal.choose_frame_by_plane-requires-clause-places
+choose_frame_by_plane-requires-clause-places c = c.loop-start.invariant.places
 
-pub frame_bytes-bytes-requires-clause-few : goal.frame_bytes-bytes-requires-clause-few
-frame_bytes-bytes-requires-clause-few c = omega (arith, c.range-range.ensures.range.room, block_small c.args.plan.now (planned c.args.plan.now c.block_size-size.ensures.good))
+pub frame_bytes_by_plane-bytes-requires-clause-few : goal.frame_bytes_by_plane-bytes-requires-clause-few
+frame_bytes_by_plane-bytes-requires-clause-few c = omega (arith, c.range-range.ensures.range.room, block_small c.args.plan.now (planned c.args.plan.now c.block_size-size.ensures.good))
 
-pub frame_bytes-bytes-requires-clause-chosen : goal.frame_bytes-bytes-requires-clause-chosen
-frame_bytes-bytes-requires-clause-chosen c = (_, _, c.choose_frame.ensures.chosen)
+pub frame_bytes_by_plane-bytes-requires-clause-chosen : goal.frame_bytes_by_plane-bytes-requires-clause-chosen
+frame_bytes_by_plane-bytes-requires-clause-chosen c = (_, _, c.choose_frame_by_plane.ensures.chosen)
 
 few_fit : (n m : ℕ) → n < m → m ≤ 2 ^ 31 → Fits w64 (n + 1)
 few_fit n m h k = omega arith
@@ -194,14 +195,14 @@ overflow_add-number c =
 
 pub overflow_add-offset : goal.overflow_add-offset
 overflow_add-offset c =
-    let is = c.choose_frame.ensures.chosen in
+    let is = c.choose_frame_by_plane.ensures.chosen in
     let p = c.args.plan.now in
     let total = samples_each c.args.audio.now.channels in
     let q = planned p c.block_size-size.ensures.good in
     let more : p.block_size * c.loop-start.number < total = more_left _ _ _ _ _ c.loop-start.invariant.start c.loop-start-test.true c.len-total.ensures in
     let f = fit p c.args.audio.now c.requires.fits in
     let blocks : blocks_in p.block_size total ≤ 2 ^ 31 = subst (λ t. blocks_in p.block_size t ≤ 2 ^ 31) f.total q.blocks in
-    omega (arith, c.frame_bytes-bytes.ensures.bytes _ _ is, is.short, c.loop-start.invariant.gathered.count, still_some p.block_size total c.loop-start.number q.least more, blocks)
+    omega (arith, c.frame_bytes_by_plane-bytes.ensures.bytes _ _ is, is.short, c.loop-start.invariant.gathered.count, still_some p.block_size total c.loop-start.number q.least more, blocks)
 
 pub loop-start-preserved : goal.loop-start-preserved
 loop-start-preserved c =
@@ -217,17 +218,17 @@ loop-start-preserved c =
     let r = c.range-range.result in
     let k = c.range-range.ensures.range in
     let size : ℕ = r.end - r.start in
-    let choice = c.choose_frame.new.choice in
-    let is : IsChoiceWith (tried p n) a size n (block_of r.start size a.channels) choice =
-    subst (λ ps. IsChoiceWith ps a size n (block_of r.start size a.channels) choice) c.predictors_at-predictors.ensures.tried c.choose_frame.ensures.chosen in
+    let choice = c.choose_frame_by_plane.new.choice in
+    let is : IsChoiceByPlane (tried p n) a size n (block_of r.start size a.channels) choice =
+    subst (λ (l : Lists). IsChoiceByPlane l a size n (block_of r.start size a.channels) choice) c.predictors_at-predictors.ensures.tried c.choose_frame_by_plane.ensures.chosen in
     let from : c.loop-start.start ≡ r.start = same_start _ _ _ _ inv.start more k.start in
     let to : r.start + size ≡ r.end = whole_size _ _ k.some in
     let fed = fed_more a c.loop-start.hasher c.feed_block.new.hasher r.start size size refl c.feed_block.ensures (subst (λ at. Holds c.loop-start.hasher (rows_bytes (sample_width a.bits) a.channels at 0)) from inv.fed) in
-    let bytes : ℕ = c.frame_bytes-bytes.result in
+    let bytes : ℕ = c.frame_bytes_by_plane-bytes.result in
     let now = c.note_point.new.points.items in
-    let g = gathered_more p a n c.loop-start.offset c.loop-start.least c.loop-start.greatest bytes r.start _ choice c.loop-start.points.items now inv.gathered c.in_ok-note_point.ensures.noted k.start k.size is (c.frame_bytes-bytes.ensures.bytes _ _ is) in
+    let g = gathered_more p a n c.loop-start.offset c.loop-start.least c.loop-start.greatest bytes r.start _ choice c.loop-start.points.items now inv.gathered c.in_ok-note_point.ensures.noted k.start k.size is (c.frame_bytes_by_plane-bytes.ensures.bytes _ _ is) in
     let keeps = c.in_ok-keep.ensures.kept in
-    let chosen : IsChoiceOf p a n choice = record { chosen = choice_of p a n r.start _ choice k.start k.size is; places = c.choose_frame.ensures.places.many } in
+    let chosen : IsChoiceOf p a n choice = record { chosen = choice_of p a n r.start _ choice k.start k.size is; places = c.choose_frame_by_plane.ensures.places.many } in
     let kept = choices_more p a c.loop-start.choices.items c.keep.new.choices.items keeps.0 n _ inv.choices inv.kept (kept_choice p a n choice keeps.0 keeps.1 chosen) keeps.2 in
     let max_is : c.greatest_with-greatest.result ≡ max c.loop-start.greatest bytes = c.greatest_with-greatest.ensures in
     let least_is : c.least_with-least.result ≡ least_with n c.loop-start.least bytes = c.least_with-least.ensures in
@@ -236,9 +237,9 @@ loop-start-preserved c =
       gathered = made;
       choices = kept.0;
       kept = kept.1;
-      places = subst (λ (r : Capacity). HasPlaces (length a.channels) r.most choice) (sym c.choose_frame.ensures.kept) c.choose_frame.ensures.places;
+      places = subst (λ (r : Capacity). HasPlaces (length a.channels) r.most choice) (sym c.choose_frame_by_plane.ensures.kept) c.choose_frame_by_plane.ensures.places;
       fed = subst (λ at. Holds c.feed_block.new.hasher (rows_bytes (sample_width a.bits) a.channels at 0)) to fed;
-      buffers = c.choose_frame.ensures.kept ∙ inv.buffers;
+      buffers = c.choose_frame_by_plane.ensures.kept ∙ inv.buffers;
       start = start_next b n total r.start r.end k.start k.size k.some more;
       few = one_on _ _ few;
       greatest = max_small _ _ _ max_is inv.greatest g.1;

@@ -1,4 +1,4 @@
-use Rattle.std.proofs.Common.{◌≡◌, subst, sym, ◌∙◌, None}
+use Rattle.std.proofs.Common.{◌≡◌, All, subst, sym, ◌∙◌, None}
 use Rattle.std.proofs.lemmas.List.Elements.{All-nil}
 use Rattle.flac_frame.specs.Frame.{limits_at}
 use Rattle.flac_subframe.specs.format.Handed.{AreWithin}
@@ -12,5 +12,5 @@ invariant_of-result c =
     record {
       good = still_planned _ c.args.predictors.items c.self.invariant.good
           (subst (λ ps. predictors_fault asked.profile asked.rate ps ≡ None) c.as_slice.ensures.value (sym c.predictors_fault.ensures ∙ c.in_default.is));
-      orders = All-nil (AreWithin (limits_at asked.profile asked.rate).linear);
+      orders = All-nil (All (AreWithin (limits_at asked.profile asked.rate).linear));
     }

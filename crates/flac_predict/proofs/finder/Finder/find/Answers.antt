@@ -1,12 +1,6 @@
-use Rattle.std.proofs.Common.{◌∙◌}
-use Rattle.flac_predict.proofs.Lists.{extends_more}
+use Rattle.std.proofs.Common.{arith}
+use Rattle.flac_predict.proofs.Lists.{due_none, due_is}
 use Rattle.flac_predict.proofs.finder.Finder.find.Goals as goal
 
-pub returns-in_err-find_one-clause-more : goal.returns-in_err-find_one-clause-more
-returns-in_err-find_one-clause-more c = extends_more c.args.list.now.items c.loop-channel.list.items c.find_one.new.list.items c.loop-channel.invariant.more c.find_one.ensures.more
-
-pub loop-channel-preserved : goal.loop-channel-preserved
-loop-channel-preserved c = record {
-  more = extends_more c.args.list.now.items c.loop-channel.list.items c.find_one.new.list.items c.loop-channel.invariant.more c.find_one.ensures.more;
-  room = c.find_one.ensures.room ∙ c.loop-channel.invariant.room;
-}
+pub returns-clause-planes : goal.returns-clause-planes
+returns-clause-planes c = due_is c.args.audio.now _ _ (omega (arith, c.if-size-lt-LEAST_BLOCK.false)) c.in_ok-lists.ensures.pair c.in_ok-lists.ensures.apart
