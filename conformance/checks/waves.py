@@ -8,7 +8,8 @@ The made files have names; N more are generated (default 500, with --quick 100, 
 the rules, file K from the seed K. Which file is refused, at which chunk and for which reason, is told by `wave_files.judge`. Of the made
 files, and of every tenth generated one, also: `flac -t` of the reference accepts our streams; if `flac --keep-foreign-metadata` makes a
 stream of which `flac -d --keep-foreign-metadata` makes the same file, it does so of our stream too; and we make the same file of each
-stream of the reference. What the program cannot do yet is said in a line each, and skipped. FLAC names the program, JOBS how many
+stream of the reference. With `--to-end` files that are cut inside their samples come back as they are, made ones and every fifth
+generated one. What the program cannot do yet is said in a line each, and skipped. FLAC names the program, JOBS how many
 processes run at once. Status 1 if an answer is not the one that is due.
 """
 import argparse
@@ -143,6 +144,40 @@ def check_kept(bench, name, able):
         bare(bench, file, due, ours, able)
 
 
+# ---- files that are cut
+
+def cuts(file, name):
+    """The file, cut at some places after its first 12 bytes: by less than an inter-channel sample, and by more."""
+    pick = random.Random(f"cut {name}")
+    ends = {len(file) - by for by in (1, 2, 3, 4, 6, 8, 12, 24)} | {pick.randrange(12, len(file)) for _ in range(4)} if len(file) > 36 else set()
+    for end in sorted(ends):
+        yield file[:end]
+
+
+def check_cut(bench, name, able):
+    """A file that is cut inside its samples is refused with 69, or with --to-end goes to its end and comes back as it is. Any other
+    file is answered as without the option."""
+    file = made()[name] if isinstance(name, str) else generated(name)
+    for part in (file, *cuts(file, name)):
+        path, due = bench.put(part, ".wav"), judge(part, True)
+        for words in ([], ["--ogg"]):
+            stream, again = bench.path(".flac"), bench.path(".wav")
+            status, _, error = program.call("encode", path, stream, "--to-end", *words)
+            if not isinstance(due, Found):
+                expect((status, error.decode()), (1, f"flac: {path}: {due}\n"))
+                continue
+            expect((status, error), (0, b""))
+            expect(program.call("decode", stream, again), (0, b"", b""))
+            expect(read(again) == part, True)
+            if not words and able.valid:
+                expect(depth_of(read(stream)), due.depth())
+        refused = judge(part)
+        if isinstance(due, Found) and not isinstance(refused, Found):
+            expect(refused.endswith("69 DataCut"), True)
+            status, _, error = program.call("encode", path, bench.path(".flac"))
+            expect((status, error.decode()), (1, f"flac: {path}: {refused}\n"))
+
+
 # ---- plain files
 
 def readers(path, bits):
@@ -250,6 +285,11 @@ def rows(words):
         yield f"plain, long, {row}", check_long, row
     for number in range(count):
         yield f"generated {number}", check_kept, number
+    for name in made():
+        if not name.startswith("long_") and not (words.quick and len(name) % 3):
+            yield f"cut {name}", check_cut, name
+    for number in range(count // 5):
+        yield f"cut generated {number}", check_cut, number
 
 
 def run(case):

@@ -253,8 +253,9 @@ class Found:
         return 8 * self.width if any(value % 2**low for value in values) else self.valid
 
 
-def judge(file):
-    """The line that is due of a file that is refused; or what it has, if it is one of the streamable subset."""
+def judge(file, to_end=False):
+    """The line that is due of a file that is refused; or what it has, if it is one of the streamable subset. With `to_end`, samples
+    that are longer than the file go to its end."""
     if len(file) < 12 or file[:4] not in (b"RIFF", b"RF64", b"BW64") or file[8:12] != b"WAVE":
         return "60 NotWave"
     whole, at, number, found, long = struct.unpack_from("<I", file, 4)[0], 12, 0, None, None
@@ -283,6 +284,8 @@ def judge(file):
     if size == FULL:
         size = room if long is None else long
     elif size == 0x7FFFF000 or (size == 0 and whole in (0, FULL)):
+        size = room
+    if to_end and size > room:
         size = room
     if size > room or size % row:
         return f"chunk {number}: " + ("69 DataCut" if size > room else "70 PartSample")

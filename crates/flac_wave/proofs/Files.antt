@@ -113,7 +113,7 @@ back_by false false samples back ps e z h =
 -- ---- the whole file
 
 -- the pieces of a file, and then others
-pub all_pieces : (bytes : List ℕ) (w : Parts) (i : IsWave bytes w) (ps : List (List ℕ)) → w.pieces ++ ps ≡ take 12 bytes ∷ (i.chunks ++ (take 8 i.rest ∷ ps))
+pub all_pieces : {to_end : Bool} (bytes : List ℕ) (w : Parts) (i : IsWave to_end bytes w) (ps : List (List ℕ)) → w.pieces ++ ps ≡ take 12 bytes ∷ (i.chunks ++ (take 8 i.rest ∷ ps))
 all_pieces bytes w i ps = ap (λ l. l ++ ps) i.pieces ∙ ap (λ l. take 12 bytes ∷ l) (append_assoc i.chunks (take 8 i.rest ∷ []) ps)
 
 pub header_no_head : (bytes : List ℕ) → 12 ≤ length bytes → is_head (take 12 bytes) ≡ false
@@ -122,32 +122,32 @@ header_no_head bytes long = false_and _ _ (ap (λ n. nat_eq n 8) (length-take-le
 pub head_is : (rest : List ℕ) → 8 ≤ length rest → is_data rest ≡ true → is_head (take 8 rest) ≡ true
 head_is rest long begun = rw (length-take-le 8 rest long) (data_take 8 rest (omega arith) ∙ begun)
 
-pub front_whole : (bytes : List ℕ) (w : Parts) (i : IsWave bytes w) (ps : List (List ℕ)) → front_of (w.pieces ++ ps) ≡ take 12 bytes ++ (all_of i.chunks ++ take 8 i.rest)
-front_whole bytes w i ps =
+pub front_whole : {to_end : Bool} (bytes : List ℕ) (w : Parts) (i : IsWave to_end bytes w) (ps : List (List ℕ)) → front_of (w.pieces ++ ps) ≡ take 12 bytes ++ (all_of i.chunks ++ take 8 i.rest)
+front_whole {to_end} bytes w i ps =
     let ends = head_is i.rest (chunk_long i.seen i.rest i.good) i.begun in
     ap front_of (all_pieces bytes w i ps) ∙ (ap (λ b. cond b (take 12 bytes) (take 12 bytes ++ front_of (i.chunks ++ (take 8 i.rest ∷ ps)))) (header_no_head bytes (header_long bytes i.header))
-    ∙ ap (λ l. take 12 bytes ++ l) (leads_front (seen_first bytes) i.chunks (drop 12 bytes) i.rest i.seen (take 8 i.rest ∷ ps) i.leads
+    ∙ ap (λ l. take 12 bytes ++ l) (leads_front (seen_first to_end bytes) i.chunks (drop 12 bytes) i.rest i.seen (take 8 i.rest ∷ ps) i.leads
     ∙ ap (λ b. all_of i.chunks ++ cond b (take 8 i.rest) (take 8 i.rest ++ front_of ps)) ends))
 
-pub after_whole : (bytes : List ℕ) (w : Parts) (i : IsWave bytes w) (ps : List (List ℕ)) → pieces_after (w.pieces ++ ps) ≡ ps
-after_whole bytes w i ps =
+pub after_whole : {to_end : Bool} (bytes : List ℕ) (w : Parts) (i : IsWave to_end bytes w) (ps : List (List ℕ)) → pieces_after (w.pieces ++ ps) ≡ ps
+after_whole {to_end} bytes w i ps =
     let ends = head_is i.rest (chunk_long i.seen i.rest i.good) i.begun in
     ap pieces_after (all_pieces bytes w i ps) ∙ (ap (λ b. cond b (i.chunks ++ (take 8 i.rest ∷ ps)) (pieces_after (i.chunks ++ (take 8 i.rest ∷ ps)))) (header_no_head bytes (header_long bytes i.header))
-    ∙ (leads_after (seen_first bytes) i.chunks (drop 12 bytes) i.rest i.seen (take 8 i.rest ∷ ps) i.leads
+    ∙ (leads_after (seen_first to_end bytes) i.chunks (drop 12 bytes) i.rest i.seen (take 8 i.rest ∷ ps) i.leads
     ∙ ap (λ b. cond b ps (pieces_after ps)) ends))
 
 -- the parts of a file, joined
-pub parts_whole : (bytes : List ℕ) (w : Parts) (i : IsWave bytes w) → (take 12 bytes ++ (all_of i.chunks ++ take 8 i.rest)) ++ (w.samples ++ w.back) ≡ bytes
-parts_whole bytes w i =
+pub parts_whole : {to_end : Bool} (bytes : List ℕ) (w : Parts) (i : IsWave to_end bytes w) → (take 12 bytes ++ (all_of i.chunks ++ take 8 i.rest)) ++ (w.samples ++ w.back) ≡ bytes
+parts_whole {to_end} bytes w i =
     let n = data_len i.seen i.rest in
     ap (λ l. (take 12 bytes ++ (all_of i.chunks ++ take 8 i.rest)) ++ l) (ap (λ l. l ++ w.back) i.samples ∙ (ap (λ l. take n (drop 8 i.rest) ++ l) i.back ∙ take-append-drop n (drop 8 i.rest)))
     ∙ (append_assoc (take 12 bytes) (all_of i.chunks ++ take 8 i.rest) (drop 8 i.rest)
     ∙ (ap (λ l. take 12 bytes ++ l) (append_assoc (all_of i.chunks) (take 8 i.rest) (drop 8 i.rest) ∙ (ap (λ l. all_of i.chunks ++ l) (take-append-drop 8 i.rest)
-    ∙ leads_joined (seen_first bytes) i.chunks (drop 12 bytes) i.rest i.seen i.leads))
+    ∙ leads_joined (seen_first to_end bytes) i.chunks (drop 12 bytes) i.rest i.seen i.leads))
     ∙ take-append-drop 12 bytes))
 
 -- a file comes back
-pub comes_back : (bytes : List ℕ) (w : Parts) (ps : List (List ℕ)) → IsWave bytes w → ArePiecesAfter w.samples w.back ps → restored (w.pieces ++ ps) w.samples ≡ bytes
+pub comes_back : {to_end : Bool} (bytes : List ℕ) (w : Parts) (ps : List (List ℕ)) → IsWave to_end bytes w → ArePiecesAfter w.samples w.back ps → restored (w.pieces ++ ps) w.samples ≡ bytes
 comes_back bytes w ps i h =
     ap (λ l. l ++ (w.samples ++ (pad_of w.samples (pieces_after (w.pieces ++ ps)) ++ all_of (pieces_after (w.pieces ++ ps))))) (front_whole bytes w i ps)
     ∙ (ap (λ qs. (take 12 bytes ++ (all_of i.chunks ++ take 8 i.rest)) ++ (w.samples ++ (pad_of w.samples qs ++ all_of qs))) (after_whole bytes w i ps)
@@ -182,9 +182,9 @@ parts_same v w f p a b =
     ∙ ap (λ (x : List ℕ). record { format = w.format; pieces = w.pieces; samples = w.samples; back = x }) b))
 
 -- bytes are one file
-pub wave_one : (bytes : List ℕ) (v w : Parts) → IsWave bytes v → IsWave bytes w → v ≡ w
-wave_one bytes v w i j =
-    let e = leads_one (seen_first bytes) i.chunks j.chunks (drop 12 bytes) i.rest j.rest i.seen j.seen i.leads j.leads (λ _. i.begun) (λ _. j.begun) in
+pub wave_one : (to_end : Bool) (bytes : List ℕ) (v w : Parts) → IsWave to_end bytes v → IsWave to_end bytes w → v ≡ w
+wave_one to_end bytes v w i j =
+    let e = leads_one (seen_first to_end bytes) i.chunks j.chunks (drop 12 bytes) i.rest j.rest i.seen j.seen i.leads j.leads (λ _. i.begun) (λ _. j.begun) in
     let room : (x y : List ℕ) (s t : Seen) → x ≡ y → s ≡ t → data_len s x ≡ data_len t y = λ x y s t p q. ap (λ l. data_len s l) p ∙ ap (λ u. data_len u y) q in
     let n = room i.rest j.rest i.seen j.seen e.1 e.2 in
     parts_same v w (some_inj v.format v.format w.format (sym i.format ∙ (ap (λ (s : Seen). s.format) e.2 ∙ j.format)))
@@ -193,17 +193,17 @@ wave_one bytes v w i j =
     (i.back ∙ (ap (λ k. drop k (drop 8 i.rest)) n ∙ (ap (λ r. drop (data_len j.seen j.rest) (drop 8 r)) e.1 ∙ sym j.back)))
 
 -- bytes that are a file are not refused
-pub wave_once : (bytes : List ℕ) (w : Parts) (at : Option ℕ) (why : WaveWhy) → IsWave bytes w → IsNoWave bytes at why → ⊥
-wave_once bytes w None why i no_wave = some_no why (sym no_wave ∙ i.header)
-wave_once bytes w (Some count) why i k =
-    let e = leads_one (seen_first bytes) i.chunks k.1 (drop 12 bytes) i.rest k.2 i.seen k.3 i.leads k.5 (λ _. i.begun) (λ none. some_no why (sym k.6 ∙ none)) in
+pub wave_once : (to_end : Bool) (bytes : List ℕ) (w : Parts) (at : Option ℕ) (why : WaveWhy) → IsWave to_end bytes w → IsNoWave to_end bytes at why → ⊥
+wave_once to_end bytes w None why i no_wave = some_no why (sym no_wave ∙ i.header)
+wave_once to_end bytes w (Some count) why i k =
+    let e = leads_one (seen_first to_end bytes) i.chunks k.1 (drop 12 bytes) i.rest k.2 i.seen k.3 i.leads k.5 (λ _. i.begun) (λ none. some_no why (sym k.6 ∙ none)) in
     some_no why (sym k.6 ∙ (ap (λ r. fault_at k.3 r) (sym e.1) ∙ (ap (λ s. fault_at s i.rest) (sym e.2) ∙ i.good)))
 
 -- bytes are refused in one way
-pub no_wave_one : (bytes : List ℕ) (at by : Option ℕ) (why other : WaveWhy) → IsNoWave bytes at why → IsNoWave bytes by other → (at ≡ by) × (why ≡ other)
-no_wave_one bytes None None why other h k = (refl, some_inj why why other (sym h ∙ k))
-no_wave_one bytes None (Some count) why other h k = some_no why (sym h ∙ k.0)
-no_wave_one bytes (Some count) None why other h k = some_no other (sym k ∙ h.0)
-no_wave_one bytes (Some m) (Some n) why other h k =
-    let e = leads_one (seen_first bytes) h.1 k.1 (drop 12 bytes) h.2 k.2 h.3 k.3 h.5 k.5 (λ none. some_no why (sym h.6 ∙ none)) (λ none. some_no other (sym k.6 ∙ none)) in
+pub no_wave_one : (to_end : Bool) (bytes : List ℕ) (at by : Option ℕ) (why other : WaveWhy) → IsNoWave to_end bytes at why → IsNoWave to_end bytes by other → (at ≡ by) × (why ≡ other)
+no_wave_one to_end bytes None None why other h k = (refl, some_inj why why other (sym h ∙ k))
+no_wave_one to_end bytes None (Some count) why other h k = some_no why (sym h ∙ k.0)
+no_wave_one to_end bytes (Some count) None why other h k = some_no other (sym k ∙ h.0)
+no_wave_one to_end bytes (Some m) (Some n) why other h k =
+    let e = leads_one (seen_first to_end bytes) h.1 k.1 (drop 12 bytes) h.2 k.2 h.3 k.3 h.5 k.5 (λ none. some_no why (sym h.6 ∙ none)) (λ none. some_no other (sym k.6 ∙ none)) in
     (ap Some (sym h.4 ∙ (ap length e.0 ∙ k.4)), some_inj why why other (sym h.6 ∙ (ap (λ r. fault_at h.3 r) e.1 ∙ (ap (λ s. fault_at s k.2) e.2 ∙ k.6))))

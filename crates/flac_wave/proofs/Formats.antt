@@ -9,6 +9,7 @@ use Rattle.flac_wave.specs.Chunks.{Leads, seen_first, fault_at, is_data, is_form
 use Rattle.flac_wave.specs.Format.{short_at, long_at, is_pcm, fields_fit, format_fault, format_of, IsInRange, row_of}
 use Rattle.flac_wave.specs.Kept.{has_head, bits_after, bits_in}
 use Rattle.flac_wave.specs.Wave.{Parts, IsWave, is_head}
+use Rattle.flac_wave.specs.inner.Pieces.{KnownInRange}
 use Rattle.flac_wave.specs.declared.format.WaveFormat.{WaveFormat}
 use Rattle.flac_wave.specs.declared.seen.Seen.{Seen}
 use Rattle.flac_wave.specs.declared.why.WaveWhy.TheVariants as why
@@ -113,6 +114,22 @@ known_after : (s : Seen) (bytes : List ℕ) (bits : ℕ) → fault_at s bytes �
 unfolding after_chunk
 known_after s bytes bits good other k = known_by (is_format bytes) s bytes bits refl (accepted s bytes good other) k
 
+range_by : (b : Bool) (s : Seen) (bytes : List ℕ) → is_format bytes ≡ b → content_fault s bytes ≡ None → KnownInRange s.format → KnownInRange (cond b (Some (format_of bytes)) s.format)
+range_by true s bytes is good k = (format_in_range bytes (format_good s bytes is good)).1
+range_by false s bytes is good k = k
+
+chunk_content : (s : Seen) (bytes : List ℕ) → chunk_fault s bytes ≡ None → content_fault s bytes ≡ None
+unfolding chunk_fault
+chunk_content s bytes good = (past (nat_lt 16777211 (chunk_len bytes)) _ _ (past (nat_lt (length bytes) (chunk_len bytes)) _ _ good).1).1
+
+-- the format that is known after a chunk is in range
+pub range_after : (s t : Seen) (bytes : List ℕ) → chunk_fault s bytes ≡ None → t ≡ after_chunk s bytes → KnownInRange s.format → KnownInRange t.format
+unfolding after_chunk
+range_after s t bytes good is k = subst (λ (u : Seen). KnownInRange u.format) (sym is) (range_by (is_format bytes) s bytes refl (chunk_content s bytes good) k)
+
+pub range_known : (o : Option WaveFormat) (f : WaveFormat) → o ≡ Some f → KnownInRange o → IsInRange f
+range_known o f is k = subst KnownInRange is k
+
 -- what the chunks before the samples say
 record Said (old new : Option WaveFormat) (bits : ℕ) (cs ps : List (List ℕ)) : Type 0 where
   last : ℕ
@@ -133,17 +150,17 @@ said s (c ∷ cs) bytes rest t bits ps h k =
       stated = ap (λ b. cond b bits (bits_in (bits_after bits c) (cs ++ ps))) other ∙ more.stated;
     }
 
-known_first : (bytes : List ℕ) → Known (seen_first bytes).format 0
+known_first : (to_end : Bool) (bytes : List ℕ) → Known (seen_first to_end bytes).format 0
 unfolding seen_first
-known_first bytes = tt
+known_first to_end bytes = tt
 
 known_some : (o : Option WaveFormat) (f : WaveFormat) (bits : ℕ) → o ≡ Some f → Known o bits → IsInRange f × (bits ≡ f.bits)
 known_some o f bits e k = subst (λ o. Known o bits) e k
 
 -- the format that is known after some chunks
-pub walked_range : (bytes : List ℕ) (taken : List (List ℕ)) (rest : List ℕ) (seen : Seen) (count : ℕ) (f : WaveFormat) → Walked bytes taken rest seen count → seen.format ≡ Some f → IsInRange f
-walked_range bytes taken rest seen count f w is =
-    let k = said (seen_first bytes) w.chunks (drop 12 bytes) rest seen 0 [] w.leads (known_first bytes) in
+pub walked_range : (to_end : Bool) (bytes : List ℕ) (taken : List (List ℕ)) (rest : List ℕ) (seen : Seen) (count : ℕ) (f : WaveFormat) → Walked to_end bytes taken rest seen count → seen.format ≡ Some f → IsInRange f
+walked_range to_end bytes taken rest seen count f w is =
+    let k = said (seen_first to_end bytes) w.chunks (drop 12 bytes) rest seen 0 [] w.leads (known_first to_end bytes) in
     (known_some seen.format f k.last is k.known).0
 
 -- ---- what the pieces of a file say, whatever comes after them
@@ -156,15 +173,15 @@ pub record Tells (w : Parts) (ps : List (List ℕ)) : Type 0 where
 first_by : (n : ℕ) (b : Bool) (stated : ℕ) → n ≡ 12 → cond (nat_lt 23 n && b) stated 0 ≡ 0
 first_by n b stated is = ap (λ k. cond (nat_lt 23 k && b) stated 0) is
 
-pub wave_tells : (bytes : List ℕ) (w : Parts) (ps : List (List ℕ)) → IsWave bytes w → Tells w ps
-wave_tells bytes w ps i =
+pub wave_tells : {to_end : Bool} (bytes : List ℕ) (w : Parts) (ps : List (List ℕ)) → IsWave to_end bytes w → Tells w ps
+wave_tells {to_end} bytes w ps i =
     let first = take 12 bytes in
     let head = take 8 i.rest in
     let long = header_long bytes i.header in
     let ends : is_head head ≡ true = head_is i.rest (chunk_long i.seen i.rest i.good) i.begun in
     let other : is_head first ≡ false = header_no_head bytes long in
     let none : bits_after 0 first ≡ 0 = first_by (length first) (is_format first) (short_at 22 first) (length-take-le 12 bytes long) in
-    let k = said (seen_first bytes) i.chunks (drop 12 bytes) i.rest i.seen 0 (head ∷ ps) i.leads (known_first bytes) in
+    let k = said (seen_first to_end bytes) i.chunks (drop 12 bytes) i.rest i.seen 0 (head ∷ ps) i.leads (known_first to_end bytes) in
     let known = known_some i.seen.format w.format k.last i.format k.known in
     record {
       range = known.0;
@@ -198,7 +215,7 @@ each_whole n channels extensible none =
     let e : n ≡ q * (channels * extensible) = let d = div-add-mod' n (channels * extensible) in omega (arith, d, none) in
     ap (λ k. k % extensible) (e ∙ sym (mul_assoc q channels extensible)) ∙ mul-mod_left (q * channels) extensible
 
-pub wave_whole : (bytes : List ℕ) (w : Parts) → IsWave bytes w → length w.samples % ((w.format.bits + 7) / 8) ≡ 0
+pub wave_whole : {to_end : Bool} (bytes : List ℕ) (w : Parts) → IsWave to_end bytes w → length w.samples % ((w.format.bits + 7) / 8) ≡ 0
 wave_whole bytes w i =
     let n = data_len i.seen i.rest in
     let k = all_there w.format n (length i.rest - 8) (samples_good i.seen w.format i.rest i.format (data_good i.seen i.rest i.good i.begun)) in

@@ -1,5 +1,9 @@
 pub mod Files
 pub mod Formats
+pub mod Fronts
+pub mod Local
+pub mod NextPieces
+pub mod Parts
 pub mod Pieces
 pub mod PlainFiles
 pub mod Shifts

@@ -10,7 +10,7 @@ use Rattle.std.specs.Prelude.{is_some, unwrap_or}
 use Rattle.std.proofs.Math.Nat.{mul-le-mul_right, mul-pos, mul-mod_left}
 use Rattle.flac_wave.specs.declared.why.WaveWhy.TheVariants as why
 use Rattle.flac_wave.specs.Format.{short_at, long_at, is_extensible, has_pcm_guid, is_pcm, fields_fit, format_fault, format_of, row_of, IsInRange}
-use Rattle.flac_wave.specs.Chunks.{Leads, seen_first, fault_at, is_data, is_format, is_long_sizes, size_of, most_kept, id_of, after_chunk, chunk_len, chunk_fault, content_fault, data_fault, samples_fault, header_fault, data_len, stated}
+use Rattle.flac_wave.specs.Chunks.{Leads, seen_first, fault_at, is_data, is_format, is_long_sizes, size_of, most_kept, id_of, after_chunk, chunk_len, chunk_fault, content_fault, data_fault, samples_fault, header_fault, data_len, within, stated}
 use Rattle.flac_wave.specs.Plain.{needs_extensible, mask_of, plain_format, file_header, format_fields, basic_chunk, extensible_chunk, format_chunk, format_len, data_header, sizes_chunk, short_pieces, long_pieces, known_pieces, riff_size, plain_pieces, plain_file, plain_parts, MaskFits, CanBeWritten, IsPlain}
 use Rattle.flac_wave.specs.Wave.{IsWave, pad_of, all_of, front_of, pieces_after, is_head, restored}
 use Rattle.flac_wave.specs.declared.seen.Seen.{Seen}
@@ -309,17 +309,17 @@ leads_by s c n rest cs last t long some few other len none h =
 
 -- ---- what is known after it
 
-first_format : (bytes : List ℕ) → (seen_first bytes).format ≡ None
+first_format : (to_end : Bool) (bytes : List ℕ) → (seen_first to_end bytes).format ≡ None
 unfolding seen_first
-first_format bytes = refl
+first_format to_end bytes = refl
 
-first_long : (bytes : List ℕ) → (seen_first bytes).long ≡ None
+first_long : (to_end : Bool) (bytes : List ℕ) → (seen_first to_end bytes).long ≡ None
 unfolding seen_first
-first_long bytes = refl
+first_long to_end bytes = refl
 
-first_riff : (id size : ℕ) (rest : List ℕ) → size < 4294967296 → (seen_first (file_header id size ++ rest)).riff ≡ size
+first_riff : (to_end : Bool) (id size : ℕ) (rest : List ℕ) → size < 4294967296 → (seen_first to_end (file_header id size ++ rest)).riff ≡ size
 unfolding seen_first file_header
-first_riff id size rest few = little_number-reads_back 4 size (drop 8 (file_header id size ++ rest)) few
+first_riff to_end id size rest few = little_number-reads_back 4 size (drop 8 (file_header id size ++ rest)) few
 
 after_format : (s : Seen) (bytes : List ℕ) → is_format bytes ≡ true → (after_chunk s bytes).format ≡ Some (format_of bytes)
 unfolding after_chunk
@@ -369,6 +369,10 @@ size_is : (n : ℕ) (rest : List ℕ) → n < 4294967296 → size_of (data_heade
 unfolding data_header
 size_is n rest few = little_number-reads_back 4 n rest few
 
+within_room : (to_end : Bool) (n room : ℕ) → n ≤ room → within to_end n room ≡ n
+within_room true n room few = omega (arith, few)
+within_room false n room few = refl
+
 samples_by : (f : WaveFormat) (n room : ℕ) → n ≤ room → 0 < row_of f → n % row_of f ≡ 0 → samples_fault f n room ≡ None
 unfolding samples_fault
 samples_by f n room within some whole =
@@ -381,18 +385,19 @@ data_by t f bytes is none = ap (λ (o : Option WaveFormat). elim o [ None ↦ So
 
 -- ---- a file of chunks and samples
 
-file_is : (h form : List ℕ) (cs : List (List ℕ)) (d : ℕ) (samples tail : List ℕ) (f : WaveFormat) (t : Seen)
-    → length h ≡ 12 → header_fault (h ++ form) ≡ None → Leads (seen_first (h ++ form)) cs form (data_header d ++ (samples ++ tail)) t → t.format ≡ Some f
+file_is : (to_end : Bool) (h form : List ℕ) (cs : List (List ℕ)) (d : ℕ) (samples tail : List ℕ) (f : WaveFormat) (t : Seen)
+    → length h ≡ 12 → header_fault (h ++ form) ≡ None → Leads (seen_first to_end (h ++ form)) cs form (data_header d ++ (samples ++ tail)) t → t.format ≡ Some f
     → d < 4294967296 → unwrap_or (stated t d) (length samples + length tail) ≡ length samples → 0 < row_of f → length samples % row_of f ≡ 0
-    → IsWave (h ++ form) (record { format = f; pieces = h ∷ (cs ++ data_header d ∷ []); samples = samples; back = tail })
-file_is h form cs d samples tail f t twelve header leads format few length_is some whole =
+    → IsWave to_end (h ++ form) (record { format = f; pieces = h ∷ (cs ++ data_header d ∷ []); samples = samples; back = tail })
+file_is to_end h form cs d samples tail f t twelve header leads format few length_is some whole =
     let body = samples ++ tail in
     let rest = data_header d ++ body in
     let bytes = h ++ form in
     let n = length samples in
     let long : length rest ≡ 8 + length body = length-append (data_header d) body ∙ ap (λ k. k + length body) (head_length d) in
     let room : length rest - 8 ≡ n + length tail = let e = length-append samples tail in omega (arith, long, e) in
-    let len : data_len t rest ≡ n = ap (λ k. unwrap_or (stated t k) (length rest - 8)) (size_is d body few) ∙ (ap (λ k. unwrap_or (stated t d) k) room ∙ length_is) in
+    let full : unwrap_or (stated t (size_of rest)) (length rest - 8) ≡ n = ap (λ k. unwrap_or (stated t k) (length rest - 8)) (size_is d body few) ∙ (ap (λ k. unwrap_or (stated t d) k) room ∙ length_is) in
+    let len : data_len t rest ≡ n = ap (λ k. within t.to_end k (length rest - 8)) full ∙ within_room t.to_end n (length rest - 8) (omega (arith, room)) in
     let all : samples_fault f (data_len t rest) (length rest - 8) ≡ None = ap (λ k. samples_fault f k (length rest - 8)) len ∙ samples_by f n (length rest - 8) (omega (arith, room)) some whole in
     let front : drop 12 bytes ≡ form = ap (λ k. drop k bytes) (sym twelve) ∙ drop-append_seam h form in
     let first : take 12 bytes ≡ h = ap (λ k. take k bytes) (sym twelve) ∙ take-append_seam h form in
@@ -403,7 +408,7 @@ file_is h form cs d samples tail f t twelve header leads format few length_is so
       chunks = cs;
       rest = rest;
       seen = t;
-      leads = subst (λ b. Leads (seen_first bytes) cs b rest t) (sym front) leads;
+      leads = subst (λ b. Leads (seen_first to_end bytes) cs b rest t) (sym front) leads;
       good = fault_by t rest true (omega (arith, long)) (begins d body) (data_by t f rest format all);
       begun = begins d body;
       format = format;
@@ -434,29 +439,29 @@ joined_four : (h e c d body : List ℕ) → (h ++ (e ++ (c ++ (d ++ [])))) ++ bo
 joined_four h e c d body = append_assoc h (e ++ (c ++ (d ++ []))) body ∙ ap (λ l. h ++ l) (joined_three e c d body)
 
 -- a file whose headers state these lengths
-short_is : (f : WaveFormat) (all d : ℕ) (samples tail : List ℕ) → CanBeWritten f → all < 4294967296 → d < 4294967296
+short_is : (to_end : Bool) (f : WaveFormat) (all d : ℕ) (samples tail : List ℕ) → CanBeWritten f → all < 4294967296 → d < 4294967296
     → ((t : Seen) → t.riff ≡ all → t.long ≡ None → unwrap_or (stated t d) (length samples + length tail) ≡ length samples) → length samples % row_of f ≡ 0
-    → IsWave (all_of (short_pieces f all d) ++ (samples ++ tail)) (record { format = f; pieces = short_pieces f all d; samples = samples; back = tail })
-short_is f all d samples tail p small few length_is whole =
+    → IsWave to_end (all_of (short_pieces f all d) ++ (samples ++ tail)) (record { format = f; pieces = short_pieces f all d; samples = samples; back = tail })
+short_is to_end f all d samples tail p small few length_is whole =
     let h = file_header 1179011410 all in
     let c = format_chunk f in
     let k = chunk_is f p in
     let rest = data_header d ++ (samples ++ tail) in
-    let s = seen_first (h ++ (c ++ rest)) in
+    let s = seen_first to_end (h ++ (c ++ rest)) in
     let t = after_chunk s (c ++ rest) in
-    let content : content_fault s (c ++ rest) ≡ None = content_by s (c ++ rest) (k.is rest) (first_format (h ++ (c ++ rest))) (k.good rest) in
-    subst (λ b. IsWave b (record { format = f; pieces = short_pieces f all d; samples = samples; back = tail })) (sym (joined_three h c (data_header d) (samples ++ tail)))
-    (file_is h (c ++ rest) (c ∷ []) d samples tail f t (header_length 1179011410 all) (riff_header all (c ++ rest))
+    let content : content_fault s (c ++ rest) ≡ None = content_by s (c ++ rest) (k.is rest) (first_format to_end (h ++ (c ++ rest))) (k.good rest) in
+    subst (λ b. IsWave to_end b (record { format = f; pieces = short_pieces f all d; samples = samples; back = tail })) (sym (joined_three h c (data_header d) (samples ++ tail)))
+    (file_is to_end h (c ++ rest) (c ∷ []) d samples tail f t (header_length 1179011410 all) (riff_header all (c ++ rest))
     (leads_by s c (format_len f) rest [] rest t k.long k.some k.few (k.other rest) (k.len rest) content (refl, refl))
     (after_format s (c ++ rest) (k.is rest) ∙ ap Some (k.format rest)) few
-    (length_is t (after_riff s (c ++ rest) ∙ first_riff 1179011410 all (c ++ rest) small) (after_long s (c ++ rest) (k.sizes rest) ∙ first_long (h ++ (c ++ rest))))
+    (length_is t (after_riff s (c ++ rest) ∙ first_riff to_end 1179011410 all (c ++ rest) small) (after_long s (c ++ rest) (k.sizes rest) ∙ first_long to_end (h ++ (c ++ rest))))
     (row_some f.channels f.bits p.range.channels p.range.bits) whole)
 
 -- one whose chunk `ds64` states them
-long_is : (f : WaveFormat) (size total : ℕ) (samples tail : List ℕ) → CanBeWritten f → size < 18446744073709551616
+long_is : (to_end : Bool) (f : WaveFormat) (size total : ℕ) (samples tail : List ℕ) → CanBeWritten f → size < 18446744073709551616
     → ((t : Seen) → t.long ≡ Some size → unwrap_or (stated t 4294967295) (length samples + length tail) ≡ length samples) → length samples % row_of f ≡ 0
-    → IsWave (all_of (long_pieces f size total) ++ (samples ++ tail)) (record { format = f; pieces = long_pieces f size total; samples = samples; back = tail })
-long_is f size total samples tail p small length_is whole =
+    → IsWave to_end (all_of (long_pieces f size total) ++ (samples ++ tail)) (record { format = f; pieces = long_pieces f size total; samples = samples; back = tail })
+long_is to_end f size total samples tail p small length_is whole =
     let h = file_header 875972178 4294967295 in
     let e = sizes_chunk (36 + riff_size f size) size total in
     let c = format_chunk f in
@@ -464,12 +469,12 @@ long_is f size total samples tail p small length_is whole =
     let z = sizes_is (36 + riff_size f size) size total in
     let rest = data_header 4294967295 ++ (samples ++ tail) in
     let form = c ++ rest in
-    let s = seen_first (h ++ (e ++ form)) in
+    let s = seen_first to_end (h ++ (e ++ form)) in
     let u = after_chunk s (e ++ form) in
     let t = after_chunk u form in
-    let none : u.format ≡ None = after_other s (e ++ form) (z.is form) ∙ first_format (h ++ (e ++ form)) in
-    subst (λ b. IsWave b (record { format = f; pieces = long_pieces f size total; samples = samples; back = tail })) (sym (joined_four h e c (data_header 4294967295) (samples ++ tail)))
-    (file_is h (e ++ form) (e ∷ c ∷ []) 4294967295 samples tail f t (header_length 875972178 4294967295) (long_header 4294967295 (e ++ form))
+    let none : u.format ≡ None = after_other s (e ++ form) (z.is form) ∙ first_format to_end (h ++ (e ++ form)) in
+    subst (λ b. IsWave to_end b (record { format = f; pieces = long_pieces f size total; samples = samples; back = tail })) (sym (joined_four h e c (data_header 4294967295) (samples ++ tail)))
+    (file_is to_end h (e ++ form) (e ∷ c ∷ []) 4294967295 samples tail f t (header_length 875972178 4294967295) (long_header 4294967295 (e ++ form))
     (leads_by s e 36 form (c ∷ []) rest t z.long (omega arith) (omega arith) (z.other form) (z.len form) (content_other s (e ++ form) (z.is form))
     (leads_by u c (format_len f) rest [] rest t k.long k.some k.few (k.other rest) (k.len rest) (content_by u form (k.is rest) none (k.good rest)) (refl, refl)))
     (after_format u form (k.is rest) ∙ ap Some (k.format rest)) (omega arith)
@@ -512,18 +517,18 @@ pad_length samples = pad_by (nat_eq (length samples % 2) 0) ∙ parity (length s
 
 -- ---- all plain files
 
-known_by : (b : Bool) (f : WaveFormat) (total : ℕ) (samples : List ℕ) → nat_lt (riff_size f (length samples)) 4294967295 ≡ b → CanBeWritten f → length samples < 18446744073709551616 → length samples % row_of f ≡ 0
-    → IsWave (all_of (cond b (short_pieces f (riff_size f (length samples)) (length samples)) (long_pieces f (length samples) total)) ++ (samples ++ pad_of samples []))
+known_by : (to_end b : Bool) (f : WaveFormat) (total : ℕ) (samples : List ℕ) → nat_lt (riff_size f (length samples)) 4294967295 ≡ b → CanBeWritten f → length samples < 18446744073709551616 → length samples % row_of f ≡ 0
+    → IsWave to_end (all_of (cond b (short_pieces f (riff_size f (length samples)) (length samples)) (long_pieces f (length samples) total)) ++ (samples ++ pad_of samples []))
     (record { format = f; pieces = cond b (short_pieces f (riff_size f (length samples)) (length samples)) (long_pieces f (length samples) total); samples = samples; back = pad_of samples [] })
-known_by true f total samples is p few whole =
+known_by to_end true f total samples is p few whole =
     let small = ltb-true (riff_size f (length samples)) 4294967295 is in
     let pad = pad_length samples in
     let least : 12 ≤ riff_size f (length samples) = omega arith in
     let within : length samples ≤ riff_size f (length samples) = omega arith in
-    short_is f (riff_size f (length samples)) (length samples) samples (pad_of samples []) p (omega (arith, small)) (omega (arith, small, within))
+    short_is to_end f (riff_size f (length samples)) (length samples) samples (pad_of samples []) p (omega (arith, small)) (omega (arith, small, within))
     (λ t riff long. short_by t (riff_size f (length samples)) (length samples) _ riff (omega (arith, least)) small (omega (arith, small, within)) (ap (λ k. length samples + k) pad)) whole
-known_by false f total samples is p few whole =
-    long_is f (length samples) total samples (pad_of samples []) p few (λ t long. full_by t _ ∙ ap (λ o. unwrap_or o (length samples + length (pad_of samples []))) long) whole
+known_by to_end false f total samples is p few whole =
+    long_is to_end f (length samples) total samples (pad_of samples []) p few (λ t long. full_by t _ ∙ ap (λ o. unwrap_or o (length samples + length (pad_of samples []))) long) whole
 
 no_pad : (b : Bool) → cond {A = List ℕ} b [] (cond true [] (0 ∷ [])) ≡ []
 no_pad true = refl
@@ -533,30 +538,30 @@ total_is : (total count : ℕ) → nat_eq total 0 ≡ false → (total ≡ 0) �
 total_is total count other (inl none) = absurd (eqb-false total 0 other none)
 total_is total count other (inr same) = same
 
-plain_by : (b : Bool) (f : WaveFormat) (total : ℕ) (samples : List ℕ) → nat_eq total 0 ≡ b → IsPlain f total samples
-    → IsWave (all_of (cond b (short_pieces f 4294967295 4294967295) (known_pieces f (total * row_of f) total)) ++ (samples ++ pad_of samples (cond b ([] ∷ []) [])))
+plain_by : (to_end b : Bool) (f : WaveFormat) (total : ℕ) (samples : List ℕ) → nat_eq total 0 ≡ b → IsPlain f total samples
+    → IsWave to_end (all_of (cond b (short_pieces f 4294967295 4294967295) (known_pieces f (total * row_of f) total)) ++ (samples ++ pad_of samples (cond b ([] ∷ []) [])))
     (record { format = f; pieces = cond b (short_pieces f 4294967295 4294967295) (known_pieces f (total * row_of f) total); samples = samples; back = pad_of samples (cond b ([] ∷ []) []) })
-plain_by true f total samples is p =
+plain_by to_end true f total samples is p =
     let whole : length samples % row_of f ≡ 0 = ap (λ k. k % row_of f) p.whole ∙ mul-mod_left p.count (row_of f) in
-    subst (λ l. IsWave (all_of (short_pieces f 4294967295 4294967295) ++ (samples ++ l)) (record { format = f; pieces = short_pieces f 4294967295 4294967295; samples = samples; back = l })) (sym (no_pad (nat_eq (length samples % 2) 0)))
-    (short_is f 4294967295 4294967295 samples [] p.format (omega arith) (omega arith)
+    subst (λ l. IsWave to_end (all_of (short_pieces f 4294967295 4294967295) ++ (samples ++ l)) (record { format = f; pieces = short_pieces f 4294967295 4294967295; samples = samples; back = l })) (sym (no_pad (nat_eq (length samples % 2) 0)))
+    (short_is to_end f 4294967295 4294967295 samples [] p.format (omega arith) (omega arith)
     (λ t riff long. full_by t _ ∙ (ap (λ o. unwrap_or o (length samples + 0)) long ∙ omega arith)) whole)
-plain_by false f total samples is p =
+plain_by to_end false f total samples is p =
     let count : total ≡ p.count = total_is total p.count is p.stated in
     let whole : length samples % row_of f ≡ 0 = ap (λ k. k % row_of f) p.whole ∙ mul-mod_left p.count (row_of f) in
     let size : length samples ≡ total * row_of f = p.whole ∙ ap (λ k. k * row_of f) (sym count) in
     let row = row_small f.channels f.bits p.format.range.few p.format.range.narrow in
     let small : length samples < 18446744073709551616 = size_small total (row_of f) (length samples) p.few row size in
-    subst (λ k. IsWave (all_of (known_pieces f k total) ++ (samples ++ pad_of samples [])) (record { format = f; pieces = known_pieces f k total; samples = samples; back = pad_of samples [] })) size
-    (known_by (nat_lt (riff_size f (length samples)) 4294967295) f total samples refl p.format small whole)
+    subst (λ k. IsWave to_end (all_of (known_pieces f k total) ++ (samples ++ pad_of samples [])) (record { format = f; pieces = known_pieces f k total; samples = samples; back = pad_of samples [] })) size
+    (known_by to_end (nat_lt (riff_size f (length samples)) 4294967295) f total samples refl p.format small whole)
   where
     size_small : (total row n : ℕ) → total < 68719476736 → row < 65536 → n ≡ total * row → n < 18446744073709551616
     size_small total row n few some is =
         let e : total * row ≤ 68719476736 * row = mul-le-mul_right {m = total} {n = 68719476736} row (omega (arith, few)) in
         omega (arith, e, some, is)
 
-pub plain_is_wave : (f : WaveFormat) (total : ℕ) (samples : List ℕ) → IsPlain f total samples → IsWave (plain_file f total samples) (plain_parts f total samples)
-plain_is_wave f total samples p = plain_by (nat_eq total 0) f total samples refl p
+pub plain_is_wave : (to_end : Bool) (f : WaveFormat) (total : ℕ) (samples : List ℕ) → IsPlain f total samples → IsWave to_end (plain_file f total samples) (plain_parts f total samples)
+plain_is_wave to_end f total samples p = plain_by to_end (nat_eq total 0) f total samples refl p
 
 -- ---- made of its pieces
 

@@ -1,7 +1,7 @@
 -- The chunks of a WAV file (RIFF: Microsoft and IBM, Multimedia Programming Interface and Data Specifications 1.0; RF64:
 -- EBU Tech 3306; BW64: ITU-R BS.2088). A chunk is an identifier of four bytes, the length of its content in four, the
 -- lowest first, the content, and a byte after content of odd length.
-use Rattle.std.specs.Prelude.{◌≡◌, ℕ, ◌+◌, ◌-◌, ◌%◌, ◌&&◌, ◌||◌, Bool, false, cond, nat_lt, nat_eq, List, [], ◌∷◌, length, take, drop, Option, Some, None, is_some, unwrap_or}
+use Rattle.std.specs.Prelude.{◌≡◌, ℕ, ◌+◌, ◌-◌, ◌%◌, min, ◌&&◌, ◌||◌, Bool, false, cond, nat_lt, nat_eq, List, [], ◌∷◌, length, take, drop, Option, Some, None, is_some, unwrap_or}
 use Rattle.byteorder.specs.Endian.{little_number}
 use Rattle.flac_wave.specs.Format.{long_at, format_fault, format_of, row_of}
 use Rattle.flac_wave.specs.declared.seen.Seen.{Seen}
@@ -48,9 +48,10 @@ header_fault bytes =
 
 -- ---- what was seen
 
--- what is known before the first chunk: the length that the header states
-unfoldable pub seen_first : List ℕ → Seen
-seen_first bytes = record { riff = size_of bytes; long = None; format = None }
+-- What is known before the first chunk: the length that the header states, and whether the samples may go on to the end of
+-- a file that ends inside them.
+unfoldable pub seen_first : (to_end : Bool) → List ℕ → Seen
+seen_first to_end bytes = record { riff = size_of bytes; long = None; format = None; to_end = to_end }
 
 -- what is known after a chunk before the samples
 unfoldable pub after_chunk : Seen → (bytes : List ℕ) → Seen
@@ -59,6 +60,7 @@ after_chunk s bytes = record {
   -- the length of the samples, which `ds64` has in eight bytes
   long = cond (is_long_sizes bytes && nat_lt 27 (size_of bytes)) (Some (little_number 8 (drop 16 bytes))) s.long;
   format = cond (is_format bytes) (Some (format_of bytes)) s.format;
+  to_end = s.to_end;
 }
 
 -- ---- the samples
@@ -71,9 +73,13 @@ stated s size =
     cond (nat_eq size 4294967295) s.long
     (cond (nat_eq size 2147479552 || (nat_eq size 0 && (nat_eq s.riff 0 || nat_eq s.riff 4294967295))) None (Some size))
 
+-- this length, or that of all bytes that are there, if they are fewer and the samples may go on to the end
+abbrev pub within : (to_end : Bool) (size room : ℕ) → ℕ
+within to_end size room = cond to_end (min size room) size
+
 -- how many bytes the samples have; `bytes` begins with the header of their chunk
 abbrev pub data_len : Seen → (bytes : List ℕ) → ℕ
-data_len s bytes = unwrap_or (stated s (size_of bytes)) (length bytes - 8)
+data_len s bytes = within s.to_end (unwrap_or (stated s (size_of bytes)) (length bytes - 8)) (length bytes - 8)
 
 -- why these are no samples of a format
 unfoldable pub samples_fault : WaveFormat → (size room : ℕ) → Option WaveWhy

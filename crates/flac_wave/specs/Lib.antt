@@ -1,7 +1,9 @@
 pub mod Chunks
 pub mod Cuts
 pub mod Format
+pub mod Front
 pub mod Kept
+pub mod Parts
 pub mod Plain
 pub mod Reasons
 pub mod Shift

@@ -19,13 +19,13 @@ pub record Parts : Type 0 where
   pub samples : List ℕ
   pub back : List ℕ
 
--- These bytes are a WAV file of these parts.
-pub record IsWave (bytes : List ℕ) (w : Parts) : Type 0 where
+-- These bytes are a WAV file of these parts, whose samples may go on to the end of a file that ends inside them, or may not.
+pub record IsWave (to_end : Bool) (bytes : List ℕ) (w : Parts) : Type 0 where
   pub header : header_fault bytes ≡ None
   pub chunks : List (List ℕ)
   pub rest : List ℕ
   pub seen : Seen
-  pub leads : Leads (seen_first bytes) chunks (drop 12 bytes) rest seen
+  pub leads : Leads (seen_first to_end bytes) chunks (drop 12 bytes) rest seen
   pub good : fault_at seen rest ≡ None
   pub begun : is_data rest ≡ true
   pub format : seen.format ≡ Some w.format
@@ -35,11 +35,11 @@ pub record IsWave (bytes : List ℕ) (w : Parts) : Type 0 where
 
 -- These bytes are no WAV file, for this reason: the header is none (`at` is None), or after `count` chunks there is
 -- neither a chunk that may stand there nor samples.
-abbrev pub IsNoWave : (bytes : List ℕ) → (at : Option ℕ) → WaveWhy → Type 0
-IsNoWave bytes None why = header_fault bytes ≡ Some why
-IsNoWave bytes (Some count) why =
+abbrev pub IsNoWave : (to_end : Bool) (bytes : List ℕ) → (at : Option ℕ) → WaveWhy → Type 0
+IsNoWave to_end bytes None why = header_fault bytes ≡ Some why
+IsNoWave to_end bytes (Some count) why =
     (header_fault bytes ≡ None) × (chunks : List (List ℕ)) × (rest : List ℕ) × (seen : Seen)
-    × (length chunks ≡ count) × Leads (seen_first bytes) chunks (drop 12 bytes) rest seen × (fault_at seen rest ≡ Some why)
+    × (length chunks ≡ count) × Leads (seen_first to_end bytes) chunks (drop 12 bytes) rest seen × (fault_at seen rest ≡ Some why)
 
 -- ---- the file again
 
@@ -98,7 +98,8 @@ ArePiecesAfter samples back pieces = ArePiecesBy (nat_eq (length samples % 2) 0)
 abbrev pub parts_of : Wave → Parts
 parts_of w = record { format = w.format; pieces = map (λ p. p.items) w.pieces.items; samples = w.samples.now; back = w.back.now }
 
--- this error says why these bytes are no WAV file, unless memory ran out
-abbrev pub IsErrorOf : (bytes : List ℕ) → WaveError → Type 0
-IsErrorOf bytes error.Memory = Unit {0}
-IsErrorOf bytes (error.Fault f) = IsNoWave bytes f.chunk f.why
+-- this error says why these bytes are no WAV file, unless memory ran out; no source failed
+abbrev pub IsErrorOf : (to_end : Bool) (bytes : List ℕ) → WaveError → Type 0
+IsErrorOf to_end bytes error.Memory = Unit {0}
+IsErrorOf to_end bytes error.Read = ⊥
+IsErrorOf to_end bytes (error.Fault f) = IsNoWave to_end bytes f.chunk f.why

@@ -79,7 +79,7 @@ pub(crate) fn header_fault(bytes: &[u8]) -> Option<WaveWhy>
 
 /// How many bytes the samples have, or `None` if they go to the end of the file.
 #[tactic(auto, unfolding(crate::specs::Chunks::stated))]
-fn stated(seen: &Seen, size: u32) -> Option<u64>
+pub(crate) fn stated(seen: &Seen, size: u32) -> Option<u64>
     ensures { result ≡ stated seen.now size }
 {
     if size == u32::MAX {
@@ -96,7 +96,12 @@ pub(crate) fn data_len(seen: &Seen, bytes: &[u8]) -> u64
     requires { 8 ≤ length bytes.now }
     ensures { result ≡ data_len seen.now bytes.now }
 {
-    stated(seen, long_at(bytes, 4)).unwrap_or((bytes.len() - 8) as u64)
+    let room = (bytes.len() - 8) as u64;
+    let size = stated(seen, long_at(bytes, 4)).unwrap_or(room);
+    if seen.to_end {
+        return size.min(room);
+    }
+    size
 }
 
 /// Why `size` bytes are no samples of a format, if there are `room` bytes.
@@ -126,14 +131,15 @@ fn is_long_sizes(bytes: &[u8]) -> bool
 impl Seen {
     /// What is known before the first chunk.
     #[tactic(auto, unfolding(crate::specs::Chunks::seen_first))]
-    pub(crate) fn first(bytes: &[u8]) -> Seen
+    pub(crate) fn first(bytes: &[u8], to_end: bool) -> Seen
         requires { 8 ≤ length bytes.now }
-        ensures { result ≡ seen_first bytes.now }
+        ensures { result ≡ seen_first to_end bytes.now }
     {
         Seen {
             riff: long_at(bytes, 4),
             long: None,
             format: None,
+            to_end,
         }
     }
 
@@ -205,6 +211,7 @@ impl Seen {
             riff: self.riff,
             long,
             format,
+            to_end: self.to_end,
         })
     }
 }

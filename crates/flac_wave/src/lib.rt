@@ -14,8 +14,11 @@
 mod chunks;
 mod cuts;
 mod format;
+mod front;
 mod laws;
+mod limited;
 mod plain;
+mod reading;
 mod seen;
 mod shift;
 #[cfg(test)]
@@ -25,8 +28,11 @@ mod why;
 
 pub use cuts::cut;
 pub use format::WaveFormat;
+pub use front::{WaveFront, front_fault, read_front};
 pub use laws::{plain_files_are_read, samples_come_back, waves_are_read_once, waves_come_back};
+pub use limited::Limited;
 pub use plain::plain_pieces;
+pub use reading::{fill, read_all, read_at_most};
 pub use shift::{lower, raise};
 pub use waves::{Wave, WaveError, WaveFault, wave_of};
 pub use why::WaveWhy;

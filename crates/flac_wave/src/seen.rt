@@ -11,4 +11,6 @@ pub(crate) struct Seen {
     pub(crate) long: Option<u64>,
     /// Their format.
     pub(crate) format: Option<WaveFormat>,
+    /// Whether they may go on to the end of a file that ends inside them.
+    pub(crate) to_end: bool,
 }

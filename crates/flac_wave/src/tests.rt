@@ -1,9 +1,13 @@
 //! Each call as a program makes it.
 
-ghost use Rattle.std.specs.Prelude.{◌<◌};
+ghost use Rattle.std.specs.Prelude.{◌<◌, ◌≤◌};
 ghost use Rattle.flac_wave.specs.Plain.{CanBeWritten};
 
-use crate::{WaveError, WaveFault, WaveFormat, WaveWhy, cut, lower, plain_pieces, raise, wave_of};
+use crate::{
+    Limited, WaveError, WaveFault, WaveFormat, WaveWhy, cut, front_fault, lower, plain_pieces,
+    raise, read_all, read_at_most, read_front, wave_of,
+};
+use flac_bits::{Memory, Pieces};
 use std::alloc::Global;
 use std::test::Fail;
 
@@ -35,7 +39,7 @@ fn joined(alloc: Global, pieces: &[Vec<u8>]) -> Result<Vec<u8>, Fail> {
 
 #[test]
 fn files_are_taken_apart(rt: HostRuntime) -> Result<(), Fail> {
-    let wave = wave_of(rt.alloc(), &STEREO)?;
+    let wave = wave_of(rt.alloc(), &STEREO, false)?;
     let front = joined(rt.alloc(), wave.pieces.as_slice())?;
     assert!(rt; wave.format == FORMAT && wave.format.row() == 4);
     assert!(rt; wave.pieces.len() == 3 && front.as_slice() == &STEREO[..44]);
@@ -54,9 +58,63 @@ const ODD: [u8; 84] = [
     0x49, 0x44, 0x33, 0x00,
 ];
 
+/// What is read of a file, of which a number of bytes come at once: what comes before the samples, joined, how many bytes of
+/// these are stated, those that came, whether some are missing, and what follows them.
+fn read_by(
+    alloc: Global,
+    file: &[u8],
+    most: usize,
+) -> Result<(Vec<u8>, Option<u64>, Vec<u8>, bool, Vec<u8>), Fail>
+    requires { 1 ≤ most }
+{
+    let mut source = Pieces::new(Memory::new(file), most);
+    let front = read_front(alloc, &mut source, false)?;
+    let before = joined(alloc, front.pieces.as_slice())?;
+    let mut part = Limited::new(&mut source, front.size);
+    let samples = read_all(alloc, &mut part)?;
+    let cut = part.is_cut();
+    let back = read_all(alloc, part.into_source())?;
+    Ok((before, front.size, samples, cut, back))
+}
+
+#[test]
+fn files_are_read_part_by_part(rt: HostRuntime) -> Result<(), Fail> {
+    for most in 1..9 {
+        let (before, size, samples, cut, back) = read_by(rt.alloc(), &ODD, most)?;
+        assert!(rt; before.as_slice() == &ODD[..56] && size == Some(3) && !cut);
+        assert!(rt; samples.as_slice() == &ODD[56..59] && back.as_slice() == &ODD[59..]);
+    }
+    Ok(())
+}
+
+#[test]
+fn files_that_end_in_their_samples(rt: HostRuntime) -> Result<(), Fail> {
+    let (_, size, samples, cut, back) = read_by(rt.alloc(), &ODD[..58], 7)?;
+    assert!(rt; size == Some(3) && samples.as_slice() == &ODD[56..58] && cut && back.is_empty());
+    assert!(rt; front_fault(false, cut, true) == Some(WaveWhy::DataCut));
+    assert!(rt;
+        front_fault(true, cut, true) == None
+            && front_fault(true, cut, false) == Some(WaveWhy::PartSample)
+    );
+    let wave = wave_of(rt.alloc(), &ODD[..58], true)?;
+    assert!(rt; wave.samples == &ODD[56..58] && wave.back.is_empty());
+    Ok(())
+}
+
+#[test]
+fn a_few_bytes_are_read(rt: HostRuntime) -> Result<(), Fail> {
+    let mut source = Memory::new(&ODD);
+    let first = read_at_most(rt.alloc(), &mut source, 12)?;
+    let all = read_all(rt.alloc(), &mut source)?;
+    assert!(rt; first.as_slice() == &ODD[..12] && all.as_slice() == &ODD[12..]);
+    let more = read_at_most(rt.alloc(), &mut source, 12)?;
+    assert!(rt; more.is_empty());
+    Ok(())
+}
+
 /// The pieces of a file before its samples, and those after them, each joined, with their number.
 fn kept(alloc: Global, file: &[u8]) -> Result<(usize, Vec<u8>, usize, Vec<u8>), Fail> {
-    let wave = wave_of(alloc, file)?;
+    let wave = wave_of(alloc, file, false)?;
     let after = cut(alloc, wave.samples, wave.back)?;
     let front = joined(alloc, wave.pieces.as_slice())?;
     let back = joined(alloc, after.as_slice())?;
@@ -85,7 +143,7 @@ fn what_is_no_chunk_is_kept(rt: HostRuntime) -> Result<(), Fail> {
 
 /// Whether a file is refused for this reason, after this number of chunks.
 fn is_refused(alloc: Global, file: &[u8], chunk: Option<u64>, why: WaveWhy) -> bool {
-    match wave_of(alloc, file) {
+    match wave_of(alloc, file, false) {
         Ok(_) => false,
         Err(error) => error == WaveError::Fault(WaveFault { chunk, why }),
     }

@@ -5,12 +5,14 @@ ghost use Rattle.flac_wave.specs.Chunks.{fault_at, header_fault, is_data, chunk_
 ghost use Rattle.flac_wave.specs.Format.{IsInRange};
 ghost use Rattle.flac_wave.specs.Wave.{IsWave, parts_of, IsErrorOf};
 ghost use Rattle.flac_wave.specs.inner.Next.{IsNext};
+ghost use Rattle.flac_wave.specs.inner.Pieces.{error_of};
 ghost use Rattle.flac_wave.specs.declared.waves.WaveError.TheVariants.{Memory};
 
 use crate::chunks::{chunk_len, data_len, header_fault, is_data};
 use crate::format::WaveFormat;
 use crate::seen::Seen;
 use crate::why::WaveWhy;
+use flac_bits::Why;
 use std::alloc::{AllocError, AllocFailed, Global};
 
 /// A WAV file: the bytes of its parts, and the format of its samples.
@@ -40,8 +42,21 @@ pub struct WaveFault {
 pub enum WaveError {
     /// An allocation failed.
     Memory,
+    /// The source returned an error.
+    Read,
     /// The file is none.
     Fault(WaveFault),
+}
+
+impl From<Why> for WaveError {
+    ghost from_gives = { λ why e. e ≡ error_of why };
+
+    fn from(why: Why) -> WaveError {
+        match why {
+            Why::Memory => WaveError::Memory,
+            _ => WaveError::Read,
+        }
+    }
 }
 
 impl From<AllocError> for WaveError {
@@ -93,25 +108,26 @@ fn step_at(seen: &Seen, rest: &[u8]) -> Result<Next, WaveWhy>
     Ok(Next::Samples(format))
 }
 
-/// Takes a WAV file apart. The samples and what follows them are those of `bytes`, the pieces before them are copied.
+/// Takes a WAV file apart. The samples and what follows them are those of `bytes`, the pieces before them are copied. With
+/// `to_end`, samples that are longer than the file go to its end.
 ///
 /// ```
-/// let wave = wave_of(rt.alloc(), &bytes)?;
+/// let wave = wave_of(rt.alloc(), &bytes, false)?;
 /// let after = cut(rt.alloc(), wave.samples, wave.back)?;
 /// ```
 ///
 /// # Errors
 /// [`WaveError::Fault`] with the first reason for which the file is no WAV file, and where. [`WaveError::Memory`] if an
 /// allocation fails.
-pub fn wave_of(alloc: Global, bytes: &[u8]) -> Result<Wave<'_>, WaveError>
-    ensures found { IfOk result (λ w. IsWave bytes.now (parts_of w)) }
+pub fn wave_of(alloc: Global, bytes: &[u8], to_end: bool) -> Result<Wave<'_>, WaveError>
+    ensures found { IfOk result (λ w. IsWave to_end bytes.now (parts_of w)) }
     ensures range { IfOk result (λ w. IsInRange w.format) }
-    ensures fault { IfErr result (IsErrorOf bytes.now) }
+    ensures fault { IfErr result (IsErrorOf to_end bytes.now) }
 {
     if let Some(why) = header_fault(bytes) {
         return Err(WaveError::Fault(WaveFault { chunk: None, why }));
     }
-    let mut seen = Seen::first(bytes);
+    let mut seen = Seen::first(bytes, to_end);
     let (header, mut rest) = bytes.split_at(12);
     let mut pieces = Vec::new(alloc);
     pieces.push(Vec::from_slice(alloc, header)?)?;

@@ -1,0 +1,41 @@
+-- For the proof of reading what comes before the samples, piece by piece.
+use Rattle.std.specs.Prelude.{◌≡◌, ◌≤◌, ◌<◌, ℕ, true, false, List, [], ◌++◌, length, Option, Some, None}
+use Rattle.flac_bits.specs.declared.why.Why.{Why}
+use Rattle.flac_bits.specs.declared.why.Why.TheVariants as why
+use Rattle.flac_wave.specs.Chunks.{fault_at, is_data, chunk_len}
+use Rattle.flac_wave.specs.Format.{IsInRange}
+use Rattle.flac_wave.specs.declared.seen.Seen.{Seen}
+use Rattle.flac_wave.specs.declared.format.WaveFormat.{WaveFormat}
+use Rattle.flac_wave.specs.declared.waves.WaveError.{WaveError}
+use Rattle.flac_wave.specs.declared.waves.WaveError.TheVariants as error
+use Rattle.flac_wave.specs.declared.waves.WaveFault.{WaveFault}
+use Rattle.flac_wave.specs.declared.why.WaveWhy.{WaveWhy}
+
+-- The bytes begin with this piece: the header of the chunk of samples, or another chunk, of which all is there that comes.
+pub record IsPiece (bytes piece rest : List ℕ) : Type 0 where
+  pub long : 8 ≤ length piece
+  pub is : bytes ≡ piece ++ rest
+  pub head : is_data piece ≡ true → length piece ≡ 8
+  pub few : is_data piece ≡ false → length piece ≤ chunk_len piece
+  pub cut : is_data piece ≡ false → length piece < chunk_len piece → rest ≡ []
+
+-- why an error of a source is one of reading a WAV file
+abbrev pub error_of : Why → WaveError
+error_of why.Memory = error.Memory
+error_of other = error.Read
+
+-- the error for a chunk of this number
+abbrev pub error_at : (count : ℕ) → WaveWhy → WaveError
+error_at count w = error.Fault (record { chunk = Some count; why = w })
+
+-- after `count` chunks there is neither a chunk nor the samples for this reason, whatever those chunks are, unless memory
+-- ran out; no source failed
+abbrev pub IsPieceError : (count : ℕ) (bytes : List ℕ) → WaveError → Type 0
+IsPieceError count bytes error.Memory = Unit {0}
+IsPieceError count bytes error.Read = ⊥
+IsPieceError count bytes (error.Fault f) = (f.chunk ≡ Some count) × ((s : Seen) → fault_at s bytes ≡ Some f.why)
+
+-- a format that is known is in range
+abbrev pub KnownInRange : Option WaveFormat → Type 0
+KnownInRange None = Unit {0}
+KnownInRange (Some f) = IsInRange f
