@@ -1,0 +1,26 @@
+-- A file of a list, and what its bytes are.
+use Rattle.std.specs.Prelude.{◌≡◌, ℕ, Bool, true, List, Option, Some}
+use Rattle.flac_bits.specs.State.{After}
+use Rattle.flac_bits.specs.declared.source.Source as source
+
+-- The bytes of a file, and what comes after them, which is the end unless it is cut short. `again`: it can be read more
+-- than once from its start, as a pipe cannot.
+pub record Contents : Type 0 where
+  pub bytes : List ℕ
+  pub after : After
+  pub again : Bool
+
+-- A file, by its path; none if it cannot be opened.
+pub record Listed : Type 0 where
+  pub path : List ℕ
+  pub contents : Option Contents
+
+-- a source that is about to give these bytes, and has not failed
+pub record Opens {S : Type 0} (g : source.Ghosts S) (contents : Option Contents) (s : S) : Type 0 where
+  pub of : Contents
+  pub is : contents ≡ Some of
+  pub known : g.known s ≡ true
+  pub coming : g.coming s ≡ of.bytes
+  pub after : g.after s ≡ of.after
+  pub errors : g.errors s ≡ 0
+  pub raised : g.raised s ≡ 0

@@ -1,0 +1,82 @@
+//! Files in memory.
+
+ghost use Rattle.std.specs.Prelude.{◌≡◌, ◌<◌, true, [], length, map};
+ghost use Rattle.flac_shelf.specs.Listed.{Listed};
+
+use crate::shelf::Shelf;
+use flac_bits::Memory;
+
+/// A file in memory.
+#[derive(Clone, Copy)]
+pub struct HeldFile<'a> {
+    /// Its path, as it is reported.
+    pub path: &'a str,
+    /// Its bytes; `None` if it cannot be opened.
+    pub bytes: Option<&'a [u8]>,
+    /// Whether it can be read more than once.
+    pub again: bool,
+}
+
+/// A list of files in memory. None of them fails.
+#[derive(Drop)]
+pub struct HeldShelf<'a> {
+    at: HeldFile<'a>,
+    rest: &'a [HeldFile<'a>],
+}
+
+impl<'a> HeldShelf<'a> {
+    /// A list of these files, the first of them first.
+    pub fn new(files: &'a [HeldFile<'a>]) -> HeldShelf<'a>
+        ensures { result.rest.now ≡ files.now }
+    {
+        let at = HeldFile {
+            path: "",
+            bytes: None,
+            again: false,
+        };
+        HeldShelf { at, rest: files }
+    }
+}
+
+impl<'a> Shelf for HeldShelf<'a> {
+    type File = Memory<'a>;
+
+    ghost use Rattle.flac_shelf.specs.Held.{listed_of};
+
+    ghost known = { λ _. true };
+
+    ghost current = { λ s. listed_of s.at };
+
+    ghost files = { λ s. map listed_of s.rest.now };
+
+    ghost faults = { λ _. 0 };
+
+    ghost most = { λ s. length s.rest.now };
+
+    fn next(&mut self) -> bool {
+        let rest = self.rest;
+        if rest.is_empty() {
+            return false;
+        }
+        self.at = rest[0];
+        self.rest = &rest[1..];
+        true
+    }
+
+    fn path(&self) -> &str {
+        self.at.path
+    }
+
+    fn reads_again(&self) -> bool {
+        self.at.again
+    }
+
+    fn open(&mut self) -> Option<Memory<'a>> {
+        match self.at.bytes {
+            Some(bytes) => Some(Memory::new(bytes)),
+            None => None,
+        }
+    }
+
+    fn close(&mut self, _file: Memory<'a>) {}
+}

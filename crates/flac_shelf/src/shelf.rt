@@ -1,0 +1,66 @@
+//! Lists of files.
+
+ghost use Rattle.std.specs.Prelude.{◌≡◌, ◌≤◌, ◌<◌, ℕ, Bool, true, cond, List, [], ◌∷◌, None, MatchOption, IfSome};
+ghost use Rattle.flac_shelf.specs.Listed.{Listed, Opens};
+
+use flac_bits::Source;
+
+/// Files, one after another, each with its path and its bytes.
+///
+/// [`Shelf::next`] goes to the next file; the other calls are about that one. The ghost members exist for proofs only.
+/// What a contract says of a file's bytes holds if they are known to a proof (`known`).
+pub trait Shelf {
+    /// What a file is read from.
+    type File: Source;
+
+    /// Whether the files that are still to come, and their bytes, are known.
+    ghost known: { Self → Bool };
+
+    /// The file that the shelf is at, if it is known.
+    ghost current: { Self → Listed };
+
+    /// The files after it, if they are known.
+    ghost files: { Self → List Listed };
+
+    /// How many files were given back after their device had failed. If the count can rise no more, the files count as
+    /// unknown.
+    ghost faults: { Self → ℕ };
+
+    /// How many files can still come at most.
+    ghost most: { Self → ℕ };
+
+    /// Goes to the next file. Returns whether there is one.
+    fn next(&mut self) -> bool
+        ensures known { known self.old ≡ true → known self.new ≡ true }
+        ensures files { known self.old ≡ true → files self.old ≡ cond result (current self.new ∷ files self.new) [] }
+        ensures faults { faults self.new ≡ faults self.old }
+        ensures most { result ≡ true → most self.new < most self.old };
+
+    /// The path of the file, as it is reported.
+    fn path(&self) -> &str
+        ensures { known self.now ≡ true → result.now ≡ (current self.now).path };
+
+    /// Whether the file can be read more than once.
+    fn reads_again(&self) -> bool
+        ensures { known self.now ≡ true → IfSome (current self.now).contents (λ of. result ≡ of.again) };
+
+    /// Opens the file, to be read from its start. `None` if it cannot be opened.
+    fn open(&mut self) -> Option<Self::File>
+        ensures opened { known self.old ≡ true → MatchOption result ((current self.old).contents ≡ None)
+            (λ file. Opens Self.File.Source (current self.old).contents file) }
+        ensures known { known self.old ≡ true → known self.new ≡ true }
+        ensures current { current self.new ≡ current self.old }
+        ensures files { files self.new ≡ files self.old }
+        ensures faults { faults self.new ≡ faults self.old }
+        ensures most { most self.new ≡ most self.old };
+
+    /// Takes an opened file back, and counts it if its device failed.
+    fn close(&mut self, file: Self::File)
+        ensures unfailed { known self.old ≡ true → faults self.new ≡ faults self.old →
+            (Self.File.errors file ≡ 0) × (Self.File.raised file ≡ 0) }
+        ensures kept { faults self.old ≤ faults self.new }
+        ensures known { known self.old ≡ true → faults self.new ≡ faults self.old → known self.new ≡ true }
+        ensures current { current self.new ≡ current self.old }
+        ensures files { files self.new ≡ files self.old }
+        ensures most { most self.new ≡ most self.old };
+}
