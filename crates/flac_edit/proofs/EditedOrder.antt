@@ -126,7 +126,7 @@ pub slots_same : (xs : List MarkedBlock) → marked_slots xs ≡ slots_of (witho
 slots_same [] = refl
 slots_same (x ∷ xs) = ap (λ (l : List Slot). slot_of x.1 ∷ l) (slots_same xs)
 
-total_same : (xs : List MarkedBlock) → total_of (slots_of (without_marks xs)) ≡ total xs
+pub total_same : (xs : List MarkedBlock) → total_of (slots_of (without_marks xs)) ≡ total xs
 total_same xs = ap total_of (sym (slots_same xs)) ∙ total_is xs
 
 -- STREAMINFO is in no run

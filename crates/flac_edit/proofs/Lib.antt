@@ -17,3 +17,6 @@ pub mod EditedOrder
 pub mod Tied
 pub mod WholeStreams
 pub mod Crashes
+pub mod Settled
+pub mod SameComments
+pub mod TaggedFiles

@@ -5,7 +5,7 @@ use Rattle.flac_bits.specs.Bits.{bits_of, unsigned}
 use Rattle.flac_bits.specs.declared.why.Why.TheVariants.{Memory}
 use Rattle.flac_bits.proofs.Words.{length-unsigned}
 use Rattle.flac_bits.proofs.Holding.{length-bits_of, bits_of-append}
-use Rattle.flac_bits.proofs.Laws.{number_reads}
+use Rattle.flac_bits.proofs.Readings.{number_reads}
 use Rattle.flac_meta.specs.Spelling.{header_spelling}
 use Rattle.flac_meta.specs.Valid.{BlockSpelled}
 use Rattle.flac_meta.specs.declared.block.Block.{Block}

@@ -1,5 +1,5 @@
 -- What edits make of a list of comments (RFC 9639, section 8.6).
-use Rattle.std.specs.Prelude.{ℕ, ◌+◌, Bool, ◌&&◌, cond, nat_eq, nat_lt, List, [], ◌∷◌, ◌++◌, length, take, drop, get_or}
+use Rattle.std.specs.Prelude.{◌≡◌, ℕ, ◌+◌, Bool, ◌&&◌, cond, nat_eq, nat_lt, List, [], ◌∷◌, ◌++◌, length, take, drop, get_or}
 use Rattle.std.specs.Str.{bytes_eq}
 use Rattle.flac_meta.specs.Named.{same_name}
 use Rattle.flac_meta.specs.declared.comments.Comments.{Comments}
@@ -45,3 +45,15 @@ all_edited (e ∷ es) texts = all_edited es (edited_by e texts)
 -- the vendor stays
 abbrev pub edited : List Edit → Comments → Comments
 edited edits c = record { vendor = c.vendor; list = all_edited edits c.list }
+
+-- ---- the same edits once more
+
+-- Edits make the same of their own result.
+abbrev pub Settles : List Edit → Type 0
+Settles edits = (c : Comments) → edited edits (edited edits c) ≡ edited edits c
+
+-- so do those that begin by taking all comments away, one that takes those of a name away, and one that sets a comment
+pub record EditsSettle : Type 0 where
+  pub cleared : (edits : List Edit) → Settles (edit.Clear ∷ edits)
+  pub removed : (name : _) → Settles (edit.Remove name ∷ [])
+  pub set : (name value : _) → Settles (edit.Set name value ∷ [])

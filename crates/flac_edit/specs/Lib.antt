@@ -1,5 +1,7 @@
 pub mod Device
 pub mod Edited
+pub mod Tagged
+pub mod Faults
 pub mod Crashes
 pub mod Places
 pub mod Streams

@@ -2,6 +2,7 @@
 
 ghost use Rattle.std.specs.Prelude.{◌≡◌, ◌++◌, ◌∷◌, [], true, length, IfOk, OnOk, OnErr};
 ghost use Rattle.flac_edit.specs.declared.crash_file.Call.TheVariants as call;
+ghost use Rattle.flac_edit.specs.Device.{Only};
 ghost use Rattle.flac_edit.specs.Crashes.{shown_after, crash_time, counts, only, leaves_shown};
 
 use crate::device::{Device, DeviceError};
@@ -30,6 +31,8 @@ impl CrashFile {
     pub fn new(alloc: Global, first: Vec<u8>) -> Self
         ensures first { result.first ≡ first }
         ensures calls { result.calls.items ≡ [] }
+        ensures shown { shown_after result.first.items result.calls.items ≡ first.items }
+        ensures stored { Only first.items (crash_time result.first.items result.calls.items) }
     {
         CrashFile {
             alloc,

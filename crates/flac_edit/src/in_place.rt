@@ -9,13 +9,9 @@ ghost use Rattle.flac_edit.specs.Places.{total_of, LeavesOldOrEdited, ReadsOldOr
 use crate::choosing::change_in_place;
 use crate::device::{Device, DeviceError};
 use crate::slots::Slot;
+use flac_bits::bytes_fit;
 use flac_meta::{Bytes, Comments};
 use std::alloc::Global;
-
-/// Each byte is below 256.
-fn bytes_fit(bytes: &[u8])
-    ensures { AreBytes bytes.now }
-{}
 
 /// Each byte of each text is below 256.
 fn texts_fit(texts: &[Bytes])

@@ -1,9 +1,16 @@
 //! Laws: what holds of the definitions. Calling them does nothing; a proof may name them.
 
+ghost use Rattle.flac_edit.specs.Edited.{EditsSettle};
 ghost use Rattle.flac_edit.specs.Streams.{StreamsStay};
 
 /// If a file is a stream, then what an edit in place and a crash leave of it is a stream of the old items, or of the
 /// same STREAMINFO, edited blocks and the same frames (RFC 9639, section 6).
 pub fn streams_stay()
     ensures { StreamsStay }
+{}
+
+/// Edits that begin with [`Edit::Clear`](crate::Edit::Clear), that are one [`Edit::Remove`](crate::Edit::Remove) or one
+/// [`Edit::Set`](crate::Edit::Set), change nothing of their own result.
+pub fn edits_settle()
+    ensures { EditsSettle }
 {}

@@ -2,4 +2,10 @@
 #![tactic(auto)]
 
 #[cfg(test)]
+mod crashes;
+#[cfg(test)]
 mod in_place;
+#[cfg(test)]
+mod rewriting;
+#[cfg(test)]
+mod tagging;

@@ -1,0 +1,89 @@
+-- Edits of the comments of a stream, and of a file that has it.
+use Rattle.std.specs.Prelude.{◌≡◌, ℕ, Bool, true, false, cond, nat_eq, List, [], ◌∷◌, ◌++◌}
+use Rattle.flac_bits.specs.Bits.{bits_of}
+use Rattle.flac_bits.specs.State.{Mark, Cursor}
+use Rattle.flac_info.specs.Info.{Info}
+use Rattle.flac_meta.specs.declared.comments.Comments.{Comments}
+use Rattle.flac_meta.specs.declared.block.Block.{Block}
+use Rattle.flac_meta.specs.declared.block.Block.TheVariants as block_of
+use Rattle.flac_native.specs.Retag.{BeginsWith}
+use Rattle.flac_native.specs.Writing.{head_spelling}
+use Rattle.flac_edit.specs.Device.{Timeline, LeavesOnly}
+use Rattle.flac_edit.specs.Edited.{edited}
+use Rattle.flac_edit.specs.Places.{IsEdited, IsOldOrEdited}
+use Rattle.flac_edit.specs.declared.edits.Edit.{Edit}
+
+-- ---- the comments of a stream
+
+-- none, by a program without a name
+abbrev pub no_comments : Comments
+no_comments = record { vendor = []; list = [] }
+
+-- those of the comment block, of which there is one at most (RFC 9639, section 8.6); none if there is no such block
+abbrev pub comments_among : List Block → Comments
+comments_among [] = no_comments
+comments_among (block_of.VorbisComment found ∷ bs) = found
+comments_among (b ∷ bs) = comments_among bs
+
+-- the comments after these edits
+abbrev pub new_comments : List Edit → List Block → Comments
+new_comments edits list = edited edits (comments_among list)
+
+-- ---- in place
+
+-- A crash at any moment leaves a file with the blocks as they were, or with the edited comments, before the same frames.
+abbrev pub LeavesOldOrTagged : Mark → List Edit → (file : List ℕ) → Timeline → Timeline → Type 0
+LeavesOldOrTagged m edits file old now =
+    (info : Info) (list : List Block) (rest : List Bool) → BeginsWith m (bits_of file) info list rest → LeavesOnly old now (IsOldOrEdited m (new_comments edits list) info list rest)
+
+-- The file as it is read now has the blocks as they were, or the edited comments.
+abbrev pub ReadsOldOrTagged : Mark → List Edit → (file now : List ℕ) → Type 0
+ReadsOldOrTagged m edits file now =
+    (info : Info) (list : List Block) (rest : List Bool) → BeginsWith m (bits_of file) info list rest → IsOldOrEdited m (new_comments edits list) info list rest now
+
+-- It has the edited comments now.
+abbrev pub IsTagged : Mark → List Edit → (file now : List ℕ) → Type 0
+IsTagged m edits file now =
+    (info : Info) (list : List Block) (rest : List Bool) → BeginsWith m (bits_of file) info list rest → IsEdited m (new_comments edits list) info list rest now
+
+-- The edits change none of its comments.
+abbrev pub ChangesNothing : Mark → List Edit → (file : List ℕ) → Type 0
+ChangesNothing m edits file =
+    (info : Info) (list : List Block) (rest : List Bool) → BeginsWith m (bits_of file) info list rest → new_comments edits list ≡ comments_among list
+
+-- ---- in a new file
+
+-- neither padding nor comments
+abbrev pub is_other : Block → Bool
+is_other (block_of.Padding n) = false
+is_other (block_of.VorbisComment found) = false
+is_other b = true
+
+-- such a block as a list of one, and others as the empty list
+abbrev pub other_of : Block → List Block
+other_of b = cond (is_other b) (b ∷ []) []
+
+-- the other blocks, in their order
+abbrev pub others_of : List Block → List Block
+others_of [] = []
+others_of (b ∷ bs) = other_of b ++ others_of bs
+
+-- padding of n bytes; no block if that is none
+abbrev pub padding_of : ℕ → List Block
+padding_of n = cond (nat_eq n 0) [] (block_of.Padding n ∷ [])
+
+-- the other blocks, the edited comments, and padding of n bytes
+abbrev pub arranged : List Edit → ℕ → List Block → List Block
+arranged edits n list = others_of list ++ block_of.VorbisComment (new_comments edits list) ∷ padding_of n
+
+-- After the bits that were there, the input was written with its blocks arranged so, and the rest of it as it is.
+pub record Rewrites (m : Mark) (text : List Bool) (edits : List Edit) (padding : ℕ) (before after : List Bool) : Type 0 where
+  pub info : Info
+  pub list : List Block
+  pub rest : List Bool
+  pub input : BeginsWith m text info list rest
+  pub output : after ≡ before ++ (head_spelling info (arranged edits padding list) ++ rest)
+
+-- the same of the bits of a cursor
+abbrev pub RewritesAt : Cursor → List Edit → ℕ → (before after : List Bool) → Type 0
+RewritesAt c edits padding before after = Rewrites c.mark c.left edits padding before after
