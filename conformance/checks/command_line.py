@@ -75,6 +75,33 @@ def lax_cases(bench):
     yield "decode --lax, OUT is another file", lambda: output_is_another(bench, vectors_lax.ROW, ["decode", "--lax"])
 
 
+def printed(words, due):
+    expect(program.succeeds(*words).decode(), due)
+
+
+def listed(bench, good, absent):
+    """Each file has a line with its path and its lines; one that is refused has its line on standard error, and the others go on."""
+    bad = bench.put(b"fLaD")
+    alone = program.succeeds("list", good)
+    for options in ([], ["--head"], ["--lax"]):
+        expect(program.succeeds("list", *options, good), alone)
+        expect(program.succeeds("list", *options, good, good), 2 * (good.encode() + b"\n" + alone))
+        found = program.call("list", *options, good, bad, absent, good)
+        due = good.encode() + b"\n" + alone + bad.encode() + b"\n" + absent.encode() + b"\n" + good.encode() + b"\n" + alone
+        expect(found, (1, due, f"flac: {bad}: marker: 4 BadMarker\nflac: {absent}: cannot be opened\n".encode()))
+
+
+def heads(bench):
+    """The lines of the blocks, whatever comes after them; refused as without --head in the marker and the blocks."""
+    for stream in (vectors.ROW_1, vectors_lax.ROW):
+        due, end = program.succeeds("list", "--lax", bench.put(stream)), 42
+        for rest in (b"", b"\0", bytes(100), b"\xff\xf8", stream[end:-1], stream[end:] + b"\xff" * 9):
+            expect(program.succeeds("list", "--head", bench.put(stream[:end] + rest)), due)
+        for length in range(end):
+            path = bench.put(stream[:length])
+            expect(program.call("list", "--head", path), program.call("list", path))
+
+
 def cases(bench):
     def line(words, status, due):
         found, _, err = program.call(*words)
@@ -96,6 +123,16 @@ def cases(bench):
     yield "retag without =", lambda: line(["retag", good, bench.path(), "TITLE"], 2, "flac: command: comment without =\n")
     yield "Ogg and seek table", lambda: line(["encode", good, bench.path(), *encode, "--ogg", "--seek-every", "5"], 2,
                                               "flac: command: --ogg with --seek-every\n")
+    yield "--version", lambda: printed(["--version"], "flac (proved) 1.0.0\n")
+    for word, command in (("-t", "test"), ("--test", "test"), ("-d", "decode"), ("--decode", "decode")):
+        words = "IN" if command == "test" else "IN OUT"
+        yield f"{word} as first word", lambda w=word, c=command, o=words: line([w, good], 2, f"flac: command: to {c} a stream: flac {c} {o}\n")
+    for number in (1, 2, 3):
+        words = ["decode", good, bench.path()][:number - 1] + ["a\udcff"]
+        yield f"word {number} is not text", lambda w=words, n=number: line(w, 2, f"flac: command: word {n} is not text\n")
+    yield "a long word that is not text", lambda: line(["encode", "a" * 131070 + "\udcff"], 2, "flac: command: word 2 is not text\n")
+    yield "list of several files", lambda: listed(bench, good, absent)
+    yield "list --head", lambda: heads(bench)
     yield "list, no such file", lambda: line(["list", absent], 1, f"flac: {absent}: cannot be opened\n")
     jobs = [("decode", vectors.ROW_1, ["decode"]), ("retag", vectors.ROW_1, ["retag", "A=b"]), ("encode", bytes(400), ["encode", *encode])]
     for name, data, words in jobs:

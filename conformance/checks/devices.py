@@ -110,6 +110,81 @@ def input_cases():
         yield f"{name}: IN is a pipe", lambda p, w=words, n=name: piped(p, w)
 
 
+def standard_cases():
+    """IN `-` is standard input, OUT `-` standard output; files of that name are `./-`."""
+    for name, words, source in READING + WRITING:
+        yield f"{name}: IN is -", lambda p, w=words, s=source: standard_input(p, w, s)
+        yield f"{name}: IN is -, a file that was read in part", lambda p, w=words, s=source: read_on(p, w, s)
+        yield f"{name}: IN is -, refused by this name", lambda p, w=words: refused_by_name(p, w)
+        yield f"{name}: IN is ./-", lambda p, w=words, s=source: named_so(p, w, s)
+    for name, words, source in WRITING:
+        yield f"{name}: OUT is -", lambda p, w=words, s=source: standard_output(p, w, s, {"IN": p.put("in", s)})
+        yield f"{name}: IN and OUT are -", lambda p, w=words, s=source: standard_output(p, w, s, {"IN": "-"}, stdin=None, input=s)
+        yield f"{name}: OUT is -, to which is added", lambda p, w=words, s=source: standard_is_added_to(p, w, s)
+        yield f"{name}: OUT is -, which is full", lambda p, w=words, s=source, n=name: standard_is_full(p, w, s, f"-: {writing_fault(n)}")
+        yield f"{name}: IN is -, which is OUT", lambda p, w=words, s=source: standard_is_output(p, w, s)
+
+
+def standard_input(place, words, source):
+    names = {"IN": "-", "OUT": place.path("out")}
+    found = place.call(words, names, stdin=None, input=source)
+    expect(found, place.call(words, {"IN": place.put("in", source), "OUT": place.path("due")}))
+    expect(found[::2], (0, ""))
+    if "OUT" in words:
+        expect(read(names["OUT"]), read(place.path("due")))
+
+
+def read_on(place, words, source):
+    """Reading goes on where another program stopped."""
+    due = place.call(words, {"IN": place.put("in", source), "OUT": place.path("due")})
+    with open(place.put("more", b"before" + source), "rb", buffering=0) as file:
+        file.seek(6)
+        expect(place.call(words, {"IN": "-", "OUT": place.path("out")}, stdin=file), due)
+    if "OUT" in words:
+        expect(read(place.path("out")), read(place.path("due")))
+
+
+def refused_by_name(place, words):
+    line = "-: 48 RawLength" if words[0] == "encode" else "-: marker: 4 BadMarker"
+    place.refused(words, {"IN": "-", "OUT": place.path("out")}, line, stdin=None, input=b"fLa" if words[0] == "encode" else b"fLaD")
+
+
+def named_so(place, words, source):
+    place.put("-", source)
+    found = place.call(words, {"IN": "./-", "OUT": place.path("out")}, cwd=place.folder)
+    expect(found, place.call(words, {"IN": place.put("in", source), "OUT": place.path("due")}))
+
+
+def standard_output(place, words, source, names, **more):
+    """The bytes of OUT are all that goes to standard output."""
+    due = due_of(place, words, source)
+    before = set(os.listdir(place.folder)) | {"list"}
+    expect(place.call(words, {**names, "OUT": "-"}, cwd=place.folder, **more), (0, due, ""))
+    expect(set(os.listdir(place.folder)) - before, set())
+
+
+def standard_is_added_to(place, words, source):
+    due = due_of(place, words, source)
+    with open(place.put("all", BEFORE), "ab") as out:
+        expect(place.call(words, {"IN": place.put("in", source), "OUT": "-"}, stdout=out)[::2], (0, ""))
+    expect(read(place.path("all")), BEFORE + due)
+
+
+def standard_is_full(place, words, source, line):
+    with open("/dev/full", "wb") as device:
+        place.refused(words, {"IN": place.put("in", source), "OUT": "-"}, line, stdout=device)
+
+
+def standard_is_output(place, words, source):
+    """The file that is standard input is not written."""
+    path = place.put("in", source)
+    with open(path, "rb") as file:
+        place.refused(words, {"IN": "-", "OUT": path}, f"{path}: cannot be created", stdin=file)
+    with open(path, "rb") as file, open(path, "ab") as out:
+        place.refused(words, {"IN": "-", "OUT": "-"}, "-: cannot be created", stdin=file, stdout=out)
+    expect(read(path), source)
+
+
 def no_rights_to_read(place, words):
     names = {"IN": place.put("in", NATIVE), "OUT": place.path("out")}
     os.chmod(names["IN"], 0)
@@ -411,7 +486,7 @@ def main():
     with tempfile.TemporaryDirectory() as folder, ThreadPoolExecutor(JOBS) as pool:
         os.chmod(folder, 0o755)
         binary = shutil.copy(program.BINARY, os.path.join(folder, "flac"))
-        groups = (input_cases, output_cases, kept_cases, list_cases, print_cases, memory_cases)
+        groups = (input_cases, standard_cases, output_cases, kept_cases, list_cases, print_cases, memory_cases)
         every = [case for group in groups for case in group() if words.only in case[0]]
         found = list(pool.map(lambda case: outcome(case, folder, binary), every))
     for _, line in found:

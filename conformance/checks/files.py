@@ -246,6 +246,8 @@ def word_cases():
     for out in ("TITLE=New", "A=b/c", "=", "=b", "A="):
         yield f"retag IN {out}", lambda p, o=out: no_path(p, ["retag", "IN", o], o)
         yield f"retag IN {out} A=b --force", lambda p, o=out: no_path(p, ["retag", "--force", "IN", o, "A=b"], o)
+        yield f"encode IN {out}", lambda p, o=out: no_path(p, ["encode", "IN", o, "A=b", "--force"], o)
+        yield f"encode IN {out}, raw samples", lambda p, o=out: no_path(p, ["encode", "IN", o, *ENCODE], o)
     for out in ("./TITLE=New", "below/A=b", "./below=/A=b"):
         yield f"retag IN {out}", lambda p, o=out: taken(p, o)
     for words in (ENCODE[:2], ENCODE[:4], ENCODE[2:6], ["--raw"], ["--raw", *ENCODE[:4]]):
@@ -255,6 +257,23 @@ def word_cases():
     for command, options in (("decode", ["--force"]), ("encode", ["--force", "--raw"]), ("retag", ["--force"])):
         for option in options:
             yield f"{command}: help on {option}", lambda p, c=command, o=option: expect(o in p.call([c, "--help"], {})[1].decode(), True)
+
+
+def long_name_cases():
+    """A name of up to 255 bytes is replaced as any other, by a new file with a shorter name beside it, which is gone then."""
+    for name, words, _ in WRITING:
+        for length in (1, 249, 250, 251, 252, 255):
+            yield f"{name}: OUT has a name of {length} bytes", lambda p, w=words, n=length: replaced(p, w, devices.before_of(w), name="a" * n)
+        yield f"{name}: OUT has a name of 255 bytes, in letters of two", lambda p, w=words: replaced(p, w, devices.before_of(w), name="é" * 127 + "a")
+    yield "decode: the new file beside a long name has what was written", lambda p: long_part(p)
+
+
+def long_part(place):
+    """If the job fails, the new file stays; its name is the first 250 bytes and .part."""
+    name = "b" * 255
+    names = {"IN": place.put("in", NATIVE + b"\0"), "OUT": place.put(name, BEFORE)}
+    expect(place.call(DECODE, names)[0], 1)
+    expect((read(names["OUT"]), len(read(place.path(name[:250] + ".part"))) > 0), (BEFORE, True))
 
 
 def no_path(place, words, out):
@@ -351,7 +370,7 @@ def main():
         os.chmod(folder, 0o755)
         binary, library = shutil.copy(program.BINARY, os.path.join(folder, "flac")), os.path.join(folder, "failing.so")
         subprocess.run(["cc", "-O1", "-shared", "-fPIC", "-o", library, os.path.join(HERE, "failing.c")], check=True)
-        groups = (kind_cases(), retag_cases(), forced_cases(), raw_cases(), word_cases(), stored_cases(library))
+        groups = (kind_cases(), retag_cases(), forced_cases(), raw_cases(), word_cases(), long_name_cases(), stored_cases(library))
         every = [case for group in groups for case in group if words.only in case[0]]
         found = list(pool.map(lambda case: devices.outcome(case, folder, binary), every))
     for _, line in found:

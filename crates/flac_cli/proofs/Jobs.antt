@@ -32,17 +32,17 @@ module _ (o : Option Asked) (none : o ≡ None) where
 -- what an encoding asks for
 pub asked_is : (j : Job) (list : List ℕ) {input output : Bor (List ℕ)} {format : RawFormat} {container : ContainerKind} {comments : Vec (Bor (List ℕ)) Global} {lax : Bool} {predictors : Option (Bor (List ℕ))} {effort : SearchEffort} {raw : Bool} (profile : Profile) (words : List (Bor (List ℕ)))
     → j ≡ job.Encode input output format container comments lax predictors effort raw → profile ≡ profile_of lax → words ≡ comments.items
-    → asked_for j list ≡ Some (record { profile = profile; format = format; container = container; words = map (λ w. w.now) words; list = list; effort = effort; any = raw; keep = false })
+    → asked_for j list ≡ Some (record { profile = profile; format = format; container = container; words = map (λ w. w.now) words; list = list; effort = effort; any = raw; keep = false; to_end = false })
 asked_is j list {format = format} {container = container} {comments = comments} {effort = effort} {raw = raw} profile words is of same =
-    ap (λ k. asked_for k list) is ∙ ap (λ p. Some (record { profile = p; format = format; container = container; words = map (λ w. w.now) comments.items; list = list; effort = effort; any = raw; keep = false })) (sym of)
-    ∙ ap (λ ws. Some (record { profile = profile; format = format; container = container; words = map (λ w. w.now) ws; list = list; effort = effort; any = raw; keep = false })) (sym same)
+    ap (λ k. asked_for k list) is ∙ ap (λ p. Some (record { profile = p; format = format; container = container; words = map (λ w. w.now) comments.items; list = list; effort = effort; any = raw; keep = false; to_end = false })) (sym of)
+    ∙ ap (λ ws. Some (record { profile = profile; format = format; container = container; words = map (λ w. w.now) ws; list = list; effort = effort; any = raw; keep = false; to_end = false })) (sym same)
 
-pub wave_asked_is : (j : Job) (list : List ℕ) {input output : Bor (List ℕ)} {block seek_every : ℕ} {container : ContainerKind} {comments : Vec (Bor (List ℕ)) Global} {lax : Bool} {predictors : Option (Bor (List ℕ))} {effort : SearchEffort} {keep : Bool} (profile : Profile) (words : List (Bor (List ℕ)))
-    → j ≡ job.EncodeWave input output block seek_every container comments lax predictors effort keep → profile ≡ profile_of lax → words ≡ comments.items
-    → asked_for_wave j list ≡ Some (record { profile = profile; format = record { rate = 0; channels = 0; bits = 0; block = block; seek_every = seek_every }; container = container; words = map (λ w. w.now) words; list = list; effort = effort; any = true; keep = keep })
-wave_asked_is j list {block = block} {seek_every = seek_every} {container = container} {comments = comments} {effort = effort} {keep = keep} profile words is of same =
-    ap (λ k. asked_for_wave k list) is ∙ ap (λ p. Some (record { profile = p; format = record { rate = 0; channels = 0; bits = 0; block = block; seek_every = seek_every }; container = container; words = map (λ w. w.now) comments.items; list = list; effort = effort; any = true; keep = keep })) (sym of)
-    ∙ ap (λ ws. Some (record { profile = profile; format = record { rate = 0; channels = 0; bits = 0; block = block; seek_every = seek_every }; container = container; words = map (λ w. w.now) ws; list = list; effort = effort; any = true; keep = keep })) (sym same)
+pub wave_asked_is : (j : Job) (list : List ℕ) {input output : Bor (List ℕ)} {block seek_every : ℕ} {container : ContainerKind} {comments : Vec (Bor (List ℕ)) Global} {lax : Bool} {predictors : Option (Bor (List ℕ))} {effort : SearchEffort} {keep to_end : Bool} (profile : Profile) (words : List (Bor (List ℕ)))
+    → j ≡ job.EncodeWave input output block seek_every container comments lax predictors effort keep to_end → profile ≡ profile_of lax → words ≡ comments.items
+    → asked_for_wave j list ≡ Some (record { profile = profile; format = record { rate = 0; channels = 0; bits = 0; block = block; seek_every = seek_every }; container = container; words = map (λ w. w.now) words; list = list; effort = effort; any = true; keep = keep; to_end = to_end })
+wave_asked_is j list {block = block} {seek_every = seek_every} {container = container} {comments = comments} {effort = effort} {keep = keep} {to_end = to_end} profile words is of same =
+    ap (λ k. asked_for_wave k list) is ∙ ap (λ p. Some (record { profile = p; format = record { rate = 0; channels = 0; bits = 0; block = block; seek_every = seek_every }; container = container; words = map (λ w. w.now) comments.items; list = list; effort = effort; any = true; keep = keep; to_end = to_end })) (sym of)
+    ∙ ap (λ ws. Some (record { profile = profile; format = record { rate = 0; channels = 0; bits = 0; block = block; seek_every = seek_every }; container = container; words = map (λ w. w.now) ws; list = list; effort = effort; any = true; keep = keep; to_end = to_end })) (sym same)
 
 -- a job that encodes no WAV file
 module _ (o : Option Asked) (none : o ≡ None) where

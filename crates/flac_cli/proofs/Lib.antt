@@ -4,10 +4,14 @@ pub mod Printed
 pub mod NamedLines
 -- Streams that are read, and what is reported of them.
 pub mod BlocksFirst
+pub mod Heading
 pub mod Counting
 pub mod Outcomes
 pub mod Reported
 pub mod Jobs
+pub mod Told
+pub mod Underway
+pub mod Verifying
 -- Raw samples.
 pub mod Fronts
 pub mod Rows

@@ -1,12 +1,10 @@
 -- Rows of raw samples.
-use Rattle.std.proofs.Common.{◌≡◌, ◌≢◌, ◌≤◌, ◌<◌, ◌+◌, ◌-◌, ◌*◌, ◌/◌, ◌%◌, ℕ, zero, suc, ℤ, pos, List, [], ◌∷◌, ◌++◌, length, length-append, append_assoc, take, drop, get_or, set, refl, ap, sym, ◌∙◌, subst, below_more, inl, inr, cond, is_ok, Result, Ok, arith}
-use Rattle.std.proofs.lemmas.List.{length_push, get_or_push, get_or_append_left, get_or-append-add, drop-drop, take_all, take_at, length-take, length-take-le, length-drop, append-nil, drop-append-le, take-append-le, take_more, length-set, get_or-set_same, get_or-set_other}
+use Rattle.std.proofs.Common.{◌≡◌, ◌≢◌, ◌≤◌, ◌<◌, ◌+◌, ◌-◌, ◌*◌, ◌/◌, ◌%◌, ℕ, zero, suc, ℤ, pos, List, [], ◌∷◌, ◌++◌, length, length-append, append_assoc, take, drop, get_or, set, refl, ap, sym, ◌∙◌, subst, below_more, inl, inr, arith}
+use Rattle.std.proofs.lemmas.List.{length_push, get_or_push, get_or_append_left, get_or-append-add, drop-drop, take_all, length-take, length-drop, append-nil, drop-append-le, take-append-le, take_more, length-set, get_or-set_same, get_or-set_other}
 use Rattle.std.proofs.lemmas.List.Elements.{All-from_get_or, All-push, All-nil, All-append}
 use Rattle.std.proofs.Math.Nat.{mod-add-div', mul-le-mul_left, mul-pos, mul-div_left, mul-mod_left, mul-add-mod_self_right}
 use Rattle.std.proofs.Math.Seq.{take-add, drop-append-add}
 use Rattle.std.specs.Prelude.{All}
-use Rattle.std.proofs.lemmas.Slice.{take-put_mid}
-use borrow.Rule.Slice.PartMut.{put_mid}
 use Rattle.flac_bits.specs.Signed.{FitsBits}
 use Rattle.flac_native.specs.Message.{sample_bytes, sample_width, row_bytes, rows_bytes}
 use Rattle.flac_native.specs.Given.{sound_message}
@@ -175,23 +173,6 @@ channel_more bytes piece before rows row start width old new long within was is 
       fits = All-append (FitsBits (8 * width)) old new was.fits is.fits;
       numbers = ap (λ l. l ++ new) front.numbers ∙ ap (λ l. samples_at (bytes ++ piece) row start width before ++ l) is.numbers ∙ sym (samples_after_rows bytes piece before row start width rows long);
     }
-
--- a vector that was made longer
-pub grown : {X T E : Type 0} (old now front rest : List X) (r : Result T E) (x : T) → r ≡ Ok x → now ≡ cond (is_ok r) (front ++ rest) old → front ≡ old → now ≡ old ++ rest
-grown old now front rest r x is e same = e ∙ ap (λ k. cond (is_ok k) (front ++ rest) old) is ∙ ap (λ l. l ++ rest) same
-
--- the places after its old elements were then written
-pub places_after : (n front : ℕ) (old rest places items ys : List ℤ) → front ≡ length old → items ≡ old ++ rest → places ≡ items → n ≡ front + length ys → length ys ≡ length places - front
-    → take n (put_mid front (length places - front) places ys ++ drop (length (put_mid front (length places - front) places ys)) items) ≡ old ++ ys
-places_after n front old rest places items ys many sized same all long =
-    let is : places ≡ old ++ rest = same ∙ sized in
-    let within : front ≤ length places = omega (arith, ap length is, length-append old rest, many) in
-    let k : ℕ = length places - front in
-    let put = put_mid front k places ys in
-    let post : List ℤ = drop k (drop front places) in
-    let few : n ≤ length put = (let a = length-append (take front places) (ys ++ post) in let b = length-append ys post in let t = length-take-le front places within in omega (arith, a, b, t, all)) in
-    take-append-le n put (drop (length put) items) few ∙ take-put_mid front k places ys n all within
-    ∙ ap (λ l. l ++ ys) (ap (take front) is ∙ take_at old rest front (sym many))
 
 -- ---- more rows of each channel
 

@@ -69,14 +69,15 @@ module _ (asked : Asked) (ps : List LinearPredictor) (list : List Block) (raw : 
 -- ---- of a file
 
 -- what is refused by the reader of the file
-pub refused_file : (asked : Asked) (ps : List LinearPredictor) (bytes : List ℕ) (e : WaveError) → IsErrorOf bytes e → IsOutside (refusal_of_wave e) ⊎ IsFileReason asked ps bytes (Some (refusal_of_wave e))
+pub refused_file : (asked : Asked) (ps : List LinearPredictor) (bytes : List ℕ) (e : WaveError) → IsErrorOf asked.to_end bytes e → IsOutside (refusal_of_wave e) ⊎ IsFileReason asked ps bytes (Some (refusal_of_wave e))
 refused_file asked ps bytes error.Memory h = inl (Input why.Memory, refl, inl refl)
+refused_file asked ps bytes error.Read h = absurd h
 refused_file asked ps bytes (error.Fault f) h = inr (inl (f, h, refl))
 
 pub no_memory : (asked : Asked) (ps : List LinearPredictor) (bytes : List ℕ) → IsOutside (Refused (Input why.Memory)) ⊎ IsFileReason asked ps bytes (Some (Refused (Input why.Memory)))
 no_memory asked ps bytes = inl (Input why.Memory, refl, inl refl)
 
-module _ (asked : Asked) (ps : List LinearPredictor) (bytes : List ℕ) (file : Parts) (after : List (List ℕ)) (wave : IsWave bytes file) (cut : ArePiecesAfter file.samples file.back after) (format : RawFormat) (form : format ≡ format_as asked.format file) where
+module _ (asked : Asked) (ps : List LinearPredictor) (bytes : List ℕ) (file : Parts) (after : List (List ℕ)) (wave : IsWave asked.to_end bytes file) (cut : ArePiecesAfter file.samples file.back after) (format : RawFormat) (form : format ≡ format_as asked.format file) where
   abbrev blocks : List Block
   blocks = blocks_for asked file.format (file.pieces ++ after)
 
@@ -142,6 +143,7 @@ module _ (asked : Asked) (ps : List LinearPredictor) (bytes all : List ℕ) (for
 
 pub no_wave_write : {X : Type 0} (e : WaveError) → refusal_of_wave e ≡ Refused (Output encode.Write) → X
 no_wave_write error.Memory h = absurd cc
+no_wave_write error.Read h = absurd cc
 no_wave_write (error.Fault f) h = absurd cc
 
 pub same_refused : (r s : Refusal) → Refused r ≡ Refused s → r ≡ s

@@ -7,6 +7,7 @@ use Rattle.std.proofs.lemmas.Nat.{div-add-mod'}
 use Rattle.std.specs.Global.{Global}
 use Rattle.std.proofs.lemmas.Bool.{lt-ltb, ltb-true, ltb-false, and_parts, eqb-false, eq-eqb, ne_eqb, cases_lt}
 use Rattle.std.proofs.lemmas.List.{take_more, map-append, append-nil, length-take-le}
+use Rattle.flac_bits.specs.Forms as forms
 use Rattle.flac_native.specs.Message.{sample_width, sample_bytes, row_bytes, rows_bytes}
 use Rattle.flac_native.proofs.Messages.{rows_split}
 use Rattle.flac_wave.specs.Wave.{all_of}
@@ -197,10 +198,10 @@ odd_more wide depth channels n k o b end piece h small is put long =
     ∙ ap (λ m. (b + m) % 2) (ap (λ m. length (file_samples wide depth (all n 0)) + m) (long ∙ ap (λ l. length (file_samples wide depth l)) put)
     ∙ (sym (length-append (file_samples wide depth (all n 0)) (file_samples wide depth (all k n))) ∙ ap length (sym (file_grown wide depth channels n k h small))))
 
--- each byte of a list whose bytes are below 256
-pub are_small : (xs : List ℕ) → ((k : ℕ) → k < length xs → get_or xs k 0 < 2 ^ 8) → AreBytes xs
-are_small [] small = tt
-are_small (x ∷ xs) small = (small 0 (omega arith), are_small xs (λ k within. small (suc k) (omega arith)))
+-- bytes, as the definitions of WAV files say it
+pub are_wave_bytes : (xs : List ℕ) → forms.AreBytes xs → AreBytes xs
+are_wave_bytes [] fit = tt
+are_wave_bytes (x ∷ xs) fit = (omega (arith, fit.0), are_wave_bytes xs fit.1)
 
 -- a format that can be written can be for any speakers
 mask_fits : (valid bits : ℕ) (o : Option ℕ) (m : ℕ) → bits < 33 → MaskFits valid bits o → m < 4294967296 → MaskFits valid bits (Some m)

@@ -1,5 +1,5 @@
 -- What an encoding of raw samples has written.
-use Rattle.std.specs.Prelude.{◌≡◌, ℕ, Bool, List, [], ◌∷◌, ◌++◌, ◌⊎◌, All, map, codes, false, Option, Some, None}
+use Rattle.std.specs.Prelude.{◌≡◌, ℕ, Bool, List, [], ◌∷◌, ◌++◌, ◌⊎◌, map, codes, false, Option, Some, None}
 use Rattle.flac_meta.specs.declared.comments.Comments.{Comments}
 use Rattle.flac_meta.specs.declared.block.Block.{Block}
 use Rattle.flac_meta.specs.declared.block.Block.TheVariants.{StreamInfo, VorbisComment}
@@ -10,7 +10,7 @@ use Rattle.flac_native.specs.Stream.{Piece, framed}
 use Rattle.flac_native.specs.Seeking.{points_of, table_of}
 use Rattle.flac_native.specs.Writing.{Encodes, BeginsEncoding}
 use Rattle.flac_ogg.specs.Writing.{EncodesOgg, BeginsOgg}
-use Rattle.flac_predict.specs.Found.{IsPrefixOf}
+use Rattle.flac_predict.specs.Found.{AllBegin}
 use Rattle.flac_cli.specs.Asked.{Asked}
 use Rattle.flac_cli.specs.Predictors.{AreListed}
 use Rattle.flac_cli.specs.Raw.{IsRaw}
@@ -46,26 +46,27 @@ parts_in (container.Ogg serial) p list a before after e = closing (StreamInfo (i
 abbrev pub cut_as : Asked → Sound → List LinearPredictor → Cut
 cut_as asked a ps = with_predictors (cut_of asked.format.block a asked.format.seek_every) ps
 
--- the same, and for the frame of each block those of its list
-abbrev pub cut_found : Asked → Sound → List LinearPredictor → (found : List (List LinearPredictor)) → Cut
+-- the same, and for each plane of the frame of each block those of its list
+abbrev pub cut_found : Asked → Sound → List LinearPredictor → (found : List (List (List LinearPredictor))) → Cut
 cut_found asked a ps found = with_found (cut_as asked a ps) found
 
--- The lists of linear predictors that are tried for the blocks: none without a search; else each begins with these
--- predictors. Nothing is said of the others, which were found for its block.
-pub record AreFound (effort : SearchEffort) (ps : List LinearPredictor) (found : List (List LinearPredictor)) : Type 0 where
+-- The lists of linear predictors that are tried for the planes of the blocks: none without a search; else each begins
+-- with these predictors. Nothing is said of the others, which were found for its plane of its block.
+pub record AreFound (effort : SearchEffort) (ps : List LinearPredictor) (found : List (List (List LinearPredictor))) : Type 0 where
   pub none : effort ≡ efforts.None → found ≡ []
-  pub begins : All (IsPrefixOf ps) found
+  pub begins : AllBegin ps found
 
 -- After the bits that were there, a stream was written as it is asked for, native or Ogg: of the samples that these
 -- bytes are, with the words as comments, and in a native one after them the seek table. Each frame is a shortest one
--- over constant and verbatim subframes, the fixed predictors, those of the list, and those that were found for its block,
--- if any were sought. The samples of its frames are these bytes again, so decoding it gives them back.
+-- over constant and verbatim subframes, the fixed predictors, those of the list, and for each plane (left, right, side,
+-- middle, or a channel) those that were found for it in this block, if any were sought. The samples of its frames are
+-- these bytes again, so decoding it gives them back.
 pub record EncodesRaw (asked : Asked) (bytes : List ℕ) (before after : List Bool) : Type 0 where
   pub audio : Sound
   pub predictors : List LinearPredictor
   pub raw : IsRaw asked.profile asked.format bytes audio
   pub listed : AreListed asked.list predictors
-  pub found : List (List LinearPredictor)
+  pub found : List (List (List LinearPredictor))
   pub sought : AreFound asked.effort predictors found
   pub encodes : EncodesIn asked.container (cut_found asked audio predictors found) (comment_list asked.words) audio before after
   pub back : all_samples 0 (parts_in asked.container (cut_found asked audio predictors found) (comment_list asked.words) audio before after encodes) ≡ bytes
@@ -73,7 +74,7 @@ pub record EncodesRaw (asked : Asked) (bytes : List ℕ) (before after : List Bo
 -- what a job asks for whose list has this text, if it is an encoding
 abbrev pub asked_for : Job → (list : List ℕ) → Option Asked
 asked_for (job.Encode input output format c comments lax predictors effort raw) list =
-    Some (record { profile = profile_of lax; format = format; container = c; words = map (λ w. w.now) comments.items; list = list; effort = effort; any = raw; keep = false })
+    Some (record { profile = profile_of lax; format = format; container = c; words = map (λ w. w.now) comments.items; list = list; effort = effort; any = raw; keep = false; to_end = false })
 asked_for other list = None
 
 abbrev pub asked_by : Task → Option Asked
@@ -95,7 +96,7 @@ pub record BeginsRaw (asked : Asked) (bytes : List ℕ) (before after : List Boo
   pub predictors : List LinearPredictor
   pub raw : IsRaw asked.profile asked.format bytes audio
   pub listed : AreListed asked.list predictors
-  pub found : List (List LinearPredictor)
+  pub found : List (List (List LinearPredictor))
   pub sought : AreFound asked.effort predictors found
   pub begins : BeginsIn asked.container (cut_found asked audio predictors found) (comment_list asked.words) audio before after
 

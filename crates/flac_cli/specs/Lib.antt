@@ -2,6 +2,7 @@ pub mod Asked
 pub mod Calls
 pub mod Counted
 pub mod Encoded
+pub mod Headed
 pub mod Lined
 pub mod Named
 pub mod Outcomes
@@ -13,6 +14,7 @@ pub mod Retagged
 pub mod Samples
 pub mod Speakers
 pub mod Streams
+pub mod Verified
 pub mod WaveRefusals
 pub mod Waves
 pub mod inner

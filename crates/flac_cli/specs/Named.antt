@@ -48,7 +48,7 @@ NamesFault (job.Decode input output lax) before after = NamesDecoding input.now 
 NamesFault (job.Encode input output format c comments lax predictors effort raw) before after =
     (e : Refusal) × (after ≡ before ++ fault_line (path_of (files_of (job.Encode input output format c comments lax predictors effort raw)) e) (line_text e))
 NamesFault (job.DecodeWave input output lax) before after = NamesWaveDecoding input.now output.now before after
-NamesFault (job.EncodeWave input output block seek_every c comments lax predictors effort keep) before after =
-    NamesWaveEncoding (files_of (job.EncodeWave input output block seek_every c comments lax predictors effort keep)) before after
+NamesFault (job.EncodeWave input output block seek_every c comments lax predictors effort keep to_end) before after =
+    NamesWaveEncoding (files_of (job.EncodeWave input output block seek_every c comments lax predictors effort keep to_end)) before after
 NamesFault (job.Retag input output comments) before after = NamesRetagging input.now output.now before after
 NamesFault other before after = Unit {0}

@@ -149,6 +149,6 @@ ReportsInput (job.Decode input output lax) bytes after served printed status bef
 ReportsInput (job.List input lax) bytes after served printed status before later = Reports (IsUnlisted printed) (Reads (profile_of lax) bytes after) input.now status before later
 ReportsInput (job.Encode input output format c comments lax predictors effort raw) bytes after served printed status before later = Unit {0}
 ReportsInput (job.DecodeWave input output lax) bytes after served printed status before later = served → ReportsWaveDecoding (profile_of lax) bytes after input.now status before later
-ReportsInput (job.EncodeWave input output block seek_every c comments lax predictors effort keep) bytes after served printed status before later = Unit {0}
+ReportsInput (job.EncodeWave input output block seek_every c comments lax predictors effort keep to_end) bytes after served printed status before later = Unit {0}
 ReportsInput (job.Retag input output comments) bytes after served printed status before later =
     served → Reports IsRetagOutOfMemory (IsRetagged (map (λ c. c.now) comments.items) bytes after) input.now status before later

@@ -46,8 +46,8 @@ file_refusal asked ps file after =
 -- holds of the file's samples and pieces.
 abbrev pub IsFileReason : Asked → List LinearPredictor → (bytes : List ℕ) → Option WaveRefusal → Type 0
 IsFileReason asked ps bytes reason =
-    ((fault : WaveFault) × IsNoWave bytes fault.chunk fault.why × (reason ≡ Some (Wave fault)))
-    ⊎ ((file : Parts) × (after : List (List ℕ)) × IsWave bytes file × ArePiecesAfter file.samples file.back after × (reason ≡ option_map Refused (file_refusal asked ps file after)))
+    ((fault : WaveFault) × IsNoWave asked.to_end bytes fault.chunk fault.why × (reason ≡ Some (Wave fault)))
+    ⊎ ((file : Parts) × (after : List (List ℕ)) × IsWave asked.to_end bytes file × ArePiecesAfter file.samples file.back after × (reason ≡ option_map Refused (file_refusal asked ps file after)))
 
 -- This is the first reason, if there is one: the first line of the list that is no predictor; else that.
 abbrev pub IsWaveReason : Asked → (bytes : List ℕ) → Option WaveRefusal → Type 0
@@ -58,6 +58,7 @@ IsWaveReason asked bytes reason =
 -- why an encoding is refused whose file is
 abbrev pub refusal_of_wave : WaveError → WaveRefusal
 refusal_of_wave error.Memory = Refused (refusal.Input why.Memory)
+refusal_of_wave error.Read = Refused (refusal.Input why.Read)
 refusal_of_wave (error.Fault fault) = Wave fault
 
 -- no fault of what was asked for: out of memory, or the target failed

@@ -189,11 +189,12 @@ format_as asked file = format_with asked file.format (depth_for file)
 abbrev pub asked_of_wave : Asked → Parts → Asked
 asked_of_wave asked file = record asked { format = format_as asked.format file }
 
--- This is a WAV file of these samples, and these are the blocks that keep it, if that is asked for.
+-- This is a WAV file of these samples, which may go on to its end if that is asked for, and these are the blocks that keep
+-- it, if that is asked for.
 pub record Keeps (asked : Asked) (bytes : List ℕ) (format : RawFormat) (a : Sound) (list : List Block) : Type 0 where
   pub file : Parts
   pub pieces : List (List ℕ)
-  pub wave : IsWave bytes file
+  pub wave : IsWave asked.to_end bytes file
   pub cut : ArePiecesAfter file.samples file.back pieces
   pub small : AreSmall file.samples
   pub form : format ≡ format_as asked.format file
@@ -211,7 +212,7 @@ pub record EncodesWave (asked : Asked) (bytes : List ℕ) (before after : List B
   pub predictors : List LinearPredictor
   pub keeps : Keeps asked bytes format audio list
   pub listed : AreListed asked.list predictors
-  pub found : List (List LinearPredictor)
+  pub found : List (List (List LinearPredictor))
   pub sought : AreFound asked.effort predictors found
   pub encodes : EncodesIn asked.container (cut_found (record asked { format = format }) audio predictors found) list audio before after
   pub back : asked.keep ≡ true → wave_in (parts_in asked.container (cut_found (record asked { format = format }) audio predictors found) list audio before after encodes) ≡ bytes
@@ -224,14 +225,14 @@ pub record BeginsWave (asked : Asked) (bytes : List ℕ) (before after : List Bo
   pub predictors : List LinearPredictor
   pub keeps : Keeps asked bytes format audio list
   pub listed : AreListed asked.list predictors
-  pub found : List (List LinearPredictor)
+  pub found : List (List (List LinearPredictor))
   pub sought : AreFound asked.effort predictors found
   pub begins : BeginsIn asked.container (cut_found (record asked { format = format }) audio predictors found) list audio before after
 
 -- what a job asks for whose list has this text, if it is an encoding of a WAV file; the format is the file's own
 abbrev pub asked_for_wave : Job → (list : List ℕ) → Option Asked
-asked_for_wave (job.EncodeWave input output size seek_every c comments lax predictors effort keep) list =
-    Some (record { profile = profile_of lax; format = record { rate = 0; channels = 0; bits = 0; block = size; seek_every = seek_every }; container = c; words = map (λ w. w.now) comments.items; list = list; effort = effort; any = true; keep = keep })
+asked_for_wave (job.EncodeWave input output size seek_every c comments lax predictors effort keep to_end) list =
+    Some (record { profile = profile_of lax; format = record { rate = 0; channels = 0; bits = 0; block = size; seek_every = seek_every }; container = c; words = map (λ w. w.now) comments.items; list = list; effort = effort; any = true; keep = keep; to_end = to_end })
 asked_for_wave other list = None
 
 -- this holds if the job is such an encoding

@@ -1,4 +1,5 @@
 -- What private contracts and proofs need, and no contract of an exported function.
+pub mod Heading
 pub mod Lined
 pub mod Outcomes
 pub mod Predictors
@@ -6,5 +7,6 @@ pub mod Preparing
 pub mod Raw
 pub mod Searching
 pub mod Taking
+pub mod Verifying
 pub mod WaveOutcomes
 pub mod Waving

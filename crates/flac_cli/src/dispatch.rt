@@ -145,6 +145,7 @@ pub fn run<R: Source, W: Target, O: Target, E: Target>(
                 effort: *effort,
                 any: *raw,
                 keep: false,
+                to_end: false,
             };
             match encode_raw(alloc, &encoding, source, target) {
                 Ok(()) => 0,
@@ -163,6 +164,7 @@ pub fn run<R: Source, W: Target, O: Target, E: Target>(
             lax,
             effort,
             keep,
+            to_end,
             ..
         } => {
             let profile = profile_of(*lax);
@@ -182,6 +184,7 @@ pub fn run<R: Source, W: Target, O: Target, E: Target>(
                 effort: *effort,
                 any: true,
                 keep: *keep,
+                to_end: *to_end,
             };
             run_encode_wave(alloc, task.job, &encoding, source, target, err)
         }

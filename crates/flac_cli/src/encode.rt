@@ -17,7 +17,7 @@ ghost use Rattle.flac_cli.specs.declared.encode.Refusal.TheVariants.{Input, Setu
 use crate::comments::comments_of;
 use crate::lines::{At, write_line};
 use crate::predictors::{ListFault, predictors_in};
-use crate::raw::{fill, read_channels};
+use crate::raw::read_channels;
 use crate::searching::searched;
 use flac_bits::{Source, Target, Why};
 use flac_frame::{Audio, SetupFault, format_fault};
@@ -26,6 +26,7 @@ use flac_meta::BlockList;
 use flac_native::{EncodeFault, Plan, Profile, encode, sample_width};
 use flac_ogg::encode_ogg;
 use flac_subframe::LinearPredictor;
+use flac_wave::fill;
 use std::alloc::Global;
 use std::io;
 
@@ -94,6 +95,8 @@ pub(crate) struct Encoding<'a> {
     pub(crate) any: bool,
     /// Whether all of a WAV file is kept.
     pub(crate) keep: bool,
+    /// Whether the samples of a WAV file may go on to its end, if it ends inside them.
+    pub(crate) to_end: bool,
 }
 
 /// Why raw samples are not encoded.

@@ -8,7 +8,6 @@ ghost use Rattle.flac_cli.specs.Asked.{asked_of};
 ghost use Rattle.flac_cli.specs.Refusals.{raw_fault, refusal_of, IsOutside as IsOutsideOf};
 ghost use Rattle.flac_cli.specs.Raw.{IsRaw, raw_sound};
 ghost use Rattle.flac_cli.specs.WaveRefusals.{refusal_of_wave, IsFileReason, IsWaveReason, IsOutside, IsWaveReport, at_chunk, wave_text};
-ghost use Rattle.flac_wave.specs.Shift.{AreBytes};
 ghost use Rattle.flac_cli.specs.Waves.{turned, stream_samples, format_with, contents, kept_list, blocks_for, riff_block, EncodesWave, BeginsWave};
 ghost use Rattle.flac_cli.specs.Speakers.{words_with};
 ghost use Rattle.flac_cli.specs.inner.Preparing.{IsReady};
@@ -23,20 +22,16 @@ use crate::comments::comments_of;
 use crate::encode::{Encoding, Refusal, audio_of, plan_of, refuse_encoding, write_stream};
 use crate::lines::{At, write_line};
 use crate::predictors::{ListFault, predictors_in};
-use crate::raw::fill;
 use crate::searching::searched;
 use crate::speakers::with_mask;
-use flac_bits::{Memory, Source, Target, Why};
+use flac_bits::{Memory, Source, Target, Why, bytes_fit};
 use flac_frame::{Audio, SetupFault};
 use flac_jobs::{Job, RawFormat};
 use flac_meta::{Block, BlockList, Bytes};
 use flac_native::{EncodeFault, Plan, Profile, sample_width};
 use flac_subframe::LinearPredictor;
-use flac_wave::{WaveError, WaveFault, WaveFormat, cut, lower, wave_of};
+use flac_wave::{WaveError, WaveFault, WaveFormat, cut, lower, read_all, wave_of};
 use std::alloc::{AllocError, Global};
-
-/// How many bytes are read at once, at most.
-const PIECE: usize = 16384;
 
 /// Why a WAV file is not encoded.
 #[derive(Clone, Copy)]
@@ -69,6 +64,7 @@ impl From<WaveError> for WaveRefusal {
     fn from(error: WaveError) -> WaveRefusal {
         match error {
             WaveError::Memory => WaveRefusal::Refused(Refusal::Input(Why::Memory)),
+            WaveError::Read => WaveRefusal::Refused(Refusal::Input(Why::Read)),
             WaveError::Fault(fault) => WaveRefusal::Wave(fault),
         }
     }
@@ -103,26 +99,6 @@ impl From<Refusal> for WaveRefusal {
 
     fn from(refusal: Refusal) -> WaveRefusal {
         WaveRefusal::Refused(refusal)
-    }
-}
-
-/// All bytes of a source.
-///
-/// # Errors
-/// [`Why::Read`] if the source returns an error, [`Why::Memory`] if an allocation fails.
-fn read_all<R: Source>(alloc: Global, source: &mut R) -> Result<Vec<u8>, Why>
-    ensures bytes { IfOk result (λ bytes. R.known source.old ≡ true → bytes.items ≡ R.coming source.old) }
-    ensures memory { IfErr result (λ e. R.known source.old ≡ true → R.raised source.new ≡ R.raised source.old →
-        e ≡ why.Memory) }
-{
-    let mut bytes = Vec::new(alloc);
-    let mut piece = [0u8; PIECE];
-    'pieces: loop {
-        let count = fill(source, &mut piece, PIECE)?;
-        bytes.extend_from_slice(&piece[..count])?;
-        if count < PIECE {
-            return Ok(bytes);
-        }
     }
 }
 
@@ -198,11 +174,6 @@ fn wave_audio(
     let raw = changed_or(&changed, samples);
     audio_of(alloc, &mut Memory::new(raw), profile, format)
 }
-
-/// Does nothing: it is called for the proof alone, that each byte is below 256.
-fn bytes_fit(bytes: &[u8])
-    ensures { AreBytes bytes.now }
-{}
 
 /// Adds blocks that keep these pieces.
 fn keep(blocks: &mut Vec<Block>, alloc: Global, pieces: &[Vec<u8>]) -> Result<(), AllocError>
@@ -304,7 +275,7 @@ fn taken_apart(
         IsFileReason (asked_of encoding.now) predictors.items bytes.now (Some e)) }
     ensures unwritten { IfErr result (λ e. e ≢ Refused (refusal.Output EncodeFault.Write)) }
 {
-    let wave = wave_of(alloc, bytes)?;
+    let wave = wave_of(alloc, bytes, encoding.to_end)?;
     bytes_fit(wave.samples);
     let depth = wave.format.depth_of(wave.samples);
     let format = format_of(&wave.format, depth, encoding.format);

@@ -139,7 +139,7 @@ impl<W: Target> Lines<W> {
     ///
     /// # Errors
     /// [`Why::Write`] if the target fails.
-    fn put_both(&mut self, first: &str, second: &str) -> Result<(), Why>
+    pub(crate) fn put_both(&mut self, first: &str, second: &str) -> Result<(), Why>
         ensures { Adds W.Target (first.now ++ second.now) self.old.target self.new.target
             (take self.old.held self.old.bytes) (take self.new.held self.new.bytes) result }
     {
@@ -233,6 +233,8 @@ fn put_line<W: Target>(lines: &mut Lines<W>, path: &str, at: At, text: &str) -> 
 /// [`Why::Write`] if the target fails.
 pub(crate) fn write_line<E: Target>(err: &mut E, path: &str, at: At, text: &str) -> Result<(), Why>
     ensures sent { HasSent E.Target err.old err.new (fault_line path.now (text_at at text.now)) result }
+    ensures kept { E.errors err.old ≤ E.errors err.new }
+    ensures known { OnOk result (E.known err.old ≡ true → E.known err.new ≡ true) }
     ensures failed { OnErr result (E.known err.old ≡ true → E.errors err.old < E.errors err.new) }
 {
     let mut lines = Lines::new(err);

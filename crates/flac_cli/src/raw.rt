@@ -8,40 +8,11 @@ ghost use Rattle.flac_cli.specs.inner.Raw.{IsPart, AreParts, IsMore, AreChannels
 
 use byteorder::{ByteOrder, LittleEndian};
 use flac_bits::{Source, Why};
+use flac_wave::fill;
 use std::alloc::Global;
 
 /// How many bytes are read at once, at most.
 const PIECE: usize = 16384;
-
-/// Fills the front of `places` with the next bytes of a source, at most `most`, and returns how many: fewer if the
-/// source ends.
-///
-/// # Errors
-/// [`Why::Read`] if the source returns an error.
-pub(crate) fn fill<R: Source>(source: &mut R, places: &mut [u8], most: usize) -> Result<usize, Why>
-    requires { most ≤ length places.old }
-    ensures few { IfOk result (λ n. n ≤ most) }
-    ensures bytes { IfOk result (λ n. R.known source.old ≡ true →
-        R.coming source.old ≡ take n places.new ++ R.coming source.new) }
-    ensures end { IfOk result (λ n. n < most → R.known source.old ≡ true → R.coming source.new ≡ []) }
-    ensures known { OnOk result (R.known source.old ≡ true → R.known source.new ≡ true) }
-    ensures counted { OnOk result (R.raised source.new ≡ R.raised source.old) }
-    ensures most { IfOk result (λ n. R.most source.new + n ≤ R.most source.old) }
-    ensures failed { OnErr result (R.known source.old ≡ true → R.raised source.old < R.raised source.new) }
-    ensures names { R.names source.new ≡ R.names source.old }
-{
-    let mut count = 0;
-    while count < most {
-        let Ok(more) = source.pull(&mut places[count..most]) else {
-            return Err(Why::Read);
-        };
-        if more == 0 {
-            return Ok(count);
-        }
-        count += more;
-    }
-    Ok(count)
-}
 
 /// The number that 1 to 4 bytes are in two's complement, the lowest byte first.
 #[inline(always)]

@@ -22,7 +22,8 @@ fn search_of(effort: SearchEffort) -> Option<Search>
     }
 }
 
-/// The plan with the linear predictors that are found for each block after those of the plan, if they are sought.
+/// The plan with the linear predictors that are found for each plane of each block after those of the plan, if they are
+/// sought.
 ///
 /// # Errors
 /// [`Why::Memory`] if an allocation fails.

@@ -40,6 +40,6 @@ unfoldable pub may_replace : Job → (input old : List ℕ) → Bool
 may_replace (job.Decode path output lax) input old = is_none (file_kind old)
 may_replace (job.DecodeWave path output lax) input old = may_be_wave (file_kind old)
 may_replace (job.Encode path output format container comments lax predictors effort raw) input old = may_be_stream (file_kind old)
-may_replace (job.EncodeWave path output block seek_every container comments lax predictors effort keep) input old = may_be_stream (file_kind old)
+may_replace (job.EncodeWave path output block seek_every container comments lax predictors effort keep to_end) input old = may_be_stream (file_kind old)
 may_replace (job.Retag path output comments) input old = begins_native input && (begins_native old && is_same_info input old)
 may_replace other input old = true

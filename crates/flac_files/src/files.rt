@@ -6,9 +6,63 @@ use crate::replacing::{FRONT, begins_native, may_replace};
 use flac_jobs::Job;
 use std::fs::{File, Metadata, OpenOptions};
 use std::io;
-use std::io::{ErrorKind, Stdout, Write};
+use std::io::{ErrorKind, Read, Stdin, Stdout, Write};
 use std::os::unix::fs::{FileExt, MetadataExt, OpenOptionsExt};
 use std::path::PathBuf;
+
+/// The path that stands for standard input and standard output.
+const STANDARD: &str = "-";
+
+/// The path that the system has for standard input.
+const STANDARD_INPUT: &str = "/dev/stdin";
+
+/// The path that the system has for standard output.
+const STANDARD_OUTPUT: &str = "/dev/stdout";
+
+/// The most bytes of a file's name.
+const MOST_OF_NAME: usize = 255;
+
+/// What a job reads.
+#[derive(Drop)]
+pub enum Input {
+    /// A file, opened for the job.
+    File(File),
+    /// Standard input, from its current position on.
+    Standard(Stdin),
+}
+
+impl Input {
+    /// Opens what a job reads: `-` is standard input.
+    ///
+    /// # Errors
+    /// That of the system.
+    pub(crate) fn open(rt: &HostRuntime, path: &str) -> io::Result<Input> {
+        if path == STANDARD {
+            return Ok(Input::Standard(rt.stdin()));
+        }
+        Ok(Input::File(File::open(rt, path)?))
+    }
+
+    /// What the system knows of the file.
+    ///
+    /// # Errors
+    /// That of the system.
+    fn metadata(&self, rt: &HostRuntime) -> io::Result<Metadata> {
+        match self {
+            Input::File(file) => file.metadata(),
+            Input::Standard(_) => std::fs::metadata(rt, STANDARD_INPUT),
+        }
+    }
+}
+
+impl Read for Input {
+    fn read(&mut self, places: &mut [u8]) -> io::Result<usize> {
+        match self {
+            Input::File(file) => file.read(places),
+            Input::Standard(input) => input.read(places),
+        }
+    }
+}
 
 /// What a job writes to.
 #[derive(Drop)]
@@ -100,6 +154,12 @@ impl Replacement {
         }
         Ok(())
     }
+
+    /// Removes the new file. The old one stays as it was.
+    pub(crate) fn remove(self, rt: &HostRuntime) {
+        // If it cannot be removed, it stays beside the old one.
+        let _ = std::fs::remove_file(rt, self.part.as_str());
+    }
 }
 
 /// A file that the job reads, which it must not write.
@@ -110,15 +170,26 @@ pub struct Known<'a> {
 }
 
 impl<'a> Known<'a> {
-    /// The opened file of this path.
+    /// The opened file of this path, of which the system knows this.
+    pub(crate) fn of(path: &'a str, found: Metadata) -> Known<'a> {
+        Known { path, found }
+    }
+
+    /// What is read of this path, opened.
     ///
     /// # Errors
     /// That of the system.
-    pub(crate) fn of(path: &'a str, file: &File) -> io::Result<Known<'a>> {
-        Ok(Known {
-            path,
-            found: file.metadata()?,
-        })
+    pub(crate) fn of_input(
+        rt: &HostRuntime,
+        path: &'a str,
+        input: &Input,
+    ) -> io::Result<Known<'a>> {
+        let path = if path == STANDARD {
+            STANDARD_INPUT
+        } else {
+            path
+        };
+        Ok(Known::of(path, input.metadata(rt)?))
     }
 
     /// Refuses a path that leads to this file.
@@ -139,7 +210,7 @@ pub(crate) struct Rule<'a> {
     /// The job.
     pub(crate) job: &'a Job<'a>,
     /// The file that it reads, opened.
-    pub(crate) input: &'a File,
+    pub(crate) input: &'a Input,
     /// Whether it may replace any file.
     pub(crate) force: bool,
 }
@@ -178,10 +249,13 @@ impl Rule<'_> {
 /// reports.
 ///
 /// # Errors
-/// It is a pipe: its bytes could not be read again.
-fn front_of_input(file: &File, places: &mut [u8]) -> io::Result<usize>
+/// It is a pipe or standard input: its bytes could not be read again.
+fn front_of_input(input: &Input, places: &mut [u8]) -> io::Result<usize>
     ensures { IfOk result (λ n. n ≤ length places.new) }
 {
+    let Input::File(file) = input else {
+        return Err(io::Error::from(ErrorKind::NotSeekable));
+    };
     match read_front(file, places) {
         Ok(count) => Ok(count),
         Err(error) if error.kind() == ErrorKind::NotSeekable => Err(error),
@@ -217,7 +291,7 @@ fn read_front(file: &File, places: &mut [u8]) -> io::Result<usize>
 ///
 /// The files that the job reads are refused. First the paths are compared, with `.`, `..` and symbolic links resolved.
 /// Then the file is opened, and its device and inode are compared with those of each, so that a hard link is seen too.
-/// `/dev/stdout` is standard output itself and not its file opened anew, so that bytes are added to a file that the
+/// `-` and `/dev/stdout` are standard output itself and not its file opened anew, so that bytes are added to a file that the
 /// caller appends to.
 ///
 /// # Errors
@@ -229,11 +303,16 @@ pub(crate) fn create(
     list: Option<&Known<'_>>,
     rule: Rule<'_>,
 ) -> io::Result<(Output, Option<Replacement>)> {
+    let path = if path == STANDARD {
+        STANDARD_OUTPUT
+    } else {
+        path
+    };
     input.refuse_path(rt, path)?;
     if let Some(list) = list {
         list.refuse_path(rt, path)?;
     }
-    if path == "/dev/stdout" {
+    if path == STANDARD_OUTPUT {
         differ_from_all(&std::fs::metadata(rt, path)?, input, list)?;
         return Ok((Output::Standard(rt.stdout()), None));
     }
@@ -252,11 +331,12 @@ pub(crate) fn create(
 }
 
 /// Creates a new file beside another, with the same permissions; at no time has it more. Its path is that of the other
-/// followed by `.part`, or by `.part2` to `.part99` if that is taken.
+/// followed by `.part`, or by `.part2` to `.part99` if that is taken. If its name would be too long, the end of the
+/// other's is left out.
 ///
 /// # Errors
 /// The file cannot be created.
-fn create_beside(
+pub(crate) fn create_beside(
     rt: &HostRuntime,
     path: &str,
     found: &Metadata,
@@ -294,9 +374,21 @@ fn create_beside(
 /// Out of memory.
 fn part_name(rt: &HostRuntime, path: &str, n: u32) -> io::Result<String> {
     if n == 1 {
+        let path = shortened(path, ".part".len());
         return Ok(format!(in rt.alloc(); "{path}.part")?);
     }
+    let path = shortened(path, ".part99".len());
     Ok(format!(in rt.alloc(); "{path}.part{n}")?)
+}
+
+/// A path without as much of the end of its name that `more` bytes can be added to the name.
+fn shortened(path: &str, more: usize) -> &str {
+    let folder = match path.rfind('/') {
+        Some(at) => at.saturating_add(1),
+        None => 0,
+    };
+    let most = folder.saturating_add(MOST_OF_NAME.saturating_sub(more));
+    path.get(..path.floor_char_boundary(most)).unwrap_or(path)
 }
 
 /// Refuses a file that the job reads.

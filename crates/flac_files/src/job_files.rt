@@ -3,7 +3,7 @@
 ghost use Rattle.std.specs.Prelude.{◌≡◌, ◌≤◌, ◌⊎◌, [], Some, None, length, IfOk, IfErr, OnErr};
 ghost use Rattle.flac_jobs.specs.Asks.{input_of, list_of, output_of};
 
-use crate::files::{Known, Output, Replacement, Rule, create};
+use crate::files::{Input, Known, Output, Replacement, Rule, create};
 use crate::list::List;
 use flac_jobs::Job;
 use std::fs::File;
@@ -12,7 +12,7 @@ use std::fs::File;
 #[derive(Drop)]
 pub struct JobFiles<'a> {
     /// What the job reads.
-    pub input: File,
+    pub input: Input,
     /// Its list of predictors.
     pub list: List<'a>,
     /// What it writes to.
@@ -22,7 +22,8 @@ pub struct JobFiles<'a> {
 }
 
 impl<'a> JobFiles<'a> {
-    /// Opens the files of a job: what it reads, its list of predictors if it has one, and what it writes. With `force`
+    /// Opens the files of a job: what it reads, its list of predictors if it has one, and what it writes. The path `-`
+    /// is standard input, or standard output. With `force`
     /// it may replace any file that it does not read, else those that [`crate::may_replace`] lets it.
     ///
     /// # Errors
@@ -34,11 +35,12 @@ impl<'a> JobFiles<'a> {
     ) -> Result<JobFiles<'a>, FileRefused<'a>>
         ensures few { IfOk result (λ files. length files.list.text.items ≤ 1048576) }
         ensures none { list_of job.now ≡ None → IfOk result (λ files. files.list.text.items ≡ []) }
-        ensures refused { IfErr result (λ refused. (refused.path.now ≡ input_of job.now) ⊎ ((list_of job.now ≡ Some refused.path.now) ⊎ (output_of job.now ≡ Some refused.path.now))) }
+        ensures refused { IfErr result (λ refused. (refused.path.now ≡ input_of job.now)
+            ⊎ ((list_of job.now ≡ Some refused.path.now) ⊎ (output_of job.now ≡ Some refused.path.now))) }
     {
         let standard = StandIns::new(rt);
         let path = job.input();
-        let Ok(input) = File::open(rt, path) else {
+        let Ok(input) = Input::open(rt, path) else {
             return Err(FileRefused {
                 path,
                 what: "opened",
@@ -84,7 +86,7 @@ fn created<'a>(
         path,
         what: "created",
     };
-    let Ok(input) = Known::of(job.input(), rule.input) else {
+    let Ok(input) = Known::of_input(rt, job.input(), rule.input) else {
         return Err(refused);
     };
     match create(rt, path, &input, list.file.as_ref(), rule) {
@@ -133,12 +135,12 @@ impl<'a> Ending<'a> {
 /// Files that take the file descriptors of standard files that were closed when the program began. Else files of the
 /// job would get them.
 #[derive(Drop)]
-struct StandIns {
+pub(crate) struct StandIns {
     files: (Option<File>, Option<File>, Option<File>),
 }
 
 impl StandIns {
-    fn new(rt: &HostRuntime) -> StandIns {
+    pub(crate) fn new(rt: &HostRuntime) -> StandIns {
         StandIns {
             files: (stand_in(rt), stand_in(rt), stand_in(rt)),
         }

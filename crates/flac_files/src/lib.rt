@@ -9,8 +9,13 @@ mod files;
 mod job_files;
 mod list;
 mod replacing;
+mod shelf;
+mod tag_files;
+mod walk;
 
-pub use files::{Known, Output};
+pub use files::{Input, Known, Output};
 pub use job_files::{Ending, FileRefused, JobFiles};
 pub use list::List;
 pub use replacing::may_replace;
+pub use shelf::FileShelf;
+pub use tag_files::{FileDevice, NewFile, TagFile};

@@ -52,7 +52,7 @@ impl<'a> List<'a> {
     fn read(rt: &HostRuntime, path: &'a str, file: File) -> io::Result<List<'a>>
         ensures few { IfOk result (λ list. length list.text.items ≤ 1048576) }
     {
-        let known = Known::of(path, &file)?;
+        let known = Known::of(path, file.metadata()?);
         let mut text = Vec::new(rt.alloc());
         file.take(MOST + 1).read_to_end(&mut text)?;
         if text.len() as u64 > MOST {

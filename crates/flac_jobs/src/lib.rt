@@ -1,4 +1,4 @@
-//! What the program `flac` can be asked for: a job, the format of raw samples, how far predictors are sought, and why a
+//! What the program `flac` can be asked for: a job or a listing of files, the format of raw samples, how far predictors are sought, and why a
 //! command line is refused; and the kinds of files that may hold a song.
 #![tactic(auto)]
 
@@ -6,10 +6,18 @@ mod formats;
 mod jobs;
 mod kinds;
 mod line_faults;
+mod listings;
+mod requests;
 mod search_effort;
+mod taggings;
+mod verifications;
 
 pub use formats::{ContainerKind, RawFormat};
 pub use jobs::{CommandLine, Job};
 pub use kinds::{FileKind, file_kind};
 pub use line_faults::LineFault;
+pub use listings::Listing;
+pub use requests::Request;
 pub use search_effort::SearchEffort;
+pub use taggings::{TagEdit, TagMode, Tagging};
+pub use verifications::Verification;

@@ -2,7 +2,7 @@
 
 ghost use Rattle.std.specs.Prelude.{◌≡◌, ◌≢◌, ◌≤◌, ◌⊎◌};
 
-use std::alloc::Global;
+use std::alloc::{AllocError, Global};
 use std::borrow::CowStr;
 use std::io::ErrorKind;
 
@@ -35,6 +35,36 @@ impl LineFault {
     {
         LineFault {
             text: CowStr::Borrowed("flac: command: comment without =\n"),
+            status: 2,
+        }
+    }
+
+    /// The name of a comment is empty, or has a byte outside 20 to 7E (hexadecimal): status 2.
+    pub fn field_name() -> LineFault
+        ensures { result.status ≡ 2 }
+    {
+        LineFault {
+            text: CowStr::Borrowed("flac: command: 55 FieldName\n"),
+            status: 2,
+        }
+    }
+
+    /// Files cannot be edited in place alone, and as new files alone: status 2.
+    pub fn both_modes() -> LineFault
+        ensures { result.status ≡ 2 }
+    {
+        LineFault {
+            text: CowStr::Borrowed("flac: command: --in-place with --rewrite\n"),
+            status: 2,
+        }
+    }
+
+    /// The command line asks for something else than a job: status 2.
+    pub fn no_job() -> LineFault
+        ensures { result.status ≡ 2 }
+    {
+        LineFault {
+            text: CowStr::Borrowed("flac: command: no job\n"),
             status: 2,
         }
     }
@@ -75,6 +105,19 @@ impl LineFault {
         LineFault {
             text: CowStr::Borrowed("flac: command: a word is not text\n"),
             status: 2,
+        }
+    }
+
+    /// The word of this number is not UTF-8, the program's name being word 0: status 2, or 1 if an allocation fails.
+    pub fn not_text(alloc: Global, number: usize) -> LineFault
+        ensures { (result.status ≡ 1) ⊎ (result.status ≡ 2) }
+    {
+        match format!(in alloc; "flac: command: word {number} is not text\n") {
+            Ok(text) => LineFault {
+                text: CowStr::Owned(text),
+                status: 2,
+            },
+            Err(AllocError) => LineFault::no_memory(),
         }
     }
 

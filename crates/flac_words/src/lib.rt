@@ -1,6 +1,7 @@
 //! The command line of the program.
 #![tactic(auto)]
 
+mod usage;
 mod words;
 
-pub use words::{command_line, given_words, job};
+pub use words::{command_line, given_words, job, request};

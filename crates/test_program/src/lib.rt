@@ -3,6 +3,8 @@
 #![tactic(auto)]
 
 #[cfg(test)]
+mod heads;
+#[cfg(test)]
 mod hostile;
 #[cfg(test)]
 mod program;
@@ -10,3 +12,5 @@ mod program;
 mod strange;
 #[cfg(test)]
 mod tables;
+#[cfg(test)]
+mod verifying;

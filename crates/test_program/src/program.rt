@@ -7,7 +7,8 @@ use crate::tables::{
 use flac_bits::{Collected, Counted, Memory, Pieces, Source, Target};
 use flac_cli::{ContainerKind, Job, LineFault, RawFormat, SearchEffort, Task, run};
 use flac_files::may_replace;
-use flac_words::{command_line, given_words, job};
+use flac_jobs::Request;
+use flac_words::{command_line, given_words, job, request};
 use std::alloc::Global;
 use std::borrow::CowStr;
 use std::io;
@@ -38,10 +39,10 @@ const LIST: Job<'static> = Job::List {
 /// The status of a command, and what it wrote to its file, to standard output and to standard error.
 #[derive(Drop)]
 pub(crate) struct Outcome {
-    status: u8,
-    file: Vec<u8>,
-    out: Vec<u8>,
-    err: Vec<u8>,
+    pub(crate) status: u8,
+    pub(crate) file: Vec<u8>,
+    pub(crate) out: Vec<u8>,
+    pub(crate) err: Vec<u8>,
 }
 
 impl Outcome {
@@ -54,7 +55,7 @@ impl Outcome {
     }
 
     /// Whether the same came of another command.
-    fn equals(&self, other: &Outcome) -> bool {
+    pub(crate) fn equals(&self, other: &Outcome) -> bool {
         self.status == other.status
             && self.file.as_slice() == other.file.as_slice()
             && self.out.as_slice() == other.out.as_slice()
@@ -249,7 +250,7 @@ fn commanded(
 }
 
 /// What a row wants: a status, and the contents of the file, of standard output and of standard error.
-fn wanted_of(alloc: Global, answer: &str) -> Result<Outcome, Fail> {
+pub(crate) fn wanted_of(alloc: Global, answer: &str) -> Result<Outcome, Fail> {
     let mut fields = answer.split(" | ");
     let status = fields.next().unwrap_or("").parse::<u8>()?;
     let file = bytes_of(alloc, fields.next().unwrap_or(""))?;
@@ -537,13 +538,14 @@ fn refusal_of(alloc: Global, status: u8, text: &str) -> Result<String, Fail> {
     Ok(format!(in alloc; "{status} {text}")?)
 }
 
-/// What a command line is read as: the job, after `force` if it may replace any file; or the status and the text of the
-/// refusal, its lines ended by `;`.
+/// What a command line is read as: the job, after `force` if it may replace any file; another request; or the status and
+/// the text of the refusal, its lines ended by `;`.
 fn read_as(alloc: Global, line: &str) -> Result<String, Fail> {
     let words = words_of(alloc, line)?;
-    match command_line(alloc, words.as_slice()) {
-        Ok(line) if line.force => Ok(format!(in alloc; "force {:?}", line.job)?),
-        Ok(line) => Ok(format!(in alloc; "{:?}", line.job)?),
+    match request(alloc, words.as_slice()) {
+        Ok(Request::Job(line)) if line.force => Ok(format!(in alloc; "force {:?}", line.job)?),
+        Ok(Request::Job(line)) => Ok(format!(in alloc; "{:?}", line.job)?),
+        Ok(other) => Ok(format!(in alloc; "{other:?}")?),
         Err(fault) => refusal_of(alloc, fault.status, &fault.text),
     }
 }
@@ -612,6 +614,23 @@ fn words_not_read(rt: HostRuntime) -> Result<(), Fail> {
         let fault = LineFault::reading(kind);
         let text = refusal_of(rt.alloc(), fault.status, &fault.text)?;
         assert!(rt; text.as_str() == wanted, "{wanted}");
+    }
+    let fault = LineFault::not_text(rt.alloc(), 2);
+    let text = refusal_of(rt.alloc(), fault.status, &fault.text)?;
+    assert!(rt; text.as_str() == "2 flac: command: word 2 is not text;");
+    Ok(())
+}
+
+/// A command line that asks for no job.
+#[test]
+fn words_of_no_job(rt: HostRuntime) -> Result<(), Fail> {
+    let words = words_of(rt.alloc(), "flac list a.flac b.flac")?;
+    match command_line(rt.alloc(), words.as_slice()) {
+        Ok(_) => assert!(rt; false, "a job"),
+        Err(fault) => {
+            let text = refusal_of(rt.alloc(), fault.status, &fault.text)?;
+            assert!(rt; text.as_str() == "2 flac: command: no job;");
+        }
     }
     Ok(())
 }

@@ -265,6 +265,30 @@ list a.flac | MORE 850001e031005c 00*130 01588880 00*258 02000000000000000001414
 # A block of every kind.
 list a.flac | MORE 02000006616243ff0102 03000036 00*16 1000000000000000100000000000000001020010ffffffffffffffff00000000000000070001 0400001c03000000615c620200000009000000583d7f7e20c3a90a5b00000000 0600002e0000000300000009696d6167652f706e6700000003610a62000000020000000500000018000000000000000200ff 7e000003616263 010000020007 850001e031005c 00*130 01588880 00*258 0200000000000000000141420000000000000000000040 00*13 01000000000000024c010000000000000000000930aa 00*12 80 00*14 | 0 |  | block 0 STREAMINFO 34;  blocks 16 4096 frames 0 0 rate 44100 channels 1 depth 16 samples 0;  md5 00000000000000000000000000000000;block 1 APPLICATION 6;  id 616243ff;block 2 SEEKTABLE 54;  point 0 0 4096;  point 4096 258 16;  placeholder;block 3 VORBIS_COMMENT 28;  vendor a\x5cb;  comment X=\x7f~ \xc3\xa9\x0a[;  comment ;block 4 PICTURE 46;  type 3 media image/png text a\x0ab size 2x5 depth 24 colours 0 data 2;block 5 TYPE_126 3;block 6 PADDING 2;block 7 CUESHEET 480;  catalogue 1\x00\x5c lead_in 88200 cd 1;  track 1 offset 0 isrc AB type audio pre 1;  index 1 offset 588;  track 170 offset 2352 isrc  type data pre 0;"#;
 
+/// Streams of which the blocks alone are listed: the stream, the status, and what is written to its file (nothing), to
+/// standard output and to standard error.
+pub(crate) const HEADS: &str =
+    "# A frame, one that is cut, none, and bytes that are none; in Ogg pages that are no frames, and none.
+EXAMPLE | 0 |  | block 0 STREAMINFO 34;  blocks 4096 4096 frames 15 15 rate 44100 channels 2 depth 16 samples 1;  md5 00000000000000000000000000000000;
+EXAMPLE_INFO fff869180000bf0358fd03128baa | 0 |  | block 0 STREAMINFO 34;  blocks 4096 4096 frames 15 15 rate 44100 channels 2 depth 16 samples 1;  md5 00000000000000000000000000000000;
+EXAMPLE_INFO | 0 |  | block 0 STREAMINFO 34;  blocks 4096 4096 frames 15 15 rate 44100 channels 2 depth 16 samples 1;  md5 00000000000000000000000000000000;
+EXAMPLE_INFO 00*64 | 0 |  | block 0 STREAMINFO 34;  blocks 4096 4096 frames 15 15 rate 44100 channels 2 depth 16 samples 1;  md5 00000000000000000000000000000000;
+PAGES | 0 |  | block 0 STREAMINFO 34;  blocks 4096 4096 frames 15 15 rate 44100 channels 2 depth 16 samples 1;  md5 3e84b41807dc690307586a3dad1a2e0f;block 1 VORBIS_COMMENT 8;  vendor ;
+MAPPING COMMENT | 0 |  | block 0 STREAMINFO 34;  blocks 4096 4096 frames 15 15 rate 44100 channels 2 depth 16 samples 1;  md5 3e84b41807dc690307586a3dad1a2e0f;block 1 VORBIS_COMMENT 8;  vendor ;
+MAPPING COMMENT 00 | 0 |  | block 0 STREAMINFO 34;  blocks 4096 4096 frames 15 15 rate 44100 channels 2 depth 16 samples 1;  md5 3e84b41807dc690307586a3dad1a2e0f;block 1 VORBIS_COMMENT 8;  vendor ;
+MAPPING COMMENT SHORT_FRAME | 0 |  | block 0 STREAMINFO 34;  blocks 4096 4096 frames 15 15 rate 44100 channels 2 depth 16 samples 1;  md5 3e84b41807dc690307586a3dad1a2e0f;block 1 VORBIS_COMMENT 8;  vendor ;
+# Outside the streamable subset, without --lax.
+664c614380000022001000100000000000001000104000000010 00*16 fff86000000fc700000572 | 0 |  | block 0 STREAMINFO 34;  blocks 16 16 frames 0 0 rate 65537 channels 1 depth 5 samples 16;  md5 00000000000000000000000000000000;
+# Refused at the marker, and at blocks.
+ | 1 |  |  | flac: a.flac: marker: 3 Truncated;
+664c61 | 1 |  |  | flac: a.flac: marker: 3 Truncated;
+664c6142 | 1 |  |  | flac: a.flac: marker: 4 BadMarker;
+664c614381000000 | 1 |  |  | flac: a.flac: block 0: 5 NotStreamInfoFirst;
+MORE | 1 |  | block 0 STREAMINFO 34;  blocks 16 4096 frames 0 0 rate 44100 channels 1 depth 16 samples 0;  md5 00000000000000000000000000000000; | flac: a.flac: block 1: 3 Truncated;
+MORE ff000000 | 1 |  | block 0 STREAMINFO 34;  blocks 16 4096 frames 0 0 rate 44100 channels 1 depth 16 samples 0;  md5 00000000000000000000000000000000; | flac: a.flac: block 1: 6 ForbiddenType;
+MORE 82000003 | 1 |  | block 0 STREAMINFO 34;  blocks 16 4096 frames 0 0 rate 44100 channels 1 depth 16 samples 0;  md5 00000000000000000000000000000000; | flac: a.flac: block 1: 7 BlockLength;
+MORE 80000021 | 1 |  | block 0 STREAMINFO 34;  blocks 16 4096 frames 0 0 rate 44100 channels 1 depth 16 samples 0;  md5 00000000000000000000000000000000; | flac: a.flac: block 1: 9 RepeatedBlock;";
+
 /// Raw samples that are encoded, in rows as those of native streams. The streams were put together by hand, with checks
 /// and digests that were worked out apart from this project.
 pub(crate) const ENCODINGS: &str =
@@ -426,6 +450,10 @@ decode a.flac a.wav | 664c6143000000220010001000000c00000c0ac440b000000001ab2a0d
 encode a.wav a.flac --block 16 --search none --no-keep | 52494646 3e000000 57415645 666d742028000000 feff 0100 44ac0000 88580100 0200 1000 1600 0c00 04000000 0100000000001000800000aa00389b71 64617461 02000000 f0ff | 0 | 664c6143000000220010001000000c00000c0ac440b000000001ab2a0d28de6b77ffdd6c72afead099ab COMMENTS fff869040000e700fff064e0
 encode a.wav a.flac --block 16 --search none --no-keep | 52494646 3e000000 57415645 666d742028000000 feff 0100 44ac0000 88580100 0200 1000 1600 0c00 01000000 0100000000001000800000aa00389b71 64617461 02000000 f0ff | 0 | 664c6143000000220010001000000c00000c0ac440b000000001ab2a0d28de6b77ffdd6c72afead099ab 84000046 0e000000 666c61632070726f66696c652031 01000000 2c000000 57415645464f524d4154455854454e5349424c455f4348414e4e454c5f4d41534b3d30783030303030303031 fff869040000e700fff064e0
 encode a.wav a.flac --block 16 --search none | 52494646 3e000000 57415645 666d742028000000 feff 0100 44ac0000 88580100 0200 1000 1600 0c00 01000000 0100000000001000800000aa00389b71 64617461 02000000 f0ff | 0 | 664c6143000000220010001000000c00000c0ac440b000000001ab2a0d28de6b77ffdd6c72afead099ab 04000046 0e000000 666c61632070726f66696c652031 01000000 2c000000 57415645464f524d4154455854454e5349424c455f4348414e4e454c5f4d41534b3d30783030303030303031 02000010 72696666 52494646 3e000000 57415645 02000034 72696666 666d742028000000 feff 0100 44ac0000 88580100 0200 1000 1600 0c00 01000000 0100000000001000800000aa00389b71 8200000c 72696666 64617461 02000000 fff869040000e700fff064e0
+# The same file, cut after its first sample: it is refused, or ends there; and cut inside the second sample.
+encode a.wav a.flac --block 16 --search none --no-keep | 52494646 3e000000 57415645 666d742028000000 feff 0100 44ac0000 88580100 0200 1000 1600 0c00 04000000 0100000000001000800000aa00389b71 64617461 04000000 f0ff | 1 |  |  | flac: a.wav: chunk 1: 69 DataCut;
+encode a.wav a.flac --block 16 --search none --no-keep --to-end | 52494646 3e000000 57415645 666d742028000000 feff 0100 44ac0000 88580100 0200 1000 1600 0c00 04000000 0100000000001000800000aa00389b71 64617461 04000000 f0ff | 0 | 664c6143000000220010001000000c00000c0ac440b000000001ab2a0d28de6b77ffdd6c72afead099ab COMMENTS fff869040000e700fff064e0
+encode a.wav a.flac --block 16 --search none --no-keep --to-end | 52494646 3e000000 57415645 666d742028000000 feff 0100 44ac0000 88580100 0200 1000 1600 0c00 04000000 0100000000001000800000aa00389b71 64617461 04000000 f0fff0 | 1 |  |  | flac: a.wav: chunk 1: 70 PartSample;
 # The speakers of such a comment are those of a plain file; of other values those of n channels are.
 decode a.flac a.wav | 664c6143000000220010001000000c00000c0ac440b000000001ab2a0d28de6b77ffdd6c72afead099ab 84000046 0e000000 666c61632070726f66696c652031 01000000 2c000000 57415645464f524d4154455854454e5349424c455f4348414e4e454c5f4d41534b3d30783030303030303031 fff869040000e700fff064e0 | 0 | 52494646 3e000000 57415645 666d742028000000 feff 0100 44ac0000 88580100 0200 1000 1600 0c00 01000000 0100000000001000800000aa00389b71 64617461 02000000 f0ff
 decode a.flac a.wav | 664c6143000000220010001000000c00000c0ac440b000000001ab2a0d28de6b77ffdd6c72afead099ab 84000041 0e000000 666c61632070726f66696c652031 01000000 27000000 57617665466f726d6174457874656e7369626c655f4368616e6e656c5f4d61736b3d3078363046 fff869040000e700fff064e0 | 0 | 52494646 3e000000 57415645 666d742028000000 feff 0100 44ac0000 88580100 0200 1000 1600 0c00 0f060000 0100000000001000800000aa00389b71 64617461 02000000 f0ff
@@ -555,9 +583,18 @@ flac decode a.flac a.raw | Decode { input: "a.flac", output: "a.raw", lax: false
 flac decode a.flac a.raw --lax | Decode { input: "a.flac", output: "a.raw", lax: true }
 flac decode a.flac a.raw --force | force Decode { input: "a.flac", output: "a.raw", lax: false }
 flac decode a.flac a.wav | DecodeWave { input: "a.flac", output: "a.wav", lax: false }
+flac decode a.flac a.WAV | DecodeWave { input: "a.flac", output: "a.WAV", lax: false }
+flac decode a.flac .wAv | DecodeWave { input: "a.flac", output: ".wAv", lax: false }
+flac decode a.flac a.wave | Decode { input: "a.flac", output: "a.wave", lax: false }
+flac decode a.flac wav | Decode { input: "a.flac", output: "wav", lax: false }
+flac decode - - | Decode { input: "-", output: "-", lax: false }
+flac decode - --wav - | DecodeWave { input: "-", output: "-", lax: false }
+flac test - | Test { input: "-", lax: false }
 flac decode --wav a.flac a.raw --force | force DecodeWave { input: "a.flac", output: "a.raw", lax: false }
 flac list a.flac | List { input: "a.flac", lax: false }
 flac list a.flac --lax | List { input: "a.flac", lax: true }
+flac list a.flac b.flac a.flac --lax | ListFiles(Listing { inputs: ["a.flac", "b.flac", "a.flac"], lax: true, head: false })
+flac list --head a.flac | ListFiles(Listing { inputs: ["a.flac"], lax: false, head: true })
 flac retag a.flac b.flac A=b | Retag { input: "a.flac", output: "b.flac", comments: ["A=b"] }
 flac retag --force a.flac b.flac A=b | force Retag { input: "a.flac", output: "b.flac", comments: ["A=b"] }
 flac retag a.flac ./TITLE=New | Retag { input: "a.flac", output: "./TITLE=New", comments: [] }
@@ -566,6 +603,10 @@ flac retag a.flac TITLE=New | 2 flac: command: OUT has the form of a comment; a 
 flac retag a.flac TITLE=New/b A=b --force | 2 flac: command: OUT has the form of a comment; a file of that name is ./TITLE=New/b;
 flac retag a.flac =b | 2 flac: command: OUT has the form of a comment; a file of that name is ./=b;
 flac retag a.flac TITLE=New none | 2 flac: command: comment without =;
+flac encode a.wav TITLE=New A=b | 2 flac: command: OUT has the form of a comment; a file of that name is ./TITLE=New;
+flac encode a.raw TITLE=New --rate 44100 --channels 2 --bits 16 | 2 flac: command: OUT has the form of a comment; a file of that name is ./TITLE=New;
+flac encode a.wav ./TITLE=New | EncodeWave { input: "a.wav", output: "./TITLE=New", block: 4096, seek_every: 0, container: Native, comments: [], lax: false, predictors: None, effort: Quick, keep: true, to_end: false }
+flac encode - - A=b | EncodeWave { input: "-", output: "-", block: 4096, seek_every: 0, container: Native, comments: ["A=b"], lax: false, predictors: None, effort: Quick, keep: true, to_end: false }
 flac decode a.flac A=b | Decode { input: "a.flac", output: "A=b", lax: false }
 flac encode a.raw a.flac --rate 44100 --channels 2 --bits 16 --seek-every 5 A=b | Encode { input: "a.raw", output: "a.flac", format: RawFormat { rate: 44100, channels: 2, bits: 16, block: 4096, seek_every: 5 }, container: Native, comments: ["A=b"], lax: false, predictors: None, effort: None, raw: false }
 flac encode a.raw a.oga --rate 44100 --channels 2 --bits 16 --ogg --serial 7 | Encode { input: "a.raw", output: "a.oga", format: RawFormat { rate: 44100, channels: 2, bits: 16, block: 4096, seek_every: 0 }, container: Ogg { serial: 7 }, comments: [], lax: false, predictors: None, effort: None, raw: false }
@@ -575,15 +616,16 @@ flac encode a.raw a.flac --rate 44100 --channels 2 --bits 5 --lax | Encode { inp
 flac encode a.raw a.flac --rate 44100 --channels 2 --bits 16 --predictors a.txt | Encode { input: "a.raw", output: "a.flac", format: RawFormat { rate: 44100, channels: 2, bits: 16, block: 4096, seek_every: 0 }, container: Native, comments: [], lax: false, predictors: Some("a.txt"), effort: None, raw: false }
 flac encode a.raw a.flac --rate 44100 --channels 2 --bits 16 --raw | Encode { input: "a.raw", output: "a.flac", format: RawFormat { rate: 44100, channels: 2, bits: 16, block: 4096, seek_every: 0 }, container: Native, comments: [], lax: false, predictors: None, effort: None, raw: true }
 flac encode a.raw a.flac --rate 44100 --channels 2 --bits 16 --force | force Encode { input: "a.raw", output: "a.flac", format: RawFormat { rate: 44100, channels: 2, bits: 16, block: 4096, seek_every: 0 }, container: Native, comments: [], lax: false, predictors: None, effort: None, raw: false }
-flac encode a.wav a.flac --force A=b | force EncodeWave { input: "a.wav", output: "a.flac", block: 4096, seek_every: 0, container: Native, comments: ["A=b"], lax: false, predictors: None, effort: Quick, keep: true }
-flac encode a.wav a.oga --ogg --block 16 --lax | EncodeWave { input: "a.wav", output: "a.oga", block: 16, seek_every: 0, container: Ogg { serial: 1 }, comments: [], lax: true, predictors: None, effort: Quick, keep: true }
+flac encode a.wav a.flac --force A=b | force EncodeWave { input: "a.wav", output: "a.flac", block: 4096, seek_every: 0, container: Native, comments: ["A=b"], lax: false, predictors: None, effort: Quick, keep: true, to_end: false }
+flac encode a.wav a.oga --ogg --block 16 --lax | EncodeWave { input: "a.wav", output: "a.oga", block: 16, seek_every: 0, container: Ogg { serial: 1 }, comments: [], lax: true, predictors: None, effort: Quick, keep: true, to_end: false }
 flac encode a.raw a.flac --rate 44100 --channels 2 --bits 16 --search none | Encode { input: "a.raw", output: "a.flac", format: RawFormat { rate: 44100, channels: 2, bits: 16, block: 4096, seek_every: 0 }, container: Native, comments: [], lax: false, predictors: None, effort: None, raw: false }
 flac encode a.raw a.flac --rate 44100 --channels 2 --bits 16 --search quick | Encode { input: "a.raw", output: "a.flac", format: RawFormat { rate: 44100, channels: 2, bits: 16, block: 4096, seek_every: 0 }, container: Native, comments: [], lax: false, predictors: None, effort: Quick, raw: false }
 flac encode a.raw a.flac --rate 44100 --channels 2 --bits 16 --search full | Encode { input: "a.raw", output: "a.flac", format: RawFormat { rate: 44100, channels: 2, bits: 16, block: 4096, seek_every: 0 }, container: Native, comments: [], lax: false, predictors: None, effort: Full, raw: false }
-flac encode a.wav a.flac --no-keep | EncodeWave { input: "a.wav", output: "a.flac", block: 4096, seek_every: 0, container: Native, comments: [], lax: false, predictors: None, effort: Quick, keep: false }
-flac encode a.wav a.flac --search none | EncodeWave { input: "a.wav", output: "a.flac", block: 4096, seek_every: 0, container: Native, comments: [], lax: false, predictors: None, effort: None, keep: true }
-flac encode a.wav a.flac --search quick | EncodeWave { input: "a.wav", output: "a.flac", block: 4096, seek_every: 0, container: Native, comments: [], lax: false, predictors: None, effort: Quick, keep: true }
-flac encode a.wav a.flac --search full | EncodeWave { input: "a.wav", output: "a.flac", block: 4096, seek_every: 0, container: Native, comments: [], lax: false, predictors: None, effort: Full, keep: true }
+flac encode a.wav a.flac --no-keep | EncodeWave { input: "a.wav", output: "a.flac", block: 4096, seek_every: 0, container: Native, comments: [], lax: false, predictors: None, effort: Quick, keep: false, to_end: false }
+flac encode a.wav a.flac --to-end | EncodeWave { input: "a.wav", output: "a.flac", block: 4096, seek_every: 0, container: Native, comments: [], lax: false, predictors: None, effort: Quick, keep: true, to_end: true }
+flac encode a.wav a.flac --search none | EncodeWave { input: "a.wav", output: "a.flac", block: 4096, seek_every: 0, container: Native, comments: [], lax: false, predictors: None, effort: None, keep: true, to_end: false }
+flac encode a.wav a.flac --search quick | EncodeWave { input: "a.wav", output: "a.flac", block: 4096, seek_every: 0, container: Native, comments: [], lax: false, predictors: None, effort: Quick, keep: true, to_end: false }
+flac encode a.wav a.flac --search full | EncodeWave { input: "a.wav", output: "a.flac", block: 4096, seek_every: 0, container: Native, comments: [], lax: false, predictors: None, effort: Full, keep: true, to_end: false }
 flac encode a.wav a.flac --search best | 2 error: invalid value 'best' for '--search <EFFORT>';  [possible values: none, quick, full];;For more information, try '--help'.;
 flac encode a.raw a.flac --rate 44100 --channels 2 --bits 16 --search 1 | 2 error: invalid value '1' for '--search <EFFORT>';  [possible values: none, quick, full];;For more information, try '--help'.;
 flac decode a.flac a.raw --search quick | 2 error: unexpected argument '--search' found*
@@ -596,17 +638,22 @@ flac encode a.raw a.flac --raw | 2 flac: command: raw samples need --rate, --cha
 flac encode a.raw a.flac --rate 44100 --channels 2 --bits 16 none | 2 flac: command: comment without =;
 flac encode a.raw a.flac --rate 44100 --channels 2 --bits 16 --ogg --seek-every 5 | 2 flac: command: --ogg with --seek-every;
 flac encode a.raw a.flac --rate 44100 --channels 2 --bits 16 --ogg --seek-every 5 none | 2 flac: command: comment without =;
-flac | 2 error: 'flac' requires a subcommand but one was not provided;  [subcommands: test, decode, list, encode, retag, help];;Usage: flac <COMMAND>;;For more information, try '--help'.;
+flac | 2 error: 'flac' requires a subcommand but one was not provided;  [subcommands: test, decode, list, encode, retag, tag, verify, help];;Usage: flac <COMMAND>;;For more information, try '--help'.;
 flac test | 2 error: the following required arguments were not provided:;  <IN>;;Usage: flac test <IN>;;For more information, try '--help'.;
-flac list | 2 error: the following required arguments were not provided:;  <IN>;;Usage: flac list <IN>;;For more information, try '--help'.;
+flac list | 2 error: the following required arguments were not provided:;  <IN>...;;Usage: flac list <IN>...;;For more information, try '--help'.;
 flac retag a.flac b.flac --lax | 2 error: unexpected argument '--lax' found*
 flac test a.flac --force | 2 error: unexpected argument '--force' found*
 flac retag a.flac b.flac --raw | 2 error: unexpected argument '--raw' found*
 flac decode a.flac | 2 error: the following required arguments were not provided:;  <OUT>;;Usage: flac decode <IN> <OUT>;;For more information, try '--help'.;
+flac -t a.flac | 2 flac: command: to test a stream: flac test IN;
+flac --test | 2 flac: command: to test a stream: flac test IN;
+flac -d a.flac | 2 flac: command: to decode a stream: flac decode IN OUT;
+flac --decode a.flac a.raw | 2 flac: command: to decode a stream: flac decode IN OUT;
+flac --version | 0 flac (proved) 1.0.0;
 flac play a.flac | 2 error: unrecognized subcommand 'play';;Usage: flac <COMMAND>;;For more information, try '--help'.;
 flac --help | 0 Tests*
 flac test --help | 0 Decodes a stream, and prints how many frames*
-flac decode --help | 0 Decodes a stream to raw samples*
+flac decode --help | 0 Decodes a stream to a WAV file, or to raw samples*
 flac list --help | 0 Decodes a stream, and lists its metadata blocks;*
 flac encode --help | 0 Encodes a WAV file, or raw samples*
 flac retag --help | 0 Writes a stream with other comments;*"#;

@@ -14,8 +14,8 @@ search_of efforts.None = None
 search_of efforts.Quick = Some Quick
 search_of efforts.Full = Some Full
 
--- This plan is the other one with what was found for each block.
+-- This plan is the other one with what was found for each plane of each block.
 pub record IsSearched (effort : SearchEffort) (plan tried : Cut) : Type 0 where
-  pub found : List (List LinearPredictor)
+  pub found : List (List (List LinearPredictor))
   pub sought : AreFound effort plan.predictors found
   pub is : tried ≡ with_found plan found

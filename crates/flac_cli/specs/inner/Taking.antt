@@ -1,5 +1,7 @@
 -- For proofs of the sinks: what they make of an item.
-use Rattle.std.specs.Prelude.{ℕ, ◌+◌, min}
+use Rattle.std.specs.Prelude.{ℕ, ◌+◌, min, Option}
+use Rattle.flac_info.specs.Info.{Info}
+use Rattle.flac_native.specs.Stream.{info_after}
 use Rattle.flac_native.specs.Item.{Item, metadata, frame}
 
 -- the count of frames after this item; it stops at 2^64 - 1
@@ -11,3 +13,8 @@ frames_after n (frame f) = min (n + 1) 18446744073709551615
 abbrev pub samples_after : ℕ → Item → ℕ
 samples_after n (metadata b) = n
 samples_after n (frame f) = min (n + f.size) 18446744073709551615
+
+-- the STREAMINFO that is known after this item
+abbrev pub info_after_item : Option Info → Item → Option Info
+info_after_item info (metadata b) = info_after info b
+info_after_item info (frame f) = info

@@ -7,6 +7,7 @@ use Rattle.flac_jobs.specs.declared.formats.RawFormat.{RawFormat}
 use Rattle.flac_wave.specs.Shift.{wave_width_of}
 use Rattle.flac_wave.proofs.Formats.{wave_whole}
 use Rattle.flac_cli.proofs.Failed.{not_setup, not_input}
+use Rattle.flac_cli.proofs.Waved.{are_wave_bytes}
 use Rattle.flac_cli.proofs.WaveRefused.{refused_samples, refused_plan, refused_blocks, keeps_all, container_only, refused_file, no_memory, as_reason, only_container, not_refused, no_wave_write}
 use Rattle.flac_cli.proofs.encode_wave.taken_apart.Goals as goal
 
@@ -102,7 +103,7 @@ returns c =
     let fit = rw (c.as_slice-before.ensures.value, c.as_slice.ensures.value) at c.in_ok-list.ensures.accepted in
     record {
       found = record {
-        keeps = keeps_all asked ps c.args.bytes.now file after c.in_ok-wave.ensures.found c.in_ok-after.ensures format form c.in_ok-audio.audio c.in_ok-list.list c.bytes_fit.ensures audio.raw list;
+        keeps = keeps_all asked ps c.args.bytes.now file after c.in_ok-wave.ensures.found c.in_ok-after.ensures format form c.in_ok-audio.audio c.in_ok-list.list (are_wave_bytes file.samples c.bytes_fit.ensures) audio.raw list;
         cut = plan.made;
         fits = plan.fits;
         good = plan.good;

@@ -1,7 +1,8 @@
 use Rattle.std.proofs.Common.{◌≡◌, ◌+◌, ◌-◌, ◌++◌, sym, arith, subst, length, take, drop, ℤ, List}
 use Rattle.std.proofs.lemmas.List.{take_all, length-take, length-drop}
 use Rattle.flac_cli.specs.inner.Raw.{IsChannel}
-use Rattle.flac_cli.proofs.Rows.{channel_more, grown, places_after}
+use Rattle.flac_frame.proofs.Interleaved.{grown, places_after}
+use Rattle.flac_cli.proofs.Rows.{channel_more}
 use Rattle.flac_cli.proofs.raw.push_samples_of.Goals as goal
 
 pub returns-clause-more : goal.returns-clause-more

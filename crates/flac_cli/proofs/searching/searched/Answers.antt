@@ -1,6 +1,7 @@
-use Rattle.std.proofs.Common.{List, All, Vec, Global, arith, subst}
+use Rattle.std.proofs.Common.{List, arith, subst}
+use Rattle.flac_native.specs.Given.{frame_lists}
 use Rattle.flac_native.proofs.Planned.{planned, block_small}
-use Rattle.flac_predict.specs.Found.{IsPrefixOf}
+use Rattle.flac_predict.specs.Found.{AllBegin}
 use Rattle.flac_subframe.specs.declared.format.linear.LinearPredictor.{LinearPredictor}
 use Rattle.flac_cli.proofs.Searched.{sought_lists}
 use Rattle.flac_cli.proofs.searching.searched.Goals as goal
@@ -17,5 +18,6 @@ found_in-requires-clause-few c =
 
 pub returns-clause-searched : goal.returns-clause-searched
 returns-clause-searched c =
-    sought_lists c.args.effort c.args.plan c.in-Some.search c.with_found.result c.in_ok-found.found.items c.in-Some.ensures c.with_found.ensures
-    (subst (λ (ps : List LinearPredictor). All (λ (l : Vec LinearPredictor Global). IsPrefixOf ps l.items) c.in_ok-found.found.items) c.predictors.ensures.list c.in_ok-found.ensures.begins)
+    let found = frame_lists c.in_ok-found.found.items in
+    sought_lists c.args.effort c.args.plan c.in-Some.search c.with_found.result found c.in-Some.ensures c.with_found.ensures
+    (subst (λ (ps : List LinearPredictor). AllBegin ps found) c.predictors.ensures.list c.in_ok-found.ensures.begins)

@@ -1,0 +1,108 @@
+//! `flac tag`: edits the comments of files.
+
+use flac_bits::Counted;
+use flac_cli::{edits_of, refuse_room, rewrite_file, tag_file};
+use flac_edit::{Edit, Tagged};
+use flac_files::{FileRefused, TagFile};
+use flac_jobs::{TagMode, Tagging};
+
+/// Edits the comments of each file. Returns the status: 1 if one is refused.
+pub(crate) fn tag_files(rt: &HostRuntime, tagging: &Tagging<'_>) -> u8 {
+    let Ok(edits) = edits_of(rt.alloc(), &tagging.edits) else {
+        let _ = eprintln!(rt; "flac: command: 2 Memory");
+        return 1;
+    };
+    let mut status = 0;
+    for path in &tagging.inputs {
+        if tag_one(rt, tagging, path, &edits) != 0 {
+            status = 1;
+        }
+    }
+    status
+}
+
+/// Edits the comments of a file. Returns the status.
+fn tag_one(rt: &HostRuntime, tagging: &Tagging<'_>, path: &str, edits: &[Edit<'_>]) -> u8 {
+    let done = match TagFile::open(rt, path) {
+        Ok(file) => tag_opened(rt, tagging, path, &file, edits),
+        Err(refused) => Err(refused),
+    };
+    match done {
+        Ok(Some(word)) if tagging.verbose => print_done(rt, path, word),
+        Ok(Some(_)) => 0,
+        Ok(None) => 1,
+        Err(refused) => refused.tell(rt),
+    }
+}
+
+/// Prints what became of a file. Returns the status.
+fn print_done(rt: &HostRuntime, path: &str, word: &str) -> u8 {
+    if println!(rt; "{path}: {word}").is_err() {
+        let _ = eprintln!(rt; "flac: {path}: 39 Write");
+        return 1;
+    }
+    0
+}
+
+/// Edits the comments of a file that was opened. Returns what became of it; `None` if it is refused, and its line was
+/// printed.
+fn tag_opened<'a>(
+    rt: &HostRuntime,
+    tagging: &Tagging<'_>,
+    path: &str,
+    file: &TagFile<'a>,
+    edits: &[Edit<'_>],
+) -> Result<Option<&'static str>, FileRefused<'a>> {
+    let mode = tagging.mode.unwrap_or(TagMode::Either);
+    if mode == TagMode::Rewrite {
+        return rewrite_opened(rt, tagging.padding, path, file, edits);
+    }
+    match tag_in(rt, path, file, edits)? {
+        Some(Tagged::Same) => Ok(Some("same")),
+        Some(Tagged::Flipped) => Ok(Some("flipped")),
+        Some(Tagged::NoRoom) if mode == TagMode::InPlace => {
+            let _status = refuse_room(&mut Counted::new(rt.stderr()), path);
+            Ok(None)
+        }
+        Some(Tagged::NoRoom) => rewrite_opened(rt, tagging.padding, path, file, edits),
+        None => Ok(None),
+    }
+}
+
+/// Edits the comments of a file in place.
+fn tag_in<'a>(
+    rt: &HostRuntime,
+    path: &str,
+    file: &TagFile<'a>,
+    edits: &[Edit<'_>],
+) -> Result<Option<Tagged>, FileRefused<'a>> {
+    let mut source = Counted::new(file.reader()?);
+    let mut device = file.device()?;
+    let mut err = Counted::new(rt.stderr());
+    Ok(tag_file(rt.alloc(), path, edits, &mut source, &mut device, &mut err))
+}
+
+/// Writes a new file with edited comments, which takes the place of the old one.
+fn rewrite_opened<'a>(
+    rt: &HostRuntime,
+    padding: u32,
+    path: &str,
+    file: &TagFile<'a>,
+    edits: &[Edit<'_>],
+) -> Result<Option<&'static str>, FileRefused<'a>> {
+    let mut source = Counted::new(file.reader()?);
+    let (output, ending) = file.beside(rt)?;
+    let mut target = Counted::new(output);
+    let mut err = Counted::new(rt.stderr());
+    let status = rewrite_file(
+        rt.alloc(),
+        path,
+        edits,
+        padding,
+        &mut source,
+        &mut target,
+        &mut err,
+    );
+    ending.end(rt, target.into_inner(), status)?;
+    Ok((status == 0).then_some("rewritten"))
+}

@@ -1,0 +1,320 @@
+-- What a file was found to be, by how it was read.
+use Rattle.std.proofs.Common.{◌≡◌, ◌≢◌, ◌⊎◌, ◌↔◌, ◌≤◌, ◌+◌, ℕ, Bool, true, false, List, [], ◌∷◌, Option, Some, None, IfSome, unwrap_or, refl, sym, ap, subst, ◌∙◌, arith, inl, inr}
+use Rattle.flac_bits.specs.Bits.{bits_of}
+use Rattle.flac_bits.specs.State.{Mark, After, short_of}
+use Rattle.flac_bits.specs.Handing.{InputReading, ReadsOnce, TakesAll}
+use Rattle.flac_bits.specs.declared.source.Source as source
+use Rattle.flac_bits.specs.declared.why.Why.{Why}
+use Rattle.flac_bits.specs.declared.why.Why.TheVariants as why
+use Rattle.flac_info.specs.Info.{Info}
+use Rattle.flac_header.specs.declared.subset.Profile.{Profile}
+use Rattle.flac_header.specs.declared.subset.Profile.TheVariants.{Subset, Lax}
+use Rattle.flac_native.specs.Decoding.{beginning, taken}
+use Rattle.flac_native.specs.Item.{Item}
+use Rattle.flac_native.specs.Stream.{Piece, marked, block, framed, opening, info_after}
+use Rattle.flac_native.specs.declared.fault.Fault.{Fault}
+use Rattle.flac_native.specs.declared.fault.Place.{Place}
+use Rattle.flac_native.proofs.Deciding.{one_answer}
+use Rattle.flac_native.proofs.LaxProfile as native
+use Rattle.flac_ogg.proofs.MeaningReadings.{one_ogg_reading}
+use Rattle.flac_ogg.proofs.LaxProfile as ogg
+use Rattle.flac_ogg.specs.Either.{begins_page, read_any}
+use Rattle.flac_shelf.specs.Listed.{Contents, Listed, Opens}
+use Rattle.flac_cli.specs.Counted.{frames_in, samples_in_all, printed}
+use Rattle.flac_cli.specs.Outcomes.{Outcome, Fits, Reads, IsOutOfMemory, IsReadAs, input_reading}
+use Rattle.flac_cli.specs.Verified.{asked_profile, info_in, Describes, IsStreamOf, IsOutside, IsFinding, HasNoMemory}
+use Rattle.flac_cli.specs.inner.Taking.{frames_after, samples_after, info_after_item}
+use Rattle.flac_cli.specs.Streams.{Tells}
+use Rattle.flac_cli.specs.inner.Verifying.{IsReading, IsReadingOutside, Stays}
+use Rattle.flac_cli.specs.declared.verify_facts.Facts.{Facts}
+use Rattle.flac_cli.specs.declared.verify.Finding.{Finding}
+use Rattle.flac_cli.specs.declared.verify.Finding.TheVariants.{Good, Bad, Unopened}
+use Rattle.flac_cli.proofs.Counting.{Counts, counted_from_none}
+use Rattle.flac_cli.proofs.Reported.{memory_or_not}
+
+-- ---- readings
+
+-- an input has one reading in a profile
+once_any : (profile : Profile) (is_ogg : Bool) (mark : Mark) (text : List Bool) → ReadsOnce (read_any profile is_ogg mark text)
+once_any profile true mark text =
+    let once = one_ogg_reading profile mark text in
+    record {
+      streams = once.streams;
+      either = once.either;
+      refusals = once.refusals;
+    }
+once_any profile false mark text =
+    let once = one_answer (opening profile) mark text in
+    record {
+      streams = once.streams;
+      either = once.either;
+      refusals = once.refusals;
+    }
+
+pub once_read : (profile : Profile) (of : Contents) → ReadsOnce (input_reading profile of.bytes of.after)
+once_read profile of = once_any profile (begins_page of.bytes) (beginning (short_of of.after.fails)) (bits_of of.bytes)
+
+-- what is a stream of the streamable subset is one of all of FLAC
+lax_any : (is_ogg : Bool) (mark : Mark) (text : List Bool) (parts : List Piece) → mark.unread ≡ 0 → (read_any Subset is_ogg mark text).whole parts → (read_any Lax is_ogg mark text).whole parts
+lax_any true mark text parts whole_byte is = ogg.subset_is_lax mark parts text is
+lax_any false mark text parts whole_byte is = native.subset_is_lax mark parts text whole_byte is
+
+pub lax_read : (of : Contents) (parts : List Piece) → (input_reading Subset of.bytes of.after).whole parts → (input_reading Lax of.bytes of.after).whole parts
+lax_read of parts is = lax_any (begins_page of.bytes) (beginning (short_of of.after.fails)) (bits_of of.bytes) parts refl is
+
+-- ---- what a sink has taken
+
+module _ {S : Type 0} (T U : S → Item → S → Type 0) (less : (old : S) (x : Item) (new : S) → T old x new → U old x new) where
+  -- a sink that takes more of each item takes this of all of them
+  takes_less : (old : S) (xs : List Piece) (new : S) → TakesAll (taken T) old xs new → TakesAll (taken U) old xs new
+  takes_less old [] new h = h
+  takes_less old (marked ∷ xs) new h = (h.0, h.1, takes_less h.0 xs new h.2)
+  takes_less old (block last b ∷ xs) new h = (h.0, less old _ h.0 h.1, takes_less h.0 xs new h.2)
+  takes_less old (framed f ∷ xs) new h = (h.0, less old _ h.0 h.1, takes_less h.0 xs new h.2)
+
+abbrev Learns : Facts → Item → Facts → Type 0
+Learns old x new = new.info ≡ info_after_item old.info x
+
+-- it has kept STREAMINFO
+learned : (old : Facts) (xs : List Piece) (new : Facts) → TakesAll (taken Learns) old xs new → new.info ≡ info_in old.info xs
+learned old [] new h = ap (λ (f : Facts). f.info) (sym h)
+learned old (marked ∷ xs) new h = learned h.0 xs new h.2 ∙ ap (λ (f : Facts). info_in f.info xs) (sym h.1)
+learned old (block last b ∷ xs) new h = learned h.0 xs new h.2 ∙ ap (λ i. info_in i xs) h.1
+learned old (framed f ∷ xs) new h = learned h.0 xs new h.2 ∙ ap (λ i. info_in i xs) h.1
+
+abbrev pub TakesFacts : Facts → Item → Facts → Type 0
+TakesFacts old item new = record {
+  frames : new.counts.frames ≡ frames_after old.counts.frames item;
+  samples : new.counts.samples ≡ samples_after old.counts.samples item;
+  info : new.info ≡ info_after_item old.info item;
+}
+
+-- So facts that began with nothing describe all parts.
+pub described : (old : Facts) (xs : List Piece) (new : Facts) → TakesAll (taken TakesFacts) old xs new → old.counts.frames ≡ 0 → old.counts.samples ≡ 0 → old.info ≡ None → Describes xs new
+described old xs new h no_frames no_samples no_info =
+    let counts = takes_less TakesFacts (Counts (λ (f : Facts). f.counts.frames) (λ (f : Facts). f.counts.samples)) (λ a x b t. record { frames = t.frames; samples = t.samples }) old xs new h in
+    let counted = counted_from_none (λ (f : Facts). f.counts.frames) (λ (f : Facts). f.counts.samples) old xs new counts no_frames no_samples in
+    record {
+      frames = counted.0;
+      samples = counted.1;
+      info = learned old xs new (takes_less TakesFacts Learns (λ a x b t. t.info) old xs new h) ∙ ap (λ i. info_in i xs) no_info;
+    }
+
+-- ---- one finding
+
+pub not_true : {X : Type 0} (b : Bool) → b ≡ false → b ≡ true → X
+not_true true fails holds = absurd cc
+not_true false fails holds = absurd cc
+
+-- two Booleans that hold of the same
+same_bool : {P : Type 0} (a b : Bool) → (a ≡ true ↔ P) → (b ≡ true ↔ P) → a ≡ b
+same_bool true true p q = refl
+same_bool false false p q = refl
+same_bool true false p q = sym (q.1 (p.0 refl))
+same_bool false true p q = p.1 (q.0 refl)
+
+-- the facts of parts are determined
+same_facts : (parts : List Piece) (f g : Facts) → Describes parts f → Describes parts g → f.outside ≡ g.outside → f ≡ g
+same_facts parts f g df dg outside =
+    let frames : f.counts.frames ≡ g.counts.frames = df.frames ∙ sym dg.frames in
+    let samples : f.counts.samples ≡ g.counts.samples = df.samples ∙ sym dg.samples in
+    let info : f.info ≡ g.info = df.info ∙ sym dg.info in
+    ap (λ n. record { counts = record { frames = n; samples = f.counts.samples }; info = f.info; outside = f.outside }) frames
+    ∙ ap (λ n. record { counts = record { frames = g.counts.frames; samples = n }; info = f.info; outside = f.outside }) samples
+    ∙ ap (λ i. record { counts = g.counts; info = i; outside = f.outside }) info
+    ∙ ap (λ o. record { counts = g.counts; info = g.info; outside = o }) outside
+
+same_fault : (f g : Fault) → f.at ≡ g.at → f.why ≡ g.why → f ≡ g
+same_fault f g at why = ap (λ a. record { at = a; why = f.why }) at ∙ ap (λ w. record { at = g.at; why = w }) why
+
+-- the reason and the place of an outcome that has them
+abbrev why_in : Why → Outcome → Why
+why_in other None = other
+why_in other (Some f) = f.1
+
+abbrev place_in : Place → Outcome → Place
+place_in other None = other
+place_in other (Some f) = unwrap_or f.0 other
+
+module _ (subset : Bool) (of : Contents) where
+  -- a stream was found
+  pub good_fits : (facts : Facts) → IsStreamOf (asked_profile subset) of facts → (facts.outside ≡ true ↔ IsOutside subset of) → Fits HasNoMemory (IsFinding subset (Some of)) (Good facts)
+  good_fits facts is outside = record {
+    right = inr (is, outside);
+    each = only;
+  }
+    where
+      only : (other : Finding) → IsFinding subset (Some of) other → HasNoMemory (Good facts) ⊎ (Good facts ≡ other)
+      only (Good more) w =
+          let parts = (once_read (asked_profile subset) of).streams w.0.0 is.0 w.0.1 is.1 in
+          inr (ap Good (same_facts is.0 facts more is.2 (subst (λ ps. Describes ps more) parts w.0.2) (same_bool facts.outside more.outside outside w.1)))
+      only (Bad fault) w = absurd ((once_read (asked_profile subset) of).either is.0 w.2.0 w.0 fault.why is.1 w.2.1)
+      only Unopened w = absurd w
+
+  -- it was refused
+  pub bad_fits : (fault : Fault) → Fits IsOutOfMemory (Reads (asked_profile subset) of.bytes of.after) (Some (Some fault.at, fault.why)) → Fits HasNoMemory (IsFinding subset (Some of)) (Bad fault)
+  bad_fits fault fits = record {
+    right = elim fits.right [ inl out ↦ inl (out_of out) | inr is ↦ inr is ];
+    each = only;
+  }
+    where
+      out_of : IsOutOfMemory (Some (Some fault.at, fault.why)) → fault.why ≡ why.Memory
+      out_of out = ap (why_in why.Memory) out.1
+
+      only : (other : Finding) → IsFinding subset (Some of) other → HasNoMemory (Bad fault) ⊎ (Bad fault ≡ other)
+      only (Good facts) w = elim (fits.each None (w.0.0, w.0.1)) [ inl out ↦ inl (out_of out) | inr e ↦ absurd cc ]
+      only (Bad more) w = elim (fits.each (Some (Some more.at, more.why)) w) [
+        | inl out ↦ inl (out_of out)
+        | inr e ↦
+            inr (ap Bad (same_fault fault more (ap (place_in fault.at) e) (ap (why_in fault.why) e)))
+      ]
+      only Unopened w = absurd w
+
+-- memory ran out
+pub memory_fits : (subset : Bool) (contents : Option Contents) (fault : Fault) → fault.why ≡ why.Memory → Fits HasNoMemory (IsFinding subset contents) (Bad fault)
+memory_fits subset contents fault is = record {
+  right = inl is;
+  each = λ other w. inl is;
+}
+
+-- the file cannot be opened
+pub unopened_fits : (subset : Bool) → Fits HasNoMemory (IsFinding subset None) Unopened
+unopened_fits subset = record {
+  right = inr tt;
+  each = only;
+}
+  where
+    only : (other : Finding) → IsFinding subset None other → HasNoMemory Unopened ⊎ (Unopened ≡ other)
+    only (Good facts) w = absurd w
+    only (Bad fault) w = absurd w
+    only Unopened w = inr refl
+
+-- One reading in the profile that is asked for finds what the file is, if the file is not looked at again.
+pub read_fits : (subset : Bool) (contents : Option Contents) (finding : Finding) → IsReading (asked_profile subset) contents finding → ((of : Contents) → contents ≡ Some of → IsOutside subset of → ⊥) → Fits HasNoMemory (IsFinding subset contents) finding
+read_fits subset None (Good facts) w never = absurd w
+read_fits subset None (Bad fault) w never = absurd w
+read_fits subset None Unopened w never = unopened_fits subset
+read_fits subset (Some of) (Good facts) w never = good_fits subset of facts w.0 ((λ holds. not_true facts.outside w.1 holds), (λ out. absurd (never of refl out)))
+read_fits subset (Some of) (Bad fault) w never = bad_fits subset of fault w
+read_fits subset (Some of) Unopened w never = absurd w
+
+-- A stream of the subset is one of all of FLAC, and is not outside.
+inside_fits : (of : Contents) (facts : Facts) → IsStreamOf Subset of facts → facts.outside ≡ false → Fits HasNoMemory (IsFinding false (Some of)) (Good facts)
+inside_fits of facts is fails =
+    good_fits false of facts (is.0, lax_read of is.0 is.1, is.2)
+    ((λ holds. not_true facts.outside fails holds), (λ out. absurd (out.outside (is.0, is.1))))
+
+pub first_good : (contents : Option Contents) (facts : Facts) → IsReading Subset contents (Good facts) → Fits HasNoMemory (IsFinding false contents) (Good facts)
+first_good None facts w = absurd w
+first_good (Some of) facts w = inside_fits of facts w.0 w.1
+
+pub first_unopened : (contents : Option Contents) → IsReading Subset contents Unopened → Fits HasNoMemory (IsFinding false contents) Unopened
+first_unopened None w = unopened_fits false
+first_unopened (Some of) w = absurd w
+
+-- What the subset refuses is no stream of it.
+refused_is_outside : (of : Contents) (fault : Fault) → Fits IsOutOfMemory (Reads Subset of.bytes of.after) (Some (Some fault.at, fault.why)) → fault.why ≢ why.Memory → Reads Subset of.bytes of.after None → ⊥
+refused_is_outside of fault fits calm whole = elim (fits.each None whole) [
+  | inl out ↦ calm (ap (why_in why.Memory) out.1)
+  | inr e ↦ absurd cc
+]
+
+-- After a refusal in the subset, a reading of all of FLAC finds what the file is.
+pub again_fits : (contents : Option Contents) (first : Fault) (finding : Finding) → IsReading Subset contents (Bad first) → first.why ≢ why.Memory → ((of : Contents) → contents ≡ Some of → of.again ≡ true) → IsReadingOutside contents finding → Fits HasNoMemory (IsFinding false contents) finding
+again_fits None first finding w calm again r = absurd w
+again_fits (Some of) first (Good facts) w calm again r =
+    let out : IsOutside false of = record { asked = refl; again = again of refl; outside = refused_is_outside of first w calm } in
+    good_fits false of facts r.0 ((λ holds. out), (λ o. r.1))
+again_fits (Some of) first (Bad fault) w calm again r = bad_fits false of fault r
+again_fits (Some of) first Unopened w calm again r = absurd r
+
+pub strict_fits : (subset : Bool) (contents : Option Contents) (finding : Finding) → subset ≡ true → IsReading Subset contents finding → Fits HasNoMemory (IsFinding subset contents) finding
+strict_fits true contents finding is w = read_fits true contents finding w (λ of at out. not_true true out.asked refl)
+strict_fits false contents finding is w = absurd cc
+
+pub wide_fits : (subset again : Bool) (contents : Option Contents) (finding : Finding) → subset ≡ false → again ≡ false → IfSome contents (λ of. again ≡ of.again) → IsReading Lax contents finding → Fits HasNoMemory (IsFinding subset contents) finding
+wide_fits true again contents finding is once same w = absurd cc
+wide_fits false again contents finding is once same w = read_fits false contents finding w (λ of at out.
+    let here : again ≡ of.again = subst (λ k. IfSome k (λ of. again ≡ of.again)) at same in
+    not_true again once (here ∙ out.again))
+
+pub twice_fits : (subset : Bool) (contents : Option Contents) (finding : Finding) → subset ≡ false → Fits HasNoMemory (IsFinding false contents) finding → Fits HasNoMemory (IsFinding subset contents) finding
+twice_fits true contents finding is w = absurd cc
+twice_fits false contents finding is w = w
+
+-- a file that can be read again
+pub again_so : (again : Bool) (contents : Option Contents) → again ≡ true → IfSome contents (λ of. again ≡ of.again) → IfSome contents (λ of. of.again ≡ true)
+again_so again None is same = tt
+again_so again (Some of) is same = sym same ∙ is
+
+pub again_is : (contents : Option Contents) → IfSome contents (λ of. of.again ≡ true) → (of : Contents) → contents ≡ Some of → of.again ≡ true
+again_is contents h of is = subst (λ k. IfSome k (λ of. of.again ≡ true)) is h
+
+-- ---- from a source to a finding
+
+module _ {F : Type 0} (g : source.Ghosts F) where
+  pub tells_opened : {contents : Option Contents} {file read : F} → Opens g contents file → (g.errors read ≡ 0) × (g.raised read ≡ 0) → Tells g file read
+  tells_opened o calm = (o.known, calm.0 ∙ sym o.errors, calm.1 ∙ sym o.raised)
+
+  pub good_reading : {contents : Option Contents} {file : F} (profile : Profile) (facts : Facts) → Opens g contents file → IsReadAs g profile file (λ parts. Describes parts facts) → facts.outside ≡ false → IsReading profile contents (Good facts)
+  good_reading {file = file} profile facts o is inside =
+      let after = subst (λ a. (input_reading profile (g.coming file) a).whole is.0) o.after is.1 in
+      let whole = subst (λ b. (input_reading profile b o.of.after).whole is.0) o.coming after in
+      subst (λ k. IsReading profile k (Good facts)) (sym o.is) ((is.0, whole, is.2), inside)
+
+  pub bad_reading : {contents : Option Contents} {file : F} (profile : Profile) (fault : Fault) → Opens g contents file → Fits IsOutOfMemory (Reads profile (g.coming file) (g.after file)) (Some (Some fault.at, fault.why)) → IsReading profile contents (Bad fault)
+  bad_reading {file = file} profile fault o fits =
+      let after = subst (λ a. Fits IsOutOfMemory (Reads profile (g.coming file) a) (Some (Some fault.at, fault.why))) o.after fits in
+      let all = subst (λ b. Fits IsOutOfMemory (Reads profile b o.of.after) (Some (Some fault.at, fault.why))) o.coming after in
+      subst (λ k. IsReading profile k (Bad fault)) (sym o.is) all
+
+pub unopened_reading : {contents : Option Contents} (profile : Profile) → contents ≡ None → IsReading profile contents Unopened
+unopened_reading profile is = subst (λ k. IsReading profile k Unopened) (sym is) tt
+
+pub outside_good : (contents : Option Contents) (facts : Facts) → IsReading Lax contents (Good facts) → IsReadingOutside contents (Good (record facts { outside = true }))
+outside_good None facts w = absurd w
+outside_good (Some of) facts w = ((w.0.0, w.0.1, record { frames = w.0.2.frames; samples = w.0.2.samples; info = w.0.2.info }), refl)
+
+pub outside_bad : (contents : Option Contents) (fault : Fault) → IsReading Lax contents (Bad fault) → IsReadingOutside contents (Bad fault)
+outside_bad None fault w = absurd w
+outside_bad (Some of) fault w = w
+
+pub outside_unopened : (contents : Option Contents) → IsReading Lax contents Unopened → IsReadingOutside contents Unopened
+outside_unopened None w = tt
+outside_unopened (Some of) w = absurd w
+
+-- ---- the list
+
+module _ {S : Type 0} {known : S → Bool} {current : S → Listed} {files : S → List Listed} {faults most : S → ℕ} where
+  -- no device failed in either of two calls
+  pub still : {a b c : S} → Stays known current files faults most a b → Stays known current files faults most b c → faults c ≡ faults a → (faults b ≡ faults a) × (faults c ≡ faults b)
+  still p q same = (omega (arith, same, p.kept, q.kept), omega (arith, same, p.kept, q.kept))
+
+  pub stays_then : {a b c : S} → Stays known current files faults most a b → Stays known current files faults most b c → Stays known current files faults most a c
+  stays_then {a = a} {b = b} {c = c} p q = record {
+    kept = omega (arith, p.kept, q.kept);
+    knows = λ k same. let calm = still p q same in q.knows (p.knows k calm.0) calm.1;
+    here = q.here ∙ p.here;
+    rest = q.rest ∙ p.rest;
+    room = q.room ∙ p.room;
+  }
+
+  -- the file was opened, and no more
+  pub stays_opened : {a b : S} → (known a ≡ true → known b ≡ true) → current b ≡ current a → files b ≡ files a → faults b ≡ faults a → most b ≡ most a → Stays known current files faults most a b
+  stays_opened {a = a} {b = b} k at left same more = record {
+    kept = omega (arith, same);
+    knows = λ was calm. k was;
+    here = at;
+    rest = left;
+    room = more;
+  }
+
+  -- it was given back
+  pub stays_closed : {a b : S} → faults a ≤ faults b → (known a ≡ true → faults b ≡ faults a → known b ≡ true) → current b ≡ current a → files b ≡ files a → most b ≡ most a → Stays known current files faults most a b
+  stays_closed kept k at left more = record {
+    kept = kept;
+    knows = k;
+    here = at;
+    rest = left;
+    room = more;
+  }

@@ -1,0 +1,17 @@
+use Rattle.flac_cli.proofs.head.list_head.Goals as goal
+
+pub returns-in-Ok-clause-head : goal.returns-in-Ok-clause-head
+returns-in-Ok-clause-head g c = λ is. c.in-Ok.ensures.head
+
+pub returns-in-Err-clause-refused : goal.returns-in-Err-clause-refused
+returns-in-Err-clause-refused g c = λ is tells known same.
+    let answer = c.refuse.ensures.line known same in
+    record {
+      at = c.in-Err.fault.at;
+      reason = c.in-Err.fault.why;
+      line = answer.1;
+      fits = λ room unsunk. c.in-Err.ensures.refused tells room unsunk;
+    }
+
+pub returns-in-Err-clause-named : goal.returns-in-Err-clause-named
+returns-in-Err-clause-named g c = λ is known same. (c.in-Err.fault.at, c.in-Err.fault.why, (c.refuse.ensures.line known same).1)

@@ -1,0 +1,38 @@
+use Rattle.flac_cli.proofs.Verifying.{tells_opened, good_reading, bad_reading, unopened_reading, stays_then, stays_opened, stays_closed, still}
+use Rattle.flac_cli.proofs.verify.read_in.Goals as goal
+
+pub returns-in-Ok : goal.returns-in-Ok
+returns-in-Ok g c =
+    let got = c.in-Some.ensures in
+    let back = c.close.ensures in
+    let opened = stays_opened got.known got.current got.files got.faults got.most in
+    let closed = stays_closed back.kept back.known back.current back.files back.most in
+    record {
+      found = λ known same.
+          let calm = still opened closed same in
+          let o = got.opened known in
+          good_reading _ _ _ o (c.in-Ok.ensures.facts (tells_opened _ o (back.unfailed (got.known known) calm.1))) c.in-Ok.ensures.outside;
+      stays = stays_then opened closed;
+    }
+
+pub returns-in-Err : goal.returns-in-Err
+returns-in-Err g c =
+    let got = c.in-Some.ensures in
+    let back = c.close-in-Err.ensures in
+    let opened = stays_opened got.known got.current got.files got.faults got.most in
+    let closed = stays_closed back.kept back.known back.current back.files back.most in
+    record {
+      found = λ known same.
+          let calm = still opened closed same in
+          let o = got.opened known in
+          bad_reading _ _ _ o (c.in-Err.ensures.outcome (tells_opened _ o (back.unfailed (got.known known) calm.1)));
+      stays = stays_then opened closed;
+    }
+
+pub returns-in-None : goal.returns-in-None
+returns-in-None g c =
+    let got = c.in-None.ensures in
+    record {
+      found = λ known same. unopened_reading _ (got.opened known);
+      stays = stays_opened got.known got.current got.files got.faults got.most;
+    }

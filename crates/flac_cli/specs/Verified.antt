@@ -1,0 +1,152 @@
+-- What `flac verify` finds of files, and what it prints.
+use Rattle.std.specs.Prelude.{◌≡◌, ◌↔◌, ℕ, ◌+◌, Bool, true, false, cond, nat_eq, List, [], ◌∷◌, ◌++◌, length, codes, decimal, Option, Some, None}
+use Rattle.flac_bits.specs.declared.target.Target as target
+use Rattle.flac_bits.specs.declared.why.Why.TheVariants as why
+use Rattle.flac_info.specs.Info.{Info}
+use Rattle.flac_header.specs.declared.subset.Profile.{Profile}
+use Rattle.flac_header.specs.declared.subset.Profile.TheVariants.{Subset, Lax}
+use Rattle.flac_native.specs.Places.{fault_text}
+use Rattle.flac_native.specs.Stream.{Piece, marked, block, framed, info_after, is_unknown}
+use Rattle.flac_shelf.specs.Listed.{Contents, Listed}
+use Rattle.flac_cli.specs.Counted.{frames_in, samples_in_all, printed}
+use Rattle.flac_cli.specs.Outcomes.{Fits, Reads, input_reading}
+use Rattle.flac_cli.specs.Reports.{fault_line, Serves}
+use Rattle.flac_cli.specs.declared.verify_facts.Facts.{Facts}
+use Rattle.flac_cli.specs.declared.verify.Finding.{Finding}
+use Rattle.flac_cli.specs.declared.verify.Finding.TheVariants.{Good, Bad, Unopened}
+
+-- ---- what a file is
+
+-- the profile in which files are read: that of the streamable subset (RFC 9639, section 7), or all of FLAC
+abbrev pub asked_profile : (subset : Bool) → Profile
+asked_profile subset = cond subset Subset Lax
+
+-- the STREAMINFO of a stream, which has one (section 8.2)
+abbrev pub info_in : Option Info → List Piece → Option Info
+info_in known [] = known
+info_in known (marked ∷ xs) = info_in known xs
+info_in known (block last b ∷ xs) = info_in (info_after known b) xs
+info_in known (framed f ∷ xs) = info_in known xs
+
+-- the counts and the STREAMINFO of these parts
+pub record Describes (parts : List Piece) (facts : Facts) : Type 0 where
+  pub frames : facts.counts.frames ≡ printed (frames_in parts)
+  pub samples : facts.counts.samples ≡ printed (samples_in_all parts)
+  pub info : facts.info ≡ info_in None parts
+
+-- these bytes are a stream in this profile, of parts that these facts describe
+abbrev pub IsStreamOf : Profile → Contents → Facts → Type 0
+IsStreamOf profile of facts = (parts : List Piece) × (input_reading profile of.bytes of.after).whole parts × Describes parts facts
+
+-- A stream of FLAC that is none of the streamable subset. It is looked for only if all of FLAC is asked for and the file
+-- can be read again.
+pub record IsOutside (subset : Bool) (of : Contents) : Type 0 where
+  pub asked : subset ≡ false
+  pub again : of.again ≡ true
+  pub outside : Reads Subset of.bytes of.after None → ⊥
+
+-- What a file is: a stream, with these facts; refused at this place and for this reason; or it cannot be opened.
+abbrev pub IsFinding : (subset : Bool) → Option Contents → Finding → Type 0
+IsFinding subset None Unopened = Unit {0}
+IsFinding subset (Some of) (Good facts) = IsStreamOf (asked_profile subset) of facts × (facts.outside ≡ true ↔ IsOutside subset of)
+IsFinding subset (Some of) (Bad fault) = Reads (asked_profile subset) of.bytes of.after (Some (Some fault.at, fault.why))
+IsFinding subset contents finding = ⊥
+
+-- memory ran out, which no file shows
+abbrev pub HasNoMemory : Finding → Type 0
+HasNoMemory (Bad fault) = fault.why ≡ why.Memory
+HasNoMemory other = ⊥
+
+-- each file was found to be what its own bytes are, and that alone, unless memory ran out
+abbrev pub AreFound : (subset : Bool) → List Listed → List Finding → Type 0
+AreFound subset [] [] = Unit {0}
+AreFound subset (file ∷ files) (finding ∷ findings) = Fits HasNoMemory (IsFinding subset file.contents) finding × AreFound subset files findings
+AreFound subset files findings = ⊥
+
+-- a file is a stream
+abbrev pub IsWhole : (subset : Bool) → Option Contents → Type 0
+IsWhole subset None = ⊥
+IsWhole subset (Some of) = Reads (asked_profile subset) of.bytes of.after None
+
+-- each file is
+abbrev pub AreWhole : (subset : Bool) → List Listed → Type 0
+AreWhole subset [] = Unit {0}
+AreWhole subset (file ∷ files) = IsWhole subset file.contents × AreWhole subset files
+
+-- ---- what is printed
+
+-- STREAMINFO does not state the digest of the samples, or their number
+abbrev pub lacks_digest : Option Info → Bool
+lacks_digest None = true
+lacks_digest (Some info) = is_unknown info.digest
+
+abbrev pub lacks_total : Option Info → Bool
+lacks_total None = true
+lacks_total (Some info) = nat_eq info.total 0
+
+-- a word that is printed if this holds
+abbrev pub word_if : Bool → (word : List ℕ) → List ℕ
+word_if holds word = cond holds word []
+
+-- the words after the counts of a stream
+abbrev pub words_of : Facts → List ℕ
+words_of facts = word_if (lacks_digest facts.info) (codes " no-md5") ++ (word_if (lacks_total facts.info) (codes " no-total") ++ word_if facts.outside (codes " outside-subset"))
+
+-- the line of a stream: `ok PATH: frames 2 samples 8192 no-md5`
+abbrev pub ok_line : (path : List ℕ) → Facts → List ℕ
+ok_line path facts =
+    codes "ok " ++ (path ++ (codes ": frames " ++ (decimal facts.counts.frames ++ (codes " samples " ++ (decimal facts.counts.samples ++ (words_of facts ++ codes "\n"))))))
+
+-- what a file adds to standard output
+abbrev pub ok_part : (path : List ℕ) → Finding → List ℕ
+ok_part path (Good facts) = ok_line path facts
+ok_part path other = []
+
+-- what a file adds to standard error: the line of its fault
+abbrev pub bad_part : (path : List ℕ) → Finding → List ℕ
+bad_part path (Good facts) = []
+bad_part path (Bad fault) = fault_line path (fault_text fault)
+bad_part path Unopened = fault_line path (codes "cannot be opened")
+
+-- the same of all files in order
+abbrev pub ok_lines : List Listed → List Finding → List ℕ
+ok_lines [] findings = []
+ok_lines files [] = []
+ok_lines (file ∷ files) (finding ∷ findings) = ok_part file.path finding ++ ok_lines files findings
+
+abbrev pub bad_lines : List Listed → List Finding → List ℕ
+bad_lines [] findings = []
+bad_lines files [] = []
+bad_lines (file ∷ files) (finding ∷ findings) = bad_part file.path finding ++ bad_lines files findings
+
+-- how many files are streams, and how many are not
+abbrev pub good_count : List Finding → ℕ
+good_count [] = 0
+good_count (Good facts ∷ findings) = good_count findings + 1
+good_count (other ∷ findings) = good_count findings
+
+abbrev pub bad_count : List Finding → ℕ
+bad_count [] = 0
+bad_count (Good facts ∷ findings) = bad_count findings
+bad_count (other ∷ findings) = bad_count findings + 1
+
+-- the last line: `verified 3 ok 2 bad 1`
+abbrev pub last_line : (files good bad : ℕ) → List ℕ
+last_line files good bad = codes "verified " ++ (decimal files ++ (codes " ok " ++ (decimal good ++ (codes " bad " ++ (decimal bad ++ codes "\n")))))
+
+-- all that is printed to standard output
+abbrev pub printed_lines : List Listed → List Finding → List ℕ
+printed_lines files findings = ok_lines files findings ++ last_line (printed (length findings)) (printed (good_count findings)) (printed (bad_count findings))
+
+-- What was done for these files: what was found of each, the status, and what was sent to standard output and standard
+-- error.
+pub record Verifies {O E : Type 0} (o : target.Ghosts O) (e : target.Ghosts E) (subset : Bool) (files : List Listed) (status : ℕ) (out printed_to : O) (err told : E) : Type 0 where
+  pub findings : List Finding
+  pub found : AreFound subset files findings
+  -- the status is 0 only if all are streams and every line was written
+  pub good : status ≡ 0 → bad_count findings ≡ 0
+  pub written : status ≡ 0 → o.known out ≡ true → o.sent printed_to ≡ o.sent out ++ printed_lines files findings
+  -- and if standard output did not fail, it is 0 if all are
+  pub done : Serves o out printed_to → bad_count findings ≡ 0 → status ≡ 0
+  pub printed_is : Serves o out printed_to → o.sent printed_to ≡ o.sent out ++ printed_lines files findings
+  pub told_is : Serves o out printed_to → Serves e err told → e.sent told ≡ e.sent err ++ bad_lines files findings

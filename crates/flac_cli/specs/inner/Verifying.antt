@@ -1,0 +1,92 @@
+-- For proofs of `flac verify`: what calls did to the list of files and to the targets, and how a file is read.
+use Rattle.std.specs.Prelude.{◌≡◌, ◌≤◌, ◌<◌, ℕ, ◌+◌, Bool, true, false, ◌&&◌, List, ◌++◌, length, Option, Some, None}
+use Rattle.flac_bits.specs.declared.target.Target as target
+use Rattle.flac_header.specs.declared.subset.Profile.{Profile}
+use Rattle.flac_header.specs.declared.subset.Profile.TheVariants.{Lax}
+use Rattle.flac_shelf.specs.Listed.{Contents, Listed}
+use Rattle.flac_cli.specs.Counted.{printed}
+use Rattle.flac_cli.specs.Outcomes.{Fits, Reads, IsOutOfMemory}
+use Rattle.flac_cli.specs.Verified.{IsStreamOf, AreFound, ok_lines, bad_lines, last_line, good_count, bad_count}
+use Rattle.flac_cli.specs.declared.verify.Finding.{Finding}
+use Rattle.flac_cli.specs.declared.verify.Finding.TheVariants.{Good, Bad, Unopened}
+use Rattle.flac_cli.specs.declared.verify.Tally.{Tally}
+
+-- A call that was to send this text: it was sent, or the target returned an error.
+pub record IsSent {T : Type 0} (g : target.Ghosts T) (text : List ℕ) (old new : T) (done : Bool) : Type 0 where
+  pub kept : g.errors old ≤ g.errors new
+  pub sent : done ≡ true → g.known old ≡ true → (g.known new ≡ true) × (g.sent new ≡ g.sent old ++ text)
+  pub lost : done ≡ false → g.known old ≡ true → g.errors old < g.errors new
+
+-- It was sent, if the target returned no error.
+pub record IsTold {T : Type 0} (g : target.Ghosts T) (text : List ℕ) (old new : T) : Type 0 where
+  pub kept : g.errors old ≤ g.errors new
+  pub told : g.known old ≡ true → g.errors new ≡ g.errors old → (g.known new ≡ true) × (g.sent new ≡ g.sent old ++ text)
+
+-- A call that read the current file: the list is still there.
+pub record Stays {S : Type 0} (known : S → Bool) (current : S → Listed) (files : S → List Listed) (faults most : S → ℕ) (old new : S) : Type 0 where
+  pub kept : faults old ≤ faults new
+  pub knows : known old ≡ true → faults new ≡ faults old → known new ≡ true
+  pub here : current new ≡ current old
+  pub rest : files new ≡ files old
+  pub room : most new ≡ most old
+
+-- What a reading in this profile found: a stream, or a fault, which is reported as the input is.
+abbrev pub IsReading : Profile → Option Contents → Finding → Type 0
+IsReading profile None Unopened = Unit {0}
+IsReading profile (Some of) (Good facts) = IsStreamOf profile of facts × (facts.outside ≡ false)
+IsReading profile (Some of) (Bad fault) = Fits IsOutOfMemory (Reads profile of.bytes of.after) (Some (Some fault.at, fault.why))
+IsReading profile contents finding = ⊥
+
+-- the same of a file that is not in the streamable subset
+abbrev pub IsReadingOutside : Option Contents → Finding → Type 0
+IsReadingOutside None Unopened = Unit {0}
+IsReadingOutside (Some of) (Good facts) = IsStreamOf Lax of facts × (facts.outside ≡ true)
+IsReadingOutside (Some of) (Bad fault) = Fits IsOutOfMemory (Reads Lax of.bytes of.after) (Some (Some fault.at, fault.why))
+IsReadingOutside contents finding = ⊥
+
+-- one more of the files that are streams, and of the others
+abbrev pub good_after : ℕ → Finding → ℕ
+good_after n (Good facts) = printed (n + 1)
+good_after n other = n
+
+abbrev pub bad_after : ℕ → Finding → ℕ
+bad_after n (Good facts) = n
+bad_after n other = printed (n + 1)
+
+-- a file more was counted, whose line standard output took or not
+pub record IsCounted (finding : Finding) (sent : Bool) (old new : Tally) : Type 0 where
+  pub files : new.files ≡ printed (old.files + 1)
+  pub good : new.good ≡ good_after old.good finding
+  pub bad : new.bad ≡ bad_after old.bad finding
+  pub written : new.is_written ≡ (old.is_written && sent)
+
+-- The last line was sent, if those before were.
+pub record IsEnded {O E : Type 0} (o : target.Ghosts O) (e : target.Ghosts E) (tally : Tally) (out ended : O) (err told : E) (done : Bool) : Type 0 where
+  pub sent : tally.is_written ≡ true → IsSent o (last_line tally.files tally.good tally.bad) out ended done
+  pub kept : o.errors out ≤ o.errors ended
+  pub lost : tally.is_written ≡ false → done ≡ false
+  pub unheard : done ≡ true → told ≡ err
+
+-- ---- a list that is read
+
+-- If these are found of the files that are left, then these are found of all files; what was sent and counted so far is
+-- that of the files before.
+pub record SoFar {O E : Type 0} (o : target.Ghosts O) (e : target.Ghosts E) (subset : Bool) (files rest : List Listed) (first out : O) (began err : E) (tally : Tally) (left : List Finding) : Type 0 where
+  pub all : List Finding
+  pub found : AreFound subset files all
+  pub sent_is : tally.is_written ≡ true → o.known first ≡ true → o.sent out ++ ok_lines rest left ≡ o.sent first ++ ok_lines files all
+  pub told_is : e.known began ≡ true → e.errors err ≡ e.errors began → e.sent err ++ bad_lines rest left ≡ e.sent began ++ bad_lines files all
+  pub files_are : printed (tally.files + length left) ≡ printed (length all)
+  pub good_are : printed (tally.good + good_count left) ≡ printed (good_count all)
+  pub bad_are : printed (tally.bad + bad_count left) ≡ printed (bad_count all)
+
+pub record Underway {O E : Type 0} (o : target.Ghosts O) (e : target.Ghosts E) (subset : Bool) (files rest : List Listed) (first out : O) (began err : E) (tally : Tally) : Type 0 where
+  pub kept : o.errors first ≤ o.errors out
+  pub known : tally.is_written ≡ true → o.known first ≡ true → o.known out ≡ true
+  pub lost : tally.is_written ≡ false → o.known first ≡ true → o.errors first < o.errors out
+  pub told : e.errors began ≤ e.errors err
+  pub told_known : e.known began ≡ true → e.errors err ≡ e.errors began → e.known err ≡ true
+  pub files_fit : tally.files ≤ 18446744073709551615
+  pub good_fits : tally.good ≤ 18446744073709551615
+  pub bad_fits : tally.bad ≤ 18446744073709551615
+  pub so_far : (left : List Finding) → AreFound subset rest left → SoFar o e subset files rest first out began err tally left

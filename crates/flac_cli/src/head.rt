@@ -1,0 +1,195 @@
+//! `flac list --head`: the lines of the metadata blocks, and no frame is read.
+
+ghost use Rattle.std.specs.Prelude.{◌≡◌, ◌≢◌, ◌≤◌, true, false, OnOk, IfErr};
+ghost use Rattle.flac_native.specs.Track.{is_going};
+ghost use Rattle.flac_native.specs.Giving.{stage_of};
+ghost use Rattle.flac_cli.specs.inner.Heading.{ReadsBlocks, RefusesBlocks, EndsBlocks, ReadsHead, RefusesHead};
+ghost use Rattle.flac_cli.specs.Calls.{IfServed};
+ghost use Rattle.flac_cli.specs.Headed.{HasHead, HasHeadRefused, HeadReport, IsFaultOf, any_reading};
+ghost use Rattle.flac_cli.specs.Streams.{Tells};
+
+use crate::lines::Lines;
+use crate::list::send_block;
+use crate::report::refuse;
+use flac_bits::{Source, Target, Why};
+use flac_native::{Container, Decoder, Fault, Item, Place, Profile};
+use flac_ogg::{Fronted, begins_page, ogg_decoder_returning, pull_front};
+use std::alloc::Global;
+
+/// Memory ran out at this block.
+fn no_memory_at(index: u64) -> Fault
+    ensures { result.why ≡ Why.Memory }
+{
+    Fault {
+        at: Place::Block(index),
+        why: Why::Memory,
+    }
+}
+
+/// Reads the next block, and sends its lines. It returns no item but a block, as none comes before the last one.
+fn list_block<C: Container, W: Target>(
+    decoder: &mut Decoder<C>,
+    index: u64,
+    lines: &mut Lines<W>,
+) -> Result<(), Fault>
+    requires { is_going (stage_of decoder.old).course ≡ true }
+    // proof only
+    ensures going { OnOk result (is_going (stage_of decoder.new).course ≡ true) }
+    ensures names { C.names (stage_of decoder.new).container ≡ C.names (stage_of decoder.old).container }
+    ensures reads { OnOk result (ReadsBlocks C.Container (stage_of decoder.old) (stage_of decoder.new)) }
+    ensures refused { IfErr result (RefusesBlocks C.Container (stage_of decoder.old) (stage_of decoder.new)) }
+{
+    match decoder.step() {
+        Ok(()) => {}
+        Err(fault) => return Err(fault),
+    }
+    let sent = match decoder.view() {
+        Item::Block(block) => send_block(lines, index, block),
+        Item::Frame(_) => return Err(no_memory_at(index)),
+        Item::End => return Err(no_memory_at(index)),
+    };
+    match sent {
+        Ok(()) => Ok(()),
+        Err(_) => Err(Fault {
+            at: Place::Block(index),
+            why: Why::Sink,
+        }),
+    }
+}
+
+/// Lists the blocks that a decoder gives up to the last one.
+fn list_blocks<C: Container, W: Target>(
+    decoder: &mut Decoder<C>,
+    lines: &mut Lines<W>,
+) -> Result<(), Fault>
+    requires { is_going (stage_of decoder.old).course ≡ true }
+    // proof only
+    ensures names { C.names (stage_of decoder.new).container ≡ C.names (stage_of decoder.old).container }
+    ensures ends { OnOk result (EndsBlocks C.Container (stage_of decoder.old) (stage_of decoder.new)) }
+    ensures refused { IfErr result (RefusesBlocks C.Container (stage_of decoder.old) (stage_of decoder.new)) }
+{
+    for index in 0..u64::MAX {
+        if decoder.is_past_metadata() {
+            return Ok(());
+        }
+        match list_block(decoder, index, lines) {
+            Ok(()) => {}
+            Err(fault) => return Err(fault),
+        }
+    }
+    Err(no_memory_at(u64::MAX))
+}
+
+/// Lists the blocks of a native stream.
+fn list_native<R: Source, W: Target>(
+    alloc: Global,
+    source: &mut R,
+    lines: &mut Lines<W>,
+) -> Result<(), Fault>
+    // proof only
+    ensures head { OnOk result (ReadsHead R.Source false source.old) }
+    ensures refused { IfErr result (RefusesHead R.Source false source.old source.new) }
+    ensures names { R.names source.new ≡ R.names source.old }
+{
+    let mut decoder = Decoder::new(alloc, source, Profile::Lax);
+    let outcome = list_blocks(&mut decoder, lines);
+    let _source = decoder.into_source(); // for its clauses alone
+    outcome
+}
+
+/// Lists the blocks of an Ogg stream.
+fn list_ogg<R: Source, W: Target>(
+    alloc: Global,
+    source: &mut R,
+    lines: &mut Lines<W>,
+) -> Result<(), Fault>
+    // proof only
+    ensures head { OnOk result (ReadsHead R.Source true source.old) }
+    ensures refused { IfErr result (RefusesHead R.Source true source.old source.new) }
+    ensures names { R.names source.new ≡ R.names source.old }
+{
+    let decoder = match ogg_decoder_returning(alloc, source, Profile::Lax) {
+        Ok(decoder) => decoder,
+        Err(refused) => return Err(refused.fault),
+    };
+    let mut decoder = decoder;
+    let outcome = list_blocks(&mut decoder, lines);
+    let packets = decoder.into_container();
+    let _source = packets.into_source(); // for its clauses alone
+    outcome
+}
+
+/// Lists the blocks of an Ogg stream or of a native one.
+fn list_as<R: Source, W: Target>(
+    alloc: Global,
+    is_ogg: bool,
+    source: &mut R,
+    lines: &mut Lines<W>,
+) -> Result<(), Fault>
+    // proof only
+    ensures head { OnOk result (ReadsHead R.Source is_ogg source.old) }
+    ensures refused { IfErr result (RefusesHead R.Source is_ogg source.old source.new) }
+    ensures names { R.names source.new ≡ R.names source.old }
+{
+    if is_ogg {
+        list_ogg(alloc, source, lines)
+    } else {
+        list_native(alloc, source, lines)
+    }
+}
+
+/// Lists the blocks of a stream in either container.
+fn list_head_into<R: Source, W: Target>(
+    alloc: Global,
+    source: &mut R,
+    lines: &mut Lines<W>,
+) -> Result<(), Fault>
+    // proof only
+    ensures head { OnOk result (R.known source.old ≡ true → HasHead (any_reading R.Source source.old)) }
+    ensures refused { IfErr result (λ f. Tells R.Source source.old source.new → f.why ≢ Why.Memory → f.why ≢ Why.Sink
+        → HasHeadRefused (any_reading R.Source source.old) f.at f.why) }
+{
+    let front = match pull_front(source) {
+        Ok(front) => front,
+        Err(fault) => return Err(fault),
+    };
+    let mut fronted = Fronted { front, source };
+    let outcome = list_as(alloc, begins_page(front), &mut fronted, lines);
+    let Fronted {
+        front: _,
+        source: _source,
+    } = fronted;
+    outcome
+}
+
+/// Lists the metadata blocks of a stream, native or Ogg, as `flac list` does, and stops after the last one: no frame is
+/// read, so none is verified. Returns the exit status: 0 if the marker and all blocks were read and listed, else 1.
+///
+/// `input` is the path of the file that `source` is, `out` and `err` are standard output and standard error. After
+/// status 1 the lines of the blocks before the fault were written to `out`, and the line of the fault to `err`, if that
+/// could be written.
+pub fn list_head<R: Source, O: Target, E: Target>(
+    alloc: Global,
+    input: &str,
+    source: &mut R,
+    out: &mut O,
+    err: &mut E,
+) -> u8
+    ensures status { result ≤ 1 }
+    // After status 0 the input begins with the marker and blocks up to a last one.
+    ensures head { result ≡ 0 → R.known source.old ≡ true → HasHead (any_reading R.Source source.old) }
+    // After status 1 it is refused before that, and the line of this refusal was added to standard error, if that did not
+    // fail; or the line says that memory ran out, or that standard output took no more.
+    ensures refused { result ≡ 1 → Tells R.Source source.old source.new → IfServed E.Target err.old err.new
+        (HeadReport (any_reading R.Source source.old) input.now) }
+    // After status 1 the line of a fault of this file was added, whatever failed.
+    ensures named { result ≡ 1 → IfServed E.Target err.old err.new (IsFaultOf input.now) }
+    // After status 0 nothing was added to standard error.
+    ensures silent { result ≡ 0 → err.new ≡ err.old }
+{
+    let mut lines = Lines::new(out);
+    match list_head_into(alloc, source, &mut lines) {
+        Ok(()) => 0,
+        Err(fault) => refuse(err, input, Some(fault.at), fault.why),
+    }
+}

@@ -1,0 +1,144 @@
+//! `flac tag`: the comments of a native file, in place or in a new file.
+
+ghost use Rattle.std.specs.Prelude.{◌≡◌, ◌≢◌, ◌≤◌, ◌++◌, true, length, codes, Some, IfOk, IfSome};
+ghost use Rattle.flac_bits.specs.Bits.{bits_of};
+ghost use Rattle.flac_native.specs.Decoding.{source_start};
+ghost use Rattle.flac_edit.specs.Device.{Only};
+ghost use Rattle.flac_edit.specs.Tagged.{LeavesOldOrTagged, ReadsOldOrTagged, IsTagged, ChangesNothing, RewritesAt};
+ghost use Rattle.flac_cli.specs.Calls.{IfServed};
+ghost use Rattle.flac_cli.specs.Reports.{fault_line};
+
+use crate::lines::{At, write_line};
+use crate::report::refuse;
+use flac_bits::{Source, Target, Why};
+use flac_edit::{Device, DeviceError, Edit, TagFault, Tagged, rewrite, tag_in_place};
+use flac_jobs::TagEdit;
+use std::alloc::{AllocError, Global};
+
+/// The edits that the command line gives.
+///
+/// # Errors
+/// `AllocError` if an allocation fails.
+pub fn edits_of<'a>(alloc: Global, words: &[TagEdit<'a>]) -> Result<Vec<Edit<'a>>, AllocError>
+    ensures { IfOk result (λ edits. length edits.items ≡ length words.now) }
+{
+    let mut edits = Vec::with_capacity(alloc, words.len())?;
+    for word in words {
+        edits.push(edit_of(word))?;
+    }
+    Ok(edits)
+}
+
+/// The name and the value of a comment; the value is empty if there is no `=`.
+fn parts_of(comment: &str) -> (&str, &str) {
+    match comment.split_once('=') {
+        Some(parts) => parts,
+        None => (comment, ""),
+    }
+}
+
+/// The edit that a word gives.
+fn edit_of<'a>(word: &TagEdit<'a>) -> Edit<'a> {
+    match word {
+        TagEdit::Clear => Edit::Clear,
+        TagEdit::Remove(name) => Edit::Remove(name.as_bytes()),
+        TagEdit::Set(comment) => {
+            let (name, value) = parts_of(comment);
+            Edit::Set(name.as_bytes(), value.as_bytes())
+        }
+        TagEdit::Add(comment) => {
+            let (name, value) = parts_of(comment);
+            Edit::Add(name.as_bytes(), value.as_bytes())
+        }
+    }
+}
+
+/// Writes the line of a fault of an edit in place.
+fn tell_fault<E: Target>(err: &mut E, path: &str, fault: TagFault) {
+    let (at, why) = match fault {
+        TagFault::Stream(fault) => (Some(fault.at), fault.why),
+        TagFault::Device(DeviceError::Memory) => (None, Why::Memory),
+        TagFault::Device(DeviceError::Failed) => (None, Why::Write),
+    };
+    let _status = refuse(err, path, at, why);
+}
+
+/// Edits the comments of a native file in place, as [`tag_in_place`] does. `source` reads the file that `device` is, from
+/// its first byte on. Returns what became of it; `None` if it is refused or could not be edited: then the line of the
+/// error was written to `err`, if that could be written.
+pub fn tag_file<R: Source, D: Device, E: Target>(
+    alloc: Global,
+    path: &str,
+    edits: &[Edit<'_>],
+    source: &mut R,
+    device: &mut D,
+    err: &mut E,
+) -> Option<Tagged>
+    requires same { D.known device.old ≡ true
+        → (R.known source.old ≡ true) × (R.coming source.old ≡ D.seen device.old) }
+    requires durable { D.known device.old ≡ true → Only (D.seen device.old) (D.time device.old) }
+    // A crash at any moment leaves a file that is read as the old blocks, or as those with the edited comments, before the
+    // same frames.
+    ensures any_moment { D.known device.old ≡ true → LeavesOldOrTagged (source_start R.Source source.old).mark edits.now
+        (D.seen device.old) (D.time device.old) (D.time device.new) }
+    // Whatever is returned, a read finds the old blocks, or those with the edited comments.
+    ensures reads { D.known device.old ≡ true → ReadsOldOrTagged (source_start R.Source source.old).mark edits.now
+        (D.seen device.old) (D.seen device.new) }
+    // `Flipped`: it has the edited comments, and they are stored.
+    ensures flipped { result ≡ Some Tagged.Flipped → D.known device.old ≡ true
+        → IsTagged (source_start R.Source source.old).mark edits.now (D.seen device.old) (D.seen device.new) }
+    ensures stored { IfSome result (λ _. D.known device.old ≡ true → Only (D.seen device.new) (D.time device.new)) }
+    // `Same` and `NoRoom`: nothing was written.
+    ensures untouched { IfSome result (λ done. done ≢ Tagged.Flipped → device.new ≡ device.old) }
+    // `Same` if the edits change none of its comments, and only then.
+    ensures same { result ≡ Some Tagged.Same → R.known source.old ≡ true
+        → ChangesNothing (source_start R.Source source.old).mark edits.now (R.coming source.old) }
+    ensures idle { IfSome result (λ done. R.known source.old ≡ true
+        → ChangesNothing (source_start R.Source source.old).mark edits.now (R.coming source.old) → done ≡ Tagged.Same) }
+    // Nothing was written to standard error unless it is refused.
+    ensures silent { IfSome result (λ _. err.new ≡ err.old) }
+{
+    match tag_in_place(alloc, device, source, edits) {
+        Ok(tagged) => Some(tagged),
+        Err(fault) => {
+            tell_fault(err, path, fault);
+            None
+        }
+    }
+}
+
+/// Writes the line that there is no room in a file for its comments, and returns the status 1.
+pub fn refuse_room<E: Target>(err: &mut E, path: &str) -> u8
+    ensures status { result ≡ 1 }
+    ensures line { IfServed E.Target err.old err.new
+        (λ before after. after ≡ before ++ fault_line path.now (codes "54 NoRoom")) }
+{
+    // If it cannot be written, there is no one left to report it to.
+    let _ = write_line(err, path, At::Whole, "54 NoRoom");
+    1
+}
+
+/// Writes a native stream with edited comments and `padding` bytes of padding, as [`rewrite`] does. Returns the status:
+/// 1 if it failed, and the line of the error was written to `err`, if that could be written.
+pub fn rewrite_file<R: Source, W: Target, E: Target>(
+    alloc: Global,
+    path: &str,
+    edits: &[Edit<'_>],
+    padding: u32,
+    source: &mut R,
+    target: &mut W,
+    err: &mut E,
+) -> u8
+    ensures status { result ≤ 1 }
+    // After status 0 the input was written with its blocks arranged so, and its frames as they are.
+    ensures rewritten { result ≡ 0 → R.known source.old ≡ true → W.known target.old ≡ true
+        → RewritesAt (source_start R.Source source.old) edits.now padding (bits_of (W.sent target.old))
+        (bits_of (W.sent target.new)) }
+    // After status 0 nothing was written to standard error.
+    ensures silent { result ≡ 0 → err.new ≡ err.old }
+{
+    match rewrite(alloc, source, edits, padding, target) {
+        Ok(()) => 0,
+        Err(fault) => refuse(err, path, fault.at, fault.why),
+    }
+}

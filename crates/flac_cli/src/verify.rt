@@ -1,0 +1,180 @@
+//! `flac verify`: reads many files, and prints a line for each.
+
+ghost use Rattle.std.specs.Prelude.{◌≡◌, ◌≤◌, ◌↔◌, true, false, IfSome};
+ghost use Rattle.flac_cli.specs.Outcomes.{Fits};
+ghost use Rattle.flac_cli.specs.Verified.{IsFinding, HasNoMemory, AreWhole, Verifies};
+ghost use Rattle.flac_cli.specs.inner.Verifying.{IsReading, IsReadingOutside, IsCounted, Stays};
+
+use crate::verify_facts::{Facts, read_facts};
+use crate::verify_lines::{report, report_end};
+use flac_bits::{Target, Why};
+use flac_native::{Fault, Profile};
+use flac_shelf::Shelf;
+use std::alloc::Global;
+
+/// What a file was found to be.
+#[derive(Drop)]
+pub(crate) enum Finding {
+    /// A stream.
+    Good(Facts),
+    /// Refused at a place, for a reason.
+    Bad(Fault),
+    /// It cannot be opened.
+    Unopened,
+}
+
+/// How many files there were, each count up to 2^64 - 1.
+#[derive(Clone, Copy)]
+pub(crate) struct Tally {
+    pub(crate) files: u64,
+    /// Those that are streams.
+    pub(crate) good: u64,
+    /// The others.
+    pub(crate) bad: u64,
+    /// Whether standard output took each line.
+    pub(crate) is_written: bool,
+}
+
+impl Tally {
+    /// Counts a file, whose line standard output took or not.
+    fn add(&mut self, finding: &Finding, is_sent: bool)
+        ensures { IsCounted finding.now is_sent self.old self.new }
+    {
+        self.is_written = self.is_written && is_sent;
+        self.files = self.files.saturating_add(1);
+        match finding {
+            Finding::Good(_) => self.good = self.good.saturating_add(1),
+            Finding::Bad(_) => self.bad = self.bad.saturating_add(1),
+            Finding::Unopened => self.bad = self.bad.saturating_add(1),
+        }
+    }
+}
+
+/// Reads the current file in this profile.
+fn read_in<S: Shelf>(alloc: Global, shelf: &mut S, profile: Profile) -> Finding
+    ensures found { S.known shelf.old ≡ true → S.faults shelf.new ≡ S.faults shelf.old →
+        IsReading profile (S.current shelf.old).contents result }
+    ensures stays { Stays S.known S.current S.files S.faults S.most shelf.old shelf.new }
+{
+    match shelf.open() {
+        Some(mut file) => match read_facts(alloc, &mut file, profile) {
+            Ok(facts) => {
+                shelf.close(file);
+                Finding::Good(facts)
+            }
+            Err(fault) => {
+                shelf.close(file);
+                Finding::Bad(fault)
+            }
+        },
+        None => Finding::Unopened,
+    }
+}
+
+/// Reads the current file without the limits of the streamable subset, which it does not keep.
+fn read_outside<S: Shelf>(alloc: Global, shelf: &mut S) -> Finding
+    ensures found { S.known shelf.old ≡ true → S.faults shelf.new ≡ S.faults shelf.old →
+        IsReadingOutside (S.current shelf.old).contents result }
+    ensures stays { Stays S.known S.current S.files S.faults S.most shelf.old shelf.new }
+{
+    match read_in(alloc, shelf, Profile::Lax) {
+        Finding::Good(facts) => Finding::Good(Facts {
+            outside: true,
+            ..facts
+        }),
+        Finding::Bad(fault) => Finding::Bad(fault),
+        Finding::Unopened => Finding::Unopened,
+    }
+}
+
+/// Whether memory ran out.
+fn is_memory(why: Why) -> bool
+    ensures { (result ≡ true) ↔ (why ≡ Why.Memory) }
+{
+    matches!(why, Why::Memory)
+}
+
+/// Finds out what the current file is, which can be read again: first in the streamable subset, so that only a file
+/// outside of it is read twice.
+fn find_again<S: Shelf>(alloc: Global, shelf: &mut S) -> Finding
+    ensures found { S.known shelf.old ≡ true → S.faults shelf.new ≡ S.faults shelf.old →
+        IfSome (S.current shelf.old).contents (λ of. of.again ≡ true) →
+        Fits HasNoMemory (IsFinding false (S.current shelf.old).contents) result }
+    ensures stays { Stays S.known S.current S.files S.faults S.most shelf.old shelf.new }
+{
+    match read_in(alloc, shelf, Profile::Subset) {
+        Finding::Good(facts) => Finding::Good(facts),
+        Finding::Unopened => Finding::Unopened,
+        Finding::Bad(fault) => {
+            if is_memory(fault.why) {
+                return Finding::Bad(fault);
+            }
+            read_outside(alloc, shelf)
+        }
+    }
+}
+
+/// Finds out what the current file is.
+fn find<S: Shelf>(alloc: Global, shelf: &mut S, subset: bool) -> Finding
+    ensures found { S.known shelf.old ≡ true → S.faults shelf.new ≡ S.faults shelf.old →
+        Fits HasNoMemory (IsFinding subset (S.current shelf.old).contents) result }
+    ensures stays { Stays S.known S.current S.files S.faults S.most shelf.old shelf.new }
+{
+    if subset {
+        return read_in(alloc, shelf, Profile::Subset);
+    }
+    let again = shelf.reads_again();
+    if again {
+        return find_again(alloc, shelf);
+    }
+    read_in(alloc, shelf, Profile::Lax)
+}
+
+/// The status: 0 if every line was written and no file was bad.
+fn status_of(is_written: bool, bad: u64) -> u8
+    ensures zero { result ≡ 0 → (is_written ≡ true) × (bad ≡ 0) }
+    ensures one { is_written ≡ true → bad ≡ 0 → result ≡ 0 }
+    ensures most { result ≤ 1 }
+{
+    if is_written && bad == 0 { 0 } else { 1 }
+}
+
+/// Reads the files of a list, one after another, and prints a line for each. Returns the status: 0 if all of them are
+/// streams, native or Ogg, and every line was written; else 1.
+///
+/// With `subset` a file must be in the streamable subset (RFC 9639, section 7); otherwise all of FLAC is read. The line
+/// of a stream is written to `out`, with its number of frames and of inter-channel samples, both up to 2^64 - 1:
+/// `ok PATH: frames N samples N`. Then come the words ` no-md5` and ` no-total`, if STREAMINFO does not state the digest
+/// of the samples or their number (section 8.2), and ` outside-subset`, if the file can be read again and is not in the
+/// streamable subset. The line of another file is written to `err`: `flac: PATH: PLACE: NUMBER NAME`, or
+/// `flac: PATH: cannot be opened`. After all files `out` gets the line `verified N ok N bad N`.
+pub fn verify_files<S: Shelf, O: Target, E: Target>(
+    alloc: Global,
+    shelf: &mut S,
+    subset: bool,
+    out: &mut O,
+    err: &mut E,
+) -> u8
+    // The status is 0 or 1.
+    ensures status { result ≤ 1 }
+    // If no file's device fails: the lines are those of what each file is, by its own bytes, in order, and the status is
+    // 0 exactly if all of them are streams and every line was written. Or memory ran out: then a line says that.
+    ensures verified { S.known shelf.old ≡ true → S.faults shelf.new ≡ S.faults shelf.old →
+        Verifies O.Target E.Target subset (S.files shelf.old) result out.old out.new err.old err.new }
+    // So after status 0 each file is a stream.
+    ensures streams { result ≡ 0 → S.known shelf.old ≡ true → S.faults shelf.new ≡ S.faults shelf.old →
+        AreWhole subset (S.files shelf.old) }
+{
+    let mut tally = Tally {
+        files: 0,
+        good: 0,
+        bad: 0,
+        is_written: true,
+    };
+    'files: while shelf.next() {
+        let finding = find(alloc, shelf, subset);
+        let is_sent = report(&finding, shelf.path(), out, err);
+        tally.add(&finding, is_sent);
+    }
+    status_of(report_end(&tally, out, err), tally.bad)
+}

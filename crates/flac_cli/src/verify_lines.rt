@@ -1,0 +1,128 @@
+//! The lines that `flac verify` prints.
+
+ghost use Rattle.std.specs.Prelude.{◌≡◌, ◌≤◌, ◌<◌, ◌+◌, ◌++◌, true, [], take, OnOk, OnErr};
+ghost use Rattle.flac_cli.specs.Lined.{text_at};
+ghost use Rattle.flac_cli.specs.Reports.{fault_line};
+ghost use Rattle.flac_cli.specs.Verified.{ok_line, ok_part, bad_part, words_of, word_if, last_line};
+ghost use Rattle.flac_cli.specs.inner.Lined.{Adds};
+ghost use Rattle.flac_cli.specs.inner.Verifying.{IsEnded, IsSent, IsTold};
+
+use crate::lines::{At, Lines, write_line};
+use crate::verify::{Finding, Tally};
+use crate::verify_facts::Facts;
+use flac_bits::{Target, Why};
+
+/// A word that is printed if this holds.
+fn word_if(holds: bool, word: &'static str) -> &'static str
+    ensures { result.now ≡ word_if holds word.now }
+{
+    if holds { word } else { "" }
+}
+
+/// Adds the words after the counts of a stream.
+fn put_words<O: Target>(lines: &mut Lines<O>, facts: &Facts) -> Result<(), Why>
+    ensures { Adds O.Target (words_of facts.now) lines.old.target lines.new.target
+        (take lines.old.held lines.old.bytes) (take lines.new.held lines.new.bytes) result }
+{
+    lines.put(word_if(facts.lacks_digest(), " no-md5"))?;
+    lines.put(word_if(facts.lacks_total(), " no-total"))?;
+    lines.put(word_if(facts.outside, " outside-subset"))
+}
+
+/// Sends the line of a stream through a buffer.
+fn put_ok<O: Target>(lines: &mut Lines<O>, path: &str, facts: &Facts) -> Result<(), Why>
+    requires { lines.old.held ≡ 0 }
+    ensures { Adds O.Target (ok_line path.now facts.now) lines.old.target lines.new.target [] [] result }
+{
+    lines.put_both("ok ", path)?;
+    lines.put_counted(": frames ", facts.counts.frames)?;
+    lines.put_counted(" samples ", facts.counts.samples)?;
+    put_words(lines, facts)?;
+    lines.put("\n")?;
+    lines.send()
+}
+
+/// Sends the line of a stream: `ok PATH: frames N samples N`, and what it lacks.
+///
+/// # Errors
+/// [`Why::Write`] if the target fails.
+pub(crate) fn write_ok<O: Target>(out: &mut O, path: &str, facts: &Facts) -> Result<(), Why>
+    ensures kept { O.errors out.old ≤ O.errors out.new }
+    ensures known { OnOk result (O.known out.old ≡ true → O.known out.new ≡ true) }
+    ensures sent { OnOk result (O.known out.old ≡ true → O.sent out.new ≡ O.sent out.old ++ ok_line path.now facts.now) }
+    ensures failed { OnErr result (O.known out.old ≡ true → O.errors out.old < O.errors out.new) }
+{
+    let mut lines = Lines::new(out);
+    put_ok(&mut lines, path, facts)
+}
+
+/// Sends the last line through a buffer.
+fn put_last<O: Target>(lines: &mut Lines<O>, tally: &Tally) -> Result<(), Why>
+    requires { lines.old.held ≡ 0 }
+    ensures { Adds O.Target (last_line tally.now.files tally.now.good tally.now.bad)
+        lines.old.target lines.new.target [] [] result }
+{
+    lines.put_counted("verified ", tally.files)?;
+    lines.put_counted(" ok ", tally.good)?;
+    lines.put_counted(" bad ", tally.bad)?;
+    lines.put("\n")?;
+    lines.send()
+}
+
+/// Sends the last line: `verified N ok N bad N`.
+///
+/// # Errors
+/// [`Why::Write`] if the target fails.
+fn write_last<O: Target>(out: &mut O, tally: &Tally) -> Result<(), Why>
+    ensures kept { O.errors out.old ≤ O.errors out.new }
+    ensures known { OnOk result (O.known out.old ≡ true → O.known out.new ≡ true) }
+    ensures sent { OnOk result (O.known out.old ≡ true →
+        O.sent out.new ≡ O.sent out.old ++ last_line tally.now.files tally.now.good tally.now.bad) }
+    ensures failed { OnErr result (O.known out.old ≡ true → O.errors out.old < O.errors out.new) }
+{
+    let mut lines = Lines::new(out);
+    put_last(&mut lines, tally)
+}
+
+/// Sends the line of a fault.
+fn tell<E: Target>(err: &mut E, path: &str, at: At, text: &str)
+    ensures { IsTold E.Target (fault_line path.now (text_at at text.now)) err.old err.new }
+{
+    // If it cannot be written, there is no one left to report it to.
+    let _ = write_line(err, path, at, text);
+}
+
+/// Prints the line of a file. Returns false if standard output fails.
+pub(crate) fn report<O: Target, E: Target>(
+    finding: &Finding,
+    path: &str,
+    out: &mut O,
+    err: &mut E,
+) -> bool
+    ensures out { IsSent O.Target (ok_part path.now finding.now) out.old out.new result }
+    ensures err { IsTold E.Target (bad_part path.now finding.now) err.old err.new }
+{
+    match finding {
+        Finding::Good(facts) => write_ok(out, path, facts).is_ok(),
+        Finding::Bad(fault) => {
+            tell(err, path, At::Place(fault.at), fault.why.as_str());
+            true
+        }
+        Finding::Unopened => {
+            tell(err, path, At::Whole, "cannot be opened");
+            true
+        }
+    }
+}
+
+/// Prints the last line. Returns false if standard output failed, now or before; then its line is on standard error.
+pub(crate) fn report_end<O: Target, E: Target>(tally: &Tally, out: &mut O, err: &mut E) -> bool
+    ensures { IsEnded O.Target E.Target tally.now out.old out.new err.old err.new result }
+{
+    let is_ended = write_last(out, tally).is_ok();
+    if tally.is_written && is_ended {
+        return true;
+    }
+    tell(err, "standard output", At::Whole, Why::Write.as_str());
+    false
+}

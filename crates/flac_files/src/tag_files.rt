@@ -1,0 +1,196 @@
+//! The files of `flac tag`.
+
+ghost use Rattle.std.specs.Prelude.{[], false};
+ghost use Rattle.flac_files.specs.Unknown.{nothing_known, not_known};
+
+use crate::files::{Output, Replacement, create_beside};
+use crate::job_files::FileRefused;
+use flac_edit::{Device, DeviceError};
+use std::fs::{File, Metadata, OpenOptions};
+use std::io;
+use std::io::{ErrorKind, Seek, SeekFrom};
+use std::os::unix::fs::{FileExt, MetadataExt, fchown};
+
+/// A file of the system that is written in place. No contract knows its bytes.
+#[derive(Drop)]
+pub struct FileDevice {
+    file: File,
+}
+
+impl Device for FileDevice {
+    ghost known = { λ _. false };
+
+    ghost seen = { λ _. [] };
+
+    ghost time = { λ _. nothing_known };
+
+    ghost faults = { λ _. 0 };
+
+    ghost counts_now = { λ f t c known le now. not_known known };
+
+    ghost only_now = { λ f c known left. not_known known };
+
+    ghost leaves_seen = { λ f known. not_known known };
+
+    fn write_at(&mut self, at: usize, bytes: &[u8]) -> Result<(), DeviceError> {
+        match self.file.write_all_at(bytes, at as u64) {
+            Ok(()) => Ok(()),
+            Err(_) => Err(DeviceError::Failed),
+        }
+    }
+
+    fn sync(&mut self) -> Result<(), DeviceError> {
+        match self.file.sync_all() {
+            Ok(()) => Ok(()),
+            Err(_) => Err(DeviceError::Failed),
+        }
+    }
+}
+
+/// A file whose comments are edited, opened for reading and writing.
+#[derive(Drop)]
+pub struct TagFile<'a> {
+    path: &'a str,
+    file: File,
+    found: Metadata,
+}
+
+impl<'a> TagFile<'a> {
+    /// Opens a regular file, to which symbolic links may lead, and stores what was written to it before.
+    ///
+    /// # Errors
+    /// The file cannot be opened for reading and writing, is no regular file, is an Ogg stream, or cannot be stored.
+    pub fn open(rt: &HostRuntime, path: &'a str) -> Result<TagFile<'a>, FileRefused<'a>> {
+        let Ok(file) = OpenOptions::new().read(true).write(true).open(rt, path) else {
+            return Err(FileRefused {
+                path,
+                what: "opened",
+            });
+        };
+        let Ok(found) = regular(&file) else {
+            return Err(FileRefused {
+                path,
+                what: "tagged: it is no regular file",
+            });
+        };
+        if is_ogg(&file) {
+            return Err(FileRefused {
+                path,
+                what: "tagged: it is an Ogg stream",
+            });
+        }
+        if file.sync_all().is_err() {
+            return Err(FileRefused {
+                path,
+                what: "stored",
+            });
+        }
+        Ok(TagFile { path, file, found })
+    }
+
+    /// The file as a source of bytes, from its first byte on.
+    ///
+    /// # Errors
+    /// That of the system.
+    pub fn reader(&self) -> Result<File, FileRefused<'a>> {
+        match from_start(&self.file) {
+            Ok(file) => Ok(file),
+            Err(_) => Err(FileRefused {
+                path: self.path,
+                what: "read",
+            }),
+        }
+    }
+
+    /// The file as a device that is written in place.
+    ///
+    /// # Errors
+    /// That of the system.
+    pub fn device(&self) -> Result<FileDevice, FileRefused<'a>> {
+        match self.file.try_clone() {
+            Ok(file) => Ok(FileDevice { file }),
+            Err(_) => Err(FileRefused {
+                path: self.path,
+                what: "opened",
+            }),
+        }
+    }
+
+    /// A new file beside it that is to take its place, with its permissions, and with its owner if the system lets it; and
+    /// what is left to do when it is written.
+    ///
+    /// # Errors
+    /// The new file cannot be created.
+    pub fn beside(&self, rt: &HostRuntime) -> Result<(Output, NewFile<'a>), FileRefused<'a>> {
+        let path = self.path;
+        let Ok((file, replacement)) = create_beside(rt, path, &self.found, true) else {
+            return Err(FileRefused {
+                path,
+                what: "replaced",
+            });
+        };
+        // Only a privileged user may give a file away.
+        let _ = fchown(&file, Some(self.found.uid()), Some(self.found.gid()));
+        Ok((Output::File(file), NewFile { path, replacement }))
+    }
+}
+
+/// A new file that is to take the place of another.
+#[derive(Drop)]
+pub struct NewFile<'a> {
+    path: &'a str,
+    replacement: Replacement,
+}
+
+impl<'a> NewFile<'a> {
+    /// Ends a job of this status, which wrote to `output`: if the status is 0, the new file is stored and takes the place
+    /// of the other, and else it is removed.
+    ///
+    /// # Errors
+    /// The new file cannot be stored, or cannot take the place of the other: it stays beside it.
+    pub fn end(self, rt: &HostRuntime, output: Output, status: u8) -> Result<(), FileRefused<'a>> {
+        let NewFile { path, replacement } = self;
+        if status != 0 {
+            replacement.remove(rt);
+            return Ok(());
+        }
+        match replacement.end(rt, output, status) {
+            Ok(()) => Ok(()),
+            Err(_) => Err(FileRefused {
+                path,
+                what: "replaced",
+            }),
+        }
+    }
+}
+
+/// What is known of a regular file.
+///
+/// # Errors
+/// That of the system; `InvalidInput` if it is no regular file.
+fn regular(file: &File) -> io::Result<Metadata> {
+    let found = file.metadata()?;
+    if !found.is_file() {
+        return Err(io::Error::from(ErrorKind::InvalidInput));
+    }
+    Ok(found)
+}
+
+/// Whether a file begins as an Ogg stream (RFC 3533, section 6). False if it cannot be read.
+fn is_ogg(file: &File) -> bool {
+    let mut front = [0; 4];
+    match file.read_exact_at(&mut front, 0) {
+        Ok(()) => front == *b"OggS",
+        Err(_) => false,
+    }
+}
+
+/// The same opened file, to be read from its first byte on.
+///
+/// # Errors
+/// That of the system.
+fn from_start(file: &File) -> io::Result<File> {
+    let mut file = file.try_clone()?;
+    file.seek(SeekFrom::Start(0))?;
+    Ok(file)
+}

@@ -1,0 +1,134 @@
+//! Files that are streams, by their names, and the names of folders.
+
+use std::fs::{File, Metadata};
+use std::io;
+use std::io::Read;
+
+/// What is to be done with a path.
+#[derive(Clone, Copy)]
+pub(crate) enum Look {
+    /// It is a file that is read; `again`: more than once, if need be.
+    Read { again: bool },
+    /// It is a folder, whose files are read.
+    Folder,
+    /// It is to be read, and cannot be.
+    Refused,
+    /// It is passed over.
+    Pass,
+}
+
+/// Whether a path ends so, in any case.
+fn ends_with(path: &str, ending: &str) -> bool {
+    let path = path.as_bytes();
+    let ending = ending.as_bytes();
+    path.len() >= ending.len() && path[path.len() - ending.len()..].eq_ignore_ascii_case(ending)
+}
+
+/// Whether a path ends as that of a stream.
+fn is_stream_path(path: &str) -> bool {
+    ends_with(path, ".flac") || ends_with(path, ".fla") || ends_with(path, ".oga")
+}
+
+/// Whether a path ends as that of an Ogg stream, of FLAC or of something else.
+fn is_ogg_path(path: &str) -> bool {
+    ends_with(path, ".ogg")
+}
+
+/// How many bytes of an Ogg file show what its first packet is: a page header of 27 bytes and the lengths of up to 255
+/// parts (RFC 3533, section 6), and the first 5 bytes of the packet.
+const FRONT: usize = 287;
+
+/// Whether these first bytes of an Ogg file are a page whose first packet is FLAC's: `7F 46 4C 41 43` (RFC 9639,
+/// section 10.1).
+fn begins_with_flac(front: &[u8]) -> bool {
+    let Some(parts) = front.get(26) else {
+        return false;
+    };
+    let start = 27 + usize::from(*parts);
+    front.starts_with(b"OggS") && front[start.min(front.len())..].starts_with(b"\x7FFLAC")
+}
+
+/// Reads the first bytes of a file.
+///
+/// # Errors
+/// That of the system, or that memory ran out.
+fn front_of(rt: &HostRuntime, path: &str) -> io::Result<Vec<u8>> {
+    let mut front = Vec::new(rt.alloc());
+    File::open(rt, path)?
+        .take(FRONT as u64)
+        .read_to_end(&mut front)?;
+    Ok(front)
+}
+
+/// What is to be done with a path that the caller named: a file is read whatever its name, and links are followed.
+pub(crate) fn look_at_named(rt: &HostRuntime, path: &str) -> Look {
+    match std::fs::metadata(rt, path) {
+        Ok(found) if found.is_dir() => Look::Folder,
+        Ok(found) => Look::Read {
+            again: found.is_file(),
+        },
+        Err(_) => Look::Refused,
+    }
+}
+
+/// What is to be done with a path of a folder. A file is read if its name says that it is a stream. A link to a folder
+/// is passed over, so that a walk ends.
+pub(crate) fn look_at_found(rt: &HostRuntime, path: &str) -> Look {
+    match std::fs::symlink_metadata(rt, path) {
+        Ok(found) if found.is_dir() => Look::Folder,
+        _ if is_stream_path(path) => look_at_stream(rt, path),
+        _ if is_ogg_path(path) => look_at_ogg(rt, path),
+        _ => Look::Pass,
+    }
+}
+
+/// What is to be done with a file, or with a link, whose name is that of a stream: pipes and devices are refused.
+fn look_at_stream(rt: &HostRuntime, path: &str) -> Look {
+    match std::fs::metadata(rt, path) {
+        Ok(found) if found.is_dir() => Look::Pass,
+        Ok(found) if found.is_file() => Look::Read { again: true },
+        _ => Look::Refused,
+    }
+}
+
+/// The same of one whose name is that of an Ogg stream: it is read if its first packet is FLAC's.
+fn look_at_ogg(rt: &HostRuntime, path: &str) -> Look {
+    match look_at_stream(rt, path) {
+        Look::Read { again } => match front_of(rt, path) {
+            Ok(front) if begins_with_flac(front.as_slice()) => Look::Read { again },
+            Ok(_) => Look::Pass,
+            Err(_) => Look::Refused,
+        },
+        other => other,
+    }
+}
+
+/// The paths of what is in a folder, in the order of the bytes of their names.
+#[derive(Drop)]
+pub(crate) struct Names {
+    pub(crate) paths: Vec<String>,
+    /// Whether a name could not be read, as one that is no UTF-8.
+    pub(crate) lacks_one: bool,
+}
+
+impl Names {
+    /// Reads a folder.
+    ///
+    /// # Errors
+    /// That of the system, or that memory ran out.
+    pub(crate) fn of(rt: &HostRuntime, folder: &str) -> io::Result<Names> {
+        let mut paths = Vec::new(rt.alloc());
+        let mut lacks_one = false;
+        for entry in std::fs::read_dir(rt, folder)? {
+            match entry {
+                Ok(entry) => paths.push(String::from_str(
+                    rt.alloc(),
+                    entry.path().to_string_lossy(),
+                )?)?,
+                Err(_) => lacks_one = true,
+            }
+        }
+        paths.sort_unstable();
+        Ok(Names { paths, lacks_one })
+    }
+}

@@ -1,0 +1,12 @@
+//! Listings: what `flac list` is asked for beside one stream.
+
+/// The streams whose metadata is listed, one after another; each after a line with its path if there are several.
+#[derive(Debug, Drop)]
+pub struct Listing<'a> {
+    /// The paths of the streams.
+    pub inputs: Vec<&'a str>,
+    /// Whether streams outside the streamable subset (RFC 9639, section 7) are accepted too.
+    pub lax: bool,
+    /// Whether the blocks alone are read, and no frame is verified.
+    pub head: bool,
+}

@@ -1,0 +1,41 @@
+//! Taggings: what `flac tag` is asked for.
+
+/// An edit of the comments of a stream (RFC 9639, section 8.6), by the words of the command line. A comment is a text
+/// `NAME=VALUE`. A name has the bytes 20 to 7E (hexadecimal) without `=`.
+#[derive(Clone, Copy, Debug, PartialEq, Eq)]
+pub enum TagEdit<'a> {
+    /// Takes all comments away.
+    Clear,
+    /// Takes all comments of this name away.
+    Remove(&'a str),
+    /// Puts this comment in the place of all of its name.
+    Set(&'a str),
+    /// Adds this comment at the end.
+    Add(&'a str),
+}
+
+/// How a file may be edited.
+#[derive(Clone, Copy, Debug, PartialEq, Eq)]
+pub enum TagMode {
+    /// In place if there is room, else as a new file that takes its place.
+    Either,
+    /// In place alone.
+    InPlace,
+    /// As a new file alone.
+    Rewrite,
+}
+
+/// The files whose comments are edited, each by itself.
+#[derive(Debug, Drop)]
+pub struct Tagging<'a> {
+    /// The paths of the files.
+    pub inputs: Vec<&'a str>,
+    /// The edits, one after another.
+    pub edits: Vec<TagEdit<'a>>,
+    /// How a file may be edited; `None` if the command line asks for both modes.
+    pub mode: Option<TagMode>,
+    /// How many bytes of padding a new file has after the comments; 0 for none.
+    pub padding: u32,
+    /// Whether what became of each file is printed.
+    pub verbose: bool,
+}

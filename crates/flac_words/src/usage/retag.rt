@@ -1,0 +1,49 @@
+//! `flac retag`.
+
+use super::{COMMENTS, FORCE, STREAM, STREAM_OUT, Usage, Word, comments_of};
+use clap::ArgMatches;
+use flac_jobs::Job;
+use std::alloc::Global;
+
+const RETAG_EXAMPLE: &str = "Example:
+  $ flac retag song.flac other.flac TITLE=Song ARTIST=Someone
+
+The comments take the place of all that IN has: without a COMMENT, OUT has none. The
+vendor, which names the program that wrote the stream, becomes \"flac profile 1\".
+
+STREAMINFO, the other blocks and the frames stay as they are, but padding is written as
+zeros. The frames are not verified. If the metadata is refused, nothing is written.
+
+OUT has to be another file than IN: else it cannot be created, and IN stays as it is. If
+the job fails later, what was written before stays in OUT. But if OUT was a file with
+bytes, it stays as it was, and what was written is in OUT.part beside it.
+
+A file with bytes is replaced only if it is a native stream with the STREAMINFO of IN,
+and not if IN is a pipe. With --force any file is replaced. A word such as TITLE=Song is
+no name of OUT: write ./TITLE=Song.";
+
+pub(crate) static RETAG: Usage = Usage {
+    name: "retag",
+    about: "Writes a stream with other comments",
+    words: &RETAG_WORDS,
+    example: RETAG_EXAMPLE,
+};
+
+/// The arguments of `retag`.
+const RETAG_WORDS: [Word; 4] = [STREAM, STREAM_OUT, COMMENTS, FORCE];
+
+/// The job of `retag`.
+pub(crate) fn retag_job<'a>(
+    alloc: Global,
+    given: &ArgMatches<'a>,
+) -> Result<Option<Job<'a>>, clap::Error> {
+    let (Some(input), Some(output)) = (given.get_str("IN"), given.get_str("OUT")) else {
+        return Ok(None);
+    };
+    let comments = comments_of(alloc, given)?;
+    Ok(Some(Job::Retag {
+        input,
+        output,
+        comments,
+    }))
+}

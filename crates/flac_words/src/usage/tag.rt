@@ -1,0 +1,222 @@
+//! `flac tag`.
+
+ghost use Rattle.std.specs.Prelude.{◌≤◌, IfSome};
+
+use super::{Usage, Word, WordKind};
+use clap::ArgMatches;
+use flac_jobs::{LineFault, Request, TagEdit, TagMode, Tagging};
+use std::alloc::{AllocError, Global};
+
+const TAG_EXAMPLE: &str = "Example:
+  $ flac tag --set TITLE=Air --remove COMMENT --add ARTIST=Someone song.flac
+
+The edits are made in this order, whatever that of the words: --clear, --remove, --set,
+--add. Names are compared but for the case of ASCII letters. A second --set of a name
+adds its value. All other comments stay byte for byte, and so does the vendor.
+
+If padding beside the comments has room, some hundred bytes are written in place: at
+every moment of a crash the file has the old comments or the new ones, and no byte of
+the frames is written. Else a new file takes the place of the old one, with the comments
+and padding after the other blocks, so that the next edit is in place. With --in-place
+no new file is written; with --rewrite always.
+
+Each file is done or refused by itself. One that is refused stays as it was, and a line
+says why; the exit status is then 1. The frames are not verified. Ogg streams are
+refused.";
+
+pub(crate) static TAG: Usage = Usage {
+    name: "tag",
+    about: "Edits the comments of streams, in place if there is room",
+    words: &TAG_WORDS,
+    example: TAG_EXAMPLE,
+};
+
+/// The arguments of `tag`.
+const TAG_WORDS: [Word; 9] = [
+    Word {
+        name: "FILE",
+        kind: WordKind::Files,
+        help: "The streams",
+    },
+    Word {
+        name: "clear",
+        kind: WordKind::Flag,
+        help: "Takes all comments away",
+    },
+    Word {
+        name: "remove",
+        kind: WordKind::Texts("NAME"),
+        help: "Takes all comments of this name away",
+    },
+    Word {
+        name: "set",
+        kind: WordKind::Texts("NAME=VALUE"),
+        help: "Puts this comment in the place of all of its name",
+    },
+    Word {
+        name: "add",
+        kind: WordKind::Texts("NAME=VALUE"),
+        help: "Adds this comment at the end",
+    },
+    Word {
+        name: "in-place",
+        kind: WordKind::Flag,
+        help: "Writes no new file: without room in place, it is refused with 54",
+    },
+    Word {
+        name: "rewrite",
+        kind: WordKind::Flag,
+        help: "Writes a new file, also if there is room in place",
+    },
+    Word {
+        name: "padding",
+        kind: WordKind::Number("8192"),
+        help: "Bytes of padding of a new file; 0: none",
+    },
+    Word {
+        name: "verbose",
+        kind: WordKind::ShortFlag('v'),
+        help: "Prints what became of each file: same, flipped or rewritten",
+    },
+];
+
+/// What `tag` asks for.
+pub(crate) fn tag_request<'a>(
+    alloc: Global,
+    given: &ArgMatches<'a>,
+) -> Result<Option<Request<'a>>, clap::Error> {
+    let (Some(files), Some(padding)) = (given.get_strs("FILE"), given.get_one("padding")) else {
+        return Ok(None);
+    };
+    let mut inputs = Vec::new(alloc);
+    inputs.extend_from_slice(files)?;
+    Ok(Some(Request::Tag(Tagging {
+        inputs,
+        edits: edits_of(alloc, given)?,
+        mode: mode_of(given.get_flag("in-place"), given.get_flag("rewrite")),
+        padding,
+        verbose: given.get_flag("verbose"),
+    })))
+}
+
+/// How files may be edited.
+fn mode_of(in_place: bool, rewrite: bool) -> Option<TagMode> {
+    match (in_place, rewrite) {
+        (true, true) => None,
+        (true, false) => Some(TagMode::InPlace),
+        (false, true) => Some(TagMode::Rewrite),
+        (false, false) => Some(TagMode::Either),
+    }
+}
+
+/// The edits, in the order in which they are made.
+fn edits_of<'a>(alloc: Global, given: &ArgMatches<'a>) -> Result<Vec<TagEdit<'a>>, AllocError> {
+    let mut edits = Vec::new(alloc);
+    if given.get_flag("clear") {
+        edits.push(TagEdit::Clear)?;
+    }
+    if let Some(names) = given.get_strs("remove") {
+        add_removals(&mut edits, names)?;
+    }
+    if let Some(comments) = given.get_strs("set") {
+        add_settings(&mut edits, comments)?;
+    }
+    if let Some(comments) = given.get_strs("add") {
+        add_additions(&mut edits, comments)?;
+    }
+    Ok(edits)
+}
+
+/// Adds an edit for each `--remove`.
+fn add_removals<'a>(edits: &mut Vec<TagEdit<'a>>, names: &[&'a str]) -> Result<(), AllocError> {
+    for name in names {
+        edits.push(TagEdit::Remove(name))?;
+    }
+    Ok(())
+}
+
+/// Adds an edit for each `--set`. The second of a name adds its comment, so that all of them stand there.
+fn add_settings<'a>(edits: &mut Vec<TagEdit<'a>>, comments: &[&'a str]) -> Result<(), AllocError> {
+    for comment in comments {
+        let edit = if has_setting(edits, comment) {
+            TagEdit::Add(comment)
+        } else {
+            TagEdit::Set(comment)
+        };
+        edits.push(edit)?;
+    }
+    Ok(())
+}
+
+/// Adds an edit for each `--add`.
+fn add_additions<'a>(edits: &mut Vec<TagEdit<'a>>, comments: &[&'a str]) -> Result<(), AllocError> {
+    for comment in comments {
+        edits.push(TagEdit::Add(comment))?;
+    }
+    Ok(())
+}
+
+/// Whether one of the edits sets a comment of the name of this one.
+fn has_setting(edits: &[TagEdit<'_>], comment: &str) -> bool {
+    for edit in edits {
+        if let TagEdit::Set(other) = edit {
+            if name_of(other).eq_ignore_ascii_case(name_of(comment)) {
+                return true;
+            }
+        }
+    }
+    false
+}
+
+/// The name of a comment: what is before its first `=`.
+fn name_of(comment: &str) -> &str {
+    match comment.split_once('=') {
+        Some((name, _)) => name,
+        None => comment,
+    }
+}
+
+/// Why a tagging is refused whose words were all read; `None` if it is not.
+pub(crate) fn fault_of_tagging(tagging: &Tagging<'_>) -> Option<LineFault>
+    ensures { IfSome result (λ fault. fault.status ≤ 2) }
+{
+    if tagging.mode.is_none() {
+        return Some(LineFault::both_modes());
+    }
+    for edit in &tagging.edits {
+        if lacks_equals(edit) {
+            return Some(LineFault::no_equals());
+        }
+        if has_bad_name(edit) {
+            return Some(LineFault::field_name());
+        }
+    }
+    None
+}
+
+/// Whether the comment of an edit has no `=`.
+fn lacks_equals(edit: &TagEdit<'_>) -> bool {
+    match edit {
+        TagEdit::Set(comment) | TagEdit::Add(comment) => !comment.contains('='),
+        TagEdit::Clear | TagEdit::Remove(_) => false,
+    }
+}
+
+/// Whether the name of an edit is none (RFC 9639, section 8.6).
+fn has_bad_name(edit: &TagEdit<'_>) -> bool {
+    match edit {
+        TagEdit::Set(comment) | TagEdit::Add(comment) => !is_name(name_of(comment)),
+        TagEdit::Remove(name) => !is_name(name),
+        TagEdit::Clear => false,
+    }
+}
+
+/// Whether this is a name of comments: some bytes from 20 to 7E (hexadecimal), and no `=` (RFC 9639, section 8.6).
+fn is_name(text: &str) -> bool {
+    for byte in text.as_bytes() {
+        if !(b' '..=b'~').contains(byte) || *byte == b'=' {
+            return false;
+        }
+    }
+    !text.is_empty()
+}
