@@ -11,6 +11,7 @@ keeps its own body and proof and is not proved, is no result but a Fault.
 import contextlib
 import copy
 import functools
+import glob
 import importlib.machinery
 import os
 import re
@@ -342,6 +343,13 @@ def cited(crate, room):
     return found
 
 
+def is_of_fixed(room, place):
+    """Whether a function's proof is that of a method whose impl fixes an argument of its type: its folder has the words of all arguments after
+    the type's name, as in Decoder+BitReader+R."""
+    owner, _, name = place.rpartition("/")
+    return bool(glob.glob(f"{room}/proofs/{owner}+*/{name}"))
+
+
 def with_no_proof(folder):
     """Puts into the folder of a function's proof a file that has none."""
     os.makedirs(folder, exist_ok=True)
@@ -414,12 +422,13 @@ def without_proofs(rt, crate, sources, edits, taken=(), bare=True):
         rest = {sources.place(it) for it in sources.functions if it not in changed}
         for place in {*rest, *sources.derived()} - {None, *taken}:
             symbol = "::".join([crate.name, *place.split("/")])
-            if not os.path.isdir(f"{room}/proofs/{place}") and not is_changed(symbol):
+            if not (os.path.isdir(f"{room}/proofs/{place}") or is_of_fixed(room, place) or is_changed(symbol)):
                 with_no_proof(f"{room}/proofs/{place}")
         for path, text in sources.data.items() if bare else ():
             rest = [it for it in sources.of_file(path) if it not in changed and not has_own_use(it, text)]
+            rest = [it for it in rest for place in [sources.place(it)] if f"{room}/proofs/{place}" not in kept and not is_of_fixed(room, f"{place}")]
             with open(f"{room}/{path}", "wb") as it:
-                it.write(emptied(text, [it for it in rest if f"{room}/proofs/{sources.place(it)}" not in kept]))
+                it.write(emptied(text, rest))
         copied = copy.copy(crate)
         copied.folder = room
         yield copied

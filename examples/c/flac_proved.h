@@ -2,7 +2,7 @@
  *
  * The calls of version 0.4, for C99 and C++ on x86-64. docs/c.md has a worked example.
  *
- * Link with libflac_c.a, which `rt lib` builds in crates/flac_c/out, and with liblibc_c.a of the toolchain, which passes allocations on
+ * Link with libflac_c.a, which tools/build --library makes in crates/flac_c/out, and with liblibc_c.a of the toolchain, which passes allocations on
  * to malloc, realloc and free. The Makefile beside this file has the lines.
  *
  * What is proved holds if the caller keeps to these rules, which nothing checks:
