@@ -21,7 +21,7 @@ use Rattle.flac_frame.specs.Frame.{Frame}
 use Rattle.flac_native.specs.Stream.{Piece, marked, block, framed, Progress, Stand, grammar, opening, next, layout, layout_in, marker}
 use Rattle.flac_native.specs.Given.{closing}
 use Rattle.flac_native.specs.Track.{is_after_blocks}
-use Rattle.flac_native.specs.Retag.{AreRead, unless_comment, without_comments}
+use Rattle.flac_native.specs.Retag.{AreRead, unless_comment}
 use Rattle.flac_native.specs.inner.Retag.{AreKept, kept_one, kept_of, keeps}
 use Rattle.flac_native.specs.declared.track.Phase.{Phase}
 use Rattle.flac_native.specs.declared.track.Phase.TheVariants.{Opening, Blocks, Frames}

@@ -1,14 +1,18 @@
 -- What is still to come of a stream, whatever container it is in, and what a sink takes of it.
-use Rattle.std.specs.Prelude.{◌≡◌, ◌≢◌, ◌<◌, ℕ, List, [], ◌∷◌, ◌++◌, Option, Some, None, Result, Ok, Err}
-use Rattle.flac_bits.specs.State.{Cursor}
+use Rattle.std.specs.Prelude.{◌≡◌, ◌≢◌, ◌<◌, ℕ, Bool, true, List, [], ◌∷◌, ◌++◌, Option, Some, None, Result, Ok, Err}
+use Rattle.flac_bits.specs.State.{Cursor, After, without_fence}
 use Rattle.flac_bits.specs.Items.{state_after}
-use Rattle.flac_bits.specs.Handing.{TakesAll, InputReading, by_grammar, IsOutside}
+use Rattle.flac_bits.specs.Handing.{TakesAll, InputReading, by_grammar, IsOutside, reason_of}
 use Rattle.flac_bits.specs.declared.why.Why.{Why}
-use Rattle.flac_bits.specs.declared.why.Why.TheVariants.{Memory, Sink}
+use Rattle.flac_bits.specs.declared.why.Why.TheVariants.{Memory, Read, Sink}
+use Rattle.flac_native.specs.Item.{fault_pair}
 use Rattle.flac_native.specs.Stream.{Piece, Progress, grammar, next}
+use Rattle.flac_native.specs.Track.{IsAt, piece_of}
+use Rattle.flac_native.specs.declared.container.Part.{Part}
 use Rattle.flac_native.specs.declared.fault.Place.{Place}
 use Rattle.flac_native.specs.declared.fault.Place.TheVariants as place
 use Rattle.flac_native.specs.declared.fault.Fault.{Fault}
+use Rattle.flac_native.specs.declared.track.Track.{Track}
 
 -- after this progress these parts are still to come, and then the end of the stream, or its refusal
 abbrev pub Coming : Type 1
@@ -50,3 +54,28 @@ pub record HandsFirst {K : Type 0} (takes : K → Piece → K → Type 0) (error
   pub broken : (at : Place) (why : Why) → outcome ≡ Some (at, why) → IsOutside why → (mid ≡ new) × breaks taken at why
   -- if it failed, this is reported at the place of the part that it did not take
   pub failed : errors old < errors new → (at : Place) × (outcome ≡ Some (at, Sink)) × (at ≡ grammar.place (state_after grammar p taken))
+
+-- ---- a call of a container, before which it is `old` and the track `before`, and after which they are `new` and `after`
+
+-- It met no error of the device: what is known stays known, and no count rose.
+abbrev pub MeetsNone : {C : Type 0} → (known : C → Bool) → (errors raised met : C → ℕ) → C → C → Type 0
+MeetsNone known errors raised met old new = (known old ≡ true → known new ≡ true) × (errors new ≡ errors old) × (raised new ≡ raised old) × (met new ≡ met old)
+
+-- if the parts to come are known and no error was announced that is not counted, none is now
+abbrev pub StaysClear : {C : Type 0} → (known : C → Bool) → (clear : C → Track → Type 0) → C → Track → C → Track → Type 0
+StaysClear known clear old before new after = known old ≡ true → clear old before → clear new after
+
+-- the same, and it returned `Read`: this was counted
+abbrev pub ReadIsCounted : {C : Type 0} → (known : C → Bool) → (raised : C → ℕ) → (clear : C → Track → Type 0) → Track → C → C → Why → Type 0
+ReadIsCounted known raised clear before old new why = known old ≡ true → why ≡ Read → clear old before → raised old < raised new
+
+-- if the bytes to come are known, and no error was returned that was not announced, the same comes after them
+abbrev pub KeepsAfter : {C : Type 0} → (known : C → Bool) → (errors : C → ℕ) → (follows : C → After) → C → C → Type 0
+KeepsAfter known errors follows old new = known old ≡ true → errors new ≡ errors old → follows new ≡ without_fence (follows old)
+
+-- It returned the first of the parts to come, or else the end, if these are known, it met no error, and memory did not
+-- run out.
+abbrev pub GivesNext : {C : Type 0} → (known : C → Bool) → (errors raised : C → ℕ) → (gives : C → Coming) → Track → Track → C → C → Result (Option Part) Fault → Type 0
+GivesNext known errors raised gives before after old new result =
+    (p : Progress) → IsAt before p → known old ≡ true → errors new ≡ errors old → raised new ≡ raised old → (reason_of fault_pair result ≡ Err Memory → ⊥)
+    → (parts : List Piece) (end : Option (Place × Why)) → gives old p parts end → IsNext (gives new) p (piece_of after) result parts end

@@ -1,6 +1,6 @@
 -- What is encoded: STREAMINFO, blocks, and samples that are cut into frames.
 use Rattle.flac_subframe.specs.format.Handed.{coefficients_in, AreWithin}
-use Rattle.std.specs.Prelude.{◌≡◌, ◌<◌, ◌≤◌, ℕ, zero, suc, ◌+◌, ◌-◌, ◌*◌, ◌/◌, ◌^◌, min, Bool, true, false, not, cond, ◌&&◌, ◌||◌, nat_eq, nat_lt, nat_le, List, [], ◌∷◌, ◌++◌, length, map, slice_index_or, All, Option, Some, None, Vec}
+use Rattle.std.specs.Prelude.{◌≡◌, ◌<◌, ◌≤◌, ℕ, zero, suc, ◌+◌, ◌-◌, ◌*◌, ◌/◌, ◌^◌, min, Bool, true, false, not, cond, ◌&&◌, ◌||◌, nat_eq, nat_lt, nat_le, List, [], ◌∷◌, ◌++◌, length, map, slice_index_or, All, Option, Some, None, Vec, Result, MatchResult}
 use Rattle.std.specs.Global.{Global}
 use Rattle.std.specs.List.{list_all}
 use Rattle.std.specs.Option.{option_or}
@@ -176,6 +176,14 @@ cutting_fault p =
 -- the format, which is the case for no samples that can be encoded (sections 7, 8.2 and 9.1), or else the reason above.
 unfoldable pub plan_fault : Cut → Option SetupFault
 plan_fault p = option_or (format_fault p.profile p.rate p.bits p.channels) (cutting_fault p)
+
+-- the plan is made, or else this is why it cannot be
+abbrev pub MakesPlan : Cut → Result Cut SetupFault → Type 0
+MakesPlan p result = MatchResult result (λ q. q ≡ p) (λ e. plan_fault p ≡ Some e)
+
+-- the plan gets these predictors, or else this is why it cannot have them
+abbrev pub GetsPredictors : Cut → List LinearPredictor → Result Cut SetupFault → Type 0
+GetsPredictors p ps result = MatchResult result (λ q. q ≡ with_predictors p ps) (λ e. predictors_fault p.profile p.rate ps ≡ Some e)
 
 -- ---- what is written
 

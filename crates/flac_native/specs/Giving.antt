@@ -1,16 +1,18 @@
 -- What a decoder still has to return, and that each call returns the first of it.
-use Rattle.std.specs.Prelude.{◌≡◌, ◌≢◌, ◌≤◌, ◌<◌, ◌⊎◌, Bool, true, false, List, [], ◌∷◌, ◌++◌, Option, Some, None, Result, Ok, Err, IfOk, IfErr, IfSome}
+use Rattle.std.specs.Prelude.{◌≡◌, ◌≢◌, ℕ, ◌≤◌, ◌<◌, ◌⊎◌, Bool, true, false, List, [], ◌∷◌, ◌++◌, Option, Some, None, Result, Ok, Err, IfOk, IfErr, IfSome}
 use Rattle.flac_bits.specs.State.{Rises, without_fence}
 use Rattle.flac_bits.specs.Items.{state_after}
-use Rattle.flac_bits.specs.Handing.{TakesAll, reason_of, IsOutside}
+use Rattle.flac_bits.specs.Handing.{TakesAll, reason_of, outcome_of, IsOutside}
 use Rattle.flac_bits.specs.Reasons.{of_output}
 use Rattle.flac_bits.specs.declared.why.Why.{Why}
 use Rattle.flac_bits.specs.declared.why.Why.TheVariants.{Memory, Read, Spent}
 use Rattle.flac_frame.specs.Viewed.{frame_of}
-use Rattle.flac_native.specs.Stream.{Piece, marked, block, framed, Progress, grammar}
+use Rattle.flac_header.specs.declared.subset.Profile.{Profile}
+use Rattle.flac_native.specs.Stream.{Piece, marked, block, framed, Progress, grammar, opening}
 use Rattle.flac_native.specs.Track.{IsAt, AreAtFrames, is_after_blocks, piece_of, stand_of}
 use Rattle.flac_native.specs.Item.{Item, metadata, frame, fault_pair}
-use Rattle.flac_native.specs.Coming.{Coming}
+use Rattle.flac_native.specs.Coming.{Coming, EndsEarly, HandsFirst}
+use Rattle.flac_native.specs.Decoding.{taken}
 use Rattle.flac_native.specs.declared.fault.Place.{Place}
 use Rattle.flac_native.specs.declared.fault.Fault.{Fault}
 use Rattle.flac_native.specs.declared.container.Part.{Part}
@@ -60,6 +62,15 @@ abbrev pub EndsEarlyAfter : {C K : Type 0} → container.Ghosts C → (K → Pie
 EndsEarlyAfter g takes p end counts old new f = IsOutside f.why
     → (q : Progress) × g.breaks end q f.at f.why × (counts ≡ true → (parts : List Piece) × TakesAll takes old parts new × (q ≡ state_after grammar p parts))
 
+-- The same from the progress of this track on, of a call that passes the items to a sink.
+abbrev pub EndsEarlyInPlace : {C K X : Type 0} → container.Ghosts C → (known : K → Bool) → (takes : K → Item → K → Type 0) → Track → C → K → K → Result X Fault → Type 0
+EndsEarlyInPlace g known takes track end from to result = (p : Progress) → IsAt track p → IfErr result (EndsEarlyAfter g (taken takes) p end (known from) from to)
+
+-- A call that passes the parts of a native stream to a receiver ended early: the place is that of the part after those
+-- that the receiver took.
+abbrev pub EndsEarlyInStream : {K : Type 0} → (K → Piece → K → Type 0) → Profile → K → K → Fault → Type 0
+EndsEarlyInStream takes profile old new f = IsOutside f.why → (items : List Piece) × TakesAll takes old items new × EndsEarly (state_after grammar (opening profile) items) f.at f.why
+
 -- From this progress on a container gave these parts. If its bytes are known, they are the first of what was still to
 -- come, and the others still are.
 pub record PassesParts {C : Type 0} (g : container.Ghosts C) (p : Progress) (old : C) (parts : List Piece) (new : C) : Type 0 where
@@ -70,6 +81,13 @@ pub record PassesParts {C : Type 0} (g : container.Ghosts C) (p : Progress) (old
 -- the device returned no error in a call, foretold or not
 abbrev pub NoErrorIn : {C : Type 0} → container.Ghosts C → C → C → Type 0
 NoErrorIn g old new = (g.errors new ≡ g.errors old) × (g.raised new ≡ g.raised old)
+
+-- A call passed the first of the parts to come to a sink, `from` before it and `to` after it, if these parts are known
+-- and what the sink takes.
+abbrev pub HandsParts : {C K X : Type 0} → container.Ghosts C → (known : K → Bool) → (takes : K → Item → K → Type 0) → (errors : K → ℕ) → Track → C → C → K → K → Result X Fault → Type 0
+HandsParts g known takes errors track old new from to result =
+    (p : Progress) → IsAt track p → g.known old ≡ true → known from ≡ true → (parts : List Piece) (end : Option (Place × Why)) → g.gives old p parts end
+    → HandsFirst (taken takes) errors p parts end (NoErrorIn g old new) (BreaksAfter g p old new) from to (outcome_of fault_pair result)
 
 -- none was met at all, and what is still to come stays known
 abbrev pub MetNone : {C : Type 0} → container.Ghosts C → C → C → Type 0
@@ -198,3 +216,7 @@ MovesFrom g (course.Spent at) old new view result = (seen_by view result ≡ Err
 -- a call of a decoder with this result, seen by view
 abbrev pub Moves : {C X : Type 0} → container.Ghosts C → Stage C → Stage C → (X → Option Item) → Result X Fault → Type 0
 Moves g old new view result = MovesFrom g old.course old new view result
+
+-- the same of a call that lends the item
+abbrev pub Lends : {C : Type 0} (g : container.Ghosts C) → Decoder C g → Decoder C g → Result BorrowedItem Fault → Type 0
+Lends g old new result = Moves g (stage_of old) (stage_of new) shown_of result

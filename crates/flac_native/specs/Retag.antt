@@ -1,9 +1,11 @@
 -- What retagging makes of a stream: the same STREAMINFO, the given comments, the other blocks in their order, and the
 -- rest of the input.
-use Rattle.std.specs.Prelude.{◌≡◌, Bool, true, false, cond, List, [], ◌∷◌, ◌++◌, Some, None, ◌≤◌, ◌⊎◌}
+use Rattle.std.specs.Prelude.{◌≡◌, ◌≢◌, Bool, true, false, cond, List, [], ◌∷◌, ◌++◌, Some, None, ◌≤◌, ◌⊎◌, Result, IsErrAnd}
 use Rattle.flac_bits.specs.Bits.{bits_of}
-use Rattle.flac_bits.specs.State.{Mark, Cursor}
+use Rattle.flac_bits.specs.State.{Mark, Cursor, State}
+use Rattle.flac_bits.specs.Fencing.{lifted}
 use Rattle.flac_bits.specs.Items.{state_after, Joined, Refused}
+use Rattle.flac_bits.specs.declared.source.Source as source
 use Rattle.flac_bits.specs.declared.target.Target as target
 use Rattle.flac_bits.specs.declared.why.Why.{Why}
 use Rattle.flac_bits.specs.declared.why.Why.TheVariants as why
@@ -15,6 +17,7 @@ use Rattle.flac_meta.specs.Valid.{IsComments}
 use Rattle.flac_meta.specs.declared.comments.Comments.{Comments}
 use Rattle.flac_meta.specs.declared.block.Block.{Block}
 use Rattle.flac_meta.specs.declared.block.Block.TheVariants as blocks
+use Rattle.flac_native.specs.Decoding.{start_mark, source_start, IfCalm}
 use Rattle.flac_native.specs.Stream.{Piece, marked, grammar, opening}
 use Rattle.flac_native.specs.Given.{closing}
 use Rattle.flac_native.specs.Writing.{head_spelling}
@@ -181,3 +184,58 @@ IsOfDevice f = (f ≡ not_read) ⊎ (f ≡ not_written)
 -- after the blocks only the source or an allocation fails
 abbrev pub IsBeforeOrOutside : RetagFault → Place → Type 0
 IsBeforeOrOutside f at = (is_before_frames at ≡ true) ⊎ ((f ≡ not_read) ⊎ (f ≡ no_memory))
+
+-- ---- what calls of a reader return, `old` before the call and `new` after it
+
+-- if its bytes are known, they begin with a marker and these blocks, after which the others are left
+abbrev pub AreReadFrom : State → List Block → State → Type 0
+AreReadFrom old list new = old.known ≡ true → AreRead (lifted old).cursor list new.cursor.left
+
+-- The marker or a block is to be refused at this place for this reason, if the bytes are known, the source returned no
+-- error that was not foretold, and memory did not run out.
+abbrev pub RefusalIsDue : State → State → Place → Why → Type 0
+RefusalIsDue old new at reason = old.known ≡ true → new.errors ≡ old.errors → reason ≢ why.Memory → IsRefusedAt (lifted old).cursor at reason
+
+-- ---- what calls over a source return, `old` before the call and `new` after it
+
+-- The same, and the source returned no error, foretold or not.
+abbrev pub RefusalIsDueOf : {S : Type 0} → source.Ghosts S → S → S → Place → Why → Type 0
+RefusalIsDueOf g old new at reason = IfCalm g old new (reason ≢ why.Memory → IsRefusedAt (source_start g old) at reason)
+
+-- Before the frames it is due even if the source returned an error that was foretold.
+abbrev pub EarlyRefusalIsDue : {S : Type 0} → source.Ghosts S → S → S → Place → Why → Type 0
+EarlyRefusalIsDue g old new at reason = is_before_frames at ≡ true → g.known old ≡ true → g.errors new ≡ g.errors old → reason ≢ why.Memory → IsRefusedAt (source_start g old) at reason
+
+-- What is to be refused is refused, at this place and for this reason, unless memory runs out.
+abbrev pub RefusesWhatIsDue : {S X : Type 0} → source.Ghosts S → S → S → Result X RetagFault → Type 0
+RefusesWhatIsDue g old new result =
+    (at : Place) (reason : Why) → IsRefusedAt (source_start g old) at reason → IfCalm g old new (IsErrAnd result (λ f. f.why ≢ why.Memory → f ≡ record { at = Some at; why = reason }))
+
+-- if the bytes are known, this is the place of the item after some with which they begin
+abbrev pub IsPlaceIn : {S : Type 0} → source.Ghosts S → S → Place → Type 0
+IsPlaceIn g old at = g.known old ≡ true → IsPlaceAt (source_start g old) at
+
+-- A source that begins with a head, and that returned no error, is refused only because the target failed or memory ran
+-- out.
+abbrev pub OnlyTargetFails : {S : Type 0} → source.Ghosts S → S → S → RetagFault → Type 0
+OnlyTargetFails g old new f = IfCalm g old new (f.why ≢ why.Memory → HasHeadAt (source_start g old) → f ≡ not_written)
+
+-- ---- what is sent from a source to a target, `old` before the call and `new` after it, if the bytes of both are known
+
+-- the bytes of the source, with these comments: all of it
+abbrev pub SendsRetaggedOf : {S T : Type 0} → source.Ghosts S → target.Ghosts T → S → Comments → T → T → Type 0
+SendsRetaggedOf g h from comments old new = g.known from ≡ true → h.known old ≡ true → SendsRetagged h (source_start g from) comments old new
+
+-- all of it, for each way in which the bytes begin with a marker and blocks
+abbrev pub SendsEachRetagged : {S T : Type 0} → source.Ghosts S → target.Ghosts T → S → Comments → T → T → Type 0
+SendsEachRetagged g h from comments old new =
+    g.known from ≡ true → h.known old ≡ true → (info : Info) (list : List Block) (rest : List Bool) → BeginsWith (start_mark (g.after from)) (bits_of (g.coming from)) info list rest
+    → bits_of (h.sent new) ≡ bits_of (h.sent old) ++ retagged comments info list rest
+
+-- a prefix
+abbrev pub SendsPrefixOf : {S T : Type 0} → source.Ghosts S → target.Ghosts T → S → Comments → T → T → Type 0
+SendsPrefixOf g h from comments old new = g.known from ≡ true → h.known old ≡ true → SendsPrefix h (source_start g from) comments old new
+
+-- the new blocks, and a prefix of the rest
+abbrev pub SendsHeadAndPartOf : {S T : Type 0} → source.Ghosts S → target.Ghosts T → S → Comments → T → T → Type 0
+SendsHeadAndPartOf g h from comments old new = g.known from ≡ true → h.known old ≡ true → SendsHeadAndPart h (source_start g from) comments old new

@@ -1,5 +1,5 @@
 -- What a call sent.
-use Rattle.std.specs.Prelude.{◌≡◌, ◌<◌, ◌≤◌, Bool, true, List, ◌++◌, Result, OnOk, OnErr}
+use Rattle.std.specs.Prelude.{◌≡◌, ℕ, ◌<◌, ◌≤◌, Bool, true, List, ◌++◌, Result, OnOk, OnErr}
 use Rattle.flac_bits.specs.Bits.{bits_of}
 use Rattle.flac_bits.specs.State.{Rises}
 use Rattle.flac_bits.specs.declared.target.Target as target
@@ -15,3 +15,15 @@ pub record SendsBits {S X E : Type 0} (g : target.Ghosts S) (text : List Bool) (
   pub kept : g.errors old ≤ g.errors new
   pub rises : OnErr result (g.known old ≡ true → g.errors old < g.errors new)
   pub risen : OnErr result (Rises (g.errors old) (g.errors new))
+
+-- if the bytes of the target are known, it was sent exactly these
+abbrev pub SendsBytes : {S : Type 0} → target.Ghosts S → List ℕ → S → S → Type 0
+SendsBytes g bytes old new = g.known old ≡ true → g.sent new ≡ g.sent old ++ bytes
+
+-- the same: its count of errors rose
+abbrev pub TargetFailed : {S : Type 0} → target.Ghosts S → S → S → Type 0
+TargetFailed g old new = g.known old ≡ true → g.errors old < g.errors new
+
+-- the same if this number of failures is not 0
+abbrev pub FailedIfCounted : {S : Type 0} → target.Ghosts S → ℕ → S → S → Type 0
+FailedIfCounted g failures old new = g.known old ≡ true → 0 < failures → g.errors old < g.errors new

@@ -1,16 +1,16 @@
 -- What a track keeps of the parts so far.
 use Rattle.std.specs.Prelude.{◌≡◌, min, Bool, true, false, [], Option, Some, None, is_some, Result}
 use Rattle.flac_bits.specs.State.{State}
-use Rattle.flac_bits.specs.Reading.{CallInPlace}
+use Rattle.flac_bits.specs.Reading.{Call, CallInPlace, MeansGivenMemory, ReadsGivenMemory}
 use Rattle.flac_bits.specs.Fencing.{lifted}
 use Rattle.flac_bits.specs.Within.{MeansWithin, ReadsWithin}
 use Rattle.flac_bits.specs.declared.why.Why.{Why}
 use Rattle.flac_header.specs.declared.subset.Profile.{Profile}
 use Rattle.flac_info.specs.Info.{Info}
 use Rattle.flac_meta.specs.declared.block.Block.{Block}
-use Rattle.flac_frame.specs.Frame.{Frame}
+use Rattle.flac_frame.specs.Frame.{Frame, frame, after_frame}
 use Rattle.flac_frame.specs.declared.before.Before.{Before}
-use Rattle.flac_native.specs.Stream.{Piece, marked, block, framed, frame_after, next, Stand, Progress}
+use Rattle.flac_native.specs.Stream.{Piece, marked, block, framed, frame_after, layout_in, next, Stand, Progress}
 use Rattle.flac_native.specs.declared.format.Format.{Format}
 use Rattle.flac_native.specs.declared.position.Position.{Position}
 use Rattle.flac_native.specs.declared.track.Track.{Track}
@@ -34,6 +34,10 @@ before_in (Some f) = f.buffers.before
 abbrev pub profile_in : Profile → Option Format → Profile
 profile_in profile None = profile
 profile_in profile (Some f) = f.profile
+
+-- the profile by which the next frames are checked
+abbrev pub profile_of : Track → Profile
+profile_of t = profile_in t.profile t.format
 
 -- which part comes next
 abbrev pub stand_of : Track → Stand
@@ -92,6 +96,22 @@ MeansFrame view s old new result = CallInPlace 40 (λ _. MeansWithin (Some 16777
 -- the same by the reading of the layout
 abbrev pub ReadsFrame : {X : Type 0} → (X → Frame) → Stand → State → State → Result X Why → Type 0
 ReadsFrame view s old new result = CallInPlace 40 (λ _. ReadsWithin (Some 16777215) view (frame_after s.profile s.info s.before) old) (lifted old) new result
+
+-- A metadata block that follows this state was read, and is kept in the track: what is kept is what the bits mean.
+abbrev pub MeansBlock : {X : Type 0} → Track → Track → State → State → Result X Why → Type 0
+MeansBlock before after old new result = Call 32 (MeansGivenMemory (λ _. kept after) (layout_in phase.Blocks (stand_of before))) old new result
+
+-- the same by the reading of the layout
+abbrev pub ReadsBlock : {X : Type 0} → Track → Track → State → State → Result X Why → Type 0
+ReadsBlock before after old new result = Call 32 (ReadsGivenMemory (λ _. kept after) (layout_in phase.Blocks (stand_of before))) old new result
+
+-- a frame that follows this state was read into the buffers, by the reading of the layout
+abbrev pub FillsFrame : {X : Type 0} → Format → Format → State → State → Result X Why → Type 0
+FillsFrame before after old new result = CallInPlace 40 (λ _. ReadsWithin (Some 16777215) (λ _. after.buffers.held) (frame before.profile before.info before.buffers.before) old) (lifted old) new result
+
+-- the next frame has to follow the one that was read
+abbrev pub FollowsFrame : Format → Format → Type 0
+FollowsFrame before after = after.buffers.before ≡ Some (after_frame before.buffers.before after.buffers.held)
 
 -- the part that was read is there; the marker comes only once
 abbrev pub IsMadeAs : Part → Track → Track → Type 0

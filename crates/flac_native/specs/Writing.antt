@@ -1,8 +1,9 @@
 -- What encoding writes, and that it is a stream of what was given.
 use Rattle.std.specs.Prelude.{◌≡◌, ℕ, ◌*◌, ◌<◌, ◌≤◌, Bool, true, List, [], ◌∷◌, ◌++◌, length, slice_index_or, None}
-use Rattle.flac_bits.specs.Bits.{unsigned, is_nil}
+use Rattle.flac_bits.specs.Bits.{unsigned, is_nil, bits_of}
 use Rattle.flac_bits.specs.Forms.{joined}
 use Rattle.flac_bits.specs.Items.{Stream}
+use Rattle.flac_bits.specs.declared.target.Target as target
 use Rattle.flac_bits.specs.declared.why.Why.TheVariants.{Truncated}
 use Rattle.flac_info.specs.Info.{Info}
 use Rattle.flac_meta.specs.Listed.{list_fault, info_seen}
@@ -140,3 +141,13 @@ pub record BeginsEncoding (p : Cut) (list : List Block) (a : Sound) (before afte
   pub rest : List Bool
   pub written : after ≡ before ++ front
   pub encodes : Encodes p list a before (before ++ (front ++ rest))
+
+-- ---- a target, `old` before a call and `new` after it, if its bytes are known
+
+-- it was sent such a stream
+abbrev pub SendsEncoded : {T : Type 0} → target.Ghosts T → Cut → List Block → Sound → T → T → Type 0
+SendsEncoded h p list a old new = h.known old ≡ true → Encodes p list a (bits_of (h.sent old)) (bits_of (h.sent new))
+
+-- it was sent a prefix of one
+abbrev pub SendsEncodedPrefix : {T : Type 0} → target.Ghosts T → Cut → List Block → Sound → T → T → Type 0
+SendsEncodedPrefix h p list a old new = h.known old ≡ true → BeginsEncoding p list a (bits_of (h.sent old)) (bits_of (h.sent new))

@@ -2,4 +2,5 @@
 pub mod Writing
 pub mod Retag
 pub mod InOrder
+pub mod Steps
 pub mod Borrowed

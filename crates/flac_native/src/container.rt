@@ -1,15 +1,13 @@
 //! Containers: where a decoder reads the parts of a stream from.
 
-ghost use Rattle.std.specs.Prelude.{◌≡◌, ◌≢◌, ◌<◌, ◌≤◌, ℕ, Bool, true, false, List, Option, IfOk, IfErr, IfSome, Err};
+ghost use Rattle.std.specs.Prelude.{◌≡◌, ◌≢◌, ◌<◌, ◌≤◌, ℕ, Bool, true, false, List, IfOk, IfErr, IfSome};
 ghost use Rattle.std.specs.Borrow.{GName};
-ghost use Rattle.flac_bits.specs.State.{After, Rises, without_fence};
-ghost use Rattle.flac_bits.specs.Handing.{reason_of, IsOutside};
+ghost use Rattle.flac_bits.specs.State.{After, Rises};
+ghost use Rattle.flac_bits.specs.Handing.{IsOutside};
 ghost use Rattle.flac_bits.specs.Reasons.{of_output};
-ghost use Rattle.flac_bits.specs.declared.why.Why.TheVariants.{Memory};
-ghost use Rattle.flac_native.specs.Stream.{Piece, Progress, Stand};
+ghost use Rattle.flac_native.specs.Stream.{Progress, Stand};
 ghost use Rattle.flac_native.specs.Track.{IsAt, IsMadeAs, IsInOrder, ReadsPart, piece_of, stand_of};
-ghost use Rattle.flac_native.specs.Item.{fault_pair};
-ghost use Rattle.flac_native.specs.Coming.{Coming, IsNext};
+ghost use Rattle.flac_native.specs.Coming.{Coming, MeetsNone, StaysClear, ReadIsCounted, KeepsAfter, GivesNext};
 ghost use Rattle.flac_native.specs.declared.track.Phase.TheVariants.{Frames};
 
 use crate::fault::{Fault, Place};
@@ -88,27 +86,18 @@ pub trait Container {
         requires { stands self.old (stand_of track.old) ≡ true }
         ensures stands { IfOk result (λ o. IfSome o (λ _. stands self.new (stand_of track.new) ≡ true)) }
         ensures spends { IfOk result (λ o. IfSome o (λ _. most self.new < most self.old)) }
-        ensures counts { IfOk result (λ _. (known self.old ≡ true → known self.new ≡ true)
-            × (errors self.new ≡ errors self.old) × (raised self.new ≡ raised self.old)
-            × (met self.new ≡ met self.old)) }
-        ensures clear { IfOk result (λ o. IfSome o (λ _. known self.old ≡ true
-            → clear self.old track.old → clear self.new track.new)) }
+        ensures counts { IfOk result (λ _. MeetsNone known errors raised met self.old self.new) }
+        ensures clear { IfOk result (λ o. IfSome o (λ _. StaysClear known clear self.old track.old self.new track.new)) }
         ensures kept { errors self.old ≤ errors self.new }
-        ensures read { IfErr result (λ f. known self.old ≡ true → f.why ≡ Why.Read
-            → clear self.old track.old → raised self.old < raised self.new) }
+        ensures read { IfErr result (λ f. ReadIsCounted known raised clear track.old self.old self.new f.why) }
         ensures risen { IfErr result (λ f. f.why ≡ Why.Read → Rises (met self.old) (met self.new)) }
         // No error of a sink or a target is met.
         ensures output { IfErr result (λ f. of_output f.why ≡ false) }
-        ensures after { known self.old ≡ true → errors self.new ≡ errors self.old
-            → after self.new ≡ without_fence (after self.old) }
+        ensures after { KeepsAfter known errors after self.old self.new }
         ensures names { names self.new ≡ names self.old }
         // After the last metadata block no memory is allocated.
         ensures memory { (stand_of track.old).phase ≡ Frames → IfErr result (λ f. f.why ≢ Why.Memory) }
-        ensures gives { (p : Progress) → IsAt track.old p
-            → known self.old ≡ true → errors self.new ≡ errors self.old → raised self.new ≡ raised self.old
-            → (reason_of fault_pair result ≡ Err Memory → ⊥)
-            → (parts : List Piece) (end : Option (Place × Why)) → gives self.old p parts end
-            → IsNext (gives self.new) p (piece_of track.new) result parts end }
+        ensures gives { GivesNext known errors raised gives track.old track.new self.old self.new result }
         ensures broken { (p : Progress) → IsAt track.old p
             → IfErr result (λ f. IsOutside f.why → breaks self.new p f.at f.why) }
         ensures gave { IfOk result (λ o. IfSome o (λ _. gave self.old self.new)) }

@@ -63,7 +63,7 @@ pub struct Decoder<C: Container> {
 
 impl<C: Container> Decoder<C> {
     ghost use Rattle.flac_native.specs.contracts.decoder.Decoder.{the_row};
-    ghost use Rattle.flac_native.specs.Giving.{held, held_in, shown_of, Goes, Moves, stage_of};
+    ghost use Rattle.flac_native.specs.Giving.{held, held_in, shown_of, Goes, Moves, Lends, stage_of};
 
     /// Makes a decoder of a container and the state of a track, such as that of [`Track::new`] if the first metadata
     /// block comes next. Nothing is read yet.
@@ -154,7 +154,7 @@ impl<C: Container> Decoder<C> {
     pub fn next(&mut self) -> Result<Item<'_>, Fault>
         ensures* after { sem 𝓛 (follows_so (the_row C.row C.Container) (the_row C.row C.Container)
             self.entry.ghost_name none (λ _ _. ⊤)
-            (λ last. Moves C.Container (stage_of self.old) (stage_of last) shown_of result)) }
+            (λ last. Lends C.Container self.old last result)) }
     {
         self.step()?;
         Ok(self.view())

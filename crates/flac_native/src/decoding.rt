@@ -1,17 +1,14 @@
 //! Decodes into a sink.
 
-ghost use Rattle.std.specs.Prelude.{◌≡◌, ◌≢◌, ◌<◌, ℕ, Bool, true, List, OnOk, OnErr, ◌≤◌, Option, Some, IfOk, IfErr, is_some, codes};
+ghost use Rattle.std.specs.Prelude.{◌≡◌, ◌≢◌, ◌<◌, ℕ, Bool, true, List, OnOk, OnErr, ◌≤◌, Some, IfOk, IfErr, is_some, codes};
 ghost use Rattle.std.specs.Borrow.{GName};
-ghost use Rattle.flac_bits.specs.State.{Rises, without_fence};
+ghost use Rattle.flac_bits.specs.State.{Rises};
 ghost use Rattle.flac_frame.specs.Viewed.{frame_of};
-ghost use Rattle.flac_native.specs.Item.{Item, metadata, frame as frame_item, fault_pair};
-ghost use Rattle.flac_bits.specs.Handing.{outcome_of, Hands, Decides, IsOutside, TakesAll};
-ghost use Rattle.flac_bits.specs.Items.{state_after};
-ghost use Rattle.flac_native.specs.Stream.{Piece, Progress, grammar, opening};
-ghost use Rattle.flac_native.specs.Track.{IsAt, piece_of, stand_of};
-ghost use Rattle.flac_native.specs.Decoding.{taken, source_start, NoError, stream_at};
-ghost use Rattle.flac_native.specs.Coming.{HandsFirst, EndsEarly};
-ghost use Rattle.flac_native.specs.Giving.{BreaksAfter, EndsEarlyAfter, NoErrorIn, MetNone};
+ghost use Rattle.flac_native.specs.Item.{Item, metadata, frame as frame_item};
+ghost use Rattle.flac_native.specs.Track.{piece_of, stand_of};
+ghost use Rattle.flac_native.specs.Decoding.{taken, NoError, HandsStream, DecidesStream, IsOfSink, SourceFailedIfRead};
+ghost use Rattle.flac_native.specs.Coming.{ReadIsCounted, KeepsAfter};
+ghost use Rattle.flac_native.specs.Giving.{EndsEarlyInPlace, EndsEarlyInStream, HandsParts, MetNone};
 
 use crate::container::{Container, Part};
 use crate::fault::{Fault, Place};
@@ -127,8 +124,7 @@ fn hand_at<S: Sink>(at: Place, part: Part, track: &Track, sink: &mut S) -> Resul
     ensures known { OnOk result (S.known sink.old ≡ true → S.known sink.new ≡ true) }
     ensures takes { OnOk result (S.known sink.old ≡ true → taken S.takes sink.old (piece_of track.now part) sink.new) }
     ensures counted { OnOk result (S.errors sink.new ≡ S.errors sink.old) }
-    ensures failed { IfErr result (λ f. (S.known sink.old ≡ true → S.errors sink.old < S.errors sink.new)
-        × (f.why ≡ Why.Sink) × (f.at ≡ at)) }
+    ensures failed { IfErr result (IsOfSink S.known S.errors sink.old sink.new at) }
     ensures risen { OnErr result (Rises (S.errors sink.old) (S.errors sink.new)) }
     ensures names { S.names sink.new ≡ S.names sink.old }
 {
@@ -156,14 +152,12 @@ pub fn decode_into<C: Container, S: Sink>(
     sink: &mut S,
 ) -> Result<(), Fault>
     requires { C.stands container.old (stand_of track.old) ≡ true }
-    ensures hands { (p : Progress) → IsAt track.old p → C.known container.old ≡ true → S.known sink.old ≡ true
-        → (parts : List Piece) (end : Option (Place × Why)) → C.gives container.old p parts end
-        → HandsFirst (taken S.takes) S.errors p parts end (NoErrorIn C.Container container.old container.new)
-        (BreaksAfter C.Container p container.old container.new) sink.old sink.new (outcome_of fault_pair result) }
+    ensures hands { HandsParts C.Container S.known S.takes S.errors track.old container.old container.new
+        sink.old sink.new result }
     ensures met { IfOk result (λ _. MetNone C.Container container.old container.new) }
     ensures kept { C.errors container.old ≤ C.errors container.new }
-    ensures read { IfErr result (λ f. C.known container.old ≡ true → f.why ≡ Why.Read
-        → C.clear container.old track.old → C.raised container.old < C.raised container.new) }
+    ensures read { IfErr result (λ f.
+        ReadIsCounted C.known C.raised C.clear track.old container.old container.new f.why) }
     // An error of the device and of the sink is counted, if the count can rise, whatever is known of them: no other
     // call returns it.
     ensures risen { IfErr result (λ f. f.why ≡ Why.Read → Rises (C.met container.old) (C.met container.new)) }
@@ -171,10 +165,8 @@ pub fn decode_into<C: Container, S: Sink>(
     ensures write { IfErr result (λ f. f.why ≢ Why.Write) }
     // An error of the device or of an allocation is reported where the container reports it after the parts that the
     // sink took, whatever is known of its bytes.
-    ensures broken { (p : Progress) → IsAt track.old p → IfErr result
-        (EndsEarlyAfter C.Container (taken S.takes) p container.new (S.known sink.old) sink.old sink.new) }
-    ensures after { C.known container.old ≡ true → C.errors container.new ≡ C.errors container.old
-        → C.after container.new ≡ without_fence (C.after container.old) }
+    ensures broken { EndsEarlyInPlace C.Container S.known S.takes track.old container.new sink.old sink.new result }
+    ensures after { KeepsAfter C.known C.errors C.after container.old container.new }
     ensures names { S.names sink.new ≡ S.names sink.old }
     ensures container_names { C.names container.new ≡ C.names container.old }
 {
@@ -214,19 +206,14 @@ pub fn decode<R: Source, S: Sink>(
 ) -> Result<(), Fault>
     // Ok only if the bytes are a stream, and the sink took exactly its items; refused only as the bytes are, after
     // exactly the items before; and in each case the sink took items that are spelled whole, from the start.
-    ensures hands { R.known source.old ≡ true → S.known sink.old ≡ true →
-        Hands (stream_at profile (source_start R.Source source.old)) (taken S.takes) S.errors
-        (NoError R.Source source.old source.new) sink.old sink.new (outcome_of fault_pair result) }
+    ensures hands { HandsStream R.Source S.known S.takes S.errors profile source.old source.new
+        sink.old sink.new result }
     // Ok only if no error of the source was met, whatever is known of its bytes.
     ensures counted { OnOk result (NoError R.Source source.old source.new) }
     // A stream is not refused, unless memory runs out, and the place and the reason are those that the bytes show.
-    ensures decides { R.known source.old ≡ true → S.known sink.old ≡ true
-        → R.errors source.new ≡ R.errors source.old → R.raised source.new ≡ R.raised source.old
-        → S.errors sink.new ≡ S.errors sink.old
-        → Decides (stream_at profile (source_start R.Source source.old)) (outcome_of fault_pair result) }
+    ensures decides { DecidesStream R.Source S.known S.errors profile source.old source.new sink.old sink.new result }
     ensures kept { R.errors source.old ≤ R.errors source.new }
-    ensures read { IfErr result (λ f. R.known source.old ≡ true → f.why ≡ Why.Read
-        → R.raised source.old < R.raised source.new) }
+    ensures read { IfErr result (λ f. SourceFailedIfRead R.Source source.old source.new f.why) }
     // An error of the source and of the sink is counted, if the count can rise, whatever is known of them: no other
     // call returns it.
     ensures risen { IfErr result (λ f. f.why ≡ Why.Read → Rises (R.raised source.old) (R.raised source.new)) }
@@ -234,9 +221,8 @@ pub fn decode<R: Source, S: Sink>(
     ensures write { IfErr result (λ f. f.why ≢ Why.Write) }
     // Whatever is known of the source: its error, or that of an allocation, is reported at the place of the item after
     // exactly those that the sink took.
-    ensures placed { S.known sink.old ≡ true → IfErr result (λ f. IsOutside f.why → (items : List Piece)
-        × TakesAll (taken S.takes) sink.old items sink.new
-        × EndsEarly (state_after grammar (opening profile) items) f.at f.why) }
+    ensures placed { S.known sink.old ≡ true
+        → IfErr result (EndsEarlyInStream (taken S.takes) profile sink.old sink.new) }
     // No allocation fails at the marker: none is needed there.
     ensures memory { IfErr result (λ f. f.why ≡ Why.Memory → f.at ≢ Place.Marker) }
     ensures names { S.names sink.new ≡ S.names sink.old }

@@ -1,18 +1,17 @@
 //! Encodes samples as a native stream.
 
-ghost use Rattle.std.specs.Prelude.{◌≡◌, ◌≢◌, ◌++◌, length, OnOk, IfErr, ◌∷◌, ◌≤◌, ◌<◌, ◌^◌, ◌↔◌, true, None, Err};
+ghost use Rattle.std.specs.Prelude.{◌≡◌, ◌≢◌, ◌++◌, length, OnOk, IfErr, ◌≤◌, ◌<◌, ◌^◌, ◌↔◌, true, None, Err};
 ghost use Rattle.flac_bits.specs.Written.{Writes};
 ghost use Rattle.flac_native.specs.inner.InOrder.{WritesSome, FailsInSome};
-ghost use Rattle.flac_native.specs.Writing.{blocks_spelling, head_spelling, AreChoices, AreCounted, IsDigest, Encodes, BeginsEncoding};
-ghost use Rattle.flac_native.specs.inner.Writing.{WritesAll, WritesStream, SendsStream, chosen_head};
-ghost use Rattle.flac_bits.specs.Bits.{bits_of};
+ghost use Rattle.flac_native.specs.Writing.{blocks_spelling, head_spelling, AreChoices, AreCounted, IsDigest, SendsEncoded, SendsEncodedPrefix};
+ghost use Rattle.flac_native.specs.inner.Writing.{WritesAll, WritesAfterHead, SendsAfterHead, blocks_with_table};
 ghost use Rattle.flac_bits.specs.State.{Rises};
 ghost use Rattle.flac_meta.specs.Listed.{block_fault};
 ghost use Rattle.flac_meta.specs.declared.block.Block.TheVariants as block_of;
 ghost use Rattle.flac_native.specs.Given.{fits_plan, room_of};
 ghost use Rattle.flac_native.specs.Numbers.{is_of_whole};
 ghost use Rattle.flac_native.specs.Seeking.{table_of, is_table, has_table, repeats_table};
-ghost use Rattle.flac_native.specs.Sent.{SendsBits};
+ghost use Rattle.flac_native.specs.Sent.{SendsBits, TargetFailed};
 
 use crate::chosen_frames::{ChosenFrames, write_frames};
 use crate::fault::EncodeFault;
@@ -76,8 +75,7 @@ pub(crate) fn write_blocks<W: Target>(
     writer: &mut BitWriter<W>,
 ) -> Result<(), Why>
     requires { block_fault (block_of.SeekTable points.items) ≡ None }
-    ensures { Writes (blocks_spelling (block_of.StreamInfo info ∷ list.now ++ table_of points.items))
-        writer.old writer.new result }
+    ensures { Writes (blocks_spelling (blocks_with_table info list.now points.items)) writer.old writer.new result }
 {
     let blocks = list.blocks();
     let count = count_with_table(blocks, points.as_slice());
@@ -183,8 +181,7 @@ fn write_stream<W: Target>(
     requires sizes { (frames.least ≤ frames.greatest) × (frames.greatest < 2 ^ 24) }
     requires digest { IsDigest audio.now frames.digest }
     requires whole { writer.old.mark.unread ≡ 0 }
-    ensures { WritesStream (chosen_head plan.now list.now audio.now frames) plan.now audio.now
-        writer.old writer.new result }
+    ensures { WritesAfterHead plan.now list.now audio.now frames writer.old writer.new result }
 {
     let info = frames.info(plan, audio);
     write_head(info, list, frames.points, writer)?;
@@ -208,8 +205,7 @@ fn send_stream<W: Target>(
     requires table { block_fault (block_of.SeekTable frames.points.items) ≡ None }
     requires sizes { (frames.least ≤ frames.greatest) × (frames.greatest < 2 ^ 24) }
     requires digest { IsDigest audio.now frames.digest }
-    ensures { SendsStream W.Target (chosen_head plan.now list.now audio.now frames) plan.now audio.now
-        target.old target.new result }
+    ensures { SendsAfterHead W.Target plan.now list.now audio.now frames target.old target.new result }
 {
     let mut writer = BitWriter::new(Borrowed::over(target));
     let outcome = write_stream(plan, list, audio, frames, buffers, &mut writer);
@@ -251,15 +247,13 @@ pub fn encode<W: Target>(
     target: &mut W,
 ) -> Result<(), EncodeFault>
     requires { fits_plan plan.now audio.now ≡ true }
-    ensures written { OnOk result (W.known target.old ≡ true
-        → Encodes plan.now list.now audio.now (bits_of (W.sent target.old)) (bits_of (W.sent target.new))) }
+    ensures written { OnOk result (SendsEncoded W.Target plan.now list.now audio.now target.old target.new) }
     // Ok only if no error of the target was met, whatever is known of it.
     ensures known { OnOk result (W.known target.old ≡ true → W.known target.new ≡ true) }
     ensures counted { OnOk result (W.errors target.new ≡ W.errors target.old) }
-    ensures begun { IfErr result (λ e. e ≡ EncodeFault.Write → W.known target.old ≡ true
-        → BeginsEncoding plan.now list.now audio.now (bits_of (W.sent target.old)) (bits_of (W.sent target.new))) }
-    ensures failed { IfErr result (λ e. e ≡ EncodeFault.Write
-        → W.known target.old ≡ true → W.errors target.old < W.errors target.new) }
+    ensures begun { IfErr result (λ e. e ≡ EncodeFault.Write
+        → SendsEncodedPrefix W.Target plan.now list.now audio.now target.old target.new) }
+    ensures failed { IfErr result (λ e. e ≡ EncodeFault.Write → TargetFailed W.Target target.old target.new) }
     // An error of the target is counted, if the count can rise, whatever is known of it.
     ensures risen { IfErr result (λ e. e ≡ EncodeFault.Write → Rises (W.errors target.old) (W.errors target.new)) }
     ensures repeated { (result ≡ Err EncodeFault.RepeatedBlock) ↔ (repeats_table plan.now list.now ≡ true) }

@@ -1,10 +1,6 @@
 //! STREAMINFO, and the buffers for its frames.
 
-ghost use Rattle.std.specs.Prelude.{◌≡◌, OnOk, IfOk, IfErr, Some, None, min};
-ghost use Rattle.flac_bits.specs.Reading.{CallInPlace};
-ghost use Rattle.flac_bits.specs.Fencing.{lifted};
-ghost use Rattle.flac_bits.specs.Within.{ReadsWithin};
-ghost use Rattle.flac_frame.specs.Frame.{frame, after_frame};
+ghost use Rattle.std.specs.Prelude.{◌≡◌, OnOk, IfOk, IfErr, None, min};
 ghost use Rattle.flac_header.specs.Header.{greatest_in};
 
 use flac_bits::{BitReader, Source, Why};
@@ -34,6 +30,7 @@ impl Drop for Format {
 
 impl Format {
     ghost use Rattle.flac_frame.specs.Viewed.{frame_of};
+    ghost use Rattle.flac_native.specs.Track.{FillsFrame, FollowsFrame};
 
     /// Makes the buffers. Its only error is `Memory`: an allocation failed.
     pub(crate) fn new(alloc: Global, profile: Profile, info: StreamInfo) -> Result<Format, Why>
@@ -51,10 +48,8 @@ impl Format {
 
     /// Reads the next frame into the buffers: what [`FrameBuffers::fill`] does, proved by the reading of the layout.
     pub(crate) fn fill<R: Source>(&mut self, bits: &mut BitReader<R>) -> Result<(), Why>
-        ensures reading { CallInPlace 40 (λ _. ReadsWithin (Some 16777215) (λ _. self.new.buffers.held)
-            (frame self.old.profile self.old.info self.old.buffers.before) bits.old) (lifted bits.old) bits.new result }
-        ensures before { OnOk result (self.new.buffers.before
-            ≡ Some (after_frame self.old.buffers.before self.new.buffers.held)) }
+        ensures reading { FillsFrame self.old self.new bits.old bits.new result }
+        ensures before { OnOk result (FollowsFrame self.old self.new) }
         ensures info { self.new.info ≡ self.old.info }
         ensures profile { self.new.profile ≡ self.old.profile }
     {

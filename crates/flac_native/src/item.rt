@@ -1,10 +1,9 @@
 //! The items that a decoder lends, and how the next one is read.
 
 ghost use Rattle.std.specs.Prelude.{◌≡◌, ◌≢◌, IfOk, IfErr, IfSome, true, false, Some, Ok};
-ghost use Rattle.flac_bits.specs.Handing.{IsOutside};
-ghost use Rattle.flac_native.specs.Stream.{Progress};
-ghost use Rattle.flac_native.specs.Track.{IsAt, is_made, stand_of};
-ghost use Rattle.flac_native.specs.Giving.{GivesFirst, PassesItem, BreaksOff, CountsIn, ComesInOrder, found};
+ghost use Rattle.flac_native.specs.Track.{is_made, stand_of};
+ghost use Rattle.flac_native.specs.Giving.{CountsIn, ComesInOrder, found};
+ghost use Rattle.flac_native.specs.inner.Steps.{GivesFirstItem, PassesFirstItem, BreaksInItem};
 
 use crate::container::{Container, Part};
 use crate::decoder::Course;
@@ -45,12 +44,9 @@ pub(crate) fn next_item<C: Container>(
     ensures memory { (stand_of track.old).phase ≡ Phase.Frames → IfErr result (λ f. f.why ≢ Why.Memory) }
     ensures made { IfOk result (λ o. IfSome o (λ part. is_made (Course.Read part) track.new ≡ true)) }
     ensures ordered { IfOk result (λ o. ComesInOrder track.old track.new (found track.new o)) }
-    ensures gives { (p : Progress) → IsAt track.old p
-        → GivesFirst C.Container p container.old container.new track.new (λ o. found track.new o) result }
-    ensures passes { (p : Progress) → IsAt track.old p → IfOk result (λ o. IfSome (found track.new o)
-        (λ item. PassesItem C.Container p container.old container.new track.new item)) }
-    ensures broken { (p : Progress) → IsAt track.old p
-        → IfErr result (λ f. IsOutside f.why → BreaksOff C.Container p container.old container.new f) }
+    ensures gives { GivesFirstItem C.Container track.old track.new container.old container.new result }
+    ensures passes { PassesFirstItem C.Container track.old track.new container.old container.new result }
+    ensures broken { BreaksInItem C.Container track.old container.old container.new result }
 {
     let outcome = container.next(track);
     if is_marker(&outcome) {

@@ -1,15 +1,12 @@
 //! A native stream as a container: the bits from the marker `fLaC` on (RFC 9639, section 6).
 
-ghost use Rattle.std.specs.Prelude.{◌≡◌, ◌≢◌, ◌≤◌, ◌+◌, ◌&&◌, true, OnOk, IfOk, IfErr, IfSome, MatchOption, Some, ⊤};
-ghost use Rattle.flac_bits.specs.Bits.{is_nil};
+ghost use Rattle.std.specs.Prelude.{◌≡◌, ◌≢◌, ◌≤◌, ◌+◌, true, OnOk, IfOk, IfErr, IfSome, Some, ⊤};
 ghost use Rattle.flac_bits.specs.Fencing.{lifted};
 ghost use Rattle.flac_bits.specs.Reading.{Counts, Reads, CallInPlace};
-ghost use Rattle.flac_bits.specs.inner.Items.{step_at};
 ghost use Rattle.flac_bits.specs.Handing.{reason_of, IsOutside};
-ghost use Rattle.flac_bits.specs.inner.Handing.{StepsTo};
-ghost use Rattle.flac_native.specs.Stream.{marker, layout, room_in, Progress, grammar, may_end_in};
-ghost use Rattle.flac_bits.specs.inner.Within.{ReadsWithinGivenMemory};
-ghost use Rattle.flac_native.specs.Track.{IsAt, IsMadeAs, IsInOrder, ReadsPart, piece_of, stand_of, info_in, is_after_blocks};
+ghost use Rattle.flac_native.specs.Stream.{marker, layout, Progress};
+ghost use Rattle.flac_native.specs.inner.Steps.{ReadsNextPart, SaysEnded, SpendsPart, StepsOn};
+ghost use Rattle.flac_native.specs.Track.{IsAt, IsMadeAs, IsInOrder, ReadsPart, piece_of, stand_of, is_after_blocks};
 ghost use Rattle.flac_native.specs.Item.{fault_pair};
 ghost use Rattle.flac_native.specs.Coming.{PartsCome, EndsEarly};
 
@@ -43,8 +40,7 @@ fn read_part<R: Source>(reader: &mut BitReader<R>, track: &mut Track) -> Result<
     ensures counts { Counts (lifted reader.old) reader.new result }
     ensures memory { (stand_of track.old).phase ≡ Phase.Frames → IfErr result (λ e. e ≢ Why.Memory) }
     ensures marker { (stand_of track.old).phase ≡ Phase.Opening → IfErr result (λ e. e ≢ Why.Memory) }
-    ensures reads { ReadsWithinGivenMemory (room_in (stand_of track.old).phase) (λ part. piece_of track.new part)
-        (layout (stand_of track.old)) reader.old reader.new result }
+    ensures reads { ReadsNextPart track.old track.new reader.old reader.new result }
     ensures made { IfOk result (λ part. IsMadeAs part track.old track.new) }
     ensures ordered { IfOk result (λ part. IsInOrder (Some part) track.old track.new) }
     ensures next { IfOk result (λ part. ReadsPart track.old (piece_of track.new part) track.new) }
@@ -75,9 +71,7 @@ fn is_at_end<R: Source>(reader: &mut BitReader<R>, track: &Track) -> Result<bool
     // proof only
     ensures spends { OnOk result (reader.new.most ≤ reader.old.most) }
     ensures counts { Counts reader.old reader.new result }
-    ensures over { IfOk result (λ over. reader.old.known ≡ true → (reader.new.cursor ≡ reader.old.cursor)
-        × (over ≡ (may_end_in (stand_of track.now).phase (info_in track.now.format)
-        && is_nil reader.old.cursor.left))) }
+    ensures over { IfOk result (λ over. SaysEnded track.now reader.old reader.new over) }
     ensures later { IfOk result (λ over. over ≡ true → is_after_blocks (stand_of track.now).phase ≡ true) }
     ensures failed { IfErr result (λ e. e ≡ Why.Read) }
 {
@@ -98,14 +92,12 @@ pub(crate) fn advance<R: Source>(
     track: &mut Track,
 ) -> Result<Option<Part>, Fault>
     // proof only
-    ensures spends { IfOk result (λ o. MatchOption o (reader.new.most ≤ reader.old.most)
-        (λ _. reader.new.most + 32 ≤ reader.old.most)) }
+    ensures spends { IfOk result (λ o. SpendsPart reader.old reader.new o) }
     ensures counts { Counts (lifted reader.old) reader.new (reason_of fault_pair result) }
     // After the last metadata block no allocation fails.
     ensures memory { (stand_of track.old).phase ≡ Phase.Frames → IfErr result (λ f. f.why ≢ Why.Memory) }
     ensures broken { (p : Progress) → IsAt track.old p → IfErr result (λ f. IsOutside f.why → EndsEarly p f.at f.why) }
-    ensures steps { (p : Progress) → IsAt track.old p → StepsTo (λ part. piece_of track.new part) fault_pair
-        (step_at grammar p (lifted reader.old).cursor) (lifted reader.old) reader.new result }
+    ensures steps { StepsOn track.old track.new reader.old reader.new result }
     ensures made { IfOk result (λ o. IfSome o (λ part. IsMadeAs part track.old track.new)) }
     // No frame and no end comes before the last metadata block, and no block after it.
     ensures ordered { IfOk result (λ o. IsInOrder o track.old track.new) }

@@ -1,7 +1,7 @@
 //! How samples are divided into frames.
 
-ghost use Rattle.std.specs.Prelude.{◌≡◌, ◌<◌, ◌≤◌, ◌*◌, ◌^◌, ◌++◌, [], ◌↔◌, IsTrue, slice_index_or, MatchResult, IfOk, OnOk, IfErr, true, Some, None};
-ghost use Rattle.flac_native.specs.Given.{IsRange, blocks_in, has_point, points_before, cut_in, cut_asked, with_predictors, with_found, plane_lists, frame_lists, AreFoundWithin, tried, fits_plan, predictors_fault, cutting_fault, plan_fault};
+ghost use Rattle.std.specs.Prelude.{◌≡◌, ◌<◌, ◌≤◌, ◌*◌, ◌^◌, ◌++◌, [], ◌↔◌, IsTrue, slice_index_or, IfOk, OnOk, IfErr, true, Some, None};
+ghost use Rattle.flac_native.specs.Given.{IsRange, blocks_in, has_point, points_before, cut_in, cut_asked, with_predictors, with_found, plane_lists, frame_lists, AreFoundWithin, tried, fits_plan, predictors_fault, cutting_fault, plan_fault, MakesPlan, GetsPredictors};
 ghost use Rattle.flac_native.specs.Seeking.{point_at};
 ghost use Rattle.flac_frame.specs.Audio.{samples_each};
 ghost use Rattle.flac_frame.specs.Frame.{limits_at};
@@ -203,8 +203,7 @@ impl Plan {
     /// # Errors
     /// Those of [`Plan::new_in`] in [`Profile::Subset`].
     pub fn new(block_size: u32, audio: &Audio, seek_every: u32) -> Result<Plan, SetupFault>
-        ensures made { MatchResult result (λ p. p ≡ cut_in Profile.Subset block_size audio.now seek_every)
-            (λ e. plan_fault (cut_in Profile.Subset block_size audio.now seek_every) ≡ Some e) }
+        ensures made { MakesPlan (cut_in Profile.Subset block_size audio.now seek_every) result }
         ensures fits { IfOk result (λ p. audio.now.profile ≡ Profile.Subset → fits_plan p audio.now ≡ true) }
     {
         Plan::new_in(Profile::Subset, block_size, audio, seek_every)
@@ -231,8 +230,7 @@ impl Plan {
         audio: &Audio,
         seek_every: u32,
     ) -> Result<Plan, SetupFault>
-        ensures made { MatchResult result (λ p. p ≡ cut_in profile block_size audio.now seek_every)
-            (λ e. plan_fault (cut_in profile block_size audio.now seek_every) ≡ Some e) }
+        ensures made { MakesPlan (cut_in profile block_size audio.now seek_every) result }
         ensures fits { IfOk result (λ p. audio.now.profile ≡ profile → fits_plan p audio.now ≡ true) }
     {
         let asked = Asked {
@@ -271,8 +269,7 @@ impl Plan {
     /// [`SetupFault::TooManyPredictors`] if there are more than 64, else [`SetupFault::PredictorOrder`] if an order is
     /// too large. The plan is not returned then.
     pub fn with_predictors(self, predictors: Vec<LinearPredictor>) -> Result<Plan, SetupFault>
-        ensures { MatchResult result (λ p. p ≡ with_predictors self predictors.items)
-            (λ e. predictors_fault self.profile self.rate predictors.items ≡ Some e) }
+        ensures { GetsPredictors self predictors.items result }
     {
         let asked = self.asked;
         if let Some(fault) = predictors_fault(asked.profile, asked.rate, predictors.as_slice()) {

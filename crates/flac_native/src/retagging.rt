@@ -1,28 +1,24 @@
 //! Replaces the comments of a stream.
 
-ghost use Rattle.std.specs.Prelude.{◌≡◌, ◌≢◌, ◌≤◌, ◌+◌, ◌++◌, [], true, false, OnOk, IfOk, IfErr, Some, None, ◌<◌, Bool, List, OnErr, IfSome, IsErrAnd, Err, is_some, ◌⊎◌};
+ghost use Rattle.std.specs.Prelude.{◌≡◌, ◌≢◌, ◌≤◌, ◌+◌, ◌++◌, [], true, false, OnOk, IfOk, IfErr, Some, None, ◌<◌, OnErr, IfSome, Err, is_some, ◌⊎◌};
 ghost use Rattle.flac_bits.specs.Fencing.{lifted};
-ghost use Rattle.flac_bits.specs.Reading.{Counts, ReadsGivenMemory};
+ghost use Rattle.flac_bits.specs.Reading.{Counts};
 ghost use Rattle.flac_bits.specs.Reasons.{of_output};
-ghost use Rattle.flac_bits.specs.Items.{item, refused};
-ghost use Rattle.flac_bits.specs.inner.Items.{step_at};
 ghost use Rattle.flac_bits.specs.Handing.{reason_of};
-ghost use Rattle.flac_bits.specs.inner.Handing.{IsCalm};
-ghost use Rattle.flac_native.specs.Stream.{Piece, Progress, Stand, grammar, layout, next, place_in, stand_after};
-ghost use Rattle.flac_native.specs.Track.{is_after_blocks, position_of};
+ghost use Rattle.flac_native.specs.Stream.{place_in};
+ghost use Rattle.flac_native.specs.Track.{is_after_blocks};
 ghost use Rattle.flac_native.specs.Item.{fault_pair};
 ghost use Rattle.flac_native.specs.Places.{retag_text};
-ghost use Rattle.flac_native.specs.Retag.{is_before_frames, IsRefusedAt, IsPlaceAt, AreRead, is_comment, HasHeadAt, SendsRetagged, SendsPrefix, SendsHeadAndPart, IsOfDevice, IsBeforeOrOutside, not_read, not_written, BeginsWith, retagged, too_long};
-ghost use Rattle.flac_native.specs.inner.Retag.{stand_at, piece_in, kept_one, keeps, AreKept, MayBeHead, new_head};
+ghost use Rattle.flac_native.specs.Retag.{is_before_frames, IsPlaceAt, AreReadFrom, is_comment, HasHeadAt, RefusalIsDue, RefusalIsDueOf, EarlyRefusalIsDue, RefusesWhatIsDue, IsPlaceIn, OnlyTargetFails, SendsRetaggedOf, SendsEachRetagged, SendsPrefixOf, SendsHeadAndPartOf, IsOfDevice, IsBeforeOrOutside, not_read, not_written, too_long};
+ghost use Rattle.flac_native.specs.inner.Retag.{piece_in, kept_one, keeps, MayBeHead, new_head, ReadsNext, MovesOn, KeepsNext, RefusesNext, AreKeptFrom, CalmRefusalIsDue, RefusalIsDueEarly, CopiesAll, CopiesPrefix, SendsRetaggedFrom, SendsPrefixFrom, SendsHeadAndPartFrom, FailsInHead};
+ghost use Rattle.flac_native.specs.Sent.{TargetFailed};
 ghost use Rattle.flac_bits.specs.Bits.{bits_of};
-ghost use Rattle.flac_bits.specs.Written.{Adds, Fails};
-ghost use Rattle.flac_bits.specs.State.{Rises, started};
+ghost use Rattle.flac_bits.specs.Written.{Adds};
+ghost use Rattle.flac_bits.specs.State.{Rises};
 ghost use Rattle.flac_meta.specs.Spelling.{comments_length};
-ghost use Rattle.flac_info.specs.Info.{Info};
-ghost use Rattle.flac_meta.specs.declared.block.Block.{Block};
 ghost use Rattle.flac_bits.specs.declared.why.Why.{Why};
 ghost use Rattle.flac_native.specs.declared.fault.Place.{Place};
-ghost use Rattle.flac_native.specs.Decoding.{start_mark, source_start, IfCalm};
+ghost use Rattle.flac_native.specs.Decoding.{SourceFailed};
 
 use crate::encoding::write_each;
 use crate::fault::{Fault, Place};
@@ -104,10 +100,8 @@ fn read_next<R: Source>(
     // proof only
     ensures spends { OnOk result (reader.new.most + 32 ≤ reader.old.most) }
     ensures counts { Counts (lifted reader.old) reader.new result }
-    ensures reads { (s : Stand)
-        → ReadsGivenMemory piece_in (layout (stand_at position.old s)) (started (lifted reader.old)) reader.new result }
-    ensures next { IfOk result (λ part. (s : Stand)
-        → position_of (stand_after (stand_at position.old s) (piece_in part)) ≡ position.new) }
+    ensures reads { ReadsNext position.old reader.old reader.new result }
+    ensures next { IfOk result (λ part. MovesOn position.old part position.new) }
     ensures first { position.old.phase ≡ Phase.Opening → IfOk result (λ part. is_some part ≡ false) }
     ensures memory { position.old.phase ≡ Phase.Opening → IfErr result (λ e. e ≢ Why.Memory) }
 {
@@ -139,12 +133,9 @@ fn keep_next<R: Source>(
     // proof only
     ensures spends { OnOk result (reader.new.most + 32 ≤ reader.old.most) }
     ensures counts { Counts (lifted reader.old) reader.new (reason_of fault_pair result) }
-    ensures keeps { OnOk result ((p : Progress) → position_of p.stand ≡ position.old
-        → (x : Piece) × (position_of (next p x).stand ≡ position.new) × keeps all kept.old.items x kept.new.items
-        × (reader.old.known ≡ true → step_at grammar p (lifted reader.old).cursor ≡ item x reader.new.cursor)) }
-    ensures refused { IfErr result (λ f. (p : Progress) → position_of p.stand ≡ position.old
-        → reader.old.known ≡ true → reader.new.errors ≡ reader.old.errors → f.why ≢ Why.Memory
-        → step_at grammar p (lifted reader.old).cursor ≡ refused f.at f.why) }
+    ensures keeps { OnOk result
+        (KeepsNext all position.old position.new reader.old reader.new kept.old.items kept.new.items) }
+    ensures refused { IfErr result (λ f. RefusesNext position.old reader.old reader.new f) }
     ensures place { IfErr result (λ f. f.at ≡ place_in position.old.phase position.old.index) }
     ensures at { IfErr result (λ f. is_before_frames f.at ≡ true) }
     ensures memory { IfErr result (λ f. f.why ≡ Why.Memory → f.at ≢ Place.Marker) }
@@ -171,10 +162,8 @@ fn keep_all<R: Source>(
     // proof only
     ensures counts { Counts (lifted reader.old) reader.new (reason_of fault_pair result) }
     ensures whole { OnOk result (reader.new.cursor.mark.unread ≡ 0) }
-    ensures kept { OnOk result (reader.old.known ≡ true
-        → AreKept all (lifted reader.old).cursor kept.new.items reader.new.cursor.left) }
-    ensures refused { IfErr result (λ f. reader.old.known ≡ true → reader.new.errors ≡ reader.old.errors
-        → f.why ≢ Why.Memory → IsRefusedAt (lifted reader.old).cursor f.at f.why) }
+    ensures kept { OnOk result (AreKeptFrom all reader.old kept.new.items reader.new) }
+    ensures refused { IfErr result (λ f. RefusalIsDue reader.old reader.new f.at f.why) }
     ensures placed { IfErr result (λ f. reader.old.known ≡ true → IsPlaceAt (lifted reader.old).cursor f.at) }
     ensures at { IfErr result (λ f. reader.old.known ≡ true → is_before_frames f.at ≡ true) }
     ensures memory { IfErr result (λ f. f.why ≡ Why.Memory → f.at ≢ Place.Marker) }
@@ -203,10 +192,8 @@ pub(crate) fn read_kept<R: Source>(
     // proof only
     ensures counts { Counts (lifted reader.old) reader.new (reason_of fault_pair result) }
     ensures whole { OnOk result (reader.new.cursor.mark.unread ≡ 0) }
-    ensures kept { IfOk result (λ kept. reader.old.known ≡ true
-        → AreKept false (lifted reader.old).cursor kept.items reader.new.cursor.left) }
-    ensures refused { IfErr result (λ f. reader.old.known ≡ true → reader.new.errors ≡ reader.old.errors
-        → f.why ≢ Why.Memory → IsRefusedAt (lifted reader.old).cursor f.at f.why) }
+    ensures kept { IfOk result (λ kept. AreKeptFrom false reader.old kept.items reader.new) }
+    ensures refused { IfErr result (λ f. RefusalIsDue reader.old reader.new f.at f.why) }
     ensures placed { IfErr result (λ f. reader.old.known ≡ true → IsPlaceAt (lifted reader.old).cursor f.at) }
     ensures at { IfErr result (λ f. reader.old.known ≡ true → is_before_frames f.at ≡ true) }
     ensures memory { IfErr result (λ f. f.why ≡ Why.Memory → f.at ≢ Place.Marker) }
@@ -235,11 +222,9 @@ pub fn read_blocks<R: Source>(alloc: Global, reader: &mut BitReader<R>) -> Resul
     // The reader is at the first frame.
     ensures whole { OnOk result (reader.new.cursor.mark.unread ≡ 0) }
     // Ok only if the input begins with a marker and these blocks; what is left to read comes after them.
-    ensures read { IfOk result (λ list. reader.old.known ≡ true
-        → AreRead (lifted reader.old).cursor list.items reader.new.cursor.left) }
+    ensures read { IfOk result (λ list. AreReadFrom reader.old list.items reader.new) }
     // Refused only as the marker and the blocks are, at that place and for that reason.
-    ensures refused { IfErr result (λ f. reader.old.known ≡ true → reader.new.errors ≡ reader.old.errors
-        → f.why ≢ Why.Memory → IsRefusedAt (lifted reader.old).cursor f.at f.why) }
+    ensures refused { IfErr result (λ f. RefusalIsDue reader.old reader.new f.at f.why) }
     ensures placed { IfErr result (λ f. reader.old.known ≡ true → IsPlaceAt (lifted reader.old).cursor f.at) }
     ensures at { IfErr result (λ f. reader.old.known ≡ true → is_before_frames f.at ≡ true) }
     // No allocation fails at the marker.
@@ -263,8 +248,7 @@ fn write_renewed<W: Target>(
     ensures added { OnOk result (Adds (new_head comments.now kept.now) writer.old writer.new) }
     ensures unread { IfErr result (λ e. e ≢ Why.Read) }
     ensures sink { IfErr result (λ e. e ≢ Why.Sink) }
-    ensures failed { IfErr result (λ e. MayBeHead comments.now kept.now
-        → Fails (writer.old.bits ++ new_head comments.now kept.now) writer.old writer.new e) }
+    ensures failed { IfErr result (λ e. FailsInHead comments.now kept.now writer.old writer.new e) }
 {
     let Some((info, others)) = kept.split_first() else {
         return Err(Why::NotStreamInfoFirst);
@@ -299,17 +283,12 @@ pub(crate) fn copy_rest<R: Source, W: Target>(
 ) -> Result<(), RetagFault>
     requires { reader.old.cursor.mark.unread ≡ 0 }
     // proof only
-    ensures copied { OnOk result (reader.old.known ≡ true → W.known target.old ≡ true
-        → bits_of (W.sent target.new) ≡ bits_of (W.sent target.old) ++ reader.old.cursor.left) }
-    ensures begun { OnErr result (reader.old.known ≡ true → W.known target.old ≡ true
-        → (front : List Bool) × (left : List Bool)
-        × (bits_of (W.sent target.new) ≡ bits_of (W.sent target.old) ++ front)
-        × (front ++ left ≡ reader.old.cursor.left)) }
+    ensures copied { OnOk result (CopiesAll W.Target reader.old target.old target.new) }
+    ensures begun { OnErr result (CopiesPrefix W.Target reader.old target.old target.new) }
     ensures fault { IfErr result IsOfDevice }
     ensures read { IfErr result (λ f. f.why ≡ Why.Read
         → reader.old.known ≡ true → reader.old.raised < reader.new.raised) }
-    ensures write { IfErr result (λ f. f.why ≡ Why.Write
-        → W.known target.old ≡ true → W.errors target.old < W.errors target.new) }
+    ensures write { IfErr result (λ f. f.why ≡ Why.Write → TargetFailed W.Target target.old target.new) }
     ensures read_risen { IfErr result (λ f. f.why ≡ Why.Read → Rises reader.old.raised reader.new.raised) }
     ensures write_risen { IfErr result (λ f. f.why ≡ Why.Write → Rises (W.errors target.old) (W.errors target.new)) }
     ensures errors { (reader.old.errors ≤ reader.new.errors) × (W.errors target.old ≤ W.errors target.new) }
@@ -351,13 +330,9 @@ fn retag_from<R: Source, W: Target>(
     requires whole { reader.old.cursor.mark.unread ≡ 0 }
     requires short { comments_length comments.now ≤ 16777215 }
     // proof only
-    ensures written { OnOk result (reader.old.known ≡ true → W.known target.old ≡ true
-        → SendsRetagged W.Target (lifted reader.old).cursor comments.now target.old target.new) }
-    ensures refused { IfErr result (λ f. IfSome f.at (λ at. reader.old.known ≡ true → IsCalm reader.old reader.new
-        → f.why ≢ Why.Memory → IsRefusedAt (lifted reader.old).cursor at f.why)) }
-    ensures foretold { IfErr result (λ f. IfSome f.at (λ at. is_before_frames at ≡ true
-        → reader.old.known ≡ true → reader.new.errors ≡ reader.old.errors
-        → f.why ≢ Why.Memory → IsRefusedAt (lifted reader.old).cursor at f.why)) }
+    ensures written { OnOk result (SendsRetaggedFrom W.Target reader.old comments.now target.old target.new) }
+    ensures refused { IfErr result (λ f. IfSome f.at (λ at. CalmRefusalIsDue reader.old reader.new at f.why)) }
+    ensures foretold { IfErr result (λ f. IfSome f.at (λ at. RefusalIsDueEarly reader.old reader.new at f.why)) }
     ensures placed { IfErr result (λ f. IfSome f.at (λ at. reader.old.known ≡ true
         → IsPlaceAt (lifted reader.old).cursor at)) }
     ensures memory { IfErr result (λ f. f.why ≡ Why.Memory → f.at ≢ Some Place.Marker) }
@@ -365,16 +340,15 @@ fn retag_from<R: Source, W: Target>(
     ensures head { OnOk result (reader.old.known ≡ true → HasHeadAt (lifted reader.old).cursor) }
     ensures found { IfErr result (λ f. IsOfDevice f → reader.old.known ≡ true → HasHeadAt (lifted reader.old).cursor) }
     ensures nothing { IfErr result (λ f. f ≢ not_read → f ≢ not_written → target.new ≡ target.old) }
-    ensures begun { IfErr result (λ f. IsOfDevice f → reader.old.known ≡ true → W.known target.old ≡ true
-        → SendsPrefix W.Target (lifted reader.old).cursor comments.now target.old target.new) }
-    ensures copied { IfErr result (λ f. f ≡ not_read → reader.old.known ≡ true → W.known target.old ≡ true
-        → SendsHeadAndPart W.Target (lifted reader.old).cursor comments.now target.old target.new) }
+    ensures begun { IfErr result (λ f. IsOfDevice f
+        → SendsPrefixFrom W.Target reader.old comments.now target.old target.new) }
+    ensures copied { IfErr result (λ f. f ≡ not_read
+        → SendsHeadAndPartFrom W.Target reader.old comments.now target.old target.new) }
     ensures output { IfErr result (λ f. IfSome f.at (λ _. of_output f.why ≡ false)) }
     ensures placeless { IfErr result (λ f. f.at ≡ None → f ≡ not_written) }
     ensures read { IfErr result (λ f. f.why ≡ Why.Read
         → reader.old.known ≡ true → reader.old.raised < reader.new.raised) }
-    ensures write { IfErr result (λ f. f ≡ not_written
-        → W.known target.old ≡ true → W.errors target.old < W.errors target.new) }
+    ensures write { IfErr result (λ f. f ≡ not_written → TargetFailed W.Target target.old target.new) }
     ensures read_risen { IfErr result (λ f. f.why ≡ Why.Read → Rises reader.old.raised reader.new.raised) }
     ensures write_risen { IfErr result (λ f. f ≡ not_written → Rises (W.errors target.old) (W.errors target.new)) }
     ensures errors { reader.old.errors ≤ reader.new.errors }
@@ -443,54 +417,45 @@ pub fn retag<R: Source, W: Target>(
     ensures short { result ≡ Err too_long → 16777215 < comments_length comments.now }
     // Ok only if the input begins with a marker and blocks; what was written is exactly these with the comments, and
     // the rest.
-    ensures written { OnOk result (R.known source.old ≡ true → W.known target.old ≡ true
-        → SendsRetagged W.Target (source_start R.Source source.old) comments.now target.old target.new) }
+    ensures written { OnOk result
+        (SendsRetaggedOf R.Source W.Target source.old comments.now target.old target.new) }
     // That is so for each way in which the input begins.
-    ensures exact { OnOk result (R.known source.old ≡ true → W.known target.old ≡ true
-        → (info : Info) (list : List Block) (rest : List Bool)
-        → BeginsWith (start_mark (R.after source.old)) (bits_of (R.coming source.old)) info list rest
-        → bits_of (W.sent target.new) ≡ bits_of (W.sent target.old) ++ retagged comments.now info list rest) }
+    ensures exact { OnOk result
+        (SendsEachRetagged R.Source W.Target source.old comments.now target.old target.new) }
     // Refused only as the marker and the blocks are, at that place and for that reason.
-    ensures refused { IfErr result (λ f. IfSome f.at (λ at. IfCalm R.Source source.old source.new
-        (f.why ≢ Why.Memory → IsRefusedAt (source_start R.Source source.old) at f.why))) }
+    ensures refused { IfErr result (λ f. IfSome f.at (λ at.
+        RefusalIsDueOf R.Source source.old source.new at f.why)) }
     // So is an error of the source that is foretold: before the frames it is at the item in which the bytes end.
-    ensures foretold { IfErr result (λ f. IfSome f.at (λ at. is_before_frames at ≡ true
-        → R.known source.old ≡ true → R.errors source.new ≡ R.errors source.old
-        → f.why ≢ Why.Memory → IsRefusedAt (source_start R.Source source.old) at f.why)) }
+    ensures foretold { IfErr result (λ f. IfSome f.at (λ at.
+        EarlyRefusalIsDue R.Source source.old source.new at f.why)) }
     // Each place, also that of an error of the source or of an allocation, is that of the item after some with which
     // the input begins.
-    ensures placed { IfErr result (λ f. IfSome f.at (λ at. R.known source.old ≡ true
-        → IsPlaceAt (source_start R.Source source.old) at)) }
+    ensures placed { IfErr result (λ f. IfSome f.at (λ at. IsPlaceIn R.Source source.old at)) }
     // No allocation fails at the marker, whatever is known of the source: none is needed there.
     ensures memory { IfErr result (λ f. f.why ≡ Why.Memory → f.at ≢ Some Place.Marker) }
     // After the blocks only an error of the source or of an allocation is returned: no block that was read is refused
     // in writing.
     ensures after { IfErr result (λ f. IfSome f.at (λ at. R.known source.old ≡ true → IsBeforeOrOutside f at)) }
     // An input that begins with a marker and blocks is refused only for the comments, the target and memory.
-    ensures accepted { IfErr result (λ f. f ≢ too_long → IfCalm R.Source source.old source.new
-        (f.why ≢ Why.Memory → HasHeadAt (source_start R.Source source.old) → f ≡ not_written)) }
+    ensures accepted { IfErr result (λ f. f ≢ too_long → OnlyTargetFails R.Source source.old source.new f) }
     // An input of which the marker or a block is to be refused is refused exactly so.
     ensures shown { comments_length comments.now ≤ 16777215
-        → (at : Place) (why : Why) → IsRefusedAt (source_start R.Source source.old) at why
-        → IfCalm R.Source source.old source.new
-        (IsErrAnd result (λ f. f.why ≢ Why.Memory → f ≡ record { at = Some at; why = why })) }
+        → RefusesWhatIsDue R.Source source.old source.new result }
     // At any error but that of a device after the blocks, nothing was written.
     ensures nothing { IfErr result (λ f. f ≢ not_read → f ≢ not_written → target.new ≡ target.old) }
     // If a device failed after the blocks, a prefix of the output was written.
-    ensures begun { IfErr result (λ f. IsOfDevice f → R.known source.old ≡ true → W.known target.old ≡ true
-        → SendsPrefix W.Target (source_start R.Source source.old) comments.now target.old target.new) }
+    ensures begun { IfErr result (λ f. IsOfDevice f
+        → SendsPrefixOf R.Source W.Target source.old comments.now target.old target.new) }
     // An error of the source is reported after the blocks only when the new blocks were written whole: the target's
     // bytes say so, and which prefix of the rest was copied.
-    ensures copied { IfErr result (λ f. f ≡ not_read → R.known source.old ≡ true → W.known target.old ≡ true
-        → SendsHeadAndPart W.Target (source_start R.Source source.old) comments.now target.old target.new) }
+    ensures copied { IfErr result (λ f. f ≡ not_read
+        → SendsHeadAndPartOf R.Source W.Target source.old comments.now target.old target.new) }
     // Only faults of the comments and of the target have no place. A device's error that is returned is counted.
     ensures placeless { IfErr result (λ f. f.at ≡ None → (f ≡ too_long) ⊎ (f ≡ not_written)) }
     // So an error of a target is never at a place, and none is of a sink.
     ensures output { IfErr result (λ f. IfSome f.at (λ _. of_output f.why ≡ false)) }
-    ensures read { IfErr result (λ f. f.why ≡ Why.Read
-        → R.known source.old ≡ true → R.raised source.old < R.raised source.new) }
-    ensures write { IfErr result (λ f. f ≡ not_written
-        → W.known target.old ≡ true → W.errors target.old < W.errors target.new) }
+    ensures read { IfErr result (λ f. f.why ≡ Why.Read → SourceFailed R.Source source.old source.new) }
+    ensures write { IfErr result (λ f. f ≡ not_written → TargetFailed W.Target target.old target.new) }
     // An error of a device is counted, if the count can rise, whatever is known of it.
     ensures read_risen { IfErr result (λ f. f.why ≡ Why.Read → Rises (R.raised source.old) (R.raised source.new)) }
     ensures write_risen { IfErr result (λ f. f ≡ not_written → Rises (W.errors target.old) (W.errors target.new)) }

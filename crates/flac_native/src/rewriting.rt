@@ -1,10 +1,10 @@
 //! Writes a stream with other metadata blocks.
 
-ghost use Rattle.std.specs.Prelude.{◌≡◌, ◌≢◌, ◌++◌, true, OnOk, IfOk, IfErr};
+ghost use Rattle.std.specs.Prelude.{◌≡◌, ◌≢◌, OnOk, IfOk, IfErr};
 ghost use Rattle.flac_bits.specs.Bits.{bits_of};
 ghost use Rattle.flac_bits.specs.Written.{Adds};
 ghost use Rattle.flac_native.specs.Retag.{not_read, not_written};
-ghost use Rattle.flac_native.specs.Rewriting.{head_of};
+ghost use Rattle.flac_native.specs.Rewriting.{head_of, SendsWithBlocks};
 
 use crate::encoding::write_each;
 use crate::native::MARKER;
@@ -49,8 +49,7 @@ pub fn send_with_blocks<R: Source, W: Target>(
 ) -> Result<(), RetagFault>
     requires { reader.old.cursor.mark.unread ≡ 0 }
     // What was sent is the marker, these blocks, and what the reader had still to read.
-    ensures written { OnOk result (reader.old.known ≡ true → W.known target.old ≡ true
-        → bits_of (W.sent target.new) ≡ bits_of (W.sent target.old) ++ (head_of blocks.now ++ reader.old.cursor.left)) }
+    ensures written { OnOk result (SendsWithBlocks W.Target blocks.now reader.old target.old target.new) }
     // Unless a device failed, nothing was sent.
     ensures nothing { IfErr result (λ f. f ≢ not_read → f ≢ not_written → target.new ≡ target.old) }
 {

@@ -5,6 +5,7 @@ ghost use Rattle.flac_bits.specs.Bits.{bit_value};
 ghost use Rattle.flac_frame.specs.Viewed.{frame_of};
 ghost use Rattle.flac_native.specs.Message.{frame_rows};
 ghost use Rattle.flac_native.specs.Samples.{width_of, depth_after_item, samples_in};
+ghost use Rattle.flac_native.specs.Sent.{SendsBytes, FailedIfCounted};
 
 use crate::decoding::{Sink, SinkFault};
 use crate::sample_bytes::{put_rows, sample_width};
@@ -65,8 +66,7 @@ impl Failures {
 fn send_frame<W: Target>(frame: &FrameView<'_>, width: usize, target: &mut W) -> Result<(), Why>
     requires { width ≤ 4 }
     ensures known { OnOk result (W.known target.old ≡ true → W.known target.new ≡ true) }
-    ensures sent { OnOk result (W.known target.old ≡ true
-        → W.sent target.new ≡ W.sent target.old ++ frame_rows width (frame_of frame.now)) }
+    ensures sent { OnOk result (SendsBytes W.Target (frame_rows width (frame_of frame.now)) target.old target.new) }
     ensures names { W.names target.new ≡ W.names target.old }
     ensures counted { OnOk result (W.errors target.new ≡ W.errors target.old) }
     ensures kept { W.errors target.old ≤ W.errors target.new }
@@ -137,8 +137,7 @@ impl<W: Target> SampleWriter<W> {
         ensures kept { W.errors self.now.began.value ≤ W.errors self.now.target }
         ensures known { W.known self.now.began.value ≡ true → self.now.failures.count ≡ 0
             → W.known self.now.target ≡ true }
-        ensures failed { W.known self.now.began.value ≡ true → 0 < self.now.failures.count
-            → W.errors self.now.began.value < W.errors self.now.target }
+        ensures failed { FailedIfCounted W.Target self.now.failures.count self.now.began.value self.now.target }
     {
         self.failures.count()
     }

@@ -1,6 +1,6 @@
 //! The state of a stream between its parts, and what is compared at its end.
 
-ghost use Rattle.std.specs.Prelude.{◌≡◌, ◌≢◌, OnOk, IfOk, IfErr, Err, Some, is_some, true, ⊤, ℕ, List, [], min, false};
+ghost use Rattle.std.specs.Prelude.{◌≡◌, ◌≢◌, OnOk, IfOk, IfErr, Err, Some, is_some, true, ⊤, [], false};
 ghost use Rattle.std.specs.Borrow.{sem, follows_so};
 ghost use mathlib.Core.Option.{none};
 ghost use Rattle.flac_bits.specs.Reading.{ReadsGivenMemory, Call, MeansGivenMemory};
@@ -8,12 +8,12 @@ ghost use Rattle.flac_bits.specs.Reasons.{of_output};
 ghost use Rattle.flac_meta.specs.Block.{block as block_layout};
 ghost use Rattle.flac_native.specs.Resuming.{at_frames};
 ghost use Rattle.flac_frame.specs.Viewed.{frame_of};
-ghost use Rattle.flac_native.specs.Stream.{Progress, marked, block as block_piece, framed, info_after, before_after_block, frame_after, place_in, next, opening, layout_in, is_unknown, end_rules};
-ghost use Rattle.flac_native.specs.Track.{IsAt, ReadsPart, MeansFrame, ReadsFrame, stand_of, is_after_blocks, profile_in, info_in, before_in, shown, kept};
+ghost use Rattle.flac_native.specs.Stream.{Progress, marked, block as block_piece, framed, info_after, before_after_block, frame_after, place_in, next, opening, is_unknown, end_rules};
+ghost use Rattle.flac_native.specs.Track.{IsAt, ReadsPart, MeansBlock, ReadsBlock, MeansFrame, ReadsFrame, stand_of, is_after_blocks, profile_of, info_in, before_in, shown, kept};
 ghost use Rattle.flac_native.specs.declared.track.Phase.TheVariants.{Blocks};
 ghost use Rattle.flac_native.specs.contracts.track.Track.{the_row};
 ghost use Rattle.std.specs.Str.{bytes_eq};
-ghost use Rattle.flac_native.specs.Ends.{EndsBy};
+ghost use Rattle.flac_native.specs.Ends.{EndsBy, JudgesEnd};
 ghost use Rattle.md5.specs.Md5.{Holds};
 
 use crate::digest::feed;
@@ -118,7 +118,7 @@ impl Track {
 
     /// The profile by which frames are judged.
     fn profile(&self) -> Profile
-        ensures { result ≡ profile_in self.now.profile self.now.format }
+        ensures { result ≡ profile_of self.now }
     {
         match &self.format {
             Some(format) => format.profile,
@@ -129,8 +129,7 @@ impl Track {
     /// Makes the buffers for frames if a block is STREAMINFO. Its only error is `Memory`: an allocation failed.
     fn prepare(&mut self, block: &Block) -> Result<(), Why>
         ensures position { self.new.position ≡ self.old.position }
-        ensures profile { OnOk result (profile_in self.new.profile self.new.format
-            ≡ profile_in self.old.profile self.old.format) }
+        ensures profile { OnOk result (profile_of self.new ≡ profile_of self.old) }
         ensures info { OnOk result (info_in self.new.format ≡ info_after (info_in self.old.format) block.now) }
         ensures before { OnOk result (before_in self.new.format ≡ before_after_block (before_in self.old.format) block.now) }
         ensures samples { self.new.samples ≡ self.old.samples }
@@ -186,8 +185,7 @@ impl Track {
     /// # Errors
     /// Those of [`Track::block`].
     pub fn next_block<R: Source>(&mut self, bits: &mut BitReader<R>) -> Result<(), Why>
-        ensures reading { Call 32 (MeansGivenMemory (λ _. kept self.new) (layout_in Blocks (stand_of self.old)))
-            bits.old bits.new result }
+        ensures reading { MeansBlock self.old self.new bits.old bits.new result }
         ensures next { OnOk result (ReadsPart self.old (kept self.new) self.new) }
         ensures made { OnOk result (is_some self.new.block ≡ true) }
     {
@@ -199,8 +197,7 @@ impl Track {
         &mut self,
         bits: &mut BitReader<R>,
     ) -> Result<(), Why>
-        ensures reading { Call 32 (ReadsGivenMemory (λ _. kept self.new) (layout_in Blocks (stand_of self.old)))
-            bits.old bits.new result }
+        ensures reading { ReadsBlock self.old self.new bits.old bits.new result }
         ensures next { OnOk result (ReadsPart self.old (kept self.new) self.new) }
         ensures made { OnOk result (is_some self.new.block ≡ true) }
     {
@@ -338,8 +335,7 @@ fn same_bytes(one: &[u8], other: &[u8]) -> bool
 /// Compares the number of samples and the digest with what STREAMINFO states.
 #[tactic(auto, unfolding(crate::specs::Stream::end_rules))]
 fn judge(info: &StreamInfo, samples: u64, hasher: Md5) -> Result<(), Why>
-    ensures judged { (count : ℕ) (message : List ℕ) → samples ≡ min count 18446744073709551615 → Holds hasher message
-        → EndsBy (end_rules (Some info.now) count message) result }
+    ensures judged { JudgesEnd info.now samples hasher result }
     ensures quiet { IfErr result (λ e. e ≢ Why.Read) }
     ensures memory { IfErr result (λ e. e ≢ Why.Memory) }
     ensures output { IfErr result (λ e. of_output e ≡ false) }

@@ -11,7 +11,10 @@ use Rattle.flac_frame.specs.Spelling.{FrameForm, frame_spelling}
 use Rattle.flac_subframe.specs.search.Capacity.{Capacity}
 use Rattle.flac_frame.specs.Chosen.{SameByPlane}
 use Rattle.flac_frame.specs.declared.frame_choice.FrameChoice.{FrameChoice}
+use Rattle.flac_info.specs.Info.{Info}
 use Rattle.flac_meta.specs.declared.block.Block.{Block}
+use Rattle.flac_meta.specs.declared.block.Block.TheVariants as blocks
+use Rattle.flac_meta.specs.declared.seek_table.SeekPoint.{SeekPoint}
 use Rattle.flac_native.specs.Given.{Cut, fits_plan, blocks_in, room_of, info_of}
 use Rattle.flac_native.specs.Seeking.{table_of}
 use Rattle.flac_native.specs.Writing.{AreFrames, AreLeastFrames, AreChoices, IsSpelled, head_spelling}
@@ -82,3 +85,15 @@ WritesStream head p a old new result = (frames : List (List Bool)) × AreFrames 
 -- after other bits all of them were sent, or else a prefix
 abbrev pub SendsStream : {S X E : Type 0} → target.Ghosts S → List Bool → Cut → Sound → S → S → Result X E → Type 0
 SendsStream g head p a old new result = (frames : List (List Bool)) × AreFrames p a frames × AreLeastFrames p a frames × SendsBits g (head ++ joined frames) old new result
+
+-- STREAMINFO, these blocks, and the seek table of these points, if there are points
+abbrev pub blocks_with_table : Info → List Block → List SeekPoint → List Block
+blocks_with_table info list points = blocks.StreamInfo info ∷ list ++ table_of points
+
+-- after the head of the frames that were chosen, all frames were written
+abbrev pub WritesAfterHead : {X : Type 0} → Cut → List Block → Sound → ChosenFrames → Written → Written → Result X Why → Type 0
+WritesAfterHead p list a frames old new result = WritesStream (chosen_head p list a frames) p a old new result
+
+-- that head and all frames were sent, or else a prefix
+abbrev pub SendsAfterHead : {S X E : Type 0} → target.Ghosts S → Cut → List Block → Sound → ChosenFrames → S → S → Result X E → Type 0
+SendsAfterHead g p list a frames old new result = SendsStream g (chosen_head p list a frames) p a old new result

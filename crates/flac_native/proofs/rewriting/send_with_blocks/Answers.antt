@@ -1,4 +1,4 @@
-use Rattle.std.proofs.Common.{◌≡◌, ◌++◌, Result, Ok, Err, ◌∙◌, inl, inr, refl, ap}
+use Rattle.std.proofs.Common.{◌++◌, Result, Ok, Err, ◌∙◌, inl, inr, refl, ap}
 use Rattle.std.proofs.lemmas.Result.{IfErr-weaker}
 use Rattle.std.specs.Prelude.{OnOk}
 use Rattle.flac_native.specs.Rewriting.{head_of}

@@ -1,8 +1,6 @@
-use Rattle.std.proofs.Common.{◌≡◌, sym, subst, ap, ◌∙◌, [], List, get_or}
-use Rattle.flac_subframe.specs.declared.format.linear.LinearPredictor.{LinearPredictor}
+use Rattle.std.proofs.Common.{sym, subst}
 use Rattle.flac_frame.specs.Frame.{limits_at}
 use Rattle.flac_frame.specs.PlaneLists.{Lists, AreAllWithin}
-use Rattle.flac_native.specs.Given.{Cut, tried}
 use Rattle.flac_native.proofs.Planned.{orders_tried, tried_is}
 use Rattle.flac_native.proofs.plan.Plan.predictors_at.Goals as goal
 
