@@ -1,5 +1,5 @@
 -- Raising and lowering samples.
-use Rattle.std.proofs.Common.{◌≡◌, ◌≤◌, ◌<◌, ◌+◌, ◌-◌, ◌*◌, ◌/◌, ◌%◌, ◌^◌, ◌++◌, ◌∷◌, [], ℕ, zero, suc, List, length, take, drop, refl, sym, ap, ◌∙◌, ◌⊎◌, inl, inr, append_assoc, subst, arith, length-append}
+use Rattle.std.proofs.Common.{◌≡◌, ◌≤◌, ◌<◌, ◌+◌, ◌-◌, ◌*◌, ◌/◌, ◌%◌, ◌^◌, ◌++◌, ◌∷◌, [], ℕ, zero, suc, Option, Some, None, List, length, take, drop, refl, sym, ap, ◌∙◌, ◌⊎◌, inl, inr, append_assoc, subst, arith, length-append}
 use Rattle.std.proofs.lemmas.Nat.{div-add-mod', pow_pos, pow-add, mod-pow-add, mod_low, one_shl}
 use Rattle.std.proofs.Math.Nat.{mod-lt, pow-suc, suc-mul, mod-eq_of_lt, lt_of_mul-lt-mul_right, add-mul, pow-le-pow_right, add-mul-mod_self_right, div-eq-sub-div, div-eq_of_lt}
 use Rattle.std.proofs.Math.Seq.{take-append_seam, drop-append_seam, take-add}
@@ -10,7 +10,7 @@ use Rattle.std.specs.Int.{bytes_low_first, byte_at}
 use Rattle.std.proofs.lemmas.Bool.{and_parts, ltb-true, eqb-true, eq-eqb, ne_eqb}
 use borrow.Rule.Slice.PartMut.{put_mid, mid_of}
 use Rattle.std.specs.Prelude.{◌==◌, ◌&&◌, ◌||◌, Bool, true, false, cond, nat_lt, nat_eq}
-use Rattle.flac_wave.specs.Shift.{raised, raised_one, lowered, lowered_number, are_low_zero, AreBytes, SamplesComeBack, is_stated_depth, wave_width_of, depth_in}
+use Rattle.flac_wave.specs.Shift.{raised, raised_one, lowered, lowered_number, are_low_zero, AreBytes, SamplesComeBack, is_stated_depth, wave_width_of, may_be_narrow, known_depth, depth_in}
 use Rattle.flac_wave.specs.declared.format.WaveFormat.{WaveFormat}
 
 -- some samples were raised, and these are left
@@ -440,3 +440,11 @@ stated_some n is = stated_by n _ _ _ _ _ _ refl refl refl refl refl refl is
     stated_by n false false false false true f p q r s t u is = let h = eqb-true n 24 t in omega (arith, h)
     stated_by n false false false false false true p q r s t u is = let h = eqb-true n 32 u in omega (arith, h)
     stated_by n false false false false false false p q r s t u is = absurd cc
+
+-- a depth that is known in any case is that of these samples
+pub depth_known : (f : WaveFormat) (samples : List ℕ) (depth : ℕ) → known_depth f ≡ Some depth → depth_in f samples ≡ depth
+depth_known f samples depth is = known_by (may_be_narrow f) (are_low_zero (wave_width_of f) (8 * wave_width_of f - f.valid) (length samples / wave_width_of f) samples) is
+  where
+    known_by : (b zeros : Bool) → cond b None (Some (8 * wave_width_of f)) ≡ Some depth → cond (b && zeros) f.valid (8 * wave_width_of f) ≡ depth
+    known_by true zeros e = absurd cc
+    known_by false zeros e = cc

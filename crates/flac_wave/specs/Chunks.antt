@@ -63,6 +63,9 @@ after_chunk s bytes = record {
   to_end = s.to_end;
 }
 
+abbrev pub format_after : Seen → (bytes : List ℕ) → Option WaveFormat
+format_after s bytes = (after_chunk s bytes).format
+
 -- ---- the samples
 
 -- The number of bytes of the samples. `None`: they go to the end of the file, as its writer did not know better: the

@@ -1,11 +1,12 @@
 -- What comes before the samples of a WAV file, for reading it part by part: how many bytes the samples have is judged when
 -- they have come.
-use Rattle.std.specs.Prelude.{◌≡◌, ◌≤◌, ℕ, ◌%◌, ◌&&◌, Bool, true, not, cond, nat_eq, List, [], ◌∷◌, ◌++◌, length, take, drop, Option, Some, None}
+use Rattle.std.specs.Prelude.{◌≡◌, ◌≤◌, ℕ, ◌%◌, ◌&&◌, Bool, true, not, cond, nat_eq, List, [], ◌∷◌, ◌++◌, length, map, take, drop, Option, Some, None}
 use Rattle.flac_wave.specs.Chunks.{Leads, header_fault, seen_first, is_data, size_of, stated}
 use Rattle.flac_wave.specs.Format.{IsInRange, row_of}
 use Rattle.flac_wave.specs.Parts.{given, is_cut}
 use Rattle.flac_wave.specs.declared.seen.Seen.{Seen}
 use Rattle.flac_wave.specs.declared.format.WaveFormat.{WaveFormat}
+use Rattle.flac_wave.specs.declared.front.WaveFront.{WaveFront}
 use Rattle.flac_wave.specs.declared.why.WaveWhy.{WaveWhy}
 use Rattle.flac_wave.specs.declared.why.WaveWhy.TheVariants as why
 
@@ -25,6 +26,10 @@ pub record IsFront (to_end : Bool) (bytes : List ℕ) (format : WaveFormat) (pie
   pub list : pieces ≡ (take 12 bytes ∷ chunks) ++ take 8 here ∷ []
   pub sized : size ≡ stated seen (size_of here)
   pub left : rest ≡ drop 8 here
+
+-- the same of what a call returns
+abbrev pub BeginsWith : (to_end : Bool) (bytes : List ℕ) → WaveFront → (rest : List ℕ) → Type 0
+BeginsWith to_end bytes f rest = IsFront to_end bytes f.format (map (λ p. p.items) f.pieces.items) f.size f.count rest
 
 -- Why what came is no samples: the file ended inside them (`cut`) and they may not go on to its end, or they are no whole
 -- number of inter-channel samples.

@@ -2,7 +2,7 @@
 use Rattle.std.specs.Prelude.{◌≡◌, ◌<◌, ◌⊎◌, ℕ, ◌+◌, ◌*◌, ◌/◌, ◌%◌, ◌||◌, Bool, cond, nat_lt, nat_eq, List, [], ◌∷◌, ◌++◌, length, Option, Some, None}
 use Rattle.byteorder.specs.Endian.{little_bytes}
 use Rattle.flac_wave.specs.Format.{IsInRange, row_of}
-use Rattle.flac_wave.specs.Wave.{Parts, pad_of, all_of}
+use Rattle.flac_wave.specs.Wave.{Parts, IsWave, pad_of, all_of, restored}
 use Rattle.flac_wave.specs.declared.format.WaveFormat.{WaveFormat}
 
 -- ---- its format
@@ -145,3 +145,18 @@ pub record IsPlain (f : WaveFormat) (total : ℕ) (samples : List ℕ) : Type 0 
   pub count : ℕ
   pub whole : length samples ≡ count * row_of f
   pub stated : (total ≡ 0) ⊎ (total ≡ count)
+
+-- ---- laws
+
+-- samples of a format that a stream can have can be written
+abbrev pub FormatsCanBeWritten : Type 0
+FormatsCanBeWritten = (rate channels bits : ℕ) → rate < 134217728 → 0 < channels → channels < 9 → 0 < bits → bits < 33 → CanBeWritten (plain_format rate channels bits)
+
+-- a plain file is read as what it was made of
+abbrev pub PlainFilesAreRead : Type 0
+PlainFilesAreRead =
+    (to_end : Bool) (format : WaveFormat) (total : ℕ) (samples : List ℕ) → IsPlain format total samples → IsWave to_end (plain_file format total samples) (plain_parts format total samples)
+
+-- it is made of pieces and samples as the file that a stream keeps
+abbrev pub PlainFilesAreMade : Type 0
+PlainFilesAreMade = (format : WaveFormat) (total : ℕ) (samples : List ℕ) → restored (plain_pieces format total) samples ≡ plain_file format total samples

@@ -1,7 +1,7 @@
 -- Samples whose lowest bits are zeros: a file has more bits of each than a stream. Both have whole bytes of it, the
 -- lowest first, in two's complement (of samples of up to 8 bits a file turns the highest bit, which is no matter of this
 -- page). `width` is how many bytes a stream has, `wave_width` how many a file has.
-use Rattle.std.specs.Prelude.{◌≡◌, ◌<◌, ◌≤◌, ℕ, zero, suc, ◌+◌, ◌*◌, ◌/◌, ◌%◌, ◌-◌, ◌^◌, ◌&&◌, ◌||◌, Bool, true, cond, nat_lt, nat_eq, List, [], ◌∷◌, ◌++◌, length, drop}
+use Rattle.std.specs.Prelude.{◌≡◌, ◌<◌, ◌≤◌, ℕ, zero, suc, ◌+◌, ◌*◌, ◌/◌, ◌%◌, ◌-◌, ◌^◌, ◌&&◌, ◌||◌, Bool, true, cond, nat_lt, nat_eq, List, [], ◌∷◌, ◌++◌, length, drop, Option, Some, None}
 use Rattle.byteorder.specs.Endian.{little_bytes, little_number}
 use Rattle.flac_wave.specs.declared.format.WaveFormat.{WaveFormat}
 
@@ -28,6 +28,10 @@ lowered_number wave_width width shift n =
 abbrev pub lowered : (wave_width width shift n : ℕ) → List ℕ → List ℕ
 lowered wave_width width shift zero bytes = []
 lowered wave_width width shift (suc n) bytes = little_bytes width (lowered_number wave_width width shift (little_number wave_width bytes)) ++ lowered wave_width width shift n (drop wave_width bytes)
+
+-- all whole samples
+abbrev pub lowered_all : (wave_width width shift : ℕ) → List ℕ → List ℕ
+lowered_all wave_width width shift bytes = lowered wave_width width shift (length bytes / wave_width) bytes
 
 -- the lowest `shift` bits of the first n samples of a file are zeros
 abbrev pub are_low_zero : (wave_width shift n : ℕ) → List ℕ → Bool
@@ -57,8 +61,16 @@ is_stated_depth n = nat_eq n 8 || (nat_eq n 12 || (nat_eq n 16 || (nat_eq n 20 |
 abbrev pub wave_width_of : WaveFormat → ℕ
 wave_width_of f = (f.bits + 7) / 8
 
+-- fewer bits count than the bytes of a sample have, and a frame header states their number
+abbrev pub may_be_narrow : WaveFormat → Bool
+may_be_narrow f = is_stated_depth f.valid && nat_lt f.valid (8 * wave_width_of f)
+
+-- the depth that samples of this format have in any case: all bits of the bytes
+abbrev pub known_depth : WaveFormat → Option ℕ
+known_depth f = cond (may_be_narrow f) None (Some (8 * wave_width_of f))
+
 -- The bits that count, if a frame header states them and all bits below them are zeros; else all bits of the bytes.
 abbrev pub depth_in : WaveFormat → (samples : List ℕ) → ℕ
 depth_in f samples =
-    cond ((is_stated_depth f.valid && nat_lt f.valid (8 * wave_width_of f)) && are_low_zero (wave_width_of f) (8 * wave_width_of f - f.valid) (length samples / wave_width_of f) samples)
+    cond (may_be_narrow f && are_low_zero (wave_width_of f) (8 * wave_width_of f - f.valid) (length samples / wave_width_of f) samples)
     f.valid (8 * wave_width_of f)

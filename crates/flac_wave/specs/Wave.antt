@@ -92,6 +92,26 @@ ArePiecesBy false false back pieces = (ps : List (List ℕ)) × (pieces ≡ [] �
 abbrev pub ArePiecesAfter : (samples back : List ℕ) (pieces : List (List ℕ)) → Type 0
 ArePiecesAfter samples back pieces = ArePiecesBy (nat_eq (length samples % 2) 0) (begins_zero back) back pieces
 
+-- ---- laws
+
+-- the pieces and the samples of a file make the same file again, byte for byte
+abbrev pub WavesComeBack : Type 0
+WavesComeBack =
+    (to_end : Bool) (bytes : List ℕ) (w : Parts) (after : List (List ℕ)) → IsWave to_end bytes w → ArePiecesAfter w.samples w.back after → restored (w.pieces ++ after) w.samples ≡ bytes
+
+-- bytes are one file
+abbrev pub AreOneFile : Type 0
+AreOneFile = (to_end : Bool) (bytes : List ℕ) (v w : Parts) → IsWave to_end bytes v → IsWave to_end bytes w → v ≡ w
+
+-- bytes that are a file are refused for no reason
+abbrev pub AreFileOrNone : Type 0
+AreFileOrNone = (to_end : Bool) (bytes : List ℕ) (w : Parts) (chunk : Option ℕ) (why : WaveWhy) → IsWave to_end bytes w → IsNoWave to_end bytes chunk why → ⊥
+
+-- and those that are none for one, at one place
+abbrev pub AreRefusedOnce : Type 0
+AreRefusedOnce =
+    (to_end : Bool) (bytes : List ℕ) (chunk other : Option ℕ) (why reason : WaveWhy) → IsNoWave to_end bytes chunk why → IsNoWave to_end bytes other reason → (chunk ≡ other) × (why ≡ reason)
+
 -- ---- what a call returns
 
 -- a file without where its parts lie in memory

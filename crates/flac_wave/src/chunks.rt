@@ -1,7 +1,7 @@
 //! The chunks of a WAV file.
 
 ghost use Rattle.std.specs.Prelude.{◌≡◌, ◌≤◌, ◌<◌, ◌+◌, ◌-◌, ◌%◌, length, None, Some, IfOk, IfErr, OnOk};
-ghost use Rattle.flac_wave.specs.Chunks.{id_of, is_data, is_format, is_long_sizes, size_of, chunk_len, header_fault, seen_first, after_chunk, stated, data_len, samples_fault, data_fault, content_fault, chunk_fault, most_kept};
+ghost use Rattle.flac_wave.specs.Chunks.{id_of, is_data, is_format, is_long_sizes, size_of, chunk_len, header_fault, seen_first, after_chunk, format_after, stated, data_len, samples_fault, data_fault, content_fault, chunk_fault, most_kept};
 
 use crate::format::{WaveFormat, format_at, long_at};
 use crate::seen::Seen;
@@ -170,7 +170,7 @@ impl Seen {
     #[tactic(auto, unfolding(crate::specs::Chunks::content_fault, crate::specs::Chunks::after_chunk))]
     fn format_after(&self, bytes: &[u8]) -> Result<Option<WaveFormat>, WaveWhy>
         requires { 8 + size_of bytes.now ≤ length bytes.now }
-        ensures found { IfOk result (λ f. (content_fault self.now bytes.now ≡ None) × (f ≡ (after_chunk self.now bytes.now).format)) }
+        ensures found { IfOk result (λ f. (content_fault self.now bytes.now ≡ None) × (f ≡ format_after self.now bytes.now)) }
         ensures fault { IfErr result (λ e. content_fault self.now bytes.now ≡ Some e) }
     {
         if !is_format(bytes) {

@@ -1,8 +1,8 @@
 //! What follows the samples of a WAV file, in pieces.
 
-ghost use Rattle.std.specs.Prelude.{◌≡◌, ◌≤◌, ◌<◌, ◌++◌, ℕ, List, length, map, true, IfOk, OnOk};
-ghost use Rattle.flac_wave.specs.Cuts.{piece_len, AreCuts};
-ghost use Rattle.flac_wave.specs.Wave.{ArePiecesAfter, begins_zero};
+ghost use Rattle.std.specs.Prelude.{◌≡◌, ◌≤◌, ◌<◌, length, map, not, true, IfOk, OnOk};
+ghost use Rattle.flac_wave.specs.Cuts.{piece_len, AddsCuts};
+ghost use Rattle.flac_wave.specs.Wave.{ArePiecesAfter, ArePiecesBy, begins_zero};
 
 use crate::chunks::{MOST_KEPT, chunk_len};
 use std::alloc::{AllocError, Global};
@@ -25,7 +25,7 @@ fn piece_len(bytes: &[u8]) -> usize
 
 /// Adds bytes to pieces, cut into pieces that a metadata block can keep.
 fn cut_onto(pieces: &mut Vec<Vec<u8>>, alloc: Global, bytes: &[u8]) -> Result<(), AllocError>
-    ensures { OnOk result ((ps : List (List ℕ)) × (map (λ p. p.items) pieces.new.items ≡ map (λ p. p.items) pieces.old.items ++ ps) × AreCuts ps bytes.now) }
+    ensures { OnOk result (AddsCuts (map (λ p. p.items) pieces.old.items) (map (λ p. p.items) pieces.new.items) bytes.now) }
 {
     let mut rest = bytes;
     while !rest.is_empty() {
@@ -58,8 +58,20 @@ fn begins_zero(bytes: &[u8]) -> bool
 pub fn cut(alloc: Global, samples: &[u8], back: &[u8]) -> Result<Vec<Vec<u8>>, AllocError>
     ensures { IfOk result (λ pieces. ArePiecesAfter samples.now back.now (map (λ p. p.items) pieces.items)) }
 {
+    cut_after(alloc, samples.len() % 2 == 1, back)
+}
+
+/// What [`cut`] makes of what follows samples that are no longer held: only whether they are of an odd number of bytes
+/// counts.
+///
+/// # Errors
+/// An allocation fails.
+pub fn cut_after(alloc: Global, odd: bool, back: &[u8]) -> Result<Vec<Vec<u8>>, AllocError>
+    ensures { IfOk result (λ pieces.
+        ArePiecesBy (not odd) (begins_zero back.now) back.now (map (λ p. p.items) pieces.items)) }
+{
     let mut pieces = Vec::new(alloc);
-    if samples.len() % 2 == 0 {
+    if !odd {
         cut_onto(&mut pieces, alloc, back)?;
         return Ok(pieces);
     }

@@ -1,11 +1,12 @@
 //! What comes before the samples of a WAV file that is read from a source.
 
-ghost use Rattle.std.specs.Prelude.{◌≡◌, ◌≤◌, ◌<◌, ◌+◌, ◌++◌, true, false, cond, nat_lt, nat_eq, length, map, Some, None, IfOk, IfErr, OnOk};
+ghost use Rattle.std.specs.Prelude.{◌≡◌, ◌≤◌, ◌<◌, ◌+◌, ◌++◌, [], true, false, cond, nat_lt, nat_eq, length, Some, None, IfOk, IfErr, OnOk};
+ghost use Rattle.flac_wave.specs.Calls.{IfRead};
 ghost use Rattle.flac_wave.specs.Chunks.{is_data, size_of, stated, data_fault};
 ghost use Rattle.flac_wave.specs.Format.{IsInRange};
-ghost use Rattle.flac_wave.specs.Front.{IsFront, front_fault};
+ghost use Rattle.flac_wave.specs.Front.{BeginsWith, front_fault};
 ghost use Rattle.flac_wave.specs.Wave.{IsErrorOf};
-ghost use Rattle.flac_wave.specs.inner.Pieces.{IsPiece, IsPieceError, KnownInRange, error_at};
+ghost use Rattle.flac_wave.specs.inner.Pieces.{ReadsPiece, IsPieceError, KnownInRange, error_at};
 
 use crate::chunks::{MOST_KEPT, chunk_len, header_fault, is_data, stated};
 use crate::format::{WaveFormat, long_at};
@@ -52,13 +53,12 @@ fn read_chunk<R: Source>(
     requires head { length head.items ≡ 8 }
     requires other { is_data head.items ≡ false }
     ensures long { IfOk result (λ p. 8 ≤ length p.items) }
-    ensures found { IfOk result (λ p. R.known source.old ≡ true →
-        IsPiece (head.items ++ R.coming source.old) p.items (R.coming source.new)) }
+    ensures found { IfOk result (λ p. ReadsPiece R.Source head.items source.old source.new p.items) }
     ensures known { OnOk result (R.known source.old ≡ true → R.known source.new ≡ true) }
     ensures counted { OnOk result (R.raised source.new ≡ R.raised source.old) }
     ensures most { OnOk result (R.most source.new ≤ R.most source.old) }
-    ensures fault { IfErr result (λ e. R.known source.old ≡ true → R.raised source.new ≡ R.raised source.old →
-        IsPieceError count (head.items ++ R.coming source.old) e) }
+    ensures fault { IfErr result (λ e. IfRead R.Source source.old source.new
+        (IsPieceError count (head.items ++ R.coming source.old) e)) }
     ensures names { R.names source.new ≡ R.names source.old }
 {
     let left = chunk_len(head.as_slice()) - 8;
@@ -99,13 +99,12 @@ fn no_chunk(bytes: &[u8]) -> WaveWhy
 /// There is no header of a chunk; the chunk is too long. An error of the source, or out of memory.
 fn next_piece<R: Source>(alloc: Global, source: &mut R, count: u64) -> Result<Vec<u8>, WaveError>
     ensures long { IfOk result (λ p. 8 ≤ length p.items) }
-    ensures found { IfOk result (λ p. R.known source.old ≡ true →
-        IsPiece (R.coming source.old) p.items (R.coming source.new)) }
+    ensures found { IfOk result (λ p. ReadsPiece R.Source [] source.old source.new p.items) }
     ensures known { OnOk result (R.known source.old ≡ true → R.known source.new ≡ true) }
     ensures counted { OnOk result (R.raised source.new ≡ R.raised source.old) }
     ensures most { OnOk result (R.most source.new < R.most source.old) }
-    ensures fault { IfErr result (λ e. R.known source.old ≡ true → R.raised source.new ≡ R.raised source.old →
-        IsPieceError count (R.coming source.old) e) }
+    ensures fault { IfErr result (λ e. IfRead R.Source source.old source.new
+        (IsPieceError count (R.coming source.old) e)) }
     ensures names { R.names source.new ≡ R.names source.old }
 {
     let head = read_at_most(alloc, source, 8)?;
@@ -145,12 +144,12 @@ pub fn read_front<R: Source>(
     to_end: bool,
 ) -> Result<WaveFront, WaveError>
     ensures found { IfOk result (λ f. R.known source.old ≡ true →
-        IsFront to_end (R.coming source.old) f.format (map (λ p. p.items) f.pieces.items) f.size f.count (R.coming source.new)) }
+        BeginsWith to_end (R.coming source.old) f (R.coming source.new)) }
     ensures range { IfOk result (λ f. IsInRange f.format) }
     ensures known { OnOk result (R.known source.old ≡ true → R.known source.new ≡ true) }
     ensures counted { OnOk result (R.raised source.new ≡ R.raised source.old) }
-    ensures fault { IfErr result (λ e. R.known source.old ≡ true → R.raised source.new ≡ R.raised source.old →
-        IsErrorOf to_end (R.coming source.old) e) }
+    ensures fault { IfErr result (λ e. IfRead R.Source source.old source.new
+        (IsErrorOf to_end (R.coming source.old) e)) }
     ensures names { R.names source.new ≡ R.names source.old }
 {
     let header = read_at_most(alloc, source, 12)?;

@@ -26,7 +26,7 @@ mod tests;
 mod waves;
 mod why;
 
-pub use cuts::cut;
+pub use cuts::{cut, cut_after};
 pub use format::WaveFormat;
 pub use front::{WaveFront, front_fault, read_front};
 pub use laws::{plain_files_are_read, samples_come_back, waves_are_read_once, waves_come_back};

@@ -1,9 +1,10 @@
 //! A source that ends where a part of another does.
 
-ghost use Rattle.std.specs.Prelude.{◌≡◌, ◌≤◌, ◌<◌, ◌+◌, ◌++◌, ◌&&◌, true, false, not, [], length, take, IfOk, OnOk, OnErr};
+ghost use Rattle.std.specs.Prelude.{◌≡◌, ◌≤◌, ◌<◌, ◌+◌, ◌&&◌, true, false, not, [], length, take, IfOk, OnOk, OnErr};
 ghost use Rattle.std.specs.Io.{ReadsAtMost};
 ghost use Rattle.flac_bits.specs.Sources.{Ended, IsForeseen, SameEnd};
 ghost use Rattle.flac_bits.specs.State.{Rises};
+ghost use Rattle.flac_wave.specs.Calls.{Gave, NoneRaised};
 ghost use Rattle.flac_wave.specs.Parts.{given, beyond, is_cut, room_in, size_after, end_of, one_if};
 
 use flac_bits::Source;
@@ -87,10 +88,10 @@ fn pull_most<S: Source>(source: &mut S, buf: &mut [u8], most: usize) -> io::Resu
     ensures bound { ReadsAtMost result buf.new }
     ensures few { IfOk result (λ n. n ≤ most) }
     ensures known { OnOk result (S.known source.old ≡ true → S.known source.new ≡ true) }
-    ensures bytes { IfOk result (λ n. S.known source.old ≡ true → S.coming source.old ≡ take n buf.new ++ S.coming source.new) }
+    ensures bytes { IfOk result (λ n. Gave S.Source source.old source.new (take n buf.new)) }
     ensures end { IfOk result (λ n. n ≡ 0 → S.known source.old ≡ true → S.coming source.old ≡ []) }
     ensures most { IfOk result (λ n. S.most source.new + n ≤ S.most source.old) }
-    ensures counted { OnOk result ((S.errors source.new ≡ S.errors source.old) × (S.raised source.new ≡ S.raised source.old)) }
+    ensures counted { OnOk result (NoneRaised S.Source source.old source.new) }
     ensures kept { S.errors source.old ≤ S.errors source.new }
     ensures rises { OnErr result (S.known source.old ≡ true → S.raised source.old < S.raised source.new) }
     ensures risen { OnErr result (Rises (S.raised source.old) (S.raised source.new)) }

@@ -1,6 +1,7 @@
 //! Reading of a source part by part.
 
-ghost use Rattle.std.specs.Prelude.{◌≡◌, ◌≤◌, ◌<◌, ◌+◌, ◌++◌, [], true, length, take, min, IfOk, IfErr, OnOk, OnErr};
+ghost use Rattle.std.specs.Prelude.{◌≡◌, ◌≤◌, ◌<◌, ◌+◌, [], true, length, take, min, IfOk, IfErr, OnOk, OnErr};
+ghost use Rattle.flac_wave.specs.Calls.{Gave, IfRead};
 
 use flac_bits::{Source, Why};
 use std::alloc::Global;
@@ -16,8 +17,7 @@ const PIECE: usize = 16384;
 pub fn fill<R: Source>(source: &mut R, places: &mut [u8], most: usize) -> Result<usize, Why>
     requires { most ≤ length places.old }
     ensures few { IfOk result (λ n. n ≤ most) }
-    ensures bytes { IfOk result (λ n. R.known source.old ≡ true →
-        R.coming source.old ≡ take n places.new ++ R.coming source.new) }
+    ensures bytes { IfOk result (λ n. Gave R.Source source.old source.new (take n places.new)) }
     ensures end { IfOk result (λ n. n < most → R.known source.old ≡ true → R.coming source.new ≡ []) }
     ensures known { OnOk result (R.known source.old ≡ true → R.known source.new ≡ true) }
     ensures counted { OnOk result (R.raised source.new ≡ R.raised source.old) }
@@ -47,15 +47,13 @@ pub fn fill<R: Source>(source: &mut R, places: &mut [u8], most: usize) -> Result
 /// [`Why::Read`] if the source returns an error, [`Why::Memory`] if an allocation fails.
 pub fn read_at_most<R: Source>(alloc: Global, source: &mut R, most: u64) -> Result<Vec<u8>, Why>
     ensures few { IfOk result (λ bytes. length bytes.items ≤ most) }
-    ensures bytes { IfOk result (λ bytes. R.known source.old ≡ true →
-        R.coming source.old ≡ bytes.items ++ R.coming source.new) }
+    ensures bytes { IfOk result (λ bytes. Gave R.Source source.old source.new bytes.items) }
     ensures end { IfOk result (λ bytes. length bytes.items < most → R.known source.old ≡ true → R.coming source.new ≡ []) }
     ensures known { OnOk result (R.known source.old ≡ true → R.known source.new ≡ true) }
     ensures counted { OnOk result (R.raised source.new ≡ R.raised source.old) }
     ensures after { OnOk result (R.known source.old ≡ true → R.after source.new ≡ R.after source.old) }
     ensures most { IfOk result (λ bytes. R.most source.new + length bytes.items ≤ R.most source.old) }
-    ensures memory { IfErr result (λ e. R.known source.old ≡ true → R.raised source.new ≡ R.raised source.old →
-        e ≡ Why.Memory) }
+    ensures memory { IfErr result (λ e. IfRead R.Source source.old source.new (e ≡ Why.Memory)) }
     ensures names { R.names source.new ≡ R.names source.old }
 {
     let mut bytes = Vec::new(alloc);
@@ -76,9 +74,11 @@ pub fn read_at_most<R: Source>(alloc: Global, source: &mut R, most: u64) -> Resu
 /// [`Why::Read`] if the source returns an error, [`Why::Memory`] if an allocation fails.
 pub fn read_all<R: Source>(alloc: Global, source: &mut R) -> Result<Vec<u8>, Why>
     ensures bytes { IfOk result (λ bytes. R.known source.old ≡ true → bytes.items ≡ R.coming source.old) }
+    ensures end { OnOk result (R.known source.old ≡ true → R.coming source.new ≡ []) }
+    ensures known { OnOk result (R.known source.old ≡ true → R.known source.new ≡ true) }
     ensures counted { OnOk result (R.raised source.new ≡ R.raised source.old) }
-    ensures memory { IfErr result (λ e. R.known source.old ≡ true → R.raised source.new ≡ R.raised source.old →
-        e ≡ Why.Memory) }
+    ensures after { OnOk result (R.known source.old ≡ true → R.after source.new ≡ R.after source.old) }
+    ensures memory { IfErr result (λ e. IfRead R.Source source.old source.new (e ≡ Why.Memory)) }
     ensures names { R.names source.new ≡ R.names source.old }
 {
     let bytes = read_at_most(alloc, source, u64::MAX)?;

@@ -2,7 +2,7 @@
 
 ghost use Rattle.std.specs.Prelude.{◌≡◌, ◌<◌, ◌≤◌, ◌+◌, ◌*◌, ◌/◌, ◌%◌, ◌||◌, length, take, nat_eq, IfOk};
 ghost use Rattle.flac_wave.specs.Format.{IsInRange};
-ghost use Rattle.flac_wave.specs.Shift.{raised, lowered, lowered_number, are_low_zero, is_stated_depth, depth_in};
+ghost use Rattle.flac_wave.specs.Shift.{raised, lowered_all, lowered_number, are_low_zero, is_stated_depth, known_depth, depth_in};
 
 use crate::format::WaveFormat;
 use byteorder::{ByteOrder, LittleEndian};
@@ -66,7 +66,7 @@ pub fn lower(
     requires width { (0 < width) × (width ≤ 4) }
     requires shift { (shift < 8 * wave_width) × (8 * wave_width ≤ 8 * width + shift) }
     requires whole { length samples.now % wave_width ≡ 0 }
-    ensures { IfOk result (λ low. low.items ≡ lowered wave_width width shift (length samples.now / wave_width) samples.now) }
+    ensures { IfOk result (λ low. low.items ≡ lowered_all wave_width width shift samples.now) }
 {
     let mut low = Vec::with_capacity(alloc, samples.len())?;
     let mut rest = samples;
@@ -109,6 +109,21 @@ fn is_stated_depth(bits: u32) -> bool
 }
 
 impl WaveFormat {
+    /// How many bits of a sample a stream of such samples has, whatever they are: all bits of a sample's bytes. `None` if
+    /// fewer of them count, and are 8, 12, 16, 20 or 24: then [`depth_of`] says it of the samples.
+    ///
+    /// [`depth_of`]: WaveFormat::depth_of
+    pub fn known_depth(&self) -> Option<u32>
+        requires { IsInRange self.now }
+        ensures { result ≡ known_depth self.now }
+    {
+        let all = 8 * ((self.bits + 7) / 8);
+        if is_stated_depth(self.valid) && self.valid < all {
+            return None;
+        }
+        Some(all)
+    }
+
     /// How many bits of a sample a stream of these samples has: those that count, if they are 8, 12, 16, 20, 24 or 32 and
     /// all bits below them are zeros; else all bits of a sample's bytes.
     pub fn depth_of(&self, samples: &[u8]) -> u32

@@ -4,8 +4,8 @@ ghost use Rattle.std.specs.Prelude.{◌<◌, ◌≤◌};
 ghost use Rattle.flac_wave.specs.Plain.{CanBeWritten};
 
 use crate::{
-    Limited, WaveError, WaveFault, WaveFormat, WaveWhy, cut, front_fault, lower, plain_pieces,
-    raise, read_all, read_at_most, read_front, wave_of,
+    Limited, WaveError, WaveFault, WaveFormat, WaveWhy, cut, cut_after, front_fault, lower,
+    plain_pieces, raise, read_all, read_at_most, read_front, wave_of,
 };
 use flac_bits::{Memory, Pieces};
 use std::alloc::Global;
@@ -141,6 +141,17 @@ fn what_is_no_chunk_is_kept(rt: HostRuntime) -> Result<(), Fail> {
     Ok(())
 }
 
+#[test]
+fn only_the_parity_of_samples_counts(rt: HostRuntime) -> Result<(), Fail> {
+    let odd = cut_after(rt.alloc(), true, &ODD[59..])?;
+    let even = cut_after(rt.alloc(), false, &ODD[60..])?;
+    assert!(rt; odd.len() == 2 && even.len() == 2);
+    let all = joined(rt.alloc(), odd.as_slice())?;
+    let same = joined(rt.alloc(), even.as_slice())?;
+    assert!(rt; all.as_slice() == &ODD[60..] && same.as_slice() == &ODD[60..]);
+    Ok(())
+}
+
 /// Whether a file is refused for this reason, after this number of chunks.
 fn is_refused(alloc: Global, file: &[u8], chunk: Option<u64>, why: WaveWhy) -> bool {
     match wave_of(alloc, file, false) {
@@ -223,6 +234,7 @@ fn samples_are_lowered_and_raised(rt: HostRuntime) -> Result<(), Fail> {
     let file = [0x00, 0x80, 0xf0, 0x7f, 0xf0, 0xff];
     let format = WaveFormat::plain(44100, 1, 12);
     assert!(rt; format.depth_of(&file) == 12 && format.depth_of(&[0x00, 0x80, 0xf8, 0x7f]) == 16);
+    assert!(rt; format.known_depth() == None && FORMAT.known_depth() == Some(16));
     let low = lower(rt.alloc(), 2, 2, 4, &file)?;
     assert!(rt; low.as_slice() == [0x00, 0xf8, 0xff, 0x07, 0xff, 0xff].as_slice());
     let mut again = [1u8; 8];

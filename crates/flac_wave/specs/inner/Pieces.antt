@@ -1,5 +1,6 @@
 -- For the proof of reading what comes before the samples, piece by piece.
 use Rattle.std.specs.Prelude.{◌≡◌, ◌≤◌, ◌<◌, ℕ, true, false, List, [], ◌++◌, length, Option, Some, None}
+use Rattle.flac_bits.specs.declared.source.Source as source
 use Rattle.flac_bits.specs.declared.why.Why.{Why}
 use Rattle.flac_bits.specs.declared.why.Why.TheVariants as why
 use Rattle.flac_wave.specs.Chunks.{fault_at, is_data, chunk_len}
@@ -18,6 +19,10 @@ pub record IsPiece (bytes piece rest : List ℕ) : Type 0 where
   pub head : is_data piece ≡ true → length piece ≡ 8
   pub few : is_data piece ≡ false → length piece ≤ chunk_len piece
   pub cut : is_data piece ≡ false → length piece < chunk_len piece → rest ≡ []
+
+-- if the bytes of the source are known, these and those are such a piece and what is left
+abbrev pub ReadsPiece : {S : Type 0} (g : source.Ghosts S) (head : List ℕ) (old new : S) (piece : List ℕ) → Type 0
+ReadsPiece g head old new piece = g.known old ≡ true → IsPiece (head ++ g.coming old) piece (g.coming new)
 
 -- why an error of a source is one of reading a WAV file
 abbrev pub error_of : Why → WaveError
