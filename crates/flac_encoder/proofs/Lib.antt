@@ -1,4 +1,5 @@
 -- ---- a native stream
 pub mod Pushing
+pub mod Searching
 -- ---- an Ogg stream
 pub mod PushedOgg

@@ -30,8 +30,8 @@ use Rattle.flac_native.specs.Stream.{Piece, marked, framed, Progress, grammar, n
 use Rattle.flac_native.specs.declared.track.Phase.{Phase}
 use Rattle.flac_native.specs.declared.track.Phase.TheVariants.{Opening, Blocks, Frames}
 use Rattle.flac_native.specs.Given.{closing}
-use Rattle.flac_encoder.specs.Pushing.{Shape, shape_fault, open_info, Pushed, unpushed, after_block, due, StandsFor, sound_of, frame_with}
-use Rattle.flac_native.specs.Writing.{blocks_spelling, head_spelling, SpellsFrame, SpellsLeast}
+use Rattle.flac_encoder.specs.Pushing.{Shape, shape_fault, open_info, Pushed, unpushed, after_block, due, StandsFor, sound_of, frame_with, SpellsLeastFound}
+use Rattle.flac_native.specs.Writing.{blocks_spelling, head_spelling, SpellsFrame}
 use Rattle.flac_native.proofs.EachFrame.{same_three, follows_on, sized, full_before}
 use Rattle.flac_native.proofs.Onwards.{as_part, after_profile}
 use Rattle.flac_encoder.proofs.Pushing.{Shaped, shaped, keeps_open, opened, Accepted, stands_on}
@@ -44,7 +44,8 @@ use Rattle.flac_ogg.specs.Listed.{texts_of}
 use Rattle.flac_ogg.specs.Mapping.{is_first_block, packet_layout}
 use Rattle.flac_ogg.specs.Native.{mapping_spelling, block_spellings, packet_spellings, native_text, AreStream}
 use Rattle.flac_ogg.specs.Held.{ArePages}
-use Rattle.flac_encoder.specs.PushingOgg.{PushedOgg, trying_ogg, StandsForOgg, IsOpen, Opens, IsNextPacket, PushesOgg, BeginsPushOgg}
+use Rattle.flac_predict.specs.declared.search.Search.{Search}
+use Rattle.flac_encoder.specs.PushingOgg.{PushedOgg, trying_ogg, searching_ogg, StandsForOgg, IsOpen, Opens, IsNextPacket, PushesOgg, BeginsPushOgg}
 use Rattle.flac_ogg.specs.Stream.{start, packet_start, closed_packet, AreItems, OggStream}
 use Rattle.flac_ogg.specs.Writing.{header_count}
 use Rattle.flac_ogg.specs.declared.headers.Headers.{Headers}
@@ -74,6 +75,19 @@ stands_for e items q qs written pages plain are good small long = record {
 -- so they are whatever predictors are tried next
 pub stands_trying : {S : Type 0} (e : PushedOgg S) (ps : List LinearPredictor) (items : List Piece) (packets : List Placed) (written : List Bool) → StandsForOgg e items packets written → StandsForOgg (trying_ogg e ps) items packets written
 stands_trying e ps items packets written h = record {
+  pages = h.pages;
+  stream = h.stream;
+  plain = record { stream = h.plain.stream; info = h.plain.info; frames = h.plain.frames; samples = h.plain.samples; before = h.plain.before };
+  are = h.are;
+  good = h.good;
+  small = h.small;
+  first = h.first;
+}
+
+-- and however others are sought
+pub stands_searching : {S : Type 0} (e : PushedOgg S) (search : Option Search) (items : List Piece) (packets : List Placed) (written : List Bool) → StandsForOgg e items packets written
+    → StandsForOgg (searching_ogg e search) items packets written
+stands_searching e search items packets written h = record {
   pages = h.pages;
   stream = h.stream;
   plain = record { stream = h.plain.stream; info = h.plain.info; frames = h.plain.frames; samples = h.plain.samples; before = h.plain.before };
@@ -309,16 +323,16 @@ module _ {S : Type 0} (old new : PushedOgg S) (t : S) (block : List (List ℤ)) 
       whole = stands_for new (items ++ framed f ∷ []) p (ps ++ q ∷ []) (written ++ bits_of old.middle) pages more (record { spelled = spelled_now; ends = more.stream.ends; kept = more.stream.kept }) good
           (omega (arith, serial, h.small)) h.first.3
 
-  pub next_packet : SpellsLeast old.pushed.predictors (sound_of old.pushed.shape block) f (bits_of packet) → AreBytes packet → new.pushed ≡ after_block old.pushed (samples_each block) t → new.serial ≡ old.serial → new.sequence ≡ sequence_after old.sequence packet
+  pub next_packet : SpellsLeastFound old.pushed.search old.pushed.predictors (sound_of old.pushed.shape block) f (bits_of packet) → AreBytes packet → new.pushed ≡ after_block old.pushed (samples_each block) t → new.serial ≡ old.serial → new.sequence ≡ sequence_after old.sequence packet
       → bits_of new.middle ≡ packet_spelling (marks_of old.serial old.sequence false false q) packet → bits_of new.last ≡ packet_spelling (marks_of old.serial old.sequence false true q) packet → IsNextPacket old new block q
   next_packet least small pushed serial sequence middle last = record { kind = refl; spells = text_is; least = least; stands = stands_next small pushed serial sequence middle last }
 
-  pub pushes_ogg : (g : target.Ghosts S) → SpellsLeast old.pushed.predictors (sound_of old.pushed.shape block) f (bits_of packet) → AreBytes packet → new.pushed ≡ after_block old.pushed (samples_each block) t → new.serial ≡ old.serial
+  pub pushes_ogg : (g : target.Ghosts S) → SpellsLeastFound old.pushed.search old.pushed.predictors (sound_of old.pushed.shape block) f (bits_of packet) → AreBytes packet → new.pushed ≡ after_block old.pushed (samples_each block) t → new.serial ≡ old.serial
       → new.sequence ≡ sequence_after old.sequence packet → bits_of new.middle ≡ packet_spelling (marks_of old.serial old.sequence false false q) packet
       → bits_of new.last ≡ packet_spelling (marks_of old.serial old.sequence false true q) packet → g.sent new.pushed.target ≡ g.sent old.pushed.target ++ old.middle → PushesOgg g block old new
   pushes_ogg g least small pushed serial sequence middle last sent = record { packet = q; next = next_packet least small pushed serial sequence middle last; sent = ap bits_of sent ∙ bits_of-append (g.sent old.pushed.target) old.middle }
 
-  pub begins_ogg : (g : target.Ghosts S) (now : PushedOgg S) → SpellsLeast old.pushed.predictors (sound_of old.pushed.shape block) f (bits_of packet) → AreBytes packet → new.pushed ≡ after_block old.pushed (samples_each block) t → new.serial ≡ old.serial
+  pub begins_ogg : (g : target.Ghosts S) (now : PushedOgg S) → SpellsLeastFound old.pushed.search old.pushed.predictors (sound_of old.pushed.shape block) f (bits_of packet) → AreBytes packet → new.pushed ≡ after_block old.pushed (samples_each block) t → new.serial ≡ old.serial
       → new.sequence ≡ sequence_after old.sequence packet → bits_of new.middle ≡ packet_spelling (marks_of old.serial old.sequence false false q) packet
       → bits_of new.last ≡ packet_spelling (marks_of old.serial old.sequence false true q) packet → (front rest : List ℕ) → old.middle ≡ front ++ rest → g.sent now.pushed.target ≡ g.sent old.pushed.target ++ front → BeginsPushOgg g block old now
   begins_ogg g now least small pushed serial sequence middle last front rest cut sent = record {

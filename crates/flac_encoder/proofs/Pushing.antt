@@ -23,7 +23,6 @@ use Rattle.flac_meta.specs.declared.block.Block.{Block}
 use Rattle.flac_meta.specs.declared.block.Block.TheVariants as block_of
 use Rattle.flac_header.specs.Choice.{rate_choice_in, depth_choice_in}
 use Rattle.flac_header.specs.Header.{channels_of, greatest_in}
-use Rattle.flac_subframe.specs.declared.format.linear.LinearPredictor.{LinearPredictor}
 use Rattle.flac_bits.specs.declared.why.Why.{Why}
 use Rattle.flac_bits.specs.declared.target.Target as target
 use Rattle.flac_bits.proofs.Holding.{bits_of-append}
@@ -31,8 +30,9 @@ use Rattle.flac_frame.specs.Audio.{Sound, IsSound, samples_each, as_long, each_s
 use Rattle.flac_frame.specs.Setup.{format_fault}
 use Rattle.flac_frame.specs.declared.setup.SetupFault.{SetupFault}
 use Rattle.flac_frame.specs.declared.setup.SetupFault.TheVariants.{BadChannels, TooLong, BadBlockSize}
-use Rattle.flac_frame.specs.Encoding.{IsEncoding, IsLeastWith, IsShort, block_of as part_of}
+use Rattle.flac_frame.specs.Encoding.{IsEncoding, IsLeastByPlane, IsShort, block_of as part_of}
 use Rattle.flac_frame.specs.Frame.{Frame, frame, header_rules, rate_in, depth_in, left_by}
+use Rattle.flac_frame.specs.PlaneLists.{Lists}
 use Rattle.flac_frame.specs.Spelling.{FrameForm, frame_spelling}
 use Rattle.flac_frame.specs.declared.before.Before.{Before}
 use Rattle.flac_frame.proofs.Encodings.{encodings_are_frames}
@@ -44,8 +44,8 @@ use Rattle.flac_native.specs.declared.track.Phase.{Phase}
 use Rattle.flac_native.specs.declared.track.Phase.TheVariants.{Opening, Blocks, Frames}
 use Rattle.flac_native.specs.Given.{closing}
 use Rattle.flac_native.specs.Whole.{head_parts}
-use Rattle.flac_native.specs.Writing.{blocks_spelling, head_spelling, SpellsFrame, SpellsLeast}
-use Rattle.flac_encoder.specs.Pushing.{Shape, shape_fault, open_info, Pushed, unpushed, after_block, with_target, frames_in, due, StandsFor, sound_of, frame_with, block_fault, size_fault, push_fault, IsNext, Pushes, BeginsPush}
+use Rattle.flac_native.specs.Writing.{blocks_spelling, head_spelling, SpellsFrame, SpellsLeastByPlane}
+use Rattle.flac_encoder.specs.Pushing.{Shape, shape_fault, open_info, Pushed, unpushed, after_block, with_target, frames_in, due, StandsFor, sound_of, frame_with, block_fault, size_fault, push_fault, SpellsLeastFound, IsNext, Pushes, BeginsPush}
 use Rattle.flac_native.specs.declared.fault.EncodeFault.{EncodeFault}
 use Rattle.flac_native.specs.declared.fault.EncodeFault.TheVariants.{BlockSize, Spent, Write, Setup}
 use Rattle.flac_native.proofs.EachFrame.{same_three, follows_on, sized, full_before}
@@ -338,7 +338,7 @@ accepted e block shape h =
 
 -- ---- its frame
 
-module _ (ps : List LinearPredictor) (a : Sound) (n number : ℕ) (form : FrameForm) (sound : IsSound a) (size : n ≡ samples_each a.channels) where
+module _ (lists : Lists) (a : Sound) (n number : ℕ) (form : FrameForm) (sound : IsSound a) (size : n ≡ samples_each a.channels) where
   whole_here : part_of 0 n a.channels ≡ a.channels
   whole_here = whole_block n a.channels (subst (λ k. All (λ c. length c ≡ k) a.channels) (sym size) sound.long)
 
@@ -355,15 +355,15 @@ module _ (ps : List LinearPredictor) (a : Sound) (n number : ℕ) (form : FrameF
   frame_made (Err e) encoded short is = tt
   frame_made (Ok v) encoded short is = frame_text v encoded short is
 
-  least_text : (v : Vec ℕ Global) → IsLeastWith ps a n number (part_of 0 n a.channels) form → bits_of v.items ≡ frame_spelling a.bits form → SpellsLeast ps a (frame_with number a.channels) (bits_of v.items)
+  least_text : (v : Vec ℕ Global) → IsLeastByPlane lists a n number (part_of 0 n a.channels) form → bits_of v.items ≡ frame_spelling a.bits form → SpellsLeastByPlane lists a (frame_with number a.channels) (bits_of v.items)
   least_text v chosen is = record {
     form = form;
-    least = subst (λ k. IsLeastWith ps a k number a.channels form) size (subst (λ cs. IsLeastWith ps a n number cs form) whole_here chosen);
+    least = subst (λ k. IsLeastByPlane lists a k number a.channels form) size (subst (λ cs. IsLeastByPlane lists a n number cs form) whole_here chosen);
     spelling = is;
   }
 
-  pub least_made : (r : Result (Vec ℕ Global) Why) → IsLeastWith ps a n number (part_of 0 n a.channels) form → IfOk r (λ v. bits_of v.items ≡ frame_spelling a.bits form)
-      → IfOk r (λ v. SpellsLeast ps a (frame_with number a.channels) (bits_of v.items))
+  pub least_made : (r : Result (Vec ℕ Global) Why) → IsLeastByPlane lists a n number (part_of 0 n a.channels) form → IfOk r (λ v. bits_of v.items ≡ frame_spelling a.bits form)
+      → IfOk r (λ v. SpellsLeastByPlane lists a (frame_with number a.channels) (bits_of v.items))
   least_made (Err e) chosen is = tt
   least_made (Ok v) chosen is = least_text v chosen is
 
@@ -385,7 +385,7 @@ module _ {X : Type 0} (f : X → List ℤ) (xs : List X) (channels bits : ℕ) w
 -- ---- the next frame
 
 pub is_next : {S : Type 0} (old to : Pushed S) (block : List (List ℤ)) (text : List Bool) → shape_fault old.shape ≡ None → Accepted old block → SpellsFrame (sound_of old.shape block) (frame_with old.number block) text
-    → SpellsLeast old.predictors (sound_of old.shape block) (frame_with old.number block) text → to ≡ after_block old (samples_each block) to.target → IsNext old to block text
+    → SpellsLeastFound old.search old.predictors (sound_of old.shape block) (frame_with old.number block) text → to ≡ after_block old (samples_each block) to.target → IsNext old to block text
 is_next old to block text shape accept frame_is least_is is = record {
   spells = frame_is;
   least = least_is;

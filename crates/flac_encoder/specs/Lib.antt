@@ -1,2 +1,3 @@
 pub mod Pushing
 pub mod PushingOgg
+pub mod inner

@@ -1,5 +1,5 @@
 -- An encoder that samples are pushed to, a block at a time, and the stream that it has written.
-use Rattle.std.specs.Prelude.{◌≡◌, ◌⊎◌, ◌<◌, ℕ, suc, ◌+◌, ◌^◌, ℤ, Bool, true, false, not, cond, ◌||◌, nat_eq, nat_lt, nat_le, List, [], ◌∷◌, ◌++◌, length, map, Option, Some, None, option_map, Result, IfErr, ⊤}
+use Rattle.std.specs.Prelude.{◌≡◌, ◌⊎◌, ◌<◌, ◌≤◌, ℕ, suc, ◌+◌, ◌^◌, ℤ, Bool, true, false, not, cond, ◌||◌, nat_eq, nat_lt, nat_le, List, [], ◌∷◌, ◌++◌, length, map, Option, Some, None, option_map, Result, IfErr, ⊤}
 use Rattle.std.specs.Borrow.{Bor}
 use Rattle.std.specs.Option.{option_or}
 use Rattle.flac_bits.specs.Bits.{bits_of}
@@ -13,6 +13,7 @@ use Rattle.flac_info.specs.Info.{Info, info_of_format}
 use Rattle.flac_header.specs.Header.{allows_block}
 use Rattle.flac_subframe.specs.declared.format.linear.LinearPredictor.{LinearPredictor}
 use Rattle.flac_frame.specs.Audio.{Sound, samples_each, samples_fault}
+use Rattle.flac_frame.specs.PlaneLists.{Lists}
 use Rattle.flac_frame.specs.Frame.{Frame}
 use Rattle.flac_frame.specs.declared.before.Before.{Before}
 use Rattle.flac_frame.specs.Setup.{format_fault}
@@ -24,8 +25,10 @@ use Rattle.flac_native.specs.Given.{predictors_fault}
 use Rattle.flac_native.specs.Stream.{Piece, framed, grammar, opening}
 use Rattle.flac_native.specs.Stream as stream
 use Rattle.flac_native.specs.Whole.{head_parts}
-use Rattle.flac_native.specs.Writing.{SpellsFrame, SpellsLeast, head_spelling}
+use Rattle.flac_native.specs.Writing.{SpellsFrame, SpellsLeast, SpellsLeastByPlane, head_spelling}
 use Rattle.flac_native.specs.declared.fault.EncodeFault.{EncodeFault}
+use Rattle.flac_predict.specs.Found.{IsFoundAfter}
+use Rattle.flac_predict.specs.declared.search.Search.{Search}
 use Rattle.flac_encoder.specs.declared.stream_format.StreamFormat.{StreamFormat}
 use Rattle.flac_native.specs.declared.fault.EncodeFault.TheVariants.{Memory, BlockSize, Spent, Write, Setup}
 
@@ -67,12 +70,13 @@ open_info s = info_of_format s.block_size s.rate s.channels s.bits
 
 -- ---- the encoder
 
--- The format; the linear predictors that are tried for the next frame beside the fixed ones; how many frames were
--- pushed, which is the number of the next, and how many samples of each channel they have; whether the last of them is
--- shorter than the block size; whether the target has failed; and the target.
+-- The format; the linear predictors that are tried for the next frame beside the fixed ones; how far others are sought
+-- for it, if they are; how many frames were pushed, which is the number of the next, and how many samples of each channel
+-- they have; whether the last of them is shorter than the block size; whether the target has failed; and the target.
 pub record Pushed (S : Type 0) : Type 0 where
   pub shape : Shape
   pub predictors : List LinearPredictor
+  pub search : Option Search
   pub number : ℕ
   pub samples : ℕ
   pub ended : Bool
@@ -81,29 +85,32 @@ pub record Pushed (S : Type 0) : Type 0 where
 
 -- nothing was pushed
 abbrev pub unpushed : {S : Type 0} → Shape → S → Pushed S
-unpushed shape t = record { shape = shape; predictors = []; number = 0; samples = 0; ended = false; spent = false; target = t }
+unpushed shape t = record { shape = shape; predictors = []; search = None; number = 0; samples = 0; ended = false; spent = false; target = t }
 
 abbrev pub IsUnpushed : {S : Type 0} → Shape → Pushed S → Type 0
 IsUnpushed shape e = e ≡ unpushed shape e.target
 
 -- one more block, of n samples, was pushed
 abbrev pub after_block : {S : Type 0} → Pushed S → ℕ → S → Pushed S
-after_block e n t =
-    record { shape = e.shape; predictors = e.predictors; number = e.number + 1; samples = e.samples + n; ended = nat_lt n e.shape.block_size; spent = e.spent; target = t }
+after_block e n t = record e { number = e.number + 1; samples = e.samples + n; ended = nat_lt n e.shape.block_size; target = t }
 
 abbrev pub IsAfterBlock : {S : Type 0} → (old : Pushed S) → List (List ℤ) → (new : Pushed S) → Type 0
 IsAfterBlock old block new = new ≡ after_block old (samples_each block) new.target
 
 -- the target has failed
 abbrev pub spent_with : {S : Type 0} → Pushed S → S → Pushed S
-spent_with e t = record { shape = e.shape; predictors = e.predictors; number = e.number; samples = e.samples; ended = e.ended; spent = true; target = t }
+spent_with e t = record e { spent = true; target = t }
 
 abbrev pub IsSpent : {S : Type 0} → (old new : Pushed S) → Type 0
 IsSpent old new = new ≡ spent_with old new.target
 
 -- these predictors are tried from now on
 abbrev pub trying : {S : Type 0} → Pushed S → List LinearPredictor → Pushed S
-trying e ps = record { shape = e.shape; predictors = ps; number = e.number; samples = e.samples; ended = e.ended; spent = e.spent; target = e.target }
+trying e ps = record e { predictors = ps }
+
+-- predictors are sought for each block from now on, or no longer
+abbrev pub searching : {S : Type 0} → Pushed S → Option Search → Pushed S
+searching e search = record e { search = search }
 
 -- why these predictors cannot be tried, if so
 abbrev pub trying_fault : {S : Type 0} → Pushed S → List LinearPredictor → Option SetupFault
@@ -111,7 +118,7 @@ trying_fault e ps = predictors_fault e.shape.profile e.shape.rate ps
 
 -- the same encoder with this target
 abbrev pub with_target : {R S : Type 0} → Pushed R → S → Pushed S
-with_target e t = record { shape = e.shape; predictors = e.predictors; number = e.number; samples = e.samples; ended = e.ended; spent = e.spent; target = t }
+with_target e t = record { shape = e.shape; predictors = e.predictors; search = e.search; number = e.number; samples = e.samples; ended = e.ended; spent = e.spent; target = t }
 
 -- the samples of a block, channel by channel
 abbrev pub block_channels : List (Bor (List ℤ)) → List (List ℤ)
@@ -223,11 +230,31 @@ IsFrameAt a number bytes = SpellsFrame a (frame_with number a.channels) (bits_of
 abbrev pub IsLeastFrameAt : List LinearPredictor → Sound → (number : ℕ) → List ℕ → Type 0
 IsLeastFrameAt ps a number bytes = SpellsLeast ps a (frame_with number a.channels) (bits_of bytes)
 
+-- the same with the predictors of a list for each plane
+abbrev pub IsLeastOfPlanesAt : Lists → Sound → (number : ℕ) → List ℕ → Type 0
+IsLeastOfPlanesAt lists a number bytes = SpellsLeastByPlane lists a (frame_with number a.channels) (bits_of bytes)
+
+-- The bits spell the shortest frame of a block of samples, if beside the fixed predictors these linear ones are tried,
+-- and if there is a search, after them those that it found for each plane of the block.
+abbrev pub SpellsLeastFound : Option Search → List LinearPredictor → Sound → Frame → (text : List Bool) → Type 0
+SpellsLeastFound None ps a f text = SpellsLeast ps a f text
+SpellsLeastFound (Some search) ps a f text = (lists : Lists) × ((plane : ℕ) → IsFoundAfter ps (lists plane)) × SpellsLeastByPlane lists a f text
+
+-- the bytes are the shortest frame of a number that has all these samples, with what a search found
+abbrev pub IsLeastFoundAt : Option Search → List LinearPredictor → Sound → (number : ℕ) → List ℕ → Type 0
+IsLeastFoundAt search ps a number bytes = SpellsLeastFound search ps a (frame_with number a.channels) (bits_of bytes)
+
+-- A search makes no frame longer.
+abbrev pub FoundShorten : Type 0
+FoundShorten = (search : Option Search) (ps : List LinearPredictor) (a : Sound) (f : Frame) (without after : List Bool) → SpellsLeast ps a f without
+    → SpellsLeastFound search ps a f after → length after ≤ length without
+
 -- The bits are the next frame: it has exactly the samples of the block, no frame of its family, with the predictors of
--- the encoder, is shorter, and the stream of the encoder is then the one before with the frame as one more item.
+-- the encoder and those that its search found, is shorter, and the stream of the encoder is then the one before with the
+-- frame as one more item.
 pub record IsNext {S : Type 0} (old new : Pushed S) (block : List (List ℤ)) (text : List Bool) : Type 0 where
   pub spells : SpellsFrame (sound_of old.shape block) (frame_with old.number block) text
-  pub least : SpellsLeast old.predictors (sound_of old.shape block) (frame_with old.number block) text
+  pub least : SpellsLeastFound old.search old.predictors (sound_of old.shape block) (frame_with old.number block) text
   pub stands : (items : List Piece) (before : List Bool) → StandsFor old items before → StandsFor new (items ++ framed (frame_with old.number block) ∷ []) (before ++ text)
 
 -- the bits are the next frame, which is then counted

@@ -12,14 +12,15 @@ use Rattle.flac_frame.specs.Audio.{samples_each}
 use Rattle.flac_native.specs.Decoding.{beginning}
 use Rattle.flac_native.specs.Stream.{Piece, marked, framed}
 use Rattle.flac_native.specs.Given.{closing}
-use Rattle.flac_encoder.specs.Pushing.{Shape, setup_fault, open_info, Pushed, unpushed, trying, IsFirst, FailsIn, StandsFor, sound_of, frame_with}
-use Rattle.flac_native.specs.Writing.{SpellsFrame, SpellsLeast}
+use Rattle.flac_encoder.specs.Pushing.{Shape, setup_fault, open_info, Pushed, unpushed, trying, searching, IsFirst, FailsIn, StandsFor, sound_of, frame_with, SpellsLeastFound}
+use Rattle.flac_native.specs.Writing.{SpellsFrame}
 use Rattle.flac_native.specs.declared.fault.EncodeFault.{EncodeFault}
 use Rattle.flac_native.specs.declared.fault.EncodeFault.TheVariants.{BadMapping, Setup, Write}
 use Rattle.flac_pages.specs.declared.writing.PacketKind.TheVariants as kind_of
 use Rattle.flac_pages.specs.declared.writing.PacketMarks.{PacketMarks}
 use Rattle.flac_pages.specs.Placed.{Placed, IsPlaced, stream_spelling}
 use Rattle.flac_pages.specs.Written.{packet_spelling}
+use Rattle.flac_predict.specs.declared.search.Search.{Search}
 use Rattle.flac_ogg.specs.Held.{ArePages}
 use Rattle.flac_ogg.specs.Stream.{OggStream}
 use Rattle.flac_ogg.specs.Native.{AreStream, native_text, packet_spellings}
@@ -38,7 +39,11 @@ pub record PushedOgg (S : Type 0) : Type 0 where
 
 -- these predictors are tried from now on
 abbrev pub trying_ogg : {S : Type 0} → PushedOgg S → List LinearPredictor → PushedOgg S
-trying_ogg e ps = record { pushed = trying e.pushed ps; serial = e.serial; sequence = e.sequence; middle = e.middle; last = e.last }
+trying_ogg e ps = record e { pushed = trying e.pushed ps }
+
+-- predictors are sought for each block from now on, or no longer
+abbrev pub searching_ogg : {S : Type 0} → PushedOgg S → Option Search → PushedOgg S
+searching_ogg e search = record e { pushed = searching e.pushed search }
 
 -- Why an encoder cannot be made, if so: the format, or the list does not begin with a Vorbis comment.
 abbrev pub open_fault : Shape → List Block → Option EncodeFault
@@ -114,12 +119,13 @@ abbrev pub FailsOpen : {S X : Type 0} → target.Ghosts S → Shape → (serial 
 FailsOpen {S} g shape serial list old result = IfErr result (λ e. e ≡ Write → (left : S) × BeginsOpening g shape serial list old left)
 
 -- The packet is the next frame: it has exactly the samples of the block, no frame of its family, with the predictors of
--- the encoder, is shorter, its last page has the number of samples so far, and the stream of the encoder is then the
--- one before with the frame as one more item in one more packet. The packet that was held is then written.
+-- the encoder and those that its search found, is shorter, its last page has the number of samples so far, and the stream
+-- of the encoder is then the one before with the frame as one more item in one more packet. The packet that was held is
+-- then written.
 pub record IsNextPacket {S : Type 0} (old new : PushedOgg S) (block : List (List ℤ)) (q : Placed) : Type 0 where
   pub kind : q.kind ≡ kind_of.Frame (old.pushed.samples + samples_each block)
   pub spells : SpellsFrame (sound_of old.pushed.shape block) (frame_with old.pushed.number block) (bits_of q.packet)
-  pub least : SpellsLeast old.pushed.predictors (sound_of old.pushed.shape block) (frame_with old.pushed.number block) (bits_of q.packet)
+  pub least : SpellsLeastFound old.pushed.search old.pushed.predictors (sound_of old.pushed.shape block) (frame_with old.pushed.number block) (bits_of q.packet)
   pub stands : (items : List Piece) (packets : List Placed) (written : List Bool) → StandsForOgg old items packets written
       → StandsForOgg new (items ++ framed (frame_with old.pushed.number block) ∷ []) (packets ++ q ∷ []) (written ++ bits_of old.middle)
 

@@ -1,14 +1,16 @@
 //! Encodes the blocks of a stream as its frames, for each container.
 
-ghost use Rattle.std.specs.Prelude.{◌≡◌, ◌≢◌, ◌<◌, ◌^◌, None, Some, IfOk, IfErr, OnOk};
+ghost use Rattle.std.specs.Prelude.{◌≡◌, ◌≢◌, ◌<◌, ◌^◌, None, Some, IfOk, IfErr, OnOk, Ok};
 ghost use Rattle.flac_bits.specs.Bits.{bits_of};
 ghost use Rattle.flac_frame.specs.Audio.{samples_each};
 ghost use Rattle.flac_native.specs.Given.{predictors_fault};
-ghost use Rattle.flac_encoder.specs.Pushing.{shape_of, shape_fault, setup_fault, unpushed, after_block, spent_with, trying, trying_fault, block_channels, size_fault, push_fault, IsFirst, IsNextFrame};
+ghost use Rattle.flac_encoder.specs.Pushing.{shape_of, shape_fault, setup_fault, unpushed, after_block, spent_with, trying, trying_fault, searching, block_channels, size_fault, push_fault, IsFirst, IsNextFrame};
 
+use crate::block_search::{BlockSearch, searched_frame};
 use crate::stream_format::{StreamFormat, block_len};
 use flac_frame::{EncodeBuffers, SetupFault};
 use flac_native::{EncodeFault, predictors_fault};
+use flac_predict::Search;
 use flac_subframe::LinearPredictor;
 use std::alloc::Global;
 use std::marker::Model;
@@ -32,6 +34,8 @@ pub struct BlockEncoder {
     format: StreamFormat,
     /// The linear predictors that are tried.
     predictors: Vec<LinearPredictor>,
+    /// The search for others, if there is one.
+    search: Option<BlockSearch>,
     /// How many frames are in the container.
     number: u64,
     /// How many samples of each channel these have.
@@ -44,16 +48,18 @@ pub struct BlockEncoder {
 }
 
 impl Model for BlockEncoder {
-    ghost use Rattle.std.specs.Prelude.{◌≡◌, ◌<◌, ◌≤◌, ◌^◌, None, ⊤};
+    ghost use Rattle.std.specs.Prelude.{◌≡◌, ◌<◌, ◌≤◌, ◌^◌, None, ⊤, MatchOption};
     ghost use Rattle.flac_frame.specs.Encoding.{most_in};
     ghost use Rattle.flac_native.specs.Given.{predictors_fault};
     ghost use Rattle.flac_encoder.specs.Pushing.{Pushed, shape_of, shape_fault};
+    ghost use Rattle.flac_encoder.specs.inner.Searching.{effort_of};
 
     ghost Value = { Pushed ⊤ };
 
     ghost view = { λ e. record {
       shape = shape_of e.format;
       predictors = e.predictors.items;
+      search = effort_of e.search;
       number = e.number;
       samples = e.samples;
       ended = e.ended;
@@ -64,6 +70,7 @@ impl Model for BlockEncoder {
     ghost invariant = { λ e. record {
       shape : shape_fault (shape_of e.format) ≡ None;
       predictors : predictors_fault e.format.profile e.format.rate e.predictors.items ≡ None;
+      search : MatchOption e.search ⊤ (λ s. s.finder ≡ e.format.block_size);
       buffers : e.buffers ≡ record { block = e.format.block_size; most = most_in e.format.profile };
       number : e.number ≤ 2 ^ 31;
       samples : e.samples < 2 ^ 36;
@@ -72,7 +79,7 @@ impl Model for BlockEncoder {
 
 impl BlockEncoder {
     /// Makes an encoder of the blocks of a stream of this format. No linear predictors are tried yet: see
-    /// [`BlockEncoder::set_predictors`].
+    /// [`BlockEncoder::set_predictors`] and [`BlockEncoder::set_search`].
     ///
     /// # Errors
     /// [`EncodeFault::Setup`] with the fault of the format ([`StreamFormat::fault`]), if it has one. Else
@@ -93,6 +100,7 @@ impl BlockEncoder {
             alloc,
             format: *format,
             predictors: Vec::new(alloc),
+            search: None,
             number: 0,
             samples: 0,
             ended: false,
@@ -120,6 +128,34 @@ impl BlockEncoder {
             return Err(fault);
         }
         self.predictors = predictors;
+        Ok(())
+    }
+
+    /// From now on linear predictors are sought for each block before it is encoded, or with `None` no longer. Beside the
+    /// constant, verbatim and fixed ones and those of [`BlockEncoder::set_predictors`], those that are found are tried: for
+    /// each plane (the channels, and of two channels their side and middle) one by [`Search::Quick`], three by
+    /// [`Search::Full`], of orders 1 to 12 (RFC 9639, sections 4.2 and 9.2.6). A block of fewer than 64 samples is not
+    /// searched. So no frame is longer than without a search.
+    ///
+    /// A search takes 32 bytes for each sample of a block of one channel.
+    ///
+    /// # Errors
+    /// [`EncodeFault::Memory`] if an allocation fails. The encoder is as it was then.
+    pub fn set_search(&mut self, search: Option<Search>) -> Result<(), EncodeFault>
+        ensures set { OnOk result (self.new ≡ searching self.old search) }
+        ensures memory { IfErr result (λ e. e ≡ EncodeFault.Memory) }
+        ensures kept { IfErr result (λ e. self.new ≡ self.old) }
+        ensures ended { search ≡ None → result ≡ Ok tt }
+    {
+        let Some(effort) = search else {
+            self.search = None;
+            return Ok(());
+        };
+        let block_size = self.format.block_size as usize;
+        let Ok(found) = BlockSearch::new(self.alloc, effort, block_size) else {
+            return Err(EncodeFault::Memory);
+        };
+        self.search = Some(found);
         Ok(())
     }
 
@@ -156,7 +192,8 @@ impl BlockEncoder {
 
     /// Encodes a block as the next frame. `block` has one slice for each channel, of 1 to as many samples as the block
     /// size. Only the last block may be shorter than the block size (RFC 9639, section 9.1). The frame is as short as
-    /// one of [`flac_native::encode`] with the same predictors. It is not counted yet: see [`BlockEncoder::sent`].
+    /// one of [`flac_native::encode`] with the same predictors, those that a search finds among them. It is not counted
+    /// yet: see [`BlockEncoder::sent`].
     ///
     /// # Errors
     /// The first of these that applies:
@@ -182,15 +219,17 @@ impl BlockEncoder {
         if let Some(fault) = self.push_fault(block) {
             return Err(fault);
         }
-        let predictors = self.predictors.as_slice();
-        let Ok(frame) = self.format.encode_block(
+        let Ok(audio) = self.format.audio(self.alloc, block) else {
+            return Err(EncodeFault::Memory);
+        };
+        let Ok(frame) = searched_frame(
             self.alloc,
-            predictors,
-            block,
+            &audio,
+            self.predictors.as_slice(),
+            &mut self.search,
             self.number,
             &mut self.buffers,
-        )
-        else {
+        ) else {
             return Err(EncodeFault::Memory);
         };
         Ok(frame)

@@ -7,6 +7,7 @@
 //! | encode an Ogg stream | [`OggEncoder`] |
 //! | encode outside the streamable subset | [`StreamFormat`] and [`StreamEncoder::new_in`] |
 //! | try linear predictors of one's own | [`LinearPredictor`] and [`StreamEncoder::set_predictors`] |
+//! | find linear predictors for each block | [`Search`] and [`StreamEncoder::set_search`] |
 //! | encode one block as a frame | [`StreamFormat::encode_block`] |
 //! | encode the blocks of a stream for a container of one's own | [`BlockEncoder`] |
 //!
@@ -14,6 +15,8 @@
 #![tactic(auto)]
 
 mod block_encoder;
+mod block_search;
+mod laws;
 mod ogg_encoder;
 mod stream_encoder;
 mod stream_format;
@@ -23,6 +26,8 @@ pub use flac_bits::{Collected, Counted, Target, Why};
 pub use flac_frame::{EncodeBuffers, SetupFault};
 pub use flac_meta::{Block, BlockList, Bytes, Comments, Texts};
 pub use flac_native::{EncodeFault, LinearPredictor, Profile};
+pub use flac_predict::Search;
+pub use laws::found_shorten;
 pub use ogg_encoder::OggEncoder;
 pub use stream_encoder::StreamEncoder;
 pub use stream_format::{StreamFormat, block_len};

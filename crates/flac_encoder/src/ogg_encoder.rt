@@ -1,6 +1,6 @@
 //! Encodes an Ogg stream a block at a time.
 
-ghost use Rattle.std.specs.Prelude.{◌≡◌, ◌≢◌, ◌⊎◌, ◌↔◌, ◌++◌, true, false, IfOk, OnOk, IfErr, None, Some, Err};
+ghost use Rattle.std.specs.Prelude.{◌≡◌, ◌≢◌, ◌⊎◌, ◌↔◌, ◌++◌, true, false, IfOk, OnOk, IfErr, None, Some, Ok, Err};
 ghost use Rattle.flac_bits.specs.Bits.{bits_of};
 ghost use Rattle.flac_bits.specs.Forms.{AreBytes};
 ghost use Rattle.flac_encoder.specs.Pushing.{shape_of, shape_fault, setup_fault, subset_shape, open_info, IsUnpushed, trying_fault, block_channels, push_fault, IsAfterBlock, IsFirst, IsNativeHead, IsSpent, FailsIn, StaysKnown};
@@ -8,7 +8,7 @@ ghost use Rattle.flac_native.specs.declared.fault.EncodeFault.TheVariants.{Spent
 ghost use Rattle.flac_pages.specs.Placed.{sequence_after};
 ghost use Rattle.flac_ogg.specs.Headers.{AreHeadersOf};
 ghost use Rattle.flac_ogg.specs.Writing.{HasWriteError, CountsWriteError};
-ghost use Rattle.flac_encoder.specs.PushingOgg.{open_fault, listed_fault, trying_ogg, frame_pages, IsOpenFault, Opens, FailsOpen, KeepsOggStream, SentPacket, BegunPacket, SentEnd, FailsEnd};
+ghost use Rattle.flac_encoder.specs.PushingOgg.{open_fault, listed_fault, trying_ogg, searching_ogg, frame_pages, IsOpenFault, Opens, FailsOpen, KeepsOggStream, SentPacket, BegunPacket, SentEnd, FailsEnd};
 
 use crate::block_encoder::BlockEncoder;
 use crate::stream_encoder::StreamEncoder;
@@ -19,6 +19,7 @@ use flac_meta::BlockList;
 use flac_native::{EncodeFault, LinearPredictor, Profile};
 use flac_ogg::{Headers, HeldPacket, begins_with_comment, headers_of};
 use flac_pages::{PacketKind, PacketMarks};
+use flac_predict::Search;
 use std::alloc::Global;
 use std::marker::Model;
 
@@ -235,7 +236,8 @@ impl<W: Target + Drop> OggEncoder<W> {
 
     /// Makes an encoder for this format, and writes the header packets: the mapping with STREAMINFO, and one for each
     /// block of the list (RFC 9639, section 10.1; RFC 3533). It holds the last of them back. Their pages have granule
-    /// position 0. No linear predictors are tried yet: see [`OggEncoder::set_predictors`].
+    /// position 0. No linear predictors are tried yet: see [`OggEncoder::set_predictors`] and
+    /// [`OggEncoder::set_search`].
     ///
     /// `serial` is the serial number of the stream. The first block of the list must be a Vorbis comment.
     ///
@@ -300,6 +302,25 @@ impl<W: Target + Drop> OggEncoder<W> {
         ensures kept { IfErr result (λ e. self.new ≡ self.old) }
     {
         self.blocks.set_predictors(predictors)
+    }
+
+    /// From now on linear predictors are sought for each block that is pushed, as [`StreamEncoder::set_search`] has it, or
+    /// with `None` no longer. The packet that is held is not changed.
+    ///
+    /// ```
+    /// encoder.set_search(Some(Search::Full))?;
+    /// ```
+    ///
+    /// # Errors
+    /// [`EncodeFault::Memory`] if an allocation fails. The encoder is as it was then.
+    pub fn set_search(&mut self, search: Option<Search>) -> Result<(), EncodeFault>
+        ensures set { OnOk result (self.new ≡ searching_ogg self.old search) }
+        ensures stands { OnOk result (KeepsOggStream self.old self.new) }
+        ensures memory { IfErr result (λ e. e ≡ EncodeFault.Memory) }
+        ensures kept { IfErr result (λ e. self.new ≡ self.old) }
+        ensures ended { search ≡ None → result ≡ Ok tt }
+    {
+        self.blocks.set_search(search)
     }
 
     /// Makes a block the next frame, as [`StreamEncoder::push`] does, but holds its packet back, and writes the packet

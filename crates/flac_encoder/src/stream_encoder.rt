@@ -1,7 +1,7 @@
 //! Encodes a native stream a block at a time.
 
-ghost use Rattle.std.specs.Prelude.{◌≡◌, None, IfOk, IfErr, Some, ◌≢◌, ◌↔◌, true, OnOk, Err};
-ghost use Rattle.flac_encoder.specs.Pushing.{shape_of, shape_fault, setup_fault, subset_shape, IsUnpushed, IsAfterBlock, trying, trying_fault, block_channels, push_fault, IsFirst, IsSpent, StandsForHead, SentHead, FailsHead, KeepsStream, SentFrame, BegunFrame};
+ghost use Rattle.std.specs.Prelude.{◌≡◌, None, IfOk, IfErr, Some, ◌≢◌, ◌↔◌, true, OnOk, Ok, Err};
+ghost use Rattle.flac_encoder.specs.Pushing.{shape_of, shape_fault, setup_fault, subset_shape, IsUnpushed, IsAfterBlock, trying, trying_fault, searching, block_channels, push_fault, IsFirst, IsSpent, StandsForHead, SentHead, FailsHead, KeepsStream, SentFrame, BegunFrame};
 ghost use Rattle.flac_ogg.specs.Writing.{HasWriteError, CountsWriteError};
 
 use crate::block_encoder::BlockEncoder;
@@ -11,6 +11,7 @@ use flac_frame::SetupFault;
 use flac_header::Profile;
 use flac_meta::BlockList;
 use flac_native::{EncodeFault, send_head};
+use flac_predict::Search;
 use flac_subframe::LinearPredictor;
 use std::alloc::Global;
 use std::marker::Model;
@@ -79,7 +80,8 @@ impl<W: Target + Drop> StreamEncoder<W> {
     }
 
     /// Makes an encoder for this format, and writes the marker, STREAMINFO and the blocks of the list (RFC 9639,
-    /// sections 6 to 8). No linear predictors are tried yet: see [`StreamEncoder::set_predictors`].
+    /// sections 6 to 8). No linear predictors are tried yet: see [`StreamEncoder::set_predictors`] and
+    /// [`StreamEncoder::set_search`].
     ///
     /// ```
     /// let format = StreamFormat { profile: Profile::Lax, rate: 1000000, bits: 14, channels: 1, block_size: 32768 };
@@ -139,9 +141,35 @@ impl<W: Target + Drop> StreamEncoder<W> {
         self.blocks.set_predictors(predictors)
     }
 
+    /// From now on linear predictors are sought for each block before it is written, or with `None` no longer. Beside the
+    /// constant, verbatim and fixed ones and those of [`StreamEncoder::set_predictors`], those that are found are tried:
+    /// for each plane (the channels, and of two channels their side and middle) one by [`Search::Quick`], three by
+    /// [`Search::Full`], of orders 1 to 12 (RFC 9639, sections 4.2 and 9.2.6). A block of fewer than 64 samples is not
+    /// searched. So no frame is longer than without a search, and the samples are the same.
+    ///
+    /// A search takes 32 bytes for each sample of a block of one channel.
+    ///
+    /// ```
+    /// let mut encoder = StreamEncoder::new(alloc, 44100, 16, 2, 4096, &blocks, file)?;
+    /// encoder.set_search(Some(Search::Quick))?;
+    /// encoder.push(&[left.as_slice(), right.as_slice()])?;
+    /// ```
+    ///
+    /// # Errors
+    /// [`EncodeFault::Memory`] if an allocation fails. The encoder is as it was then.
+    pub fn set_search(&mut self, search: Option<Search>) -> Result<(), EncodeFault>
+        ensures set { OnOk result (self.new ≡ searching self.old search) }
+        ensures stands { OnOk result (KeepsStream self.old self.new) }
+        ensures memory { IfErr result (λ e. e ≡ EncodeFault.Memory) }
+        ensures kept { IfErr result (λ e. self.new ≡ self.old) }
+        ensures ended { search ≡ None → result ≡ Ok tt }
+    {
+        self.blocks.set_search(search)
+    }
+
     /// Writes a block as the next frame, and sends all of it. `block` has one slice for each channel, of 1 to as many
     /// samples as the block size. Only the last block may be shorter than the block size (RFC 9639, section 9.1). The
-    /// frame is as short as one of [`flac_native::encode`] with the same predictors.
+    /// frame is as short as one of [`flac_native::encode`] with the same predictors, those that a search finds among them.
     ///
     /// # Errors
     /// The first of these that applies:

@@ -1,16 +1,17 @@
 //! The format of a stream that is encoded a block at a time.
 
 ghost use Rattle.std.specs.Prelude.{◌≡◌, None, ◌≤◌, ◌<◌, ◌^◌, map, IfOk, IfErr};
-ghost use Rattle.flac_subframe.specs.format.Handed.{AreWithin};
 ghost use Rattle.flac_frame.specs.Audio.{samples_each};
 ghost use Rattle.flac_frame.specs.Encoding.{most_in};
 ghost use Rattle.flac_frame.specs.Frame.{limits_at};
+ghost use Rattle.flac_frame.specs.PlaneLists.{lists_of, AreAllWithin};
 ghost use Rattle.flac_native.specs.Given.{predictors_fault};
-ghost use Rattle.flac_encoder.specs.Pushing.{shape_of, shape_in, shape_fault, open_info, block_fault, block_channels, sound_in, IsFrameAt, IsLeastFrameAt};
+ghost use Rattle.flac_encoder.specs.Pushing.{shape_of, shape_in, shape_fault, open_info, block_fault, block_channels, sound_in, IsFrameAt, IsLeastFrameAt, IsLeastOfPlanesAt};
 
 use flac_bits::{BitWriter, Collected, Why};
 use flac_frame::{
-    Audio, EncodeBuffers, SetupFault, encode_frame_with, format_fault, samples_fault,
+    Audio, EncodeBuffers, PlanePredictors, SetupFault, encode_frame_by_plane, format_fault,
+    samples_fault,
 };
 use flac_header::Profile;
 use flac_meta::StreamInfo;
@@ -139,12 +140,24 @@ impl StreamFormat {
         ensures least { IfOk result (λ b. IsLeastFrameAt predictors.now (sound_in self.now block.now) number b.items) }
         ensures memory { IfErr result (λ e. e ≡ Why.Memory) }
     {
+        let audio = self.audio(alloc, block)?;
+        let planes = PlanePredictors::same(predictors);
+        frame_bytes(alloc, &audio, &planes, number, buffers)
+    }
+
+    /// The samples of a block that fits the format, copied. Its only error is `Memory`: an allocation failed.
+    pub(crate) fn audio(&self, alloc: Global, block: &[&[i32]]) -> Result<Audio, Why>
+        requires format { shape_fault (shape_of self.now) ≡ None }
+        requires block { block_fault self.now.channels self.now.bits (block_channels block.now) ≡ None }
+        requires size { samples_each (block_channels block.now) ≤ self.now.block_size }
+        ensures samples { IfOk result (λ a. a ≡ sound_in self.now block.now) }
+        ensures memory { IfErr result (λ e. e ≡ Why.Memory) }
+    {
         let channels = copied(alloc, block)?;
-        let audio = match Audio::new_in(self.profile, self.rate, self.bits, channels) {
-            Ok(audio) => audio,
+        match Audio::new_in(self.profile, self.rate, self.bits, channels) {
+            Ok(audio) => Ok(audio),
             Err(_) => unreachable!(),
-        };
-        frame_bytes(alloc, &audio, predictors, number, buffers)
+        }
     }
 }
 
@@ -172,28 +185,29 @@ fn copied(alloc: Global, block: &[&[i32]]) -> Result<Vec<Vec<i32>>, Why>
     Ok(channels)
 }
 
-/// All samples as frame `number`, in memory. Its only error is `Memory`: an allocation failed.
-fn frame_bytes(
+/// All samples as frame `number`, in memory: a shortest frame over the predictors of each plane. Its only error is
+/// `Memory`: an allocation failed.
+pub(crate) fn frame_bytes(
     alloc: Global,
     audio: &Audio,
-    predictors: &[LinearPredictor],
+    predictors: &PlanePredictors<'_>,
     number: u64,
     buffers: &mut EncodeBuffers,
 ) -> Result<Vec<u8>, Why>
     requires some { 0 < samples_each audio.now.channels }
     requires room { samples_each audio.now.channels ≤ buffers.old.block }
     requires most { most_in audio.now.profile ≤ buffers.old.most }
-    requires orders { AreWithin (limits_at audio.now.profile audio.now.rate).linear predictors.now }
+    requires orders { AreAllWithin (limits_at audio.now.profile audio.now.rate).linear (lists_of predictors.now) }
     requires number { number < 2 ^ 31 }
     ensures kept { buffers.new ≡ buffers.old }
     ensures frame { IfOk result (λ b. IsFrameAt audio.now number b.items) }
-    ensures least { IfOk result (λ b. IsLeastFrameAt predictors.now audio.now number b.items) }
+    ensures least { IfOk result (λ b. IsLeastOfPlanesAt (lists_of predictors.now) audio.now number b.items) }
     ensures memory { IfErr result (λ e. e ≡ Why.Memory) }
 {
     let _channels = audio.channels(); // for its clauses alone
     let end = audio.len();
     let mut writer = BitWriter::new(Collected::new(alloc));
-    match encode_frame_with(audio, 0..end, number, predictors, buffers, &mut writer) {
+    match encode_frame_by_plane(audio, 0..end, number, predictors, buffers, &mut writer) {
         Ok(_) => writer.into_bytes(),
         Err(why) => Err(why.in_memory()),
     }

@@ -10,7 +10,7 @@ use std::test::Fail;
 
 /// A resonance of 16 bits: each sample is 1.5 times the last one less 0.9 of the one before, and starts anew when it has
 /// died away.
-fn resonance(alloc: Global, len: usize, push: i32) -> Result<Vec<i32>, Fail> {
+pub(crate) fn resonance(alloc: Global, len: usize, push: i32) -> Result<Vec<i32>, Fail> {
     let mut samples = Vec::new(alloc);
     let mut last: i32 = 0;
     let mut before: i32 = 0;

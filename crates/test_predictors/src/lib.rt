@@ -3,3 +3,5 @@
 
 #[cfg(test)]
 mod finding;
+#[cfg(test)]
+mod pushing;

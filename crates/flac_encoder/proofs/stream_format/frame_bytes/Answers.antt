@@ -2,6 +2,7 @@ use Rattle.std.proofs.Common.{arith, ap, ◌∙◌, nat_lt, ◌-◌}
 use Rattle.flac_bits.specs.Bits.{bits_of}
 use Rattle.flac_bits.specs.Written.{Written}
 use Rattle.flac_bits.proofs.ItemSpellings.{fresh_unread}
+use Rattle.flac_frame.specs.PlaneLists.{lists_of}
 use Rattle.flac_frame.specs.Spelling.{frame_spelling}
 use Rattle.flac_frame.proofs.FrameTie.{frames_bytes}
 use Rattle.flac_header.specs.Spelling.{restarted}
@@ -22,7 +23,7 @@ returns-in-Ok-clause-frame c =
     } in
     let begun : Blank (restarted writer) = record { known = blank.known; bits = blank.bits; unread = fresh_unread writer.mark blank.unread } in
     let is = head_collected (restarted writer) _ text c.into_bytes.result begun (frames_bytes c.args.audio.now.bits wrote.0) wrote.3 c.into_bytes.ensures.bytes in
-    frame_made c.args.predictors.now c.args.audio.now (c.len-end.result - 0) c.args.number wrote.0 c.channels-channels.ensures.sound (omega (arith, c.len-end.ensures)) c.into_bytes.result wrote.1 wrote.2.1 is
+    frame_made (lists_of c.args.predictors.now) c.args.audio.now (c.len-end.result - 0) c.args.number wrote.0 c.channels-channels.ensures.sound (omega (arith, c.len-end.ensures)) c.into_bytes.result wrote.1 wrote.2.1 is
 
 pub returns-in-Ok-clause-least : goal.returns-in-Ok-clause-least
 returns-in-Ok-clause-least c =
@@ -36,10 +37,10 @@ returns-in-Ok-clause-least c =
     } in
     let begun : Blank (restarted writer) = record { known = blank.known; bits = blank.bits; unread = fresh_unread writer.mark blank.unread } in
     let is = head_collected (restarted writer) _ text c.into_bytes.result begun (frames_bytes c.args.audio.now.bits wrote.0) wrote.3 c.into_bytes.ensures.bytes in
-    least_made c.args.predictors.now c.args.audio.now (c.len-end.result - 0) c.args.number wrote.0 c.channels-channels.ensures.sound (omega (arith, c.len-end.ensures)) c.into_bytes.result wrote.2.0 is
+    least_made (lists_of c.args.predictors.now) c.args.audio.now (c.len-end.result - 0) c.args.number wrote.0 c.channels-channels.ensures.sound (omega (arith, c.len-end.ensures)) c.into_bytes.result wrote.2.0 is
 
 pub returns-in-Err-clause-memory : goal.returns-in-Err-clause-memory
 returns-in-Err-clause-memory c = let wrote = c.in-Err.ensures.wrote in c.in_memory.ensures.target wrote.3.reason
 
-pub encode_frame_with-requires-clause-partition : goal.encode_frame_with-requires-clause-partition
-encode_frame_with-requires-clause-partition c = omega (arith, partition_is c.args.audio.now.profile c.args.audio.now.rate, c.requires.most)
+pub encode_frame_by_plane-requires-clause-partition : goal.encode_frame_by_plane-requires-clause-partition
+encode_frame_by_plane-requires-clause-partition c = omega (arith, partition_is c.args.audio.now.profile c.args.audio.now.rate, c.requires.most)

@@ -10,6 +10,7 @@ pub invariant_of-result : goal.invariant_of-result
 invariant_of-result c = record {
   shape = sym c.fault.ensures ∙ c.in_default.is;
   predictors = none_tried c.args.format.now.profile c.args.format.now.rate c.new.result.items c.new.ensures.items;
+  search = tt;
   buffers = c.in-Ok.ensures.ok;
   number = omega arith;
   samples = omega arith;

@@ -18,6 +18,7 @@ invariant_of-self c =
     record {
       shape = c.self.invariant.shape;
       predictors = c.self.invariant.predictors;
+      search = c.self.invariant.search;
       buffers = c.self.invariant.buffers;
       number = omega (arith, a.number);
       samples = omega (arith, a.samples, c.block_len-len.ensures);

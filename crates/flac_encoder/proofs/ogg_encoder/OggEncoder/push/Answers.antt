@@ -3,8 +3,8 @@ use Rattle.std.proofs.Common.{◌≡◌, ◌+◌, ◌++◌, ℕ, List, true, fal
 use Rattle.std.proofs.lemmas.Result.{err_from_is_err_and}
 use Rattle.flac_bits.specs.Bits.{bits_of}
 use Rattle.flac_frame.specs.Audio.{samples_each}
-use Rattle.flac_encoder.specs.Pushing.{Pushed, after_block, spent_with, with_target, sound_of, frame_with, push_fault, IsFirst}
-use Rattle.flac_native.specs.Writing.{SpellsFrame, SpellsLeast}
+use Rattle.flac_encoder.specs.Pushing.{Pushed, after_block, spent_with, with_target, sound_of, frame_with, push_fault, IsFirst, SpellsLeastFound}
+use Rattle.flac_native.specs.Writing.{SpellsFrame}
 use Rattle.flac_native.proofs.EncodeFaults.{memory_write}
 use Rattle.flac_encoder.proofs.Pushing.{accepted, same_fault, fault_seen}
 use Rattle.flac_pages.specs.Written.{packet_spelling}
@@ -91,7 +91,7 @@ returns-in-Ok-send_all g c =
       serial = refl;
       written = λ known.
           let frame = subst (λ p. SpellsFrame (sound_of old.pushed.shape block) (frame_with old.pushed.number block) (bits_of p)) same is.spells in
-          let least = subst (λ p. SpellsLeast old.pushed.predictors (sound_of old.pushed.shape block) (frame_with old.pushed.number block) (bits_of p)) same is.least in
+          let least = subst (λ p. SpellsLeastFound old.pushed.search old.pushed.predictors (sound_of old.pushed.shape block) (frame_with old.pushed.number block) (bits_of p)) same is.least in
           let end : c.samples.result + c.block_len.result ≡ b.samples + samples_each block =
           ap (λ n. n + c.block_len.result) (c.samples.ensures.value ∙ ap (λ (e : Pushed ⊤). e.samples) c.encode.ensures.kept) ∙ ap (λ n. b.samples + n) c.block_len.ensures in
           let middle = c.in-Ok.ensures.middle ∙ ap (λ n. packet_spelling (record { serial = old.serial; sequence = old.sequence; kind = Frame n; first = false; last = false }) packet) end in
@@ -138,7 +138,7 @@ returns g c =
       kept = λ other. absurd (other refl);
       begun = λ w known.
           let frame = subst (λ p. SpellsFrame (sound_of old.pushed.shape block) (frame_with old.pushed.number block) (bits_of p)) same is.spells in
-          let least = subst (λ p. SpellsLeast old.pushed.predictors (sound_of old.pushed.shape block) (frame_with old.pushed.number block) (bits_of p)) same is.least in
+          let least = subst (λ p. SpellsLeastFound old.pushed.search old.pushed.predictors (sound_of old.pushed.shape block) (frame_with old.pushed.number block) (bits_of p)) same is.least in
           let end : c.samples.result + c.block_len.result ≡ b.samples + samples_each block =
           ap (λ n. n + c.block_len.result) (c.samples.ensures.value ∙ ap (λ (e : Pushed ⊤). e.samples) c.encode.ensures.kept) ∙ ap (λ n. b.samples + n) c.block_len.ensures in
           let middle = c.in-Ok.ensures.middle ∙ ap (λ n. packet_spelling (record { serial = old.serial; sequence = old.sequence; kind = Frame n; first = false; last = false }) packet) end in
