@@ -2,9 +2,12 @@
  *
  * usage: door lines FILE..     lines for each file: its path; what verifying it answers; its information, vendor and comments, or why there
  *                              are none; the number and the CRC-32 of its samples as bytes and as numbers, or why they are refused
+ *        door subset FILE..    the same lines by the calls that take a profile, in the streamable subset; `door lax FILE..` of all streams
+ *        door blocks FILE..    lines for each file: its path; of each metadata block where it is and what it is; or why there are none
  *        door refuse FILE..    refuses the first allocation of each call, then the second, and so on
  *        door encode RAW OUT RATE CHANNELS BITS BLOCK SEEK OGG SERIAL VENDOR COMMENT..
- *                              encodes raw samples, each of whole bytes, the lowest first, and writes the stream
+ *                              encodes raw samples, each of whole bytes, the lowest first, and writes the stream; encode_subset,
+ *                              encode_subset_1, encode_subset_2 and encode_lax do so by the call that takes options
  *        door time CALL N FILE the seconds of N calls: verify, decode or samples */
 #include "flac_proved.h"
 
@@ -30,6 +33,12 @@ static int32_t no_numbers[1];
 /* The request of this number is refused, none if it is 0. `live` is how many blocks are allocated. */
 static unsigned long refused, asked;
 static long live;
+
+/* By which calls streams are read: without a profile, with that of the streamable subset, or with that of all streams. */
+static enum { PLAIN, BY_SUBSET, BY_LAX } way = PLAIN;
+
+/* How much is searched: encode_subset_1 and encode_subset_2 search. */
+static uint32_t effort;
 
 void *__wrap_malloc(size_t size) {
     void *block;
@@ -79,6 +88,27 @@ static struct file read_file(const char *path) {
     must(fread(file.bytes, 1, file.len, in) == file.len, 3);
     fclose(in);
     return file;
+}
+
+/* ---- the calls, with a profile or without */
+
+static uint32_t verify(struct file file, struct flac_proved_fault *fault) {
+    return way == PLAIN ? flac_proved_verify(file.bytes, file.len, fault) : flac_proved_verify_in(file.bytes, file.len, way == BY_LAX ? 7 : 0, fault);
+}
+
+static uint32_t decode(struct file file, uint32_t width, uint8_t *out, size_t room, size_t *len, struct flac_proved_fault *fault) {
+    return way == PLAIN ? flac_proved_decode(file.bytes, file.len, width, out, room, len, fault)
+                        : flac_proved_decode_in(file.bytes, file.len, width, way == BY_LAX ? 7 : 0, out, room, len, fault);
+}
+
+static uint32_t samples_of(struct file file, int32_t *out, size_t room, size_t *len, struct flac_proved_fault *fault) {
+    return way == PLAIN ? flac_proved_samples(file.bytes, file.len, out, room, len, fault)
+                        : flac_proved_samples_in(file.bytes, file.len, way == BY_LAX ? 7 : 0, out, room, len, fault);
+}
+
+static uint32_t next(struct file file, struct flac_proved_cursor *cursor, int32_t *out, size_t room, size_t *len, struct flac_proved_fault *fault) {
+    return way == PLAIN ? flac_proved_next(file.bytes, file.len, cursor, out, room, len, fault)
+                        : flac_proved_next_in(file.bytes, file.len, way == BY_LAX ? 7 : 0, cursor, out, room, len, fault);
 }
 
 /* ---- lines */
@@ -162,16 +192,16 @@ static struct file decoded(struct file file, uint32_t width, uint32_t due) {
     struct flac_proved_fault fault;
     struct file half, all = {NULL, 0};
     size_t len = 99;
-    uint32_t number = flac_proved_decode(file.bytes, file.len, width, nothing, 0, &len, &fault);
+    uint32_t number = decode(file, width, nothing, 0, &len, &fault);
     must(number == fault.number && number == due && (number == 0 || len == 99), 8);
     if (number != 0) {
         return all;
     }
     all.bytes = room_for(len, 1);
-    must(flac_proved_decode(file.bytes, file.len, width, all.bytes, len, &all.len, &fault) == 0 && all.len == len, 8);
+    must(decode(file, width, all.bytes, len, &all.len, &fault) == 0 && all.len == len, 8);
     /* half the room: nothing is written after it, and what is written is the same */
     half.bytes = room_for(len / 2, 1);
-    must(flac_proved_decode(file.bytes, file.len, width, half.bytes, len / 2, &half.len, &fault) == 0 && half.len == len, 8);
+    must(decode(file, width, half.bytes, len / 2, &half.len, &fault) == 0 && half.len == len, 8);
     must(memcmp(half.bytes, all.bytes, len / 2) == 0, 8);
     __real_free(half.bytes);
     return all;
@@ -182,7 +212,7 @@ static void put_samples(struct file file, uint32_t due) {
     int32_t *samples;
     struct file bytes = decoded(file, 0, due), wide = decoded(file, 4, due);
     size_t len = 99;
-    uint32_t number = flac_proved_samples(file.bytes, file.len, no_numbers, 0, &len, &fault);
+    uint32_t number = samples_of(file, no_numbers, 0, &len, &fault);
     must(number == fault.number && number == due && (number == 0 || len == 99), 8);
     if (number != 0) {
         printf(" decode ");
@@ -190,7 +220,7 @@ static void put_samples(struct file file, uint32_t due) {
         return;
     }
     samples = room_for(len + 1, sizeof *samples);
-    must(4 * len == wide.len && flac_proved_samples(file.bytes, file.len, samples, len + 1, &len, &fault) == 0, 8);
+    must(4 * len == wide.len && samples_of(file, samples, len + 1, &len, &fault) == 0, 8);
     /* with more room than is needed the rest stays as it is */
     must(memcmp(samples, wide.bytes, wide.len) == 0 && (uint32_t)samples[len] == 0xA5A5A5A5U, 8);
     printf(" decode %llu %08x\n", (unsigned long long)bytes.len, crc(bytes.bytes, bytes.len));
@@ -211,14 +241,14 @@ static int32_t *stepped(struct file file, struct flac_proved_cursor *cursor, siz
     size_t again = 98;
     uint32_t number;
     *len = 99;
-    number = flac_proved_next(file.bytes, file.len, cursor, no_numbers, 0, len, fault);
+    number = next(file, cursor, no_numbers, 0, len, fault);
     must(number == fault->number && is_there(&before, cursor) && (number == 0 || *len == 99), 13);
     if (number != 0) {
         return NULL;
     }
     must((*len == 0) == (cursor->offset == file.len), 13);
     samples = room_for(*len + 1, sizeof *samples);
-    must(flac_proved_next(file.bytes, file.len, cursor, samples, *len + 1, &again, fault) == 0 && again == *len, 13);
+    must(next(file, cursor, samples, *len + 1, &again, fault) == 0 && again == *len, 13);
     must((uint32_t)samples[*len] == 0xA5A5A5A5U && (*len == 0) == is_there(&before, cursor), 13);
     return samples;
 }
@@ -282,9 +312,9 @@ static void sought(struct file file, uint64_t sample, const int32_t *all, size_t
 static int32_t *all_samples(struct file file, size_t *count) {
     struct flac_proved_fault fault;
     int32_t *all;
-    must(flac_proved_samples(file.bytes, file.len, no_numbers, 0, count, &fault) == 0, 8);
+    must(samples_of(file, no_numbers, 0, count, &fault) == 0, 8);
     all = room_for(*count, sizeof *all);
-    must(flac_proved_samples(file.bytes, file.len, all, *count, count, &fault) == 0, 8);
+    must(samples_of(file, all, *count, count, &fault) == 0, 8);
     return all;
 }
 
@@ -346,7 +376,7 @@ static void step_through(struct file file, const struct flac_proved_fault *due) 
 static void put_lines(const char *path) {
     struct file file = read_file(path);
     struct flac_proved_fault fault;
-    uint32_t number = flac_proved_verify(file.bytes, file.len, &fault);
+    uint32_t number = verify(file, &fault);
     must(number == fault.number && live == 0, 7);
     printf("%s\n verify ", path);
     number == 0 ? (void)printf("ok\n") : put_fault(&fault);
@@ -357,9 +387,51 @@ static void put_lines(const char *path) {
     __real_free(file.bytes);
 }
 
+/* ---- blocks */
+
+static void put_block(struct file file, const struct flac_proved_block *block) {
+    const struct flac_proved_picture *p = &block->picture;
+    printf(" block %llu %llu %llu %u %u\n", (unsigned long long)block->offset, (unsigned long long)block->length, (unsigned long long)block->parts,
+           block->kind, block->last);
+    if (block->kind != 6) {
+        must(p->kind == 0 && p->width == 0 && p->height == 0 && p->depth == 0 && p->colours == 0 && p->media.offset == 0 && p->media.len == 0, 15);
+        must(p->description.offset == 0 && p->description.len == 0 && p->data.offset == 0 && p->data.len == 0, 15);
+        return;
+    }
+    must(p->data.offset <= file.len && p->data.len <= file.len - p->data.offset && p->data.offset + p->data.len == block->offset + 4 + block->length, 15);
+    printf(" picture %u %u %u %u %u %08x\n", p->kind, p->width, p->height, p->depth, p->colours, crc(file.bytes + p->data.offset, p->data.len));
+    put_text("media", file.bytes + p->media.offset, p->media.len);
+    put_text("description", file.bytes + p->description.offset, p->description.len);
+}
+
+static void put_blocks(const char *path) {
+    struct file file = read_file(path);
+    struct flac_proved_cursor cursor;
+    struct flac_proved_fault fault, other;
+    struct flac_proved_block none[1], *blocks;
+    size_t len = 99, again = 98, i;
+    uint32_t number = flac_proved_blocks(file.bytes, file.len, none, 0, &len, &fault);
+    must(number == fault.number && live == 0 && (number == 0 || len == 99), 15);
+    printf("%s\n", path);
+    if (number != 0) {
+        must(flac_proved_start(file.bytes, file.len, &cursor, &other) == number && other.place == fault.place && other.index == fault.index, 15);
+        printf(" refused ");
+        put_fault(&fault);
+    } else {
+        blocks = room_for(len + 1, sizeof *blocks);
+        must(flac_proved_blocks(file.bytes, file.len, blocks, len + 1, &again, &fault) == 0 && again == len && live == 0, 15);
+        must(((uint8_t *)&blocks[len])[0] == 0xA5 && blocks[len].kind == 0xA5A5A5A5U, 15);
+        for (i = 0; i < len; i++) {
+            put_block(file, &blocks[i]);
+        }
+        __real_free(blocks);
+    }
+    __real_free(file.bytes);
+}
+
 /* ---- refuse */
 
-static const char *const names[] = {"verify", "info", "comment", "vendor", "decode", "samples", "encode", "encode_ogg", "start", "seek", "next"};
+static const char *const names[] = {"verify", "info", "comment", "vendor", "decode", "samples", "encode", "encode_ogg", "start", "seek", "next", "blocks"};
 
 /* What the calls fill in. */
 static struct {
@@ -367,6 +439,7 @@ static struct {
     int32_t numbers[25000];
     struct flac_proved_stream_info info;
     struct flac_proved_cursor cursor;
+    struct flac_proved_block blocks[8];
     size_t len;
 } given;
 
@@ -394,6 +467,9 @@ static uint32_t call(size_t which, struct file file) {
         number = flac_proved_start(file.bytes, file.len, &given.cursor, &fault);
         return number != 0 ? number : flac_proved_next(file.bytes, file.len, &given.cursor, given.numbers, 25000, &given.len, &fault);
     }
+    if (which == 11) {
+        return flac_proved_blocks(file.bytes, file.len, given.blocks, 8, &given.len, &fault);
+    }
     for (i = 0; i < 200; i++) {
         samples[i] = i * i % 1000 - 17 * i;
     }
@@ -415,7 +491,14 @@ static uint64_t mixed(uint64_t sum, const void *from, size_t len) {
 static uint64_t sum_given(void) {
     const uint64_t places[4] = {given.cursor.offset, given.cursor.frames, given.cursor.sample, given.len};
     uint64_t sum = mixed(mixed(14695981039346656037u, given.text, sizeof given.text), given.numbers, sizeof given.numbers);
-    return mixed(mixed(mixed(sum, places, sizeof places), &given.info, INFO_BYTES), &given.cursor.info, INFO_BYTES);
+    size_t i;
+    sum = mixed(mixed(mixed(sum, places, sizeof places), &given.info, INFO_BYTES), &given.cursor.info, INFO_BYTES);
+    for (i = 0; i < 8; i++) {
+        const struct flac_proved_block *block = &given.blocks[i];
+        const uint64_t numbers[5] = {block->offset, block->length, block->parts, block->kind, block->picture.data.offset};
+        sum = mixed(sum, numbers, sizeof numbers);
+    }
+    return sum;
 }
 
 /* Refuses each request of each call: the call answers 2 and frees all, or it answers and fills in what it does without a refusal. */
@@ -450,6 +533,15 @@ static void refuse_each(const char *path) {
 
 /* ---- encode */
 
+static uint32_t encoded(const struct flac_proved_settings *settings, const int32_t *samples, size_t count, const struct flac_proved_tags *tags,
+                        uint8_t *out, size_t room, size_t *len) {
+    struct flac_proved_options options;
+    options.profile = way == BY_LAX ? 7 : 0;
+    options.effort = effort;
+    return way == PLAIN ? flac_proved_encode(settings, samples, count, tags, out, room, len)
+                        : flac_proved_encode_in(settings, &options, samples, count, tags, out, room, len);
+}
+
 static void encode(int count, char **words) {
     struct file raw = read_file(words[2]), stream = {NULL, 0};
     struct flac_proved_settings settings = {(uint32_t)atol(words[4]), (uint32_t)atol(words[5]), (uint32_t)atol(words[6]), (uint32_t)atol(words[7]),
@@ -474,7 +566,7 @@ static void encode(int count, char **words) {
         texts[i].bytes = (const uint8_t *)words[12 + i];
         texts[i].len = strlen(words[12 + i]);
     }
-    number = flac_proved_encode(&settings, list, samples, &tags, nothing, 0, &len);
+    number = encoded(&settings, list, samples, &tags, nothing, 0, &len);
     must(live == 0 && (number == 0 || len == 99), 10);
     if (number != 0) {
         uint8_t reason[64] = {0};
@@ -483,7 +575,7 @@ static void encode(int count, char **words) {
     } else {
         must(len <= flac_proved_bound(&settings, samples, &tags), 12);
         stream.bytes = room_for(len, 1);
-        must(flac_proved_encode(&settings, list, samples, &tags, stream.bytes, len, &stream.len) == 0 && stream.len == len, 10);
+        must(encoded(&settings, list, samples, &tags, stream.bytes, len, &stream.len) == 0 && stream.len == len, 10);
         out = fopen(words[3], "wb");
         must(out != NULL && fwrite(stream.bytes, 1, len, out) == len && fclose(out) == 0, 3);
         __real_free(stream.bytes);
@@ -517,7 +609,14 @@ static void time_calls(const char *which, long n, const char *path) {
 
 int main(int count, char **words) {
     int i;
-    if (count >= 12 && strcmp(words[1], "encode") == 0) {
+    if (count >= 2 && strstr(words[1], "lax") != NULL) {
+        way = BY_LAX;
+    } else if (count >= 2 && strstr(words[1], "subset") != NULL) {
+        way = BY_SUBSET;
+    }
+    if (count >= 12 && strncmp(words[1], "encode", 6) == 0) {
+        const char *end = words[1] + strlen(words[1]) - 1;
+        effort = *end == '1' || *end == '2' ? (uint32_t)(*end - '0') : 0;
         encode(count, words);
         return 0;
     }
@@ -526,7 +625,13 @@ int main(int count, char **words) {
         return 0;
     }
     for (i = 2; i < count; i++) {
-        strcmp(words[1], "lines") == 0 ? put_lines(words[i]) : refuse_each(words[i]);
+        if (strcmp(words[1], "refuse") == 0) {
+            refuse_each(words[i]);
+        } else if (strcmp(words[1], "blocks") == 0) {
+            put_blocks(words[i]);
+        } else {
+            put_lines(words[i]);
+        }
     }
     return 0;
 }

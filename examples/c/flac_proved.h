@@ -1,6 +1,6 @@
 /* FLAC streams in memory: verified, described, decoded and encoded by code that is proved.
  *
- * The calls of version 0.4, for C99 and C++ on x86-64. docs/c.md has a worked example.
+ * The calls of version 0.5, for C99 and C++ on x86-64. docs/c.md has a worked example.
  *
  * Link with libflac_c.a, which tools/build --library makes in crates/flac_c/out, and with liblibc_c.a of the toolchain, which passes allocations on
  * to malloc, realloc and free. The Makefile beside this file has the lines.
@@ -17,6 +17,9 @@
  *
  * Numbers: each call that reads or encodes returns 0, or the number of a reason (docs/errors.md); flac_proved_strerror has its text.
  * flac_proved_bound, flac_proved_strerror and flac_proved_place return a number of bytes.
+ *
+ * Profiles: a call whose name ends in _in takes a profile, or options with one: 0 stands for the streamable subset (RFC 9639, section 7), any
+ * other number for all streams. The call without _in does the same for the subset. Metadata is the same in both.
  *
  * Buffers: a call that fills a buffer of `room` elements stores in *len how many elements there are in all. It writes them to the front of
  * the buffer, as far as there is room, and nothing after that; the rest of the buffer stays as it is. So *len > room means that the buffer
@@ -51,6 +54,7 @@ size_t flac_proved_place(uint32_t place, uint8_t *out, size_t room);
 /* Verifies that bytes are one whole stream: its layout, its checks, and the number and the MD5 of its samples.
  * Returns 0, or the number of the first fault, and fills in the fault. */
 uint32_t flac_proved_verify(const uint8_t *bytes, size_t size, struct flac_proved_fault *fault);
+uint32_t flac_proved_verify_in(const uint8_t *bytes, size_t size, uint32_t profile, struct flac_proved_fault *fault);
 
 /* What a stream says of itself: STREAMINFO (RFC 9639, section 8.2), and how many comments it has (section 8.6). */
 struct flac_proved_stream_info {
@@ -82,11 +86,51 @@ uint32_t flac_proved_vendor(const uint8_t *bytes, size_t size, uint8_t *out, siz
  * Returns 0 only if the bytes are one whole stream, as flac_proved_verify does; otherwise the number of the first fault.
  * flac_proved_info tells before how many samples there are: total * channels, unless total is 0. */
 uint32_t flac_proved_samples(const uint8_t *bytes, size_t size, int32_t *out, size_t room, size_t *len, struct flac_proved_fault *fault);
+uint32_t flac_proved_samples_in(const uint8_t *bytes, size_t size, uint32_t profile, int32_t *out, size_t room, size_t *len,
+                                struct flac_proved_fault *fault);
 
 /* The same as bytes: each sample has `width` bytes, 1 to 4, the lowest first, in two's complement. If width is 0 it has the fewest bytes
  * that hold its bits; these are the bytes that `flac decode` writes. If width is smaller than that, the higher bytes are left out. A width
  * above 4 stands for 4. */
 uint32_t flac_proved_decode(const uint8_t *bytes, size_t size, uint32_t width, uint8_t *out, size_t room, size_t *len,
+                            struct flac_proved_fault *fault);
+uint32_t flac_proved_decode_in(const uint8_t *bytes, size_t size, uint32_t width, uint32_t profile, uint8_t *out, size_t room, size_t *len,
+                               struct flac_proved_fault *fault);
+
+/* ---- The metadata blocks of a native stream. An Ogg stream is refused at the marker: a block may be cut into pages there. */
+
+/* Some bytes of a stream, which are not copied: `len` bytes from bytes + offset on. */
+struct flac_proved_span {
+    uint64_t offset;
+    uint64_t len;
+};
+
+/* A picture (RFC 9639, section 8.8). */
+struct flac_proved_picture {
+    uint32_t kind;    /* what it shows, by the numbers of section 8.8: 3 is the front cover */
+    uint32_t width;   /* in pixels, 0 if unknown */
+    uint32_t height;  /* in pixels, 0 if unknown */
+    uint32_t depth;   /* bits a pixel, 0 if unknown */
+    uint32_t colours; /* how many colours an indexed picture uses, 0 for others */
+    struct flac_proved_span media;       /* the media type, as image/png, or --> if the data is a URI */
+    struct flac_proved_span description; /* in UTF-8; nothing judges whether it is */
+    struct flac_proved_span data;        /* the data of the picture */
+};
+
+/* A metadata block (RFC 9639, section 8.1). */
+struct flac_proved_block {
+    uint64_t offset; /* bytes from the first byte of the stream to its header of 4 bytes; its content begins at offset + 4 */
+    uint64_t length; /* bytes of its content */
+    uint64_t parts;  /* how many comments, seek points of 18 bytes each (section 8.5), or tracks of a cue sheet it has; 0 for other types */
+    uint32_t kind;   /* 0 STREAMINFO, 1 padding, 2 an application, 3 a seek table, 4 comments, 5 a cue sheet, 6 a picture; to 126 reserved */
+    uint32_t last;   /* 1 if it is the last block, else 0 */
+    struct flac_proved_picture picture; /* of type 6; zeros for other types */
+};
+
+/* Lists all metadata blocks of a native stream in their order. Each was read and keeps the rules of its type. Frames are not read, and
+ * `bytes` may be a prefix of the stream that has all blocks.
+ * Returns 0, or the number of the fault of the marker or of a block. */
+uint32_t flac_proved_blocks(const uint8_t *bytes, size_t size, struct flac_proved_block *out, size_t room, size_t *len,
                             struct flac_proved_fault *fault);
 
 /* ---- Reading a native stream frame by frame. An Ogg stream is refused at the marker: its frames are in packets that no offset names. */
@@ -119,6 +163,8 @@ uint32_t flac_proved_seek(const uint8_t *bytes, size_t size, uint64_t sample, st
  * judged by the calls that read the whole stream. */
 uint32_t flac_proved_next(const uint8_t *bytes, size_t size, struct flac_proved_cursor *cursor, int32_t *out, size_t room, size_t *len,
                           struct flac_proved_fault *fault);
+uint32_t flac_proved_next_in(const uint8_t *bytes, size_t size, uint32_t profile, struct flac_proved_cursor *cursor, int32_t *out, size_t room,
+                             size_t *len, struct flac_proved_fault *fault);
 
 /* ---- Writing a stream. */
 
@@ -162,8 +208,18 @@ struct flac_proved_tags {
 uint32_t flac_proved_encode(const struct flac_proved_settings *settings, const int32_t *samples, size_t count,
                             const struct flac_proved_tags *tags, uint8_t *out, size_t room, size_t *len);
 
+/* In which profile samples are encoded, and with how much effort. */
+struct flac_proved_options {
+    uint32_t profile; /* 0: the streamable subset; otherwise all streams: rate is 1 to 1048575, bits are 4 to 32, block_size is 16 to 65535 */
+    uint32_t effort;  /* 0: the fixed predictors alone; 1: and the linear ones that a quick search finds for each block; 2: a longer search */
+};
+
+/* The same by options; with zeros it writes the stream of flac_proved_encode. A search makes no stream longer. */
+uint32_t flac_proved_encode_in(const struct flac_proved_settings *settings, const struct flac_proved_options *options, const int32_t *samples,
+                               size_t count, const struct flac_proved_tags *tags, uint8_t *out, size_t room, size_t *len);
+
 /* A number of bytes that is enough for the buffer of flac_proved_encode: no stream of `count` samples with these settings and these comments
- * has more. It is computed by plain arithmetic: the bytes of the samples as they are, and of what is around them. Settings that are refused
+ * has more, in either profile and by any search. It is computed by plain arithmetic: the bytes of the samples as they are, and of what is around them. Settings that are refused
  * may have any bound; it stops at 2^64 - 1. */
 uint64_t flac_proved_bound(const struct flac_proved_settings *settings, size_t count, const struct flac_proved_tags *tags);
 

@@ -9,7 +9,7 @@ use Rattle.flac_bits.specs.declared.why.Why.TheVariants as why
 use Rattle.flac_meta.specs.Listed.{list_fault, info_seen}
 use Rattle.flac_meta.specs.declared.block.Block.{Block}
 use Rattle.flac_frame.specs.Audio.{Sound, audio_fault}
-use Rattle.flac_header.specs.declared.subset.Profile.TheVariants.{Subset}
+use Rattle.flac_header.specs.declared.subset.Profile.{Profile}
 use Rattle.flac_frame.specs.Setup as setup
 use Rattle.flac_frame.specs.declared.setup.SetupFault.{SetupFault}
 use Rattle.flac_frame.specs.declared.setup.SetupFault.TheVariants.{BadRate, BadDepth, BadChannels, LengthsDiffer, SampleTooLarge, TooLong, BadBlockSize, TooManyPoints, PredictorOrder, TooManyPredictors}
@@ -133,20 +133,20 @@ no_count n none = grind (arith, nat_tests)
 pub high_count : (n : ℕ) → 8 < n → (nat_eq n 0 || nat_lt 8 n) ≡ true
 high_count n many = grind (arith, nat_tests)
 
-module _ (s : FlacProvedSettings) (samples : List ℤ) (n : ℕ) where
-  pub bad_count : (nat_eq s.channels 0 || nat_lt 8 s.channels) ≡ true → n ≡ 42 → option_map setup.number_of (samples_fault s samples) ≡ Some n
+module _ (profile : Profile) (s : FlacProvedSettings) (samples : List ℤ) (n : ℕ) where
+  pub bad_count : (nat_eq s.channels 0 || nat_lt 8 s.channels) ≡ true → n ≡ 42 → option_map setup.number_of (samples_fault profile s samples) ≡ Some n
   unfolding samples_fault
   bad_count e is = rw (e, is) refl
 
   module _ (some : 1 ≤ s.channels) (few : s.channels ≤ 8) where
-    pub bad_length : length samples % s.channels ≢ 0 → n ≡ 43 → option_map setup.number_of (samples_fault s samples) ≡ Some n
+    pub bad_length : length samples % s.channels ≢ 0 → n ≡ 43 → option_map setup.number_of (samples_fault profile s samples) ≡ Some n
     unfolding samples_fault
     bad_length part is = rw (counts_fit s.channels some few, ne_eqb (length samples % s.channels) 0 part, is) refl
 
-    pub bad_samples : (f : SetupFault) (channels : List (List ℤ)) → length samples % s.channels ≡ 0 → channels ≡ (sound_of s samples).channels → audio_fault Subset s.rate s.bits channels ≡ Some f
-        → n ≡ setup.number_of f → option_map setup.number_of (samples_fault s samples) ≡ Some n
+    pub bad_samples : (f : SetupFault) (channels : List (List ℤ)) → length samples % s.channels ≡ 0 → channels ≡ (sound_of profile s samples).channels → audio_fault profile s.rate s.bits channels ≡ Some f
+        → n ≡ setup.number_of f → option_map setup.number_of (samples_fault profile s samples) ≡ Some n
     unfolding samples_fault
     bad_samples f channels whole are bad is =
         let all : nat_eq (length samples % s.channels) 0 ≡ true = rw whole refl in
-        let fault : audio_fault Subset s.rate s.bits (sound_of s samples).channels ≡ Some f = subst (λ l. audio_fault Subset s.rate s.bits l ≡ Some f) are bad in
+        let fault : audio_fault profile s.rate s.bits (sound_of profile s samples).channels ≡ Some f = subst (λ l. audio_fault profile s.rate s.bits l ≡ Some f) are bad in
         rw (counts_fit s.channels some few, all, fault, is) refl

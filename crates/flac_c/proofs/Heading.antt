@@ -19,7 +19,7 @@ use Rattle.flac_meta.specs.declared.block.Seen.{Seen}
 use Rattle.flac_meta.specs.declared.block.Block.{Block}
 use Rattle.flac_meta.specs.declared.comments.Comments.{Comments}
 use Rattle.flac_meta.specs.declared.seek_table.SeekPoint.{SeekPoint}
-use Rattle.flac_header.specs.declared.subset.Profile.TheVariants.{Subset}
+use Rattle.flac_header.specs.declared.subset.Profile.{Profile}
 use Rattle.flac_native.specs.Stream.{Piece, marked, block, framed, Progress, Stand, grammar, opening, next, layout, layout_in, marker, room_in, may_end_in, place_in, phase_after, raised, info_after}
 use Rattle.flac_native.specs.declared.fault.Place.TheVariants as place
 use Rattle.flac_native.specs.declared.track.Phase.{Phase}
@@ -31,8 +31,8 @@ use Rattle.flac_c.specs.declared.metadata.Metadata.{Metadata}
 
 -- ---- what blocks tell, after one more
 
-info_more : (parts : List Piece) (last : Bool) (b : Block) → (state_after grammar (opening Subset) (parts ++ block last b ∷ [])).stand.info ≡ info_after (state_after grammar (opening Subset) parts).stand.info b
-info_more parts last b = ap (λ (p : Progress). p.stand.info) (state_after-append grammar (opening Subset) parts (block last b))
+info_more : (profile : Profile) (parts : List Piece) (last : Bool) (b : Block) → (state_after grammar (opening profile) (parts ++ block last b ∷ [])).stand.info ≡ info_after (state_after grammar (opening profile) parts).stand.info b
+info_more profile parts last b = ap (λ (p : Progress). p.stand.info) (state_after-append grammar (opening profile) parts (block last b))
 
 comments_more : (i : Option Comments) (xs : List Piece) (last : Bool) (b : Block) → comments_from i (xs ++ block last b ∷ []) ≡ comments_after (comments_from i xs) b
 comments_more i [] last b = refl
@@ -52,13 +52,16 @@ metadata_more (marked ∷ xs) last b e = metadata_more xs last b e
 metadata_more (block l c ∷ xs) last b e = metadata_more xs last b e
 metadata_more (framed f ∷ xs) last b e = absurd cc
 
-found_more : (sample : ℕ) (parts : List Piece) (found noted : Metadata) (last : Bool) (b : Block) → IsFound sample parts found → Noted found b noted → IsFound sample (parts ++ block last b ∷ []) noted
-found_more sample parts found noted last b f n = record {
-  info = n.info ∙ ap (λ o. info_after o b) f.info ∙ sym (info_more parts last b);
+pub found_more : (profile : Profile) (sample : ℕ) (parts : List Piece) (found noted : Metadata) (last : Bool) (b : Block) → IsFound profile sample parts found → Noted found b noted → IsFound profile sample (parts ++ block last b ∷ []) noted
+found_more profile sample parts found noted last b f n = record {
+  info = n.info ∙ ap (λ o. info_after o b) f.info ∙ sym (info_more profile parts last b);
   comments = n.comments (comments_from None parts) f.comments ∙ ap (λ o. count_of o) (sym (comments_more None parts last b));
   sought = n.sample ∙ f.sought;
   point = n.point ∙ ap (λ s. point_after s found.point b) f.sought ∙ ap (λ o. point_after sample o b) f.point ∙ sym (point_more sample None parts last b);
 }
+
+pub found_marked : (profile : Profile) (sample : ℕ) (found : Metadata) → IsFound profile sample [] found → IsFound profile sample (marked ∷ []) found
+found_marked profile sample found none = record { info = none.info; comments = none.comments; sought = none.sought; point = none.point }
 
 -- ---- one part
 
@@ -109,11 +112,11 @@ not_opened e = absurd cc
 
 -- ---- the marker
 
-pub marker_read : (start new : State) (sample : ℕ) (found : Metadata) (u : ⊤) → run marker (at_ start.cursor.left (fresh start.cursor.mark)) ≡ Ok (u, new.cursor) → IsFound sample [] found → new.known ≡ true → new.errors ≡ start.errors
-    → BlocksCome start new sample found nothing_seen 0
-marker_read start new sample found u ran none known same =
+pub marker_read : (profile : Profile) (start new : State) (Told : List Piece → Type 0) (u : ⊤) → run marker (at_ start.cursor.left (fresh start.cursor.mark)) ≡ Ok (u, new.cursor) → Told (marked ∷ []) → new.known ≡ true → new.errors ≡ start.errors
+    → BlocksCome profile start new Told nothing_seen 0
+marker_read profile start new Told u ran tells known same =
     let t = takes marker start.cursor.left (fresh start.cursor.mark) u new.cursor ran in
-    let h = as_marker (opening Subset).stand (fresh start.cursor.mark) t.0 u refl t.2 in
+    let h = as_marker (opening profile).stand (fresh start.cursor.mark) t.0 u refl t.2 in
     record {
       read = record {
         parts = marked ∷ [];
@@ -122,7 +125,7 @@ marker_read start new sample found u ran none known same =
         stands = t.1;
         spelled = (t.0, [], sym (append-nil t.0), h, tt, refl);
         mark = t.3;
-        tells = record { info = none.info; comments = none.comments; sought = none.sought; point = none.point };
+        tells = tells;
         known = known;
         errors = same;
       };
@@ -131,34 +134,34 @@ marker_read start new sample found u ran none known same =
       index_is = refl;
     }
 
-pub marker_refused : (start : State) (why : Why) → run marker (at_ start.cursor.left (fresh start.cursor.mark)) ≡ Err (because why) → IsRefusedAt start (record { at = place.Marker; why = why })
-marker_refused start why ran =
-    let stops = marker_stops (opening Subset).stand (fresh start.cursor.mark) start.cursor.left why refl (stops_of marker start.cursor.left (fresh start.cursor.mark) why ran) in
-    ([], record { front = []; left = start.cursor.left; stands = refl; spelled = refl; stops = inl (goes_on (opening Subset).stand start.cursor.left Opening refl not_opened, refl, stops) })
+pub marker_refused : (profile : Profile) (start : State) (why : Why) → run marker (at_ start.cursor.left (fresh start.cursor.mark)) ≡ Err (because why) → IsRefusedAt profile start (record { at = place.Marker; why = why })
+marker_refused profile start why ran =
+    let stops = marker_stops (opening profile).stand (fresh start.cursor.mark) start.cursor.left why refl (stops_of marker start.cursor.left (fresh start.cursor.mark) why ran) in
+    ([], record { front = []; left = start.cursor.left; stands = refl; spelled = refl; stops = inl (goes_on (opening profile).stand start.cursor.left Opening refl not_opened, refl, stops) })
 
 -- ---- a block
 
-module _ (start old : State) (sample : ℕ) (found : Metadata) (seen : Seen) (index : ℕ) (c : BlocksCome start old sample found seen index) where
+module _ (profile : Profile) (start old : State) (Told : List Piece → Type 0) (seen : Seen) (index : ℕ) (c : BlocksCome profile start old Told seen index) where
   abbrev before : Progress
-  before = state_after grammar (opening Subset) c.read.parts
+  before = state_after grammar (opening profile) c.read.parts
 
-  module _ (new : State) (noted : Metadata) (left : Seen) (last : Bool) (r : BlockRead seen left old new found noted last) where
+  module _ (new : State) (Kept : Block → Type 0) (left : Seen) (last : Bool) (r : BlockRead seen left old new Kept last) (Next : List Piece → Type 0) (tells : Next (c.read.parts ++ block last r.is ∷ [])) where
     abbrev x : Piece
     x = block last r.is
 
-    spelled_here : Spells (layout before.stand) (fresh (mark_after grammar (opening Subset) start.cursor.mark c.read.parts c.read.text c.read.spelled)) r.text x
-    spelled_here = as_block before.stand seen (fresh (mark_after grammar (opening Subset) start.cursor.mark c.read.parts c.read.text c.read.spelled)) r.text last r.is c.phase c.seen_is
+    spelled_here : Spells (layout before.stand) (fresh (mark_after grammar (opening profile) start.cursor.mark c.read.parts c.read.text c.read.spelled)) r.text x
+    spelled_here = as_block before.stand seen (fresh (mark_after grammar (opening profile) start.cursor.mark c.read.parts c.read.text c.read.spelled)) r.text last r.is c.phase c.seen_is
         (subst (λ (m : Mark). Spells (block_layout seen) (fresh m) r.text (last, r.is)) c.read.mark r.spelled)
 
-    room_here : InRoom (room_in before.stand.phase) (fresh (mark_after grammar (opening Subset) start.cursor.mark c.read.parts c.read.text c.read.spelled)) r.text
-    room_here = subst (λ k. InRoom (room_in k) (fresh (mark_after grammar (opening Subset) start.cursor.mark c.read.parts c.read.text c.read.spelled)) r.text) (sym c.phase) tt
+    room_here : InRoom (room_in before.stand.phase) (fresh (mark_after grammar (opening profile) start.cursor.mark c.read.parts c.read.text c.read.spelled)) r.text
+    room_here = subst (λ k. InRoom (room_in k) (fresh (mark_after grammar (opening profile) start.cursor.mark c.read.parts c.read.text c.read.spelled)) r.text) (sym c.phase) tt
 
     abbrev parts_more : List Piece
     parts_more = c.read.parts ++ x ∷ []
 
-    abbrev parts_read : PartsRead start new sample noted
+    abbrev parts_read : PartsRead profile start new Next
     parts_read =
-        let j = Joined-append grammar (opening Subset) start.cursor.mark c.read.parts x c.read.text r.text c.read.spelled spelled_here room_here in
+        let j = Joined-append grammar (opening profile) start.cursor.mark c.read.parts x c.read.text r.text c.read.spelled spelled_here room_here in
         record {
           parts = parts_more;
           metadata = metadata_more c.read.parts last r.is c.read.metadata;
@@ -166,18 +169,18 @@ module _ (start old : State) (sample : ℕ) (found : Metadata) (seen : Seen) (in
           stands = c.read.stands ∙ ap (λ l. c.read.text ++ l) r.stands ∙ sym (append_assoc c.read.text r.text new.cursor.left);
           spelled = j.0;
           mark = r.mark ∙ ap (λ m. past r.text (fresh m)) c.read.mark ∙ sym j.1;
-          tells = found_more sample c.read.parts found noted last r.is c.read.tells r.noted_is;
+          tells = tells;
           known = r.known;
           errors = r.errors ∙ c.read.errors;
         }
 
-    after_is : state_after grammar (opening Subset) parts_more ≡ next before x
-    after_is = state_after-append grammar (opening Subset) c.read.parts x
+    after_is : state_after grammar (opening profile) parts_more ≡ next before x
+    after_is = state_after-append grammar (opening profile) c.read.parts x
 
-    pub head_read : last ≡ true → HeadRead start new sample noted
+    pub head_read : last ≡ true → HeadRead profile start new Next
     head_read is = record { read = parts_read; phase = ap (λ (p : Progress). p.stand.phase) after_is ∙ ap (λ l. phase_after l) is }
 
-    pub blocks_come : last ≡ false → index < 18446744073709551615 → BlocksCome start new sample noted left (index + 1)
+    pub blocks_come : last ≡ false → index < 18446744073709551615 → BlocksCome profile start new Next left (index + 1)
     blocks_come is lt =
         let one : raised before.stand.index ≡ index + 1 = ap (λ k. raised k) c.index_is ∙ omega arith in
         record {
@@ -190,10 +193,10 @@ module _ (start old : State) (sample : ℕ) (found : Metadata) (seen : Seen) (in
   place_is : place.Block index ≡ place_in before.stand.phase before.stand.index
   place_is = sym (ap (λ k. place_in k before.stand.index) c.phase ∙ ap (λ n. place.Block n) c.index_is)
 
-  pub blocks_refused : (why : Why) → StopsIn None (block_layout seen) (fresh old.cursor.mark) old.cursor.left why → IsRefusedAt start (record { at = place.Block index; why = why })
+  pub blocks_refused : (why : Why) → StopsIn None (block_layout seen) (fresh old.cursor.mark) old.cursor.left why → IsRefusedAt profile start (record { at = place.Block index; why = why })
   blocks_refused why h =
       let there = subst (λ (m : Mark). StopsIn None (block_layout seen) (fresh m) old.cursor.left why) c.read.mark h in
-      let stops = block_stops before.stand seen (fresh (mark_after grammar (opening Subset) start.cursor.mark c.read.parts c.read.text c.read.spelled)) old.cursor.left why c.phase c.seen_is there in (
+      let stops = block_stops before.stand seen (fresh (mark_after grammar (opening profile) start.cursor.mark c.read.parts c.read.text c.read.spelled)) old.cursor.left why c.phase c.seen_is there in (
         c.read.parts,
         record {
           front = c.read.text;
@@ -215,10 +218,10 @@ failed why = Err why
 other_error : {A : Type 0} (why : Why) → why ≢ Memory → failed {A = A} why ≡ failed Memory → ⊥
 other_error why other h = let same : why ≡ Memory = cc in other same
 
-pub block_was_read : (seen left : Seen) (old begun new : State) (found noted : Metadata) (last : Bool) (b : Block) → old.known ≡ true → begun ≡ started old
-    → ReadsGivenMemory (λ x. x) (block_layout seen) begun new (Ok (last, b)) → Counts {X = Bool × Block} begun new (Ok (last, b)) → left ≡ seen_after seen b → Noted found b noted
-    → BlockRead seen left old new found noted last
-block_was_read seen left old begun new found noted last b known is reads counts seen_is noted_is =
+pub block_was_read : (seen left : Seen) (old begun new : State) (Kept : Block → Type 0) (last : Bool) (b : Block) → old.known ≡ true → begun ≡ started old
+    → ReadsGivenMemory (λ x. x) (block_layout seen) begun new (Ok (last, b)) → Counts {X = Bool × Block} begun new (Ok (last, b)) → left ≡ seen_after seen b → Kept b
+    → BlockRead seen left old new Kept last
+block_was_read seen left old begun new Kept last b known is reads counts seen_is kept =
     let same : begun.errors ≡ old.errors = ap (λ (s : State). s.errors) is in
     let told : begun.known ≡ true = ap (λ (s : State). s.known) is ∙ known in
     let place : begun.cursor ≡ at_ old.cursor.left (fresh old.cursor.mark) = ap (λ (s : State). s.cursor) is in
@@ -231,7 +234,7 @@ block_was_read seen left old begun new found noted last b known is reads counts 
       spelled = t.2;
       mark = t.3;
       seen_is = seen_is;
-      noted_is = noted_is;
+      kept = kept;
       known = counts.0 told;
       errors = counts.1 ∙ same;
     }
@@ -245,15 +248,15 @@ block_was_refused seen old begun new why known is reads quiet other =
     let ran = reads (other_error {A = Bool × Block} why other) told same in
     stops_of (block_layout seen) old.cursor.left (fresh old.cursor.mark) why (ap (λ (k : Cursor). run (block_layout seen) k) (sym place) ∙ ran)
 
-pub marker_was_read : (start begun new : State) (sample : ℕ) (found : Metadata) (u : ⊤) → begun ≡ started start → start.known ≡ true → Reads (λ x. x) marker begun new (Ok u) → Counts {X = ⊤} begun new (Ok u) → IsFound sample [] found
-    → BlocksCome start new sample found nothing_seen 0
-marker_was_read start begun new sample found u is known reads counts none =
+pub marker_was_read : (profile : Profile) (start begun new : State) (Told : List Piece → Type 0) (u : ⊤) → begun ≡ started start → start.known ≡ true → Reads (λ x. x) marker begun new (Ok u) → Counts {X = ⊤} begun new (Ok u) → Told (marked ∷ [])
+    → BlocksCome profile start new Told nothing_seen 0
+marker_was_read profile start begun new Told u is known reads counts tells =
     let read = subst (λ (s : State). Reads {X = ⊤} (λ x. x) marker s new (Ok u)) is reads in
     let counted = subst (λ (s : State). Counts {X = ⊤} s new (Ok u)) is counts in
-    marker_read start new sample found u (read known counted.1) none (counted.0 known) counted.1
+    marker_read profile start new Told u (read known counted.1) tells (counted.0 known) counted.1
 
-pub marker_was_refused : (start begun new : State) (why : Why) → begun ≡ started start → start.known ≡ true → Reads {X = ⊤} (λ x. x) marker begun new (Err why) → new.errors ≡ start.errors
-    → IsRefusedAt start (record { at = place.Marker; why = why })
-marker_was_refused start begun new why is known reads quiet =
+pub marker_was_refused : (profile : Profile) (start begun new : State) (why : Why) → begun ≡ started start → start.known ≡ true → Reads {X = ⊤} (λ x. x) marker begun new (Err why) → new.errors ≡ start.errors
+    → IsRefusedAt profile start (record { at = place.Marker; why = why })
+marker_was_refused profile start begun new why is known reads quiet =
     let read = subst (λ (s : State). Reads {X = ⊤} (λ x. x) marker s new (Err why)) is reads in
-    marker_refused start why (read known quiet)
+    marker_refused profile start why (read known quiet)

@@ -14,7 +14,7 @@ use Rattle.flac_bits.proofs.Handing.{Joined-append, state_after-append}
 use Rattle.flac_bits.proofs.Holding.{length-bits_of, bits_of-append}
 use Rattle.flac_bits.proofs.ItemSpellings.{fresh_unread, fresh_check8, fresh_check16, after_whole}
 use Rattle.flac_info.specs.Info.{Info, KeepsRules, without_totals}
-use Rattle.flac_header.specs.declared.subset.Profile.TheVariants.{Subset}
+use Rattle.flac_header.specs.declared.subset.Profile.{Profile}
 use Rattle.flac_frame.specs.Frame.{Frame, frame, header_rules}
 use Rattle.flac_frame.specs.Spelling.{FrameForm}
 use Rattle.flac_frame.specs.declared.before.Before.{Before}
@@ -37,17 +37,17 @@ at_most true greatest least first size before e = grind (arith, nat_tests)
 at_most false greatest least first size before e = grind (arith, nat_tests)
 
 -- what keeps the rules after other frames keeps them as the first
-first_kept : (i : Info) (before : Option Before) (g : FrameForm) → AllKept (header_rules Subset i before g.header) → AllKept (header_rules Subset (without_totals i) None g.header)
-first_kept i None g k = k
-first_kept i (Some b) g k = (k.0, (k.1.0, (refl, (at_most g.header.variable i.greatest_block i.least_block b.first_size g.header.size b.size k.1.1.1.0, tt))))
+first_kept : (profile : Profile) (i : Info) (before : Option Before) (g : FrameForm) → AllKept (header_rules profile i before g.header) → AllKept (header_rules profile (without_totals i) None g.header)
+first_kept profile i None g k = k
+first_kept profile i (Some b) g k = (k.0, (k.1.0, (refl, (at_most g.header.variable i.greatest_block i.least_block b.first_size g.header.size b.size k.1.1.1.0, tt))))
 
-frame_alone : (i : Info) (before : Option Before) (m : Mark) (text : List Bool) (f : Frame) → KeepsRules i → m.unread ≡ 0 → Spells (frame Subset i before) (fresh m) text f → Spells (frame Subset (without_totals i) None) (beginning Truncated) text f
-frame_alone i before m text f rules u h =
-    let s = (frames_spelled Subset i before (fresh m) text f rules (fresh_unread m u) (fresh_check8 m u) (fresh_check16 m u)).0 h in
+frame_alone : (profile : Profile) (i : Info) (before : Option Before) (m : Mark) (text : List Bool) (f : Frame) → KeepsRules i → m.unread ≡ 0 → Spells (frame profile i before) (fresh m) text f → Spells (frame profile (without_totals i) None) (beginning Truncated) text f
+frame_alone profile i before m text f rules u h =
+    let s = (frames_spelled profile i before (fresh m) text f rules (fresh_unread m u) (fresh_check8 m u) (fresh_check16 m u)).0 h in
     let v = s.valid in
-    (frames_spelled Subset (without_totals i) None (beginning Truncated) text f (without_totals_rules i rules) refl refl refl).1 (record {
+    (frames_spelled profile (without_totals i) None (beginning Truncated) text f (without_totals_rules i rules) refl refl refl).1 (record {
       form = s.form;
-      valid = record { header = v.header; follows = first_kept i before s.form v.follows; many = v.many; subframes = v.subframes };
+      valid = record { header = v.header; follows = first_kept profile i before s.form v.follows; many = v.many; subframes = v.subframes };
       spelling = s.spelling;
       frame = s.frame;
       samples = s.samples;
@@ -109,30 +109,30 @@ front_is bytes text left n split long = sym (take-append_seam text left) ∙ ap 
 -- ---- a frame at a cursor
 
 -- The next frame is there.
-pub record NextIn (bytes : List ℕ) (c : FlacProvedCursor) (front more : List Piece) (f : Frame) : Type 0 where
+pub record NextIn (profile : Profile) (bytes : List ℕ) (c : FlacProvedCursor) (front more : List Piece) (f : Frame) : Type 0 where
   pub n : ℕ
   pub rules : KeepsRules (info_from_c c.info)
-  pub at : IsFrameAt (info_from_c c.info) (drop c.offset bytes) f n
-  pub after : StandsIn bytes (passed c f (c.offset + n)) (front ++ framed f ∷ []) more
+  pub at : IsFrameAt profile (info_from_c c.info) (drop c.offset bytes) f n
+  pub after : StandsIn profile bytes (passed c f (c.offset + n)) (front ++ framed f ∷ []) more
 
-pub next_in : (bytes : List ℕ) (c : FlacProvedCursor) (front more : List Piece) (f : Frame) → StandsIn bytes c front (framed f ∷ more) → NextIn bytes c front more f
-next_in bytes c front more f h =
+pub next_in : (profile : Profile) (bytes : List ℕ) (c : FlacProvedCursor) (front more : List Piece) (f : Frame) → StandsIn profile bytes c front (framed f ∷ more) → NextIn profile bytes c front more f
+next_in profile bytes c front more f h =
     let o : ℕ = c.offset in
-    let q = parted (opening Subset) (beginning Truncated) front (framed f) more (bits_of bytes) nothing_told refl h.stream.spelled in
-    let m : Mark = mark_after grammar (opening Subset) (beginning Truncated) front q.head q.joined in
-    let s : Stand = (state_after grammar (opening Subset) front).stand in
+    let q = parted (opening profile) (beginning Truncated) front (framed f) more (bits_of bytes) nothing_told refl h.stream.spelled in
+    let m : Mark = mark_after grammar (opening profile) (beginning Truncated) front q.head q.joined in
+    let s : Stand = (state_after grammar (opening profile) front).stand in
     let all : bits_of bytes ≡ bits_of (take o bytes) ++ bits_of (drop o bytes) = ap (λ (l : List ℕ). bits_of l) (sym (take-append-drop o bytes)) ∙ bits_of-append (take o bytes) (drop o bytes) in
-    let left_is : q.here ++ q.rest ≡ bits_of (drop o bytes) = one_place (opening Subset) (beginning Truncated) front q.head (q.here ++ q.rest) (bits_of (take o bytes)) (bits_of (drop o bytes)) (sym q.split ∙ all) q.joined h.spelled in
+    let left_is : q.here ++ q.rest ≡ bits_of (drop o bytes) = one_place (opening profile) (beginning Truncated) front q.head (q.here ++ q.rest) (bits_of (take o bytes)) (bits_of (drop o bytes)) (sym q.split ∙ all) q.joined h.spelled in
     let phase : s.phase ≡ Frames = phase_there s (fresh m) q.here f q.spelled in
     let t = frame_there s (fresh m) q.here (framed f) phase q.spelled in
     let info_is : t.info ≡ h.info = same_info h.info t.info s.info h.told t.told in
     let frame_is : t.is ≡ f = one_frame f t.is t.part in
-    let judged = subst (λ k. Spells (frame k t.info s.before) (fresh m) q.here t.is) (after_profile (opening Subset) front) t.spelled in
-    let spelled = subst (λ (g : Frame). Spells (frame Subset h.info s.before) (fresh m) q.here g) frame_is (subst (λ (i : Info). Spells (frame Subset i s.before) (fresh m) q.here t.is) info_is judged) in
+    let judged = subst (λ k. Spells (frame k t.info s.before) (fresh m) q.here t.is) (after_profile (opening profile) front) t.spelled in
+    let spelled = subst (λ (g : Frame). Spells (frame profile h.info s.before) (fresh m) q.here g) frame_is (subst (λ (i : Info). Spells (frame profile i s.before) (fresh m) q.here t.is) info_is judged) in
     let rules : KeepsRules h.info = q.told h.info h.told in
     let rules' : KeepsRules (without_totals h.info) = without_totals_rules h.info rules in
-    let alone = frame_alone h.info s.before m q.here f rules q.whole spelled in
-    let whole : length q.here % 8 ≡ 0 = frame_whole (without_totals h.info) q.here f rules' alone in
+    let alone = frame_alone profile h.info s.before m q.here f rules q.whole spelled in
+    let whole : length q.here % 8 ≡ 0 = frame_whole profile (without_totals h.info) q.here f rules' alone in
     let n : ℕ = length q.here / 8 in
     let long : length q.here ≡ 8 * n = omega (arith, whole) in
     let rest_is : q.rest ≡ bits_of (drop n (drop o bytes)) = left_after (drop o bytes) q.here q.rest n (sym left_is) long in
@@ -143,23 +143,23 @@ next_in bytes c front more f h =
     let fence : InRoom (Some 16777215) (fresh m) q.here = subst (λ k. InRoom (room_in k) (fresh m) q.here) phase q.fits in
     let z : (fresh m).unread ≡ 0 = fresh_unread m q.whole in
     let room : InRoom (Some 16777215) (beginning Truncated) q.here = omega (arith, z, fence) in
-    let at : IsFrameAt (without_totals h.info) (drop o bytes) f n = record { text = q.here; split = sym left_is ∙ ap (λ l. q.here ++ l) rest_is; within = within; spelled = alone; room = room } in
+    let at : IsFrameAt profile (without_totals h.info) (drop o bytes) f n = record { text = q.here; split = sym left_is ∙ ap (λ l. q.here ++ l) rest_is; within = within; spelled = alone; room = room } in
     let heads_are : bits_of bytes ≡ (q.head ++ q.here) ++ q.rest = q.split ∙ sym (append_assoc q.head q.here q.rest) in
     let total : 8 * length bytes ≡ length q.head + length q.here + length q.rest =
     sym (length-bits_of bytes) ∙ ap (λ (l : List Bool). length l) heads_are ∙ length-append (q.head ++ q.here) q.rest ∙ ap (λ k. k + length q.rest) (length-append q.head q.here) in
     let both : length (q.head ++ q.here) ≡ 8 * (o + n) = length-append q.head q.here ∙ omega (arith, total, sum, dropped, before, long) in
     let text_is : q.head ++ q.here ≡ bits_of (take (o + n) bytes) = front_is bytes (q.head ++ q.here) q.rest (o + n) heads_are both in
-    let j = Joined-append grammar (opening Subset) (beginning Truncated) front (framed f) q.head q.here q.joined q.spelled q.fits in
+    let j = Joined-append grammar (opening profile) (beginning Truncated) front (framed f) q.head q.here q.joined q.spelled q.fits in
     let parts_are : front ++ framed f ∷ more ≡ (front ++ framed f ∷ []) ++ more = sym (append_assoc front (framed f ∷ []) more) in
-    let after_is : state_after grammar (opening Subset) (front ++ framed f ∷ []) ≡ next (state_after grammar (opening Subset) front) (framed f) = state_after-append grammar (opening Subset) front (framed f) in
+    let after_is : state_after grammar (opening profile) (front ++ framed f ∷ []) ≡ next (state_after grammar (opening profile) front) (framed f) = state_after-append grammar (opening profile) front (framed f) in
     record {
       n = n;
       rules = subst KeepsRules (sym h.same) rules';
-      at = subst (λ (i : Info). IsFrameAt i (drop o bytes) f n) (sym h.same) at;
+      at = subst (λ (i : Info). IsFrameAt profile i (drop o bytes) f n) (sym h.same) at;
       after = record {
-        stream = subst (λ (l : List Piece). Stream grammar (opening Subset) (beginning Truncated) l (bits_of bytes)) parts_are h.stream;
+        stream = subst (λ (l : List Piece). Stream grammar (opening profile) (beginning Truncated) l (bits_of bytes)) parts_are h.stream;
         before = omega (arith, before, within, dropped);
-        spelled = subst (λ (l : List Bool). Joined grammar (opening Subset) (beginning Truncated) (front ++ framed f ∷ []) l) text_is j.0;
+        spelled = subst (λ (l : List Bool). Joined grammar (opening profile) (beginning Truncated) (front ++ framed f ∷ []) l) text_is j.0;
         info = h.info;
         told = ap (λ (p : Progress). p.stand.info) after_is ∙ h.told;
         same = h.same;
@@ -167,9 +167,9 @@ next_in bytes c front more f h =
     }
 
 -- A call that hands over each frame that is there goes on in a stream.
-pub goes_on : (bytes : List ℕ) (old new : FlacProvedCursor) (out written : List ℤ) (len result : ℕ)
-    → (KeepsRules (info_from_c old.info) → (f : Frame) (n : ℕ) → IsFrameAt (info_from_c old.info) (drop old.offset bytes) f n → (result ≡ 2) ⊎ ((result ≡ 0) × HandsOver f (old.offset + n) old new out written len))
-    → (front more : List Piece) (f : Frame) → StandsIn bytes old front (framed f ∷ more) → (result ≡ 2) ⊎ ((result ≡ 0) × GoesOn bytes old new out written len front more f)
-goes_on bytes old new out written len result frames front more f h =
-    let x = next_in bytes old front more f h in
+pub goes_on : (profile : Profile) (bytes : List ℕ) (old new : FlacProvedCursor) (out written : List ℤ) (len result : ℕ)
+    → (KeepsRules (info_from_c old.info) → (f : Frame) (n : ℕ) → IsFrameAt profile (info_from_c old.info) (drop old.offset bytes) f n → (result ≡ 2) ⊎ ((result ≡ 0) × HandsOver f (old.offset + n) old new out written len))
+    → (front more : List Piece) (f : Frame) → StandsIn profile bytes old front (framed f ∷ more) → (result ≡ 2) ⊎ ((result ≡ 0) × GoesOn profile bytes old new out written len front more f)
+goes_on profile bytes old new out written len result frames front more f h =
+    let x = next_in profile bytes old front more f h in
     elim (frames x.rules f x.n x.at) [ inl two ↦ inl two | inr (zero_is, over) ↦ inr (zero_is, (old.offset + x.n, over, x.after)) ]

@@ -8,7 +8,7 @@ use Rattle.flac_native.specs.declared.fault.Fault.{Fault}
 use Rattle.flac_info.specs.Info.{Info}
 use Rattle.flac_meta.specs.declared.comments.Comments.{Comments}
 use Rattle.flac_bits.specs.Handing.{TakesAll, Hands, outcome_of}
-use Rattle.flac_header.specs.declared.subset.Profile.TheVariants.{Subset}
+use Rattle.flac_header.specs.declared.subset.Profile.{Profile}
 use Rattle.flac_ogg.specs.Verifying.{Verifies, bytes_reading}
 use Rattle.flac_native.specs.Stream.{Piece, marked, block, framed}
 use Rattle.flac_native.specs.Item.{Item, fault_pair}
@@ -39,18 +39,18 @@ why_in None = Memory
 why_in (Some p) = p.1
 
 -- Why bytes are refused whose receiver fails only if an allocation fails: that is told as such.
-pub refused_in_memory : {K : Type 0} (bytes : List ℕ) (takes : K → Piece → K → Type 0) (errors : K → ℕ) (calm : Type 0) (old new : K) (f : Fault) (w : Why)
-    → Hands (bytes_reading Subset bytes) takes errors calm old new (Some (fault_pair f)) → calm → errors old ≡ 0
+pub refused_in_memory : {K : Type 0} (profile : Profile) (bytes : List ℕ) (takes : K → Piece → K → Type 0) (errors : K → ℕ) (calm : Type 0) (old new : K) (f : Fault) (w : Why)
+    → Hands (bytes_reading profile bytes) takes errors calm old new (Some (fault_pair f)) → calm → errors old ≡ 0
     → (f.why ≡ Sink → w ≡ Memory) → (f.why ≢ Sink → w ≡ f.why)
-    → Verifies Subset bytes (Some (f.at, w))
-refused_in_memory bytes takes errors calm old new f w h quiet none sink others = λ other.
+    → Verifies profile bytes (Some (f.at, w))
+refused_in_memory profile bytes takes errors calm old new f w h quiet none sink others = λ other.
     let apart : f.why ≢ Sink = λ s. other (sink s) in
     let same : w ≡ f.why = others apart in
     elim (cases_lt 0 (errors new)) [
       | inl rose ↦ absurd (apart (ap why_in (h.failed (omega (arith, none, rose))).1))
       | inr few ↦
           let d = h.refused quiet f.at f.why refl (λ m. other (same ∙ m)) (omega (arith, none, few)) in
-          (d.0, subst (λ v. (bytes_reading Subset bytes).refused d.0 f.at v) (sym same) d.1)
+          (d.0, subst (λ v. (bytes_reading profile bytes).refused d.0 f.at v) (sym same) d.1)
     ]
 
 -- What holds of a STREAMINFO that is there.

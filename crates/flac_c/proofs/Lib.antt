@@ -7,11 +7,17 @@ pub mod Collecting
 pub mod Heading
 pub mod HeadBytes
 pub mod StreamStarts
+-- ---- metadata blocks that are listed
+pub mod BlockLengths
+pub mod Listing
+pub mod Places
+-- ---- frames
 pub mod FramesRead
 pub mod HandedOver
 pub mod InStreams
 -- ---- encoding: why samples are refused, and numbers of reasons
 pub mod Encodings
+pub mod Searched
 pub mod Numbered
 -- ---- how many bytes an encoded stream has at most
 pub mod Verbatims

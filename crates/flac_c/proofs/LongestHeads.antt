@@ -38,7 +38,7 @@ unfolding s.each_spelled
 texts_long [] = refl
 texts_long (text ∷ texts) = omega (arith, length-append (s.little_sized text) (s.each_spelled s.little_sized texts), sized_long text, texts_long texts)
 
-comments_long : (c : Comments) → length (s.comments_spelling c) ≡ 8 * s.comments_length c
+pub comments_long : (c : Comments) → length (s.comments_spelling c) ≡ 8 * s.comments_length c
 unfolding s.comments_spelling
 comments_long c = omega (
   arith,

@@ -11,7 +11,8 @@ use Rattle.flac_meta.specs.Listed.{list_fault, info_seen}
 use Rattle.flac_meta.specs.Spelling.{block_spelling, comments_length}
 use Rattle.flac_meta.specs.declared.block.Block.TheVariants.{StreamInfo, VorbisComment}
 use Rattle.flac_frame.specs.Audio.{Sound, samples_each}
-use Rattle.flac_native.specs.Given.{Cut, info_of, sound_message}
+use Rattle.flac_subframe.specs.declared.format.linear.LinearPredictor.{LinearPredictor}
+use Rattle.flac_native.specs.Given.{Cut, info_of, sound_message, with_found}
 use Rattle.flac_native.proofs.Digests.{digest_is_bytes}
 use Rattle.flac_native.proofs.WholeBytes.{length-joined}
 use Rattle.flac_pages.specs.declared.writing.PacketMarks.{PacketMarks}
@@ -30,6 +31,7 @@ use Rattle.flac_c.specs.declared.tags.FlacProvedTags.{FlacProvedTags}
 use Rattle.flac_c.specs.declared.encoding.FlacProvedSettings.{FlacProvedSettings}
 use Rattle.flac_c.proofs.LongestHeads.{comment_long, comments_counted, parts_few, parts_are}
 use Rattle.flac_c.proofs.LongestStreams.{each_is, frames_few}
+use Rattle.flac_header.specs.declared.subset.Profile.{Profile}
 
 -- ---- a packet in pages
 
@@ -114,19 +116,19 @@ texts_many ps = length-map (map (λ q. q.packet) ps) bits_of ∙ length-map ps (
 close : (whole packets parts frames many bytes : ℕ) → 200 * bytes ≤ 201 * packets + 5600 * many → many ≡ 2 + frames → frames ≤ parts → packets ≤ whole + 1 → bytes ≤ whole + (whole / 200 + 64 * (parts + 2))
 close whole packets parts frames many bytes h e few le = omega (arith, h, e, few, le)
 
-pub ogg_few : (s : FlacProvedSettings) (t : FlacProvedTags) (samples : List ℤ) (can : CanBeEncoded s samples) → 16 ≤ s.block_size → list_fault info_seen (blocks_of t) ≡ None
-    → (serial : ℕ) (packets : List Placed) → ArePackets (plan_of s (sound_of s samples)) (blocks_of t) (sound_of s samples) packets
+pub ogg_few : (profile : Profile) (found : List (List (List LinearPredictor))) (s : FlacProvedSettings) (t : FlacProvedTags) (samples : List ℤ) (can : CanBeEncoded profile s samples) → 16 ≤ s.block_size → list_fault info_seen (blocks_of t) ≡ None
+    → (serial : ℕ) (packets : List Placed) → ArePackets (with_found (plan_of s (sound_of profile s samples)) found) (blocks_of t) (sound_of profile s samples) packets
     → (bytes : ℕ) → 8 * bytes ≡ length (stream_spelling serial packets)
     → bytes ≤ native_bound s (length samples) (length samples / s.channels) t + (native_bound s (length samples) (length samples / s.channels) t / 200 + 64 * (most_parts (length samples / s.channels) s.block_size + 2))
-ogg_few s t samples can some none serial packets are bytes long =
-    let a : Sound = sound_of s samples in
-    let p : Cut = plan_of s a in
+ogg_few profile found s t samples can some none serial packets are bytes long =
+    let a : Sound = sound_of profile s samples in
+    let p : Cut = with_found (plan_of s a) found in
     let each : ℕ = length samples / s.channels in
     let i = info_of p a are.least are.greatest in
     let comments = comments_counted t none in
     let first = mapping_spelling (header_count (length (blocks_of t))) ++ block_spelling false (StreamInfo i) in
     let second = block_spelling true (VorbisComment (comments_of t)) in
-    let few = frames_few s samples can are.frames some are.are are.are_least in
+    let few = frames_few profile s samples can found are.frames some are.are are.are_least in
     let all : length (joined (texts_of packets)) ≡ length (joined (first ∷ second ∷ are.frames)) = ap (λ (ts : List (List Bool)). length (joined ts)) are.texts in
     let many_texts = ap (λ (ts : List (List Bool)). length ts) are.texts in
     let many : length (texts_of packets) ≡ 2 + length are.frames = omega (arith, many_texts) in
@@ -142,6 +144,6 @@ ogg_few s t samples can some none serial packets are bytes long =
     ) in
     let whole : ℕ = native_bound s (length samples) each t in
     let short : bytes_in packets ≤ whole + 1 = omega (arith, texts_long packets, all, inner, few, comments.1) in
-    let blocks : length are.frames ≤ most_parts each s.block_size = omega (arith, are.are.many, parts_few s.block_size (samples_each a.channels) (omega (arith, some)), parts_are s.block_size each (omega (arith, some)), ap (λ k. k / s.block_size) (each_is s samples can)) in
+    let blocks : length are.frames ≤ most_parts each s.block_size = omega (arith, are.are.many, parts_few s.block_size (samples_each a.channels) (omega (arith, some)), parts_are s.block_size each (omega (arith, some)), ap (λ k. k / s.block_size) (each_is profile s samples can)) in
     let paged : 200 * bytes ≤ 201 * bytes_in packets + 5600 * length packets = omega (arith, paged_long serial packets, long) in
     close whole (bytes_in packets) (most_parts each s.block_size) (length are.frames) (length packets) bytes paged (sym (texts_many packets) ∙ many) blocks short

@@ -11,10 +11,11 @@ use Rattle.flac_meta.specs.declared.comments.Comments.{Comments}
 use Rattle.flac_meta.specs.declared.block.Block.{Block}
 use Rattle.flac_meta.specs.declared.block.Block.TheVariants.{StreamInfo, VorbisComment}
 use Rattle.flac_frame.specs.Audio.{Sound, samples_each}
-use Rattle.flac_header.specs.declared.subset.Profile.TheVariants.{Subset}
+use Rattle.flac_header.specs.declared.subset.Profile.{Profile}
 use Rattle.flac_frame.proofs.Sounds.{depth_small}
 use Rattle.flac_native.specs.Message.{sample_width}
-use Rattle.flac_native.specs.Given.{Cut, blocks_in, info_of, sound_message}
+use Rattle.flac_subframe.specs.declared.format.linear.LinearPredictor.{LinearPredictor}
+use Rattle.flac_native.specs.Given.{Cut, blocks_in, info_of, sound_message, with_found}
 use Rattle.flac_native.specs.Seeking.{points_of, table_of}
 use Rattle.flac_native.specs.Writing.{AreFrames, AreLeastFrames, blocks_spelling, stream_spelling}
 use Rattle.flac_native.proofs.Digests.{digest_is_bytes}
@@ -64,9 +65,9 @@ turned n bits total count e = ap (λ k. k * total) (mul_comm n bits) ∙ mul_ass
 
 -- ---- the frames
 
-module _ (s : FlacProvedSettings) (samples : List ℤ) (can : CanBeEncoded s samples) where
+module _ (profile : Profile) (s : FlacProvedSettings) (samples : List ℤ) (can : CanBeEncoded profile s samples) where
   abbrev sound : Sound
-  sound = sound_of s samples
+  sound = sound_of profile s samples
 
   abbrev each : ℕ
   each = length samples / s.channels
@@ -84,18 +85,18 @@ module _ (s : FlacProvedSettings) (samples : List ℤ) (can : CanBeEncoded s sam
   all_are = omega (arith, div-add-mod' (length samples) s.channels, can.whole)
 
   -- 215 bits of each frame are beside its samples
-  pub frames_few : (frames : List (List Bool)) → 16 ≤ s.block_size → AreFrames (plan_of s sound) sound frames → AreLeastFrames (plan_of s sound) sound frames
+  pub frames_few : (found : List (List (List LinearPredictor))) (frames : List (List Bool)) → 16 ≤ s.block_size → AreFrames (with_found (plan_of s sound) found) sound frames → AreLeastFrames (with_found (plan_of s sound) found) sound frames
       → length (joined frames) ≤ 215 * most_parts each s.block_size + 8 * raw_bytes s.bits (length samples)
-  frames_few frames some are least =
+  frames_few found frames some are least =
       let good = can.sound in
       let n : ℕ = length sound.channels in
       let total : ℕ = samples_each sound.channels in
-      let all = frames_long (plan_of s sound) sound frames good some are least in
+      let all = frames_long (with_found (plan_of s sound) found) sound frames good some are least in
       let blocks : blocks_in s.block_size total ≤ most_parts each s.block_size = omega (arith, parts_few s.block_size total (omega (arith, some)), parts_are s.block_size each (omega (arith, some)), ap (λ k. k / s.block_size) each_is) in
       let around = mul-le (151 + 8 * n) (blocks_in s.block_size total) 215 (most_parts each s.block_size) (omega (arith, good.few)) blocks in
       let product : total * n ≡ length samples = ap (λ k. k * n) each_is ∙ ap (λ k. each * k) many_channels ∙ all_are in
       let same : n * s.bits * total ≡ s.bits * length samples = turned n s.bits total (length samples) product in
-      omega (arith, all, around, same, raw_enough s.bits (length samples) (depth_small Subset s.bits good.bits).1)
+      omega (arith, all, around, same, raw_enough s.bits (length samples) (depth_small profile s.bits good.bits).1)
 
 -- ---- the stream
 
@@ -112,15 +113,15 @@ head_long i c more rest digest =
       comment_long (is_nil more) c,
     )
 
-pub native_few : (s : FlacProvedSettings) (t : FlacProvedTags) (samples : List ℤ) (can : CanBeEncoded s samples) → 16 ≤ s.block_size → list_fault info_seen (blocks_of t) ≡ None
-    → (least greatest : ℕ) (frames : List (List Bool)) → AreFrames (plan_of s (sound_of s samples)) (sound_of s samples) frames → AreLeastFrames (plan_of s (sound_of s samples)) (sound_of s samples) frames
-    → length (stream_spelling (plan_of s (sound_of s samples)) (blocks_of t ++ table_of (points_of (plan_of s (sound_of s samples)) frames)) (sound_of s samples) least greatest frames)
+pub native_few : (profile : Profile) (found : List (List (List LinearPredictor))) (s : FlacProvedSettings) (t : FlacProvedTags) (samples : List ℤ) (can : CanBeEncoded profile s samples) → 16 ≤ s.block_size → list_fault info_seen (blocks_of t) ≡ None
+    → (least greatest : ℕ) (frames : List (List Bool)) → AreFrames (with_found (plan_of s (sound_of profile s samples)) found) (sound_of profile s samples) frames → AreLeastFrames (with_found (plan_of s (sound_of profile s samples)) found) (sound_of profile s samples) frames
+    → length (stream_spelling (with_found (plan_of s (sound_of profile s samples)) found) (blocks_of t ++ table_of (points_of (with_found (plan_of s (sound_of profile s samples)) found) frames)) (sound_of profile s samples) least greatest frames)
     ≤ 8 * native_bound s (length samples) (length samples / s.channels) t
-native_few s t samples can some none least greatest frames are are_least =
-    let a : Sound = sound_of s samples in
-    let p : Cut = plan_of s a in
+native_few profile found s t samples can some none least greatest frames are are_least =
+    let a : Sound = sound_of profile s samples in
+    let p : Cut = with_found (plan_of s a) found in
     let each : ℕ = length samples / s.channels in
     let comments = comments_counted t none in
-    let table : length (blocks_spelling (table_of (points_of p frames))) ≤ 8 * table_bytes each s.seek_every = subst (λ n. length (blocks_spelling (table_of (points_of p frames))) ≤ 8 * table_bytes n s.seek_every) (each_is s samples can) (table_long p frames) in
+    let table : length (blocks_spelling (table_of (points_of p frames))) ≤ 8 * table_bytes each s.seek_every = subst (λ n. length (blocks_spelling (table_of (points_of p frames))) ≤ 8 * table_bytes n s.seek_every) (each_is profile s samples can) (table_long p frames) in
     let head = head_long (info_of p a least greatest) (comments_of t) (table_of (points_of p frames)) (joined frames) (digest_is_bytes (sound_message a)) in
-    omega (arith, head, comments.1, table, frames_few s samples can frames some are are_least)
+    omega (arith, head, comments.1, table, frames_few profile s samples can found frames some are are_least)

@@ -8,7 +8,7 @@ use Rattle.flac_bits.specs.declared.why.Why.{Why}
 use Rattle.flac_bits.specs.declared.why.Why.TheVariants.{Truncated, Memory}
 use Rattle.flac_bits.proofs.Holding.{bits_of-append}
 use Rattle.flac_info.specs.Info.{Info}
-use Rattle.flac_header.specs.declared.subset.Profile.TheVariants.{Subset}
+use Rattle.flac_header.specs.declared.subset.Profile.{Profile}
 use Rattle.flac_native.specs.Decoding.{beginning}
 use Rattle.flac_native.specs.Item.{fault_pair}
 use Rattle.flac_native.specs.Stream.{Piece, marked, block, framed, Progress, grammar, opening, next, may_end_in}
@@ -26,7 +26,7 @@ use Rattle.flac_c.specs.declared.cursor.FlacProvedCursor.{FlacProvedCursor}
 
 -- ---- the parts before the first frame
 
-fewer_metadata : (x : Piece) (xs : List Piece) → are_metadata (x ∷ xs) ≡ true → are_metadata xs ≡ true
+pub fewer_metadata : (x : Piece) (xs : List Piece) → are_metadata (x ∷ xs) ≡ true → are_metadata xs ≡ true
 fewer_metadata marked xs e = e
 fewer_metadata (block last b) xs e = e
 fewer_metadata (framed f) xs e = absurd cc
@@ -58,24 +58,24 @@ after p m (x ∷ xs) (y ∷ ys) head rest text e j k =
       joined = subst (λ (z : Piece). Joined grammar (state_after grammar (next p z) xs) r.mark r.more r.text) h.0 r.joined;
     }
 
-module _ (bytes : List ℕ) (items : List Piece) (s : Stream grammar (opening Subset) (beginning Truncated) items (bits_of bytes)) where
-  others : (n : ℕ) (parts : List Piece) → IsHead bytes n parts → After (opening Subset) parts items
+module _ (profile : Profile) (bytes : List ℕ) (items : List Piece) (s : Stream grammar (opening profile) (beginning Truncated) items (bits_of bytes)) where
+  others : (n : ℕ) (parts : List Piece) → IsHead profile bytes n parts → After (opening profile) parts items
   others n parts head =
       let all : bits_of bytes ≡ bits_of (take n bytes) ++ bits_of (drop n bytes) = ap (λ (l : List ℕ). bits_of l) (sym (take-append-drop n bytes)) ∙ bits_of-append (take n bytes) (drop n bytes) in
-      after (opening Subset) (beginning Truncated) parts items (bits_of (take n bytes)) (bits_of (drop n bytes)) (bits_of bytes) all head.spelled s.spelled
+      after (opening profile) (beginning Truncated) parts items (bits_of (take n bytes)) (bits_of (drop n bytes)) (bits_of bytes) all head.spelled s.spelled
 
-  pub starts_in : (c : FlacProvedCursor) → StandsFirst bytes c → StartsIn bytes c items
+  pub starts_in : (c : FlacProvedCursor) → StandsFirst profile bytes c → StartsIn profile bytes c items
   starts_in c (parts, n, i, head, told_is, is) =
       let r = others n parts head in
-      let stands : StandsIn bytes (first_frame i (comments_from None parts) n) parts r.more = record {
-        stream = subst (λ (l : List Piece). Stream grammar (opening Subset) (beginning Truncated) l (bits_of bytes)) r.are s;
+      let stands : StandsIn profile bytes (first_frame i (comments_from None parts) n) parts r.more = record {
+        stream = subst (λ (l : List Piece). Stream grammar (opening profile) (beginning Truncated) l (bits_of bytes)) r.are s;
         before = head.within;
         spelled = head.spelled;
         info = i;
         told = told_is;
         same = refl;
       } in
-      (parts, r.more, r.are, head.metadata, subst (λ (k : FlacProvedCursor). StandsIn bytes k parts r.more) (sym is) stands)
+      (parts, r.more, r.are, head.metadata, subst (λ (k : FlacProvedCursor). StandsIn profile bytes k parts r.more) (sym is) stands)
 
   -- ---- it is not refused
 
@@ -89,19 +89,19 @@ module _ (bytes : List ℕ) (items : List Piece) (s : Stream grammar (opening Su
       ends h = absurd cc
   some_info p m (x ∷ xs) text phase none (front, rest, split, spelled, fits, others) e = let t = frame_there p.stand (fresh m) front x phase spelled in let same : nobody ≡ Some t.info = sym none ∙ t.told in absurd cc
 
-  no_head : (n : ℕ) (parts : List Piece) → IsHead bytes n parts → (state_after grammar (opening Subset) parts).stand.info ≡ nobody → ⊥
+  no_head : (n : ℕ) (parts : List Piece) → IsHead profile bytes n parts → (state_after grammar (opening profile) parts).stand.info ≡ nobody → ⊥
   no_head n parts head none =
       let r = others n parts head in
-      let ends = subst (λ (l : List Piece). may_end_in (state_after grammar (opening Subset) l).stand.phase (state_after grammar (opening Subset) l).stand.info ≡ true) r.are s.ends in
-      some_info (state_after grammar (opening Subset) parts) r.mark r.more r.text head.after none r.joined (later parts r.more ends)
+      let ends = subst (λ (l : List Piece). may_end_in (state_after grammar (opening profile) l).stand.phase (state_after grammar (opening profile) l).stand.info ≡ true) r.are s.ends in
+      some_info (state_after grammar (opening profile) parts) r.mark r.more r.text head.after none r.joined (later parts r.more ends)
     where
       later_from : (p : Progress) (xs ys : List Piece) → may_end_in (state_after grammar p (xs ++ ys)).stand.phase (state_after grammar p (xs ++ ys)).stand.info ≡ true → may_end_in (state_after grammar (state_after grammar p xs) ys).stand.phase (state_after grammar (state_after grammar p xs) ys).stand.info ≡ true
       later_from p [] ys e = e
       later_from p (x ∷ xs) ys e = later_from (next p x) xs ys e
 
-      later : (xs ys : List Piece) → may_end_in (state_after grammar (opening Subset) (xs ++ ys)).stand.phase (state_after grammar (opening Subset) (xs ++ ys)).stand.info ≡ true
-          → may_end_in (state_after grammar (state_after grammar (opening Subset) xs) ys).stand.phase (state_after grammar (state_after grammar (opening Subset) xs) ys).stand.info ≡ true
-      later xs ys e = later_from (opening Subset) xs ys e
+      later : (xs ys : List Piece) → may_end_in (state_after grammar (opening profile) (xs ++ ys)).stand.phase (state_after grammar (opening profile) (xs ++ ys)).stand.info ≡ true
+          → may_end_in (state_after grammar (state_after grammar (opening profile) xs) ys).stand.phase (state_after grammar (state_after grammar (opening profile) xs) ys).stand.info ≡ true
+      later xs ys e = later_from (opening profile) xs ys e
 
   memory_or_not : (w : Why) → (w ≡ Memory) ⊎ (w ≢ Memory)
   memory_or_not Memory = inl refl
@@ -114,11 +114,11 @@ module _ (bytes : List ℕ) (items : List Piece) (s : Stream grammar (opening Su
   same_why a b v w e = let p : (a, v) ≡ (b, w) = cc in sym (ap (λ (f : Place × Why). f.1) p)
 
   -- but out of memory
-  pub start_refused : (f : Fault) → RefusesHead bytes (Some (fault_pair f)) → f.why ≡ Memory
+  pub start_refused : (f : Fault) → RefusesHead profile bytes (Some (fault_pair f)) → f.why ≡ Memory
   start_refused f (at, why, is, h) = elim (memory_or_not why) [
     | inl e ↦ sym (same_why f.at at f.why why is) ∙ e
     | inr other ↦ elim (h other) [
-      | inl (parts, r) ↦ absurd ((one_answer (opening Subset) (beginning Truncated) (bits_of bytes)).either items parts at why s r)
+      | inl (parts, r) ↦ absurd ((one_answer (opening profile) (beginning Truncated) (bits_of bytes)).either items parts at why s r)
       | inr (e, place, (parts, n, head, none)) ↦ absurd (no_head n parts head none)
     ]
   ]

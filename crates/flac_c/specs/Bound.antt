@@ -6,6 +6,7 @@ use Rattle.flac_c.specs.declared.tags.FlacProvedText.{FlacProvedText}
 use Rattle.flac_c.specs.declared.tags.FlacProvedTags.{FlacProvedTags}
 use Rattle.flac_c.specs.declared.encoding.FlacProvedSettings.{FlacProvedSettings}
 use Rattle.flac_c.specs.Encoded.{IsEncoded}
+use Rattle.flac_header.specs.declared.subset.Profile.{Profile}
 
 -- a text and its length; longer ones are refused
 abbrev pub text_bytes : FlacProvedText → ℕ
@@ -40,9 +41,9 @@ bytes_among s count each t = native_bound s count each t + page_bytes s each (na
 abbrev pub bound_of : FlacProvedSettings → (count : ℕ) → FlacProvedTags → ℕ
 bound_of s count t = min (bytes_among s count (count / max s.channels 1) t) 18446744073709551615
 
--- no stream of `count` samples by these settings and with these comments has more bytes
+-- no stream of `count` samples by these settings and with these comments has more bytes, in either profile, by any search
 abbrev pub IsEnough : FlacProvedSettings → (count : ℕ) → FlacProvedTags → ℕ → Type 0
-IsEnough s count t bytes = (samples : List ℤ) (stream : List ℕ) → length samples ≡ count → IsEncoded s samples t stream → length stream ≤ bytes
+IsEnough s count t bytes = (profile : Profile) (effort : ℕ) (samples : List ℤ) (stream : List ℕ) → length samples ≡ count → IsEncoded profile effort s samples t stream → length stream ≤ bytes
 
 -- a stream has room in a buffer if such a number of bytes has
 abbrev pub FitsBound : FlacProvedSettings → (count : ℕ) → FlacProvedTags → (room len : ℕ) → Type 0

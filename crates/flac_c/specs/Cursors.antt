@@ -7,7 +7,7 @@ use Rattle.flac_bits.specs.Fence.{InRoom, StopsIn}
 use Rattle.flac_bits.specs.declared.why.Why.{Why}
 use Rattle.flac_bits.specs.declared.why.Why.TheVariants.{Memory, Truncated, BadStreamInfo}
 use Rattle.flac_info.specs.Info.{Info, KeepsRules, without_totals}
-use Rattle.flac_header.specs.declared.subset.Profile.TheVariants.{Subset}
+use Rattle.flac_header.specs.declared.subset.Profile.{Profile}
 use Rattle.flac_frame.specs.Frame.{Frame, frame, first_sample}
 use Rattle.flac_frame.specs.Interleaved.{interleaved}
 use Rattle.flac_native.specs.Decoding.{beginning}
@@ -47,16 +47,16 @@ passed c f end = record {
 -- ---- a frame
 
 -- The first n of these bytes spell the frame, whatever its number is, and are no more than a frame may have.
-pub record IsFrameAt (i : Info) (bytes : List ℕ) (f : Frame) (n : ℕ) : Type 0 where
+pub record IsFrameAt (profile : Profile) (i : Info) (bytes : List ℕ) (f : Frame) (n : ℕ) : Type 0 where
   pub text : List Bool
   pub split : bits_of bytes ≡ text ++ bits_of (drop n bytes)
   pub within : n ≤ length bytes
-  pub spelled : Spells (frame Subset i None) (beginning Truncated) text f
+  pub spelled : Spells (frame profile i None) (beginning Truncated) text f
   pub room : InRoom (Some 16777215) (beginning Truncated) text
 
 -- there is no frame of these bytes, for this reason
-abbrev pub NoFrameAt : Info → List ℕ → Why → Type 0
-NoFrameAt i bytes why = StopsIn (Some 16777215) (frame Subset i None) (beginning Truncated) (bits_of bytes) why
+abbrev pub NoFrameAt : Profile → Info → List ℕ → Why → Type 0
+NoFrameAt profile i bytes why = StopsIn (Some 16777215) (frame profile i None) (beginning Truncated) (bits_of bytes) why
 
 -- `len` is the number of its samples. If there is room for all of them, they are at the front of the buffer, and the
 -- cursor is after the frame, which ends at this offset; otherwise both are unchanged.
@@ -68,55 +68,55 @@ pub record HandsOver (f : Frame) (end : ℕ) (old new : FlacProvedCursor) (out w
 -- ---- a call
 
 -- a frame is at a cursor by this STREAMINFO, and its samples are written
-abbrev pub HandsNext : Info → List ℕ → (old new : FlacProvedCursor) → (out written : List ℤ) → (len : ℕ) → Type 0
-HandsNext i bytes old new out written len = (f : Frame) × (n : ℕ) × IsFrameAt i (drop old.offset bytes) f n × HandsOver f (old.offset + n) old new out written len
+abbrev pub HandsNext : Profile → Info → List ℕ → (old new : FlacProvedCursor) → (out written : List ℤ) → (len : ℕ) → Type 0
+HandsNext profile i bytes old new out written len = (f : Frame) × (n : ℕ) × IsFrameAt profile i (drop old.offset bytes) f n × HandsOver f (old.offset + n) old new out written len
 
 -- by the STREAMINFO that the cursor has
-abbrev pub HandsFrame : List ℕ → (old new : FlacProvedCursor) → (out written : List ℤ) → (len : ℕ) → Type 0
-HandsFrame bytes old new out written len = HandsNext (info_from_c old.info) bytes old new out written len
+abbrev pub HandsFrame : Profile → List ℕ → (old new : FlacProvedCursor) → (out written : List ℤ) → (len : ℕ) → Type 0
+HandsFrame profile bytes old new out written len = HandsNext profile (info_from_c old.info) bytes old new out written len
 
 -- The stream is over at the cursor, or a frame is there and its samples are written.
-abbrev pub GivesNext : List ℕ → (old new : FlacProvedCursor) → (out written : List ℤ) → ℕ → Type 0
-GivesNext bytes old new out written len =
+abbrev pub GivesNext : Profile → List ℕ → (old new : FlacProvedCursor) → (out written : List ℤ) → ℕ → Type 0
+GivesNext profile bytes old new out written len =
     ((old.offset ≡ length bytes) × (new ≡ old) × (written ≡ out) × (len ≡ 0))
-    ⊎ HandsFrame bytes old new out written len
+    ⊎ HandsFrame profile bytes old new out written len
 
 -- There is no frame at the cursor: memory ran out, or the cursor has no STREAMINFO, or this is why.
-abbrev pub NoFrame : List ℕ → FlacProvedCursor → Why → Type 0
-NoFrame bytes c why =
-    (why ≡ Memory) ⊎ (((why ≡ BadStreamInfo) × (KeepsRules (info_from_c c.info) → ⊥)) ⊎ NoFrameAt (info_from_c c.info) (drop c.offset bytes) why)
+abbrev pub NoFrame : Profile → List ℕ → FlacProvedCursor → Why → Type 0
+NoFrame profile bytes c why =
+    (why ≡ Memory) ⊎ (((why ≡ BadStreamInfo) × (KeepsRules (info_from_c c.info) → ⊥)) ⊎ NoFrameAt profile (info_from_c c.info) (drop c.offset bytes) why)
 
-abbrev pub RefusesNext : List ℕ → FlacProvedCursor → Option (Place × Why) → Type 0
-RefusesNext bytes c outcome = (why : Why) × (outcome ≡ Some (place.Frame c.frames, why)) × NoFrame bytes c why
+abbrev pub RefusesNext : Profile → List ℕ → FlacProvedCursor → Option (Place × Why) → Type 0
+RefusesNext profile bytes c outcome = (why : Why) × (outcome ≡ Some (place.Frame c.frames, why)) × NoFrame profile bytes c why
 
 -- this holds of each frame that is at the cursor, and its number of bytes, if the cursor has a STREAMINFO
-abbrev pub OfFrame : List ℕ → FlacProvedCursor → (Frame → ℕ → Type 0) → Type 0
-OfFrame bytes c holds = KeepsRules (info_from_c c.info) → (f : Frame) → (n : ℕ) → IsFrameAt (info_from_c c.info) (drop c.offset bytes) f n → holds f n
+abbrev pub OfFrame : Profile → List ℕ → FlacProvedCursor → (Frame → ℕ → Type 0) → Type 0
+OfFrame profile bytes c holds = KeepsRules (info_from_c c.info) → (f : Frame) → (n : ℕ) → IsFrameAt profile (info_from_c c.info) (drop c.offset bytes) f n → holds f n
 
 -- ---- in a stream
 
 -- this holds of the parts that the bytes are, if they are a native stream
-abbrev pub OfStream : List ℕ → (List Piece → Type 0) → Type 0
-OfStream bytes holds = (items : List Piece) → Stream grammar (opening Subset) (beginning Truncated) items (bits_of bytes) → holds items
+abbrev pub OfStream : Profile → List ℕ → (List Piece → Type 0) → Type 0
+OfStream profile bytes holds = (items : List Piece) → Stream grammar (opening profile) (beginning Truncated) items (bits_of bytes) → holds items
 
 -- The bytes are a native stream of these parts. Those in front end at the cursor, which has their STREAMINFO; the
 -- others are still to come.
-pub record StandsIn (bytes : List ℕ) (c : FlacProvedCursor) (front more : List Piece) : Type 0 where
-  pub stream : Stream grammar (opening Subset) (beginning Truncated) (front ++ more) (bits_of bytes)
+pub record StandsIn (profile : Profile) (bytes : List ℕ) (c : FlacProvedCursor) (front more : List Piece) : Type 0 where
+  pub stream : Stream grammar (opening profile) (beginning Truncated) (front ++ more) (bits_of bytes)
   pub before : c.offset ≤ length bytes
-  pub spelled : Joined grammar (opening Subset) (beginning Truncated) front (bits_of (take c.offset bytes))
+  pub spelled : Joined grammar (opening profile) (beginning Truncated) front (bits_of (take c.offset bytes))
   pub info : Info
-  pub told : (state_after grammar (opening Subset) front).stand.info ≡ Some info
+  pub told : (state_after grammar (opening profile) front).stand.info ≡ Some info
   pub same : info_from_c c.info ≡ without_totals info
 
 -- The bytes are a native stream of these items, and the cursor is at its first frame, right after the metadata.
-abbrev pub StartsIn : List ℕ → FlacProvedCursor → List Piece → Type 0
-StartsIn bytes c items = (front : List Piece) × (more : List Piece) × (items ≡ front ++ more) × (are_metadata front ≡ true) × StandsIn bytes c front more
+abbrev pub StartsIn : Profile → List ℕ → FlacProvedCursor → List Piece → Type 0
+StartsIn profile bytes c items = (front : List Piece) × (more : List Piece) × (items ≡ front ++ more) × (are_metadata front ≡ true) × StandsIn profile bytes c front more
 
 -- this holds of the parts of a stream in front of a cursor, the frame there, and the parts after it
-abbrev pub OfNextFrame : List ℕ → FlacProvedCursor → ((front more : List Piece) → Frame → Type 0) → Type 0
-OfNextFrame bytes c holds = (front : List Piece) → (more : List Piece) → (f : Frame) → StandsIn bytes c front (framed f ∷ more) → holds front more f
+abbrev pub OfNextFrame : Profile → List ℕ → FlacProvedCursor → ((front more : List Piece) → Frame → Type 0) → Type 0
+OfNextFrame profile bytes c holds = (front : List Piece) → (more : List Piece) → (f : Frame) → StandsIn profile bytes c front (framed f ∷ more) → holds front more f
 
 -- Of a stream the samples of the next frame are written, and the cursor after it is in the same stream.
-abbrev pub GoesOn : List ℕ → (old new : FlacProvedCursor) → (out written : List ℤ) → ℕ → (front more : List Piece) → Frame → Type 0
-GoesOn bytes old new out written len front more f = (end : ℕ) × HandsOver f end old new out written len × StandsIn bytes (passed old f end) (front ++ framed f ∷ []) more
+abbrev pub GoesOn : Profile → List ℕ → (old new : FlacProvedCursor) → (out written : List ℤ) → ℕ → (front more : List Piece) → Frame → Type 0
+GoesOn profile bytes old new out written len front more f = (end : ℕ) × HandsOver f end old new out written len × StandsIn profile bytes (passed old f end) (front ++ framed f ∷ []) more

@@ -1,8 +1,10 @@
 pub mod Answers
 pub mod Cursors
+pub mod Described
 pub mod Encoded
 pub mod Heads
 pub mod Interleaved
+pub mod Profiles
 pub mod Sampled
 pub mod Starts
 pub mod Texts

@@ -12,7 +12,7 @@ use Rattle.flac_meta.specs.declared.block.Block.{Block}
 use Rattle.flac_meta.specs.declared.block.Block.TheVariants.{SeekTable}
 use Rattle.flac_meta.specs.declared.comments.Comments.{Comments}
 use Rattle.flac_meta.specs.declared.seek_table.SeekPoint.{SeekPoint}
-use Rattle.flac_header.specs.declared.subset.Profile.TheVariants.{Subset}
+use Rattle.flac_header.specs.declared.subset.Profile.{Profile}
 use Rattle.flac_native.specs.Decoding.{beginning}
 use Rattle.flac_native.specs.Stream.{Piece, marked, block, framed, grammar, opening}
 use Rattle.flac_native.specs.declared.fault.Place.{Place}
@@ -31,11 +31,11 @@ are_metadata (block last b ∷ xs) = are_metadata xs
 are_metadata (framed f ∷ xs) = false
 
 -- The first n bytes are these parts: the marker and all metadata blocks. Frames come after them.
-pub record IsHead (bytes : List ℕ) (n : ℕ) (parts : List Piece) : Type 0 where
+pub record IsHead (profile : Profile) (bytes : List ℕ) (n : ℕ) (parts : List Piece) : Type 0 where
   pub within : n ≤ length bytes
-  pub spelled : Joined grammar (opening Subset) (beginning Truncated) parts (bits_of (take n bytes))
+  pub spelled : Joined grammar (opening profile) (beginning Truncated) parts (bits_of (take n bytes))
   pub metadata : are_metadata parts ≡ true
-  pub after : (state_after grammar (opening Subset) parts).stand.phase ≡ Frames
+  pub after : (state_after grammar (opening profile) parts).stand.phase ≡ Frames
 
 -- ---- the seek table
 
@@ -63,22 +63,22 @@ at_point (Some p) c = record c { offset = min (c.offset + p.offset) 184467440737
 
 -- The bytes begin with a marker and all metadata blocks. This holds of these parts, of how many bytes they have, and of
 -- STREAMINFO.
-abbrev pub BeginsByHead : List ℕ → (List Piece → ℕ → Info → Type 0) → Type 0
-BeginsByHead bytes holds = (parts : List Piece) × (n : ℕ) × (i : Info) × IsHead bytes n parts × ((state_after grammar (opening Subset) parts).stand.info ≡ Some i) × holds parts n i
+abbrev pub BeginsByHead : Profile → List ℕ → (List Piece → ℕ → Info → Type 0) → Type 0
+BeginsByHead profile bytes holds = (parts : List Piece) × (n : ℕ) × (i : Info) × IsHead profile bytes n parts × ((state_after grammar (opening profile) parts).stand.info ≡ Some i) × holds parts n i
 
 -- the cursor is at the first frame
-abbrev pub StandsFirst : List ℕ → FlacProvedCursor → Type 0
-StandsFirst bytes c = BeginsByHead bytes (λ parts n i. c ≡ first_frame i (comments_from None parts) n)
+abbrev pub StandsFirst : Profile → List ℕ → FlacProvedCursor → Type 0
+StandsFirst profile bytes c = BeginsByHead profile bytes (λ parts n i. c ≡ first_frame i (comments_from None parts) n)
 
 -- the cursor is at the offset that the seek table has for the frame of the last point at or before a sample; at the
 -- first frame if there is no such point
-abbrev pub StandsBefore : List ℕ → ℕ → FlacProvedCursor → Type 0
-StandsBefore bytes sample c = BeginsByHead bytes (λ parts n i. c ≡ at_point (point_from sample None parts) (first_frame i (comments_from None parts) n))
+abbrev pub StandsBefore : Profile → List ℕ → ℕ → FlacProvedCursor → Type 0
+StandsBefore profile bytes sample c = BeginsByHead profile bytes (λ parts n i. c ≡ at_point (point_from sample None parts) (first_frame i (comments_from None parts) n))
 
 -- The marker or a block is refused there, as the stream is; or, at the marker, there are blocks without STREAMINFO,
 -- which no stream has; unless memory ran out.
-abbrev pub RefusesHead : List ℕ → Option (Place × Why) → Type 0
-RefusesHead bytes outcome =
+abbrev pub RefusesHead : Profile → List ℕ → Option (Place × Why) → Type 0
+RefusesHead profile bytes outcome =
     (at : Place) × (why : Why) × (outcome ≡ Some (at, why))
-    × (why ≢ Memory → ((parts : List Piece) × Refused grammar (opening Subset) (beginning Truncated) parts (bits_of bytes) at why)
-    ⊎ ((why ≡ NotStreamInfoFirst) × (at ≡ place.Marker) × ((parts : List Piece) × (n : ℕ) × IsHead bytes n parts × ((state_after grammar (opening Subset) parts).stand.info ≡ None))))
+    × (why ≢ Memory → ((parts : List Piece) × Refused grammar (opening profile) (beginning Truncated) parts (bits_of bytes) at why)
+    ⊎ ((why ≡ NotStreamInfoFirst) × (at ≡ place.Marker) × ((parts : List Piece) × (n : ℕ) × IsHead profile bytes n parts × ((state_after grammar (opening profile) parts).stand.info ≡ None))))

@@ -2,3 +2,4 @@
 pub mod Heads
 pub mod Sampled
 pub mod Blocks
+pub mod Described

@@ -5,8 +5,12 @@
 //! slice here. Each call that reads or encodes a stream returns 0 or the number of a reason (`docs/errors.md`);
 //! `flac_proved_bound` returns a number of bytes, `flac_proved_strerror` and `flac_proved_place` the length of a text.
 //! Each call frees what it allocates, and keeps no pointer.
+//!
+//! Calls whose names end in `_in` take a profile, 0 the streamable subset and any other number all streams, or options
+//! with a profile. The others are of the subset, but those that read metadata, which are the same for both.
 #![tactic(auto)]
 
+mod blocks;
 mod bound;
 mod channels;
 mod cursor;
@@ -16,7 +20,9 @@ mod fault;
 mod head;
 mod info;
 mod metadata;
+mod profiles;
 mod samples;
+mod searching;
 mod starting;
 mod stepping;
 mod tags;

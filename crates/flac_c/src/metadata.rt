@@ -3,8 +3,9 @@
 ghost use Rattle.std.specs.Prelude.{◌≡◌, ◌≢◌, true, [], None, Some, OnOk, IfOk, IfErr};
 ghost use Rattle.flac_bits.specs.Fence.{StopsIn};
 ghost use Rattle.flac_bits.specs.State.{fresh};
+ghost use Rattle.flac_header.specs.declared.subset.Profile.{Profile};
 ghost use Rattle.flac_meta.specs.Block.{block as block_layout};
-ghost use Rattle.flac_c.specs.inner.Blocks.{Noted, IsFound, BlockRead, HeadRead, IsRefusedIn};
+ghost use Rattle.flac_c.specs.inner.Blocks.{Noted, IsFound, FoundOf, BlockRead, HeadRead, IsRefusedIn};
 
 use flac_bits::{BitReader, Memory, Why};
 use flac_meta::{Block, SeekPoint, Seen, StreamInfo, read_block};
@@ -56,7 +57,7 @@ fn next_block(
     found: &mut Metadata,
 ) -> Result<bool, Why>
     requires { bits.old.known ≡ true }
-    ensures read { IfOk result (λ last. BlockRead seen.old seen.new bits.old bits.new found.old found.new last) }
+    ensures read { IfOk result (BlockRead seen.old seen.new bits.old bits.new (λ b. Noted found.old b found.new)) }
     ensures refused { IfErr result (λ why. bits.new.errors ≡ bits.old.errors → why ≢ Why.Memory
         → StopsIn None (block_layout seen.old) (fresh bits.old.cursor.mark) bits.old.cursor.left why) }
 {
@@ -70,16 +71,16 @@ fn next_block(
     }
 }
 
-/// Reads the marker and all blocks.
+/// Reads the marker and all blocks, which are the same in each profile.
 pub(crate) fn read_parts(
     alloc: Global,
     bits: &mut BitReader<Memory<'_>>,
     found: &mut Metadata,
 ) -> Result<(), Fault>
     requires known { bits.old.known ≡ true }
-    requires none { IsFound found.old.sample [] found.old }
-    ensures read { OnOk result (HeadRead bits.old bits.new found.old.sample found.new) }
-    ensures refused { IfErr result (IsRefusedIn bits.old bits.new) }
+    requires none { (profile : Profile) → IsFound profile found.old.sample [] found.old }
+    ensures read { OnOk result ((profile : Profile) → HeadRead profile bits.old bits.new (FoundOf profile found.old.sample found.new)) }
+    ensures refused { IfErr result (λ f. (profile : Profile) → IsRefusedIn profile bits.old bits.new f) }
 {
     bits.start_checks();
     match read_marker(bits) {

@@ -1,6 +1,7 @@
 //! Makes cursors in a native stream.
 
 ghost use Rattle.std.specs.Prelude.{◌≡◌, ◌≢◌, ◌⊎◌, [], IfOk, IfErr, Some, None};
+ghost use Rattle.flac_header.specs.declared.subset.Profile.{Profile};
 ghost use Rattle.flac_native.specs.Item.{fault_pair};
 ghost use Rattle.flac_c.specs.Cursors.{OfStream, StartsIn};
 ghost use Rattle.flac_c.specs.Answers.{IsAnswered, in_c};
@@ -18,9 +19,9 @@ use std::alloc::Global;
 
 /// Reads the marker and all blocks, and returns how many bytes they have.
 fn read_front(alloc: Global, bytes: &[u8], found: &mut Metadata) -> Result<u64, Fault>
-    requires { IsFound found.old.sample [] found.old }
-    ensures read { IfOk result (λ n. FrontRead bytes.now n found.old.sample found.new) }
-    ensures refused { IfErr result (λ f. RefusesHead bytes.now (Some (fault_pair f))) }
+    requires { (profile : Profile) → IsFound profile found.old.sample [] found.old }
+    ensures read { IfOk result (λ n. (profile : Profile) → FrontRead profile bytes.now n found.old.sample found.new) }
+    ensures refused { IfErr result (λ f. (profile : Profile) → RefusesHead profile bytes.now (Some (fault_pair f))) }
 {
     // Read only for the proof, which then knows that a slice is shorter than 2^64 bytes.
     let _len = bytes.len();
@@ -37,9 +38,9 @@ fn read_front(alloc: Global, bytes: &[u8], found: &mut Metadata) -> Result<u64, 
 
 /// Makes a cursor at the first frame. `found` gets the seek point at or before the sample that is sought.
 fn read_start(alloc: Global, bytes: &[u8], found: &mut Metadata) -> Result<FlacProvedCursor, Fault>
-    requires { IsFound found.old.sample [] found.old }
-    ensures read { IfOk result (λ c. IsStart bytes.now found.old.sample c found.new.point) }
-    ensures refused { IfErr result (λ f. RefusesHead bytes.now (Some (fault_pair f))) }
+    requires { (profile : Profile) → IsFound profile found.old.sample [] found.old }
+    ensures read { IfOk result (λ c. (profile : Profile) → IsStart profile bytes.now found.old.sample c found.new.point) }
+    ensures refused { IfErr result (λ f. (profile : Profile) → RefusesHead profile bytes.now (Some (fault_pair f))) }
 {
     let offset = match read_front(alloc, bytes, found) {
         Ok(offset) => offset,
@@ -74,8 +75,9 @@ fn at_point(point: Option<SeekPoint>, first: FlacProvedCursor) -> FlacProvedCurs
     }
 }
 
-/// Reads the metadata of a native stream, and makes a cursor at its first frame, for `flac_proved_next` (RFC 9639,
-/// sections 6 and 8). An Ogg stream is refused at the marker.
+/// Reads the metadata of a native stream, and makes a cursor at its first frame, for `flac_proved_next` and
+/// `flac_proved_next_in` (RFC 9639, sections 6 and 8): metadata is the same in each profile. An Ogg stream is refused at
+/// the marker.
 ///
 /// Returns 0, or the number of the fault of the marker or of a block, or 2 if an allocation fails; `cursor` is
 /// unchanged then.
@@ -86,9 +88,10 @@ pub extern "C" fn flac_proved_start(
     cursor: &mut FlacProvedCursor,
     fault: &mut FlacProvedFault,
 ) -> u32
-    ensures first { result ≡ 0 → StandsFirst bytes.now cursor.new }
-    ensures streams { OfStream bytes.now (λ all. (result ≡ 2) ⊎ ((result ≡ 0) × StartsIn bytes.now cursor.new all)) }
-    ensures refused { result ≢ 0 → IsAnswered (RefusesHead bytes.now) fault.new }
+    ensures first { result ≡ 0 → (profile : Profile) → StandsFirst profile bytes.now cursor.new }
+    ensures streams { (profile : Profile) → OfStream profile bytes.now (λ all.
+        (result ≡ 2) ⊎ ((result ≡ 0) × StartsIn profile bytes.now cursor.new all)) }
+    ensures refused { result ≢ 0 → (profile : Profile) → IsAnswered (RefusesHead profile bytes.now) fault.new }
     ensures kept { result ≢ 0 → cursor.new ≡ cursor.old }
     ensures number { result ≡ fault.new.number }
     ensures clear { result ≡ 0 → fault.new ≡ in_c None }
@@ -122,9 +125,9 @@ pub extern "C" fn flac_proved_seek(
     cursor: &mut FlacProvedCursor,
     fault: &mut FlacProvedFault,
 ) -> u32
-    ensures before { result ≡ 0 → StandsBefore bytes.now sample cursor.new }
-    ensures streams { OfStream bytes.now (λ _. (result ≡ 2) ⊎ (result ≡ 0)) }
-    ensures refused { result ≢ 0 → IsAnswered (RefusesHead bytes.now) fault.new }
+    ensures before { result ≡ 0 → (profile : Profile) → StandsBefore profile bytes.now sample cursor.new }
+    ensures streams { (profile : Profile) → OfStream profile bytes.now (λ _. (result ≡ 2) ⊎ (result ≡ 0)) }
+    ensures refused { result ≢ 0 → (profile : Profile) → IsAnswered (RefusesHead profile bytes.now) fault.new }
     ensures kept { result ≢ 0 → cursor.new ≡ cursor.old }
     ensures number { result ≡ fault.new.number }
     ensures clear { result ≡ 0 → fault.new ≡ in_c None }

@@ -6,9 +6,11 @@ ghost use Rattle.flac_frame.specs.Frame.{Frame};
 ghost use Rattle.flac_frame.specs.Viewed.{frame_of};
 ghost use Rattle.flac_c.specs.Answers.{IsAnswered, in_c};
 ghost use Rattle.flac_c.specs.Cursors.{info_from_c, IsFrameAt, NoFrameAt, NoFrame, OfFrame, HandsOver, HandsNext, HandsFrame, GivesNext, RefusesNext, OfNextFrame, GoesOn};
+ghost use Rattle.flac_c.specs.Profiles.{profile_of};
 
 use crate::cursor::{FlacProvedCursor, info_from_c, passed};
 use crate::fault::{FlacProvedFault, in_c};
+use crate::profiles::profile_of;
 use flac_bits::{BitReader, Memory, Why};
 use flac_frame::{FrameBuffers, FrameView};
 use flac_meta::StreamInfo;
@@ -16,20 +18,25 @@ use flac_native::{Fault, Place, Profile, bytes_from};
 use std::alloc::Global;
 
 /// Reads the frame with which these bytes begin, whatever its number is, and returns how many bytes it has.
-fn fill_frame(bytes: &[u8], info: &StreamInfo, buffers: &mut FrameBuffers) -> Result<u64, Why>
+fn fill_frame(
+    bytes: &[u8],
+    info: &StreamInfo,
+    profile: Profile,
+    buffers: &mut FrameBuffers,
+) -> Result<u64, Why>
     requires rules { KeepsRules info.now }
     requires channels { info.now.channels ≤ buffers.old.channels }
     requires block { info.now.greatest_block ≤ buffers.old.max_block }
     requires first { buffers.old.before ≡ None }
-    ensures found { IfOk result (λ n. IsFrameAt info.now bytes.now buffers.new.held n) }
-    ensures fault { IfErr result (λ why. NoFrameAt info.now bytes.now why) }
-    ensures only { (f : Frame) → (n : ℕ) → IsFrameAt info.now bytes.now f n
+    ensures found { IfOk result (λ n. IsFrameAt profile info.now bytes.now buffers.new.held n) }
+    ensures fault { IfErr result (λ why. NoFrameAt profile info.now bytes.now why) }
+    ensures only { (f : Frame) → (n : ℕ) → IsFrameAt profile info.now bytes.now f n
         → IsOkAnd result (λ m. (buffers.new.held ≡ f) × (m ≡ n)) }
 {
     // Read only for the proof, which then knows that a slice is shorter than 2^64 bytes.
     let _len = bytes.len();
     let mut bits = BitReader::new(Memory::new(bytes));
-    let outcome = buffers.fill(&mut bits, info, Profile::Subset);
+    let outcome = buffers.fill(&mut bits, info, profile);
     let taken = bits.bytes_taken();
     // Given back only for the proof, which then knows that a source in memory returns no error.
     let _source = bits.into_source();
@@ -62,6 +69,7 @@ fn hand_over(
 fn step(
     bytes: &[u8],
     info: &StreamInfo,
+    profile: Profile,
     buffers: &mut FrameBuffers,
     cursor: &mut FlacProvedCursor,
     out: &mut [i32],
@@ -71,13 +79,13 @@ fn step(
     requires block { info.now.greatest_block ≤ buffers.old.max_block }
     requires first { buffers.old.before ≡ None }
     requires short { cursor.old.info.greatest_block ≤ 65535 }
-    ensures found { IfOk result (λ len. HandsNext info.now bytes.now cursor.old cursor.new out.old out.new len) }
-    ensures fault { IfErr result (λ why. NoFrameAt info.now (drop cursor.old.offset bytes.now) why) }
+    ensures found { IfOk result (λ len. HandsNext profile info.now bytes.now cursor.old cursor.new out.old out.new len) }
+    ensures fault { IfErr result (λ why. NoFrameAt profile info.now (drop cursor.old.offset bytes.now) why) }
     ensures kept { IfErr result (λ _. (cursor.new ≡ cursor.old) × (out.new ≡ out.old)) }
-    ensures only { (f : Frame) → (n : ℕ) → IsFrameAt info.now (drop cursor.old.offset bytes.now) f n
+    ensures only { (f : Frame) → (n : ℕ) → IsFrameAt profile info.now (drop cursor.old.offset bytes.now) f n
         → IsOkAnd result (λ len. HandsOver f (cursor.old.offset + n) cursor.old cursor.new out.old out.new len) }
 {
-    let taken = match fill_frame(bytes_from(bytes, cursor.offset), info, buffers) {
+    let taken = match fill_frame(bytes_from(bytes, cursor.offset), info, profile, buffers) {
         Ok(taken) => taken,
         Err(why) => return Err(why),
     };
@@ -89,13 +97,14 @@ fn step(
 fn step_alone(
     alloc: Global,
     bytes: &[u8],
+    profile: Profile,
     cursor: &mut FlacProvedCursor,
     out: &mut [i32],
 ) -> Result<usize, Why>
-    ensures found { IfOk result (HandsFrame bytes.now cursor.old cursor.new out.old out.new) }
-    ensures fault { IfErr result (NoFrame bytes.now cursor.old) }
+    ensures found { IfOk result (HandsFrame profile bytes.now cursor.old cursor.new out.old out.new) }
+    ensures fault { IfErr result (NoFrame profile bytes.now cursor.old) }
     ensures kept { IfErr result (λ _. (cursor.new ≡ cursor.old) × (out.new ≡ out.old)) }
-    ensures only { OfFrame bytes.now cursor.old (λ f n.
+    ensures only { OfFrame profile bytes.now cursor.old (λ f n.
         (result ≡ Err Why.Memory) ⊎ IsOkAnd result (HandsOver f (cursor.old.offset + n) cursor.old cursor.new out.old out.new)) }
 {
     let info = info_from_c(&cursor.info)?;
@@ -104,10 +113,49 @@ fn step_alone(
         u32::from(info.channels()),
         u32::from(info.greatest_block()),
     )?;
-    step(bytes, &info, &mut buffers, cursor, out)
+    step(bytes, &info, profile, &mut buffers, cursor, out)
 }
 
-/// Decodes the frame at a cursor, and writes its samples to the front of `out`: those of all channels at the first
+/// Does what [`flac_proved_next`] does, in a profile.
+fn next_by(
+    alloc: Global,
+    bytes: &[u8],
+    profile: Profile,
+    cursor: &mut FlacProvedCursor,
+    out: &mut [i32],
+    len: &mut usize,
+    fault: &mut FlacProvedFault,
+) -> u32
+    ensures given { result ≡ 0 → GivesNext profile bytes.now cursor.old cursor.new out.old out.new len.new }
+    ensures refused { result ≢ 0 → IsAnswered (RefusesNext profile bytes.now cursor.old) fault.new }
+    ensures frames { OfFrame profile bytes.now cursor.old (λ f n.
+        (result ≡ 2) ⊎ ((result ≡ 0) × HandsOver f (cursor.old.offset + n) cursor.old cursor.new out.old out.new len.new)) }
+    ensures streams { OfNextFrame profile bytes.now cursor.old (λ front more f.
+        (result ≡ 2) ⊎ ((result ≡ 0) × GoesOn profile bytes.now cursor.old cursor.new out.old out.new len.new front more f)) }
+    ensures kept { result ≢ 0 → (cursor.new ≡ cursor.old) × (out.new ≡ out.old) × (len.new ≡ len.old) }
+    ensures number { result ≡ fault.new.number }
+    ensures clear { result ≡ 0 → fault.new ≡ in_c None }
+{
+    if cursor.offset == bytes.len() as u64 {
+        *fault = in_c(Ok(()));
+        *len = 0;
+        return 0;
+    }
+    let at = Place::Frame(cursor.frames);
+    match step_alone(alloc, bytes, profile, cursor, out) {
+        Ok(count) => {
+            *fault = in_c(Ok(()));
+            *len = count;
+            0
+        }
+        Err(why) => {
+            *fault = in_c(Err(Fault { at, why }));
+            fault.number
+        }
+    }
+}
+
+/// Decodes the frame at a cursor in a stream of the streamable subset, and writes its samples to the front of `out`: those of all channels at the first
 /// index, channel by channel, then those at the next. `len` becomes the number of its samples. If there is room for all
 /// of them, the cursor moves to the next frame; otherwise nothing is written, and the cursor stays. At the end of the
 /// bytes `len` becomes 0, and the cursor stays.
@@ -127,31 +175,42 @@ pub extern "C" fn flac_proved_next(
     len: &mut usize,
     fault: &mut FlacProvedFault,
 ) -> u32
-    ensures given { result ≡ 0 → GivesNext bytes.now cursor.old cursor.new out.old out.new len.new }
-    ensures refused { result ≢ 0 → IsAnswered (RefusesNext bytes.now cursor.old) fault.new }
-    ensures frames { OfFrame bytes.now cursor.old (λ f n.
+    ensures given { result ≡ 0 → GivesNext Profile.Subset bytes.now cursor.old cursor.new out.old out.new len.new }
+    ensures refused { result ≢ 0 → IsAnswered (RefusesNext Profile.Subset bytes.now cursor.old) fault.new }
+    ensures frames { OfFrame Profile.Subset bytes.now cursor.old (λ f n.
         (result ≡ 2) ⊎ ((result ≡ 0) × HandsOver f (cursor.old.offset + n) cursor.old cursor.new out.old out.new len.new)) }
-    ensures streams { OfNextFrame bytes.now cursor.old (λ front more f.
-        (result ≡ 2) ⊎ ((result ≡ 0) × GoesOn bytes.now cursor.old cursor.new out.old out.new len.new front more f)) }
+    ensures streams { OfNextFrame Profile.Subset bytes.now cursor.old (λ front more f.
+        (result ≡ 2) ⊎ ((result ≡ 0) × GoesOn Profile.Subset bytes.now cursor.old cursor.new out.old out.new len.new front more f)) }
     ensures kept { result ≢ 0 → (cursor.new ≡ cursor.old) × (out.new ≡ out.old) × (len.new ≡ len.old) }
     ensures number { result ≡ fault.new.number }
     ensures clear { result ≡ 0 → fault.new ≡ in_c None }
 {
-    if cursor.offset == bytes.len() as u64 {
-        *fault = in_c(Ok(()));
-        *len = 0;
-        return 0;
-    }
-    let at = Place::Frame(cursor.frames);
-    match step_alone(alloc, bytes, cursor, out) {
-        Ok(count) => {
-            *fault = in_c(Ok(()));
-            *len = count;
-            0
-        }
-        Err(why) => {
-            *fault = in_c(Err(Fault { at, why }));
-            fault.number
-        }
-    }
+    next_by(alloc, bytes, Profile::Subset, cursor, out, len, fault)
+}
+
+/// Decodes the frame at a cursor in a stream of a profile, as [`flac_proved_next`] does: 0 stands for the streamable
+/// subset, any other number for all streams (RFC 9639, section 7).
+///
+/// Returns what [`flac_proved_next`] returns. The cursor, `out` and `len` are unchanged if that is not 0.
+#[unsafe(no_mangle)]
+pub extern "C" fn flac_proved_next_in(
+    alloc: Global,
+    bytes: &[u8],
+    profile: u32,
+    cursor: &mut FlacProvedCursor,
+    out: &mut [i32],
+    len: &mut usize,
+    fault: &mut FlacProvedFault,
+) -> u32
+    ensures given { result ≡ 0 → GivesNext (profile_of profile) bytes.now cursor.old cursor.new out.old out.new len.new }
+    ensures refused { result ≢ 0 → IsAnswered (RefusesNext (profile_of profile) bytes.now cursor.old) fault.new }
+    ensures frames { OfFrame (profile_of profile) bytes.now cursor.old (λ f n.
+        (result ≡ 2) ⊎ ((result ≡ 0) × HandsOver f (cursor.old.offset + n) cursor.old cursor.new out.old out.new len.new)) }
+    ensures streams { OfNextFrame (profile_of profile) bytes.now cursor.old (λ front more f.
+        (result ≡ 2) ⊎ ((result ≡ 0) × GoesOn (profile_of profile) bytes.now cursor.old cursor.new out.old out.new len.new front more f)) }
+    ensures kept { result ≢ 0 → (cursor.new ≡ cursor.old) × (out.new ≡ out.old) × (len.new ≡ len.old) }
+    ensures number { result ≡ fault.new.number }
+    ensures clear { result ≡ 0 → fault.new ≡ in_c None }
+{
+    next_by(alloc, bytes, profile_of(profile), cursor, out, len, fault)
 }

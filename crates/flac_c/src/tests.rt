@@ -1,17 +1,20 @@
 //! Each call as a program in C makes it.
 
+use crate::blocks::{FlacProvedBlock, FlacProvedPicture, FlacProvedSpan, flac_proved_blocks};
 use crate::bound::flac_proved_bound;
 use crate::cursor::FlacProvedCursor;
-use crate::decoding::flac_proved_decode;
-use crate::encoding::{FlacProvedSettings, flac_proved_encode};
+use crate::decoding::{flac_proved_decode, flac_proved_decode_in};
+use crate::encoding::{
+    FlacProvedOptions, FlacProvedSettings, flac_proved_encode, flac_proved_encode_in,
+};
 use crate::fault::FlacProvedFault;
 use crate::info::{FlacProvedInfo, flac_proved_comment, flac_proved_info, flac_proved_vendor};
-use crate::samples::flac_proved_samples;
+use crate::samples::{flac_proved_samples, flac_proved_samples_in};
 use crate::starting::{flac_proved_seek, flac_proved_start};
-use crate::stepping::flac_proved_next;
+use crate::stepping::{flac_proved_next, flac_proved_next_in};
 use crate::tags::{FlacProvedTags, FlacProvedText};
 use crate::texts::{flac_proved_place, flac_proved_strerror};
-use crate::verifying::flac_proved_verify;
+use crate::verifying::{flac_proved_verify, flac_proved_verify_in};
 use std::alloc::Global;
 use std::test::Fail;
 
@@ -420,5 +423,259 @@ fn bounds(rt: HostRuntime) -> Result<(), Fail> {
         ..SETTINGS
     };
     assert!(rt; bound(&zeros, usize::MAX) == u64::MAX);
+    Ok(())
+}
+
+/// The stream with a picture after STREAMINFO (RFC 9639, section 8.8): a front cover of 2 by 1 pixels of 24 bits, whose
+/// media type is `image/png`, description `x` and data 1, 2, 3, 4.
+const PICTURED: [u8; 107] = [
+    0x66, 0x4c, 0x61, 0x43, 0x00, 0x00, 0x00, 0x22, 0x10, 0x00, 0x10, 0x00, 0x00, 0x00, 0x0f, 0x00,
+    0x00, 0x0f, 0x0a, 0xc4, 0x42, 0xf0, 0x00, 0x00, 0x00, 0x01, 0x3e, 0x84, 0xb4, 0x18, 0x07, 0xdc,
+    0x69, 0x03, 0x07, 0x58, 0x6a, 0x3d, 0xad, 0x1a, 0x2e, 0x0f, 0x86, 0x00, 0x00, 0x2e, 0x00, 0x00,
+    0x00, 0x03, 0x00, 0x00, 0x00, 0x09, 0x69, 0x6d, 0x61, 0x67, 0x65, 0x2f, 0x70, 0x6e, 0x67, 0x00,
+    0x00, 0x00, 0x01, 0x78, 0x00, 0x00, 0x00, 0x02, 0x00, 0x00, 0x00, 0x01, 0x00, 0x00, 0x00, 0x18,
+    0x00, 0x00, 0x00, 0x00, 0x00, 0x00, 0x00, 0x04, 0x01, 0x02, 0x03, 0x04, 0xff, 0xf8, 0x69, 0x18,
+    0x00, 0x00, 0xbf, 0x01, 0x58, 0xfd, 0x01, 0x12, 0x8b, 0x5a, 0xb2,
+];
+
+/// A block that no stream has.
+fn no_block() -> FlacProvedBlock {
+    let nothing = FlacProvedSpan { offset: 9, len: 9 };
+    FlacProvedBlock {
+        offset: 9,
+        length: 9,
+        parts: 9,
+        kind: 9,
+        last: 9,
+        picture: FlacProvedPicture {
+            kind: 9,
+            width: 9,
+            height: 9,
+            depth: 9,
+            colours: 9,
+            media: nothing,
+            text: nothing,
+            bytes: nothing,
+        },
+    }
+}
+
+/// Where a block is, how many parts it has, its type, and whether it is the last.
+fn place_of(block: &FlacProvedBlock) -> (u64, u64, u64, u32, u32) {
+    (
+        block.offset,
+        block.length,
+        block.parts,
+        block.kind,
+        block.last,
+    )
+}
+
+#[test]
+fn blocks_listed(rt: HostRuntime) -> Result<(), Fail> {
+    let (mut blocks, mut len, mut fault) = ([no_block(); 3], 99, unset());
+    let number = flac_proved_blocks(rt.alloc(), &TAGGED, &mut blocks[..1], &mut len, &mut fault);
+    assert!(rt; (number, len, fault.number) == (0, 2, 0));
+    assert!(rt;
+        place_of(&blocks[0]) == (4, 34, 0, 0, 0) && place_of(&blocks[1]) == (9, 9, 9, 9, 9)
+    );
+    let number = flac_proved_blocks(rt.alloc(), &TAGGED[..73], &mut blocks, &mut len, &mut fault);
+    assert!(rt; (number, len) == (0, 2));
+    assert!(rt;
+        place_of(&blocks[1]) == (42, 27, 2, 4, 1) && place_of(&blocks[2]) == (9, 9, 9, 9, 9)
+    );
+    let number = flac_proved_blocks(rt.alloc(), &SOUGHT, &mut blocks, &mut len, &mut fault);
+    assert!(rt; (number, len) == (0, 2));
+    assert!(rt; place_of(&blocks[1]) == (42, 36, 2, 3, 1) && blocks[1].picture.width == 0);
+    let number = flac_proved_blocks(rt.alloc(), &SOUGHT[..81], &mut blocks, &mut len, &mut fault);
+    assert!(rt; (number, fault.place, fault.index, len) == (3, 2, 1, 2));
+    let number = flac_proved_blocks(rt.alloc(), b"OggS", &mut blocks, &mut len, &mut fault);
+    assert!(rt; (number, fault.place, len) == (4, 1, 2));
+    Ok(())
+}
+
+#[test]
+fn picture_found(rt: HostRuntime) -> Result<(), Fail> {
+    let (mut blocks, mut len, mut fault) = ([no_block(); 2], 99, unset());
+    let number = flac_proved_blocks(rt.alloc(), &PICTURED, &mut blocks, &mut len, &mut fault);
+    assert!(rt; (number, len) == (0, 2));
+    assert!(rt; place_of(&blocks[1]) == (42, 46, 0, 6, 1));
+    let picture = &blocks[1].picture;
+    assert!(rt; (picture.kind, picture.width, picture.height) == (3, 2, 1));
+    assert!(rt; (picture.depth, picture.colours) == (24, 0));
+    assert!(rt; (picture.media.offset, picture.media.len) == (54, 9));
+    assert!(rt; PICTURED[54..63].starts_with(b"image/png"));
+    assert!(rt; (picture.text.offset, picture.text.len) == (67, 1) && PICTURED[67] == b'x');
+    assert!(rt; (picture.bytes.offset, picture.bytes.len) == (88, 4));
+    assert!(rt; PICTURED[88..92].starts_with(&[1, 2, 3, 4]));
+    Ok(())
+}
+
+/// A stream outside the streamable subset (RFC 9639, section 7): 16 zeros of 65537 Hz and 5 bits, neither of which the
+/// frame header states.
+const OUTSIDE: [u8; 53] = [
+    0x66, 0x4c, 0x61, 0x43, 0x80, 0x00, 0x00, 0x22, 0x00, 0x10, 0x00, 0x10, 0x00, 0x00, 0x00, 0x00,
+    0x00, 0x00, 0x10, 0x00, 0x10, 0x40, 0x00, 0x00, 0x00, 0x00, 0x00, 0x00, 0x00, 0x00, 0x00, 0x00,
+    0x00, 0x00, 0x00, 0x00, 0x00, 0x00, 0x00, 0x00, 0x00, 0x00, 0xff, 0xf8, 0x60, 0x00, 0x00, 0x0f,
+    0xc7, 0x00, 0x00, 0x05, 0x72,
+];
+
+#[test]
+fn verified_in(rt: HostRuntime) -> Result<(), Fail> {
+    let mut fault = unset();
+    assert!(rt; flac_proved_verify(rt.alloc(), &OUTSIDE, &mut fault) == 14);
+    let number = flac_proved_verify_in(rt.alloc(), &OUTSIDE, 0, &mut fault);
+    assert!(rt; (number, fault.number, fault.place, fault.index) == (14, 14, 3, 0));
+    let number = flac_proved_verify_in(rt.alloc(), &OUTSIDE, 1, &mut fault);
+    assert!(rt; (number, fault.number, fault.place) == (0, 0, 0));
+    let cut = &OUTSIDE[..OUTSIDE.len() - 1];
+    let number = flac_proved_verify_in(rt.alloc(), cut, u32::MAX, &mut fault);
+    assert!(rt; (number, fault.place, fault.index) == (3, 3, 0));
+    Ok(())
+}
+
+#[test]
+fn decoded_in(rt: HostRuntime) -> Result<(), Fail> {
+    let (mut bytes, mut len, mut fault) = ([9u8; 17], 99, unset());
+    let number = flac_proved_decode_in(
+        rt.alloc(),
+        &OUTSIDE,
+        0,
+        0,
+        &mut bytes,
+        &mut len,
+        &mut fault,
+    );
+    assert!(rt; (number, fault.place, len, bytes[0]) == (14, 3, 99, 9));
+    let number = flac_proved_decode_in(
+        rt.alloc(),
+        &OUTSIDE,
+        0,
+        1,
+        &mut bytes,
+        &mut len,
+        &mut fault,
+    );
+    assert!(rt; (number, fault.number, len) == (0, 0, 16));
+    assert!(rt; bytes.starts_with(&[0; 16]) && bytes[16] == 9);
+    let (mut samples, mut len) = ([9i32; 17], 99);
+    let number = flac_proved_samples_in(
+        rt.alloc(),
+        &OUTSIDE,
+        0,
+        &mut samples,
+        &mut len,
+        &mut fault,
+    );
+    assert!(rt; (number, fault.place, len, samples[0]) == (14, 3, 99, 9));
+    let number = flac_proved_samples_in(
+        rt.alloc(),
+        &OUTSIDE,
+        2,
+        &mut samples,
+        &mut len,
+        &mut fault,
+    );
+    assert!(rt; (number, fault.number, len) == (0, 0, 16));
+    assert!(rt; samples.starts_with(&[0; 16]) && samples[16] == 9);
+    Ok(())
+}
+
+#[test]
+fn frame_outside(rt: HostRuntime) -> Result<(), Fail> {
+    let (mut cursor, mut fault) = (nowhere(), unset());
+    assert!(rt; flac_proved_start(rt.alloc(), &OUTSIDE, &mut cursor, &mut fault) == 0);
+    assert!(rt; (cursor.offset, cursor.info.rate, cursor.info.bits) == (42, 65537, 5));
+    let (mut samples, mut len) = ([9i32; 16], 99);
+    let told = next(rt.alloc(), &OUTSIDE, &mut cursor, &mut samples);
+    assert!(rt; told == (14, 99) && cursor.offset == 42);
+    let number = flac_proved_next_in(
+        rt.alloc(),
+        &OUTSIDE,
+        1,
+        &mut cursor,
+        &mut samples,
+        &mut len,
+        &mut fault,
+    );
+    assert!(rt; (number, len, cursor.offset, cursor.sample) == (0, 16, OUTSIDE.len() as u64, 16));
+    assert!(rt; samples == [0; 16]);
+    Ok(())
+}
+
+/// What encoding by options returns, the length that it reports, and the first bytes.
+fn encode_by(
+    alloc: Global,
+    settings: &FlacProvedSettings,
+    options: (u32, u32),
+    samples: &[i32],
+) -> (u32, usize, [u8; 200]) {
+    let (mut out, mut len) = ([9u8; 200], 99);
+    let options = FlacProvedOptions {
+        profile: options.0,
+        effort: options.1,
+    };
+    let number = flac_proved_encode_in(
+        alloc, settings, &options, samples, &TAGS, &mut out, &mut len,
+    );
+    (number, len, out)
+}
+
+#[test]
+fn encoded_outside(rt: HostRuntime) -> Result<(), Fail> {
+    let settings = FlacProvedSettings {
+        rate: 65537,
+        channels: 1,
+        bits: 5,
+        block_size: 16,
+        ..SETTINGS
+    };
+    let (number, len, out) = encode_by(rt.alloc(), &settings, (0, 0), &[0; 16]);
+    assert!(rt; (number, len, out[0]) == (40, 99, 9));
+    let (number, len, out) = encode_by(rt.alloc(), &settings, (1, 0), &[0; 16]);
+    // The comments of 31 bytes are after STREAMINFO, and the frame is the same.
+    assert!(rt; (number, len) == (0, OUTSIDE.len() + 31));
+    assert!(rt; out[73..].starts_with(&OUTSIDE[42..]));
+    let mut fault = unset();
+    let written = out.get(..len).unwrap_or(&[]);
+    assert!(rt; flac_proved_verify_in(rt.alloc(), written, 1, &mut fault) == 0);
+    assert!(rt; len as u64 <= bound(&settings, 16));
+    Ok(())
+}
+
+#[test]
+fn searched(rt: HostRuntime) -> Result<(), Fail> {
+    // The same bytes as without options.
+    let (number, len, stream) = encode_by(rt.alloc(), &SETTINGS, (0, 0), &[25588, 10416]);
+    assert!(rt; (number, len) == (0, 88));
+    assert!(rt; stream.starts_with(&TAGGED));
+    let settings = FlacProvedSettings {
+        channels: 1,
+        block_size: 64,
+        ..SETTINGS
+    };
+    // Each sample is 3/4 of the one before less 7/8 of that before it, which no fixed predictor follows.
+    let (mut samples, mut one, mut two) = ([0i32; 64], 20000i32, 3000i32);
+    for i in 0..64 {
+        samples[i] = one;
+        let next = (one.wrapping_mul(3) / 4).wrapping_sub(two.wrapping_mul(7) / 8);
+        two = one;
+        one = next;
+    }
+    let (number, plain, _stream) = encode_by(rt.alloc(), &settings, (0, 0), &samples);
+    assert!(rt; number == 0);
+    for effort in [1, 2] {
+        let (number, len, stream) = encode_by(rt.alloc(), &settings, (0, effort), &samples);
+        assert!(rt; number == 0 && len < plain);
+        let (mut back, mut count, mut fault) = ([9i32; 64], 99, unset());
+        let number = flac_proved_samples(
+            rt.alloc(),
+            stream.get(..len).unwrap_or(&[]),
+            &mut back,
+            &mut count,
+            &mut fault,
+        );
+        assert!(rt; (number, count) == (0, 64) && back == samples);
+    }
     Ok(())
 }

@@ -3,7 +3,7 @@ use Rattle.flac_c.specs.Answers.{IsCopied}
 use Rattle.flac_native.specs.Samples.{samples_from}
 use Rattle.flac_c.proofs.Kept.{then_ok}
 use Rattle.flac_native.proofs.Sampled.{written_from_none}
-use Rattle.flac_c.proofs.decoding.flac_proved_decode.Goals as goal
+use Rattle.flac_c.proofs.decoding.decode_by.Goals as goal
 
 pub returns-clause-decoded : goal.returns-clause-decoded
 returns-clause-decoded c = λ zero.

@@ -2,7 +2,7 @@ use Rattle.std.proofs.Common.{ℤ, List, subst, ◌∙◌}
 use Rattle.flac_c.specs.Answers.{IsCopied}
 use Rattle.flac_c.proofs.Kept.{then_ok}
 use Rattle.flac_c.proofs.Collecting.{numbers_from_none}
-use Rattle.flac_c.proofs.samples.flac_proved_samples.Goals as goal
+use Rattle.flac_c.proofs.samples.samples_by.Goals as goal
 
 pub returns-clause-decoded : goal.returns-clause-decoded
 returns-clause-decoded c = λ zero.

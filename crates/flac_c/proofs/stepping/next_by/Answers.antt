@@ -6,15 +6,15 @@ use Rattle.flac_c.specs.declared.fault.FlacProvedFault.{FlacProvedFault}
 use Rattle.flac_c.specs.Cursors.{info_from_c}
 use Rattle.flac_c.proofs.FramesRead.{none_at_end}
 use Rattle.flac_c.proofs.InStreams.{goes_on}
-use Rattle.flac_c.proofs.stepping.flac_proved_next.Goals as goal
+use Rattle.flac_c.proofs.stepping.next_by.Goals as goal
 
 pub returns-then-cursor-bytes-clause-frames : goal.returns-then-cursor-bytes-clause-frames
 returns-then-cursor-bytes-clause-frames c = λ rules f n there.
     let end : c.args.cursor.now.offset ≡ length c.args.bytes.now = omega arith in
-    absurd (none_at_end (info_from_c c.args.cursor.now.info) c.args.bytes.now c.args.cursor.now.offset f n end there)
+    absurd (none_at_end c.args.profile (info_from_c c.args.cursor.now.info) c.args.bytes.now c.args.cursor.now.offset f n end there)
 
 pub returns-then-cursor-bytes-clause-streams : goal.returns-then-cursor-bytes-clause-streams
-returns-then-cursor-bytes-clause-streams c = goes_on c.args.bytes.now c.args.cursor.now c.args.cursor.now c.args.out.now c.args.out.now 0 0 (returns-then-cursor-bytes-clause-frames c)
+returns-then-cursor-bytes-clause-streams c = goes_on c.args.profile c.args.bytes.now c.args.cursor.now c.args.cursor.now c.args.out.now c.args.out.now 0 0 (returns-then-cursor-bytes-clause-frames c)
 
 pub returns-in-Ok-clause-given : goal.returns-in-Ok-clause-given
 returns-in-Ok-clause-given c = λ zero. inr c.in-Ok.ensures.found
@@ -23,7 +23,7 @@ pub returns-in-Ok-clause-frames : goal.returns-in-Ok-clause-frames
 returns-in-Ok-clause-frames c = λ rules f n there. elim (c.in-Ok.ensures.only rules f n there) [ inl bad ↦ absurd cc | inr over ↦ inr (refl, over) ]
 
 pub returns-in-Ok-clause-streams : goal.returns-in-Ok-clause-streams
-returns-in-Ok-clause-streams c = goes_on c.args.bytes.now c.args.cursor.now c.step_alone.new.cursor c.args.out.now c.step_alone.new.out c.in-Ok.count 0 (returns-in-Ok-clause-frames c)
+returns-in-Ok-clause-streams c = goes_on c.args.profile c.args.bytes.now c.args.cursor.now c.step_alone.new.cursor c.args.out.now c.step_alone.new.out c.in-Ok.count 0 (returns-in-Ok-clause-frames c)
 
 pub returns-in-Err-clause-frames : goal.returns-in-Err-clause-frames
 returns-in-Err-clause-frames c = λ rules f n there. elim (c.in-Err.ensures.only rules f n there) [
@@ -32,4 +32,4 @@ returns-in-Err-clause-frames c = λ rules f n there. elim (c.in-Err.ensures.only
 ]
 
 pub returns-in-Err-clause-streams : goal.returns-in-Err-clause-streams
-returns-in-Err-clause-streams c = goes_on c.args.bytes.now c.args.cursor.now c.step_alone.new.cursor c.args.out.now c.step_alone.new.out c.args.len.now c.in_c-in-Err.result.number (returns-in-Err-clause-frames c)
+returns-in-Err-clause-streams c = goes_on c.args.profile c.args.bytes.now c.args.cursor.now c.step_alone.new.cursor c.args.out.now c.step_alone.new.out c.args.len.now c.in_c-in-Err.result.number (returns-in-Err-clause-frames c)
