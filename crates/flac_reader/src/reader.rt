@@ -252,8 +252,14 @@ impl<C: Container> Reader<C> {
         decoder
     }
 
-    /// The frame that was read last.
-    pub(crate) fn frame(&self) -> Option<FrameView<'_>>
+    /// The frame that was read last, by [`Reader::step`] or [`Reader::next`]; `None` at the end of the stream, and after
+    /// an error. Before the first of these calls it is the first frame, which was read when the stream was opened.
+    ///
+    /// ```
+    /// reader.step()?;
+    /// let frame = reader.frame();
+    /// ```
+    pub fn frame(&self) -> Option<FrameView<'_>>
         ensures { lent result ≡ last_frame self.now }
     {
         match self.decoder.view() {
@@ -273,8 +279,12 @@ impl<C: Container> Reader<C> {
         }
     }
 
-    /// Reads the next frame, which [`Reader::frame`] lends then.
-    pub(crate) fn step(&mut self) -> Result<(), Fault>
+    /// Reads the next frame, which [`Reader::frame`] lends then. It is [`Reader::next`] for callers that cannot hold the
+    /// loan of a frame, such as those of two readers.
+    ///
+    /// # Errors
+    /// Those of [`Reader::next`].
+    pub fn step(&mut self) -> Result<(), Fault>
         ensures { Gives self.old self.new (λ _. last_frame self.new) result }
     {
         match forward(&mut self.decoder, &mut self.ahead) {
