@@ -11,4 +11,4 @@ contents_of None again = None
 contents_of (Some bytes) again = Some (record { bytes = bytes.now; after = the_end; again = again })
 
 abbrev pub listed_of : HeldFile → Listed
-listed_of f = record { path = f.path.now; contents = contents_of f.bytes f.again }
+listed_of f = record { path = f.path.now; stamp = f.stamp; contents = contents_of f.bytes f.again }

@@ -1,7 +1,8 @@
 -- A file of a list, and what its bytes are.
-use Rattle.std.specs.Prelude.{◌≡◌, ℕ, Bool, true, List, Option, Some}
+use Rattle.std.specs.Prelude.{◌≡◌, ℕ, Bool, true, List, Option, Some, None}
 use Rattle.flac_bits.specs.State.{After}
 use Rattle.flac_bits.specs.declared.source.Source as source
+use Rattle.flac_shelf.specs.declared.stamp.Stamp.{Stamp}
 
 -- The bytes of a file, and what comes after them, which is the end unless it is cut short. `again`: it can be read more
 -- than once from its start, as a pipe cannot.
@@ -10,9 +11,14 @@ pub record Contents : Type 0 where
   pub after : After
   pub again : Bool
 
--- A file, by its path; none if it cannot be opened.
+-- nothing is known of a file
+abbrev pub no_stamp : Stamp
+no_stamp = record { bytes = None; modified = None; nanoseconds = None }
+
+-- A file, by its path, with its size and time; none if it cannot be opened.
 pub record Listed : Type 0 where
   pub path : List ℕ
+  pub stamp : Stamp
   pub contents : Option Contents
 
 -- a source that is about to give these bytes, and has not failed

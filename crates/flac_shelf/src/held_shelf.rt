@@ -4,6 +4,7 @@ ghost use Rattle.std.specs.Prelude.{◌≡◌, ◌<◌, true, [], length, map};
 ghost use Rattle.flac_shelf.specs.Listed.{Listed};
 
 use crate::shelf::Shelf;
+use crate::stamp::Stamp;
 use flac_bits::Memory;
 
 /// A file in memory.
@@ -11,6 +12,8 @@ use flac_bits::Memory;
 pub struct HeldFile<'a> {
     /// Its path, as it is reported.
     pub path: &'a str,
+    /// Its size and its time, as they are reported.
+    pub stamp: Stamp,
     /// Its bytes; `None` if it cannot be opened.
     pub bytes: Option<&'a [u8]>,
     /// Whether it can be read more than once.
@@ -31,6 +34,7 @@ impl<'a> HeldShelf<'a> {
     {
         let at = HeldFile {
             path: "",
+            stamp: Stamp::unknown(),
             bytes: None,
             again: false,
         };
@@ -65,6 +69,10 @@ impl<'a> Shelf for HeldShelf<'a> {
 
     fn path(&self) -> &str {
         self.at.path
+    }
+
+    fn stamp(&self) -> Stamp {
+        self.at.stamp
     }
 
     fn reads_again(&self) -> bool {

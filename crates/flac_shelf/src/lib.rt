@@ -3,6 +3,8 @@
 
 mod held_shelf;
 mod shelf;
+mod stamp;
 
 pub use held_shelf::{HeldFile, HeldShelf};
 pub use shelf::Shelf;
+pub use stamp::Stamp;

@@ -3,6 +3,7 @@
 ghost use Rattle.std.specs.Prelude.{◌≡◌, ◌≤◌, ◌<◌, ℕ, Bool, true, cond, List, [], ◌∷◌, None, MatchOption, IfSome};
 ghost use Rattle.flac_shelf.specs.Listed.{Listed, Opens};
 
+use crate::stamp::Stamp;
 use flac_bits::Source;
 
 /// Files, one after another, each with its path and its bytes.
@@ -39,6 +40,10 @@ pub trait Shelf {
     /// The path of the file, as it is reported.
     fn path(&self) -> &str
         ensures { known self.now ≡ true → result.now ≡ (current self.now).path };
+
+    /// The size and the time of the file, as far as they are known.
+    fn stamp(&self) -> Stamp
+        ensures { known self.now ≡ true → result ≡ (current self.now).stamp };
 
     /// Whether the file can be read more than once.
     fn reads_again(&self) -> bool

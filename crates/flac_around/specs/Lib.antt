@@ -1,0 +1,4 @@
+pub mod Around
+pub mod Coming
+pub mod Shelves
+pub mod inner

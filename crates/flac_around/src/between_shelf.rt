@@ -1,0 +1,74 @@
+//! A list of files that are read between tags.
+
+ghost use Rattle.std.specs.Prelude.{◌≡◌, ◌<◌, map};
+
+use crate::between::Between;
+use flac_shelf::{Shelf, Stamp};
+
+/// The files of another list, each of which is read between the tags that other programs put around a stream.
+#[derive(Drop)]
+pub struct BetweenShelf<S> {
+    shelf: S,
+}
+
+impl<S: Shelf> BetweenShelf<S> {
+    /// The files of this list.
+    pub fn new(shelf: S) -> BetweenShelf<S>
+        ensures { result.shelf ≡ shelf }
+    {
+        BetweenShelf { shelf }
+    }
+
+    /// Returns the list.
+    pub fn into_shelf(self) -> S
+        ensures { result ≡ self.shelf }
+    {
+        let BetweenShelf { shelf } = self;
+        shelf
+    }
+}
+
+impl<S: Shelf> Shelf for BetweenShelf<S> {
+    type File = Between<S::File>;
+
+    ghost use Rattle.flac_around.specs.Shelves.{between_listed};
+
+    ghost known = { λ s. S.known s.shelf };
+
+    ghost current = { λ s. between_listed (S.current s.shelf) };
+
+    ghost files = { λ s. map between_listed (S.files s.shelf) };
+
+    ghost faults = { λ s. S.faults s.shelf };
+
+    ghost most = { λ s. S.most s.shelf };
+
+    #[tactic(auto, using(crate::proofs::Shelves::next_listed))]
+    fn next(&mut self) -> bool {
+        self.shelf.next()
+    }
+
+    fn path(&self) -> &str {
+        self.shelf.path()
+    }
+
+    fn stamp(&self) -> Stamp {
+        self.shelf.stamp()
+    }
+
+    #[tactic(auto, using(crate::proofs::Shelves::again_listed))]
+    fn reads_again(&self) -> bool {
+        self.shelf.reads_again()
+    }
+
+    fn open(&mut self) -> Option<Between<S::File>> {
+        match self.shelf.open() {
+            Some(file) => Some(Between::new(file)),
+            None => None,
+        }
+    }
+
+    fn close(&mut self, file: Between<S::File>) {
+        self.shelf.close(file.into_source());
+    }
+}

@@ -1,0 +1,15 @@
+//! What other programs put around a stream: an ID3v2 tag before it, and an ID3v1 tag after it.
+//!
+//! [`Between`] is a source of the bytes between, so that a call which reads a stream needs to know nothing of tags.
+//! [`BetweenShelf`] is a list of files that are read so.
+#![tactic(auto)]
+
+mod between;
+mod between_shelf;
+mod filling;
+mod laws;
+mod tags;
+
+pub use between::Between;
+pub use between_shelf::BetweenShelf;
+pub use laws::{parts_are_the_input, tags_come_off};
