@@ -20,3 +20,4 @@ pub mod Crashes
 pub mod Settled
 pub mod SameComments
 pub mod TaggedFiles
+pub mod BlockContents

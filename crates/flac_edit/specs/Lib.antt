@@ -1,6 +1,11 @@
 pub mod Device
+pub mod Calls
 pub mod Edited
 pub mod Tagged
+pub mod BlockEdits
+pub mod Exported
+pub mod Parts
+pub mod Rewritten
 pub mod Faults
 pub mod Crashes
 pub mod Places

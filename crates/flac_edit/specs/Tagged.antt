@@ -1,11 +1,15 @@
 -- Edits of the comments of a stream, and of a file that has it.
 use Rattle.std.specs.Prelude.{◌≡◌, ℕ, Bool, true, false, cond, nat_eq, List, [], ◌∷◌, ◌++◌}
 use Rattle.flac_bits.specs.Bits.{bits_of}
-use Rattle.flac_bits.specs.State.{Mark, Cursor}
+use Rattle.flac_bits.specs.Fencing.{lifted}
+use Rattle.flac_bits.specs.State.{Mark, Cursor, State}
+use Rattle.flac_bits.specs.declared.source.Source as source
+use Rattle.flac_bits.specs.declared.target.Target as target
 use Rattle.flac_info.specs.Info.{Info}
 use Rattle.flac_meta.specs.declared.comments.Comments.{Comments}
 use Rattle.flac_meta.specs.declared.block.Block.{Block}
 use Rattle.flac_meta.specs.declared.block.Block.TheVariants as block_of
+use Rattle.flac_native.specs.Decoding.{source_start}
 use Rattle.flac_native.specs.Retag.{BeginsWith}
 use Rattle.flac_native.specs.Writing.{head_spelling}
 use Rattle.flac_edit.specs.Device.{Timeline, LeavesOnly}
@@ -87,3 +91,13 @@ pub record Rewrites (m : Mark) (text : List Bool) (edits : List Edit) (padding :
 -- the same of the bits of a cursor
 abbrev pub RewritesAt : Cursor → List Edit → ℕ → (before after : List Bool) → Type 0
 RewritesAt c edits padding before after = Rewrites c.mark c.left edits padding before after
+
+-- ---- what is sent to a target, `old` before the call and `new` after it, if its bytes are known
+
+-- the input of a source, if its bytes are known
+abbrev pub SendsRewritten : {S T : Type 0} (g : source.Ghosts S) (h : target.Ghosts T) → S → List Edit → ℕ → (old new : T) → Type 0
+SendsRewritten g h from edits padding old new = g.known from ≡ true → h.known old ≡ true → RewritesAt (source_start g from) edits padding (bits_of (h.sent old)) (bits_of (h.sent new))
+
+-- what a reader has still to read, if its bytes are known
+abbrev pub SendsRewrittenFrom : {T : Type 0} (h : target.Ghosts T) → State → List Edit → ℕ → (old new : T) → Type 0
+SendsRewrittenFrom h from edits padding old new = from.known ≡ true → h.known old ≡ true → RewritesAt (lifted from).cursor edits padding (bits_of (h.sent old)) (bits_of (h.sent new))

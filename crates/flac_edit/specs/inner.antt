@@ -4,3 +4,4 @@ pub mod Changed
 pub mod Flips
 pub mod Planned
 pub mod Chosen
+pub mod Tagging

@@ -1,6 +1,7 @@
 //! Which padding takes the new comments.
 
-ghost use Rattle.std.specs.Prelude.{◌≡◌, ◌≤◌, ◌<◌, ◌+◌, ◌^◌, Bool, true, false, length, OnOk, IfOk, IfSome, IsErrOf};
+ghost use Rattle.std.specs.Prelude.{◌≡◌, ◌≤◌, ◌<◌, ◌+◌, ◌^◌, true, false, length, OnOk, IfOk, IfSome};
+ghost use Rattle.flac_edit.specs.Calls.{AtEachMoment, InTheEnd, FailureIsCounted};
 ghost use Rattle.flac_edit.specs.Device.{Only};
 ghost use Rattle.flac_edit.specs.Places.{total_of};
 ghost use Rattle.flac_edit.specs.inner.Chosen.{LeavesOldOrChanged, HasChanged};
@@ -30,17 +31,15 @@ fn try_before<D: Device>(
     requires durable { D.known device.old ≡ true → Only (D.seen device.old) (D.time device.old) }
     ensures known { D.known device.new ≡ D.known device.old }
     // A crash at any moment leaves the blocks as they were, or with the new comments, before the same frames.
-    ensures any_moment { D.known device.old ≡ true
-        → LeavesOldOrChanged slots.now comments.now (D.seen device.old) (D.time device.old) (D.time device.new) }
+    ensures any_moment { AtEachMoment D.Device device.old device.new (LeavesOldOrChanged slots.now comments.now) }
     // At Ok(true) it has the new ones, and they are stored.
-    ensures edited { IfOk result (λ done. done ≡ true → D.known device.old ≡ true
-        → HasChanged slots.now comments.now (D.seen device.old) (D.seen device.new)) }
+    ensures edited { IfOk result (λ done. done ≡ true
+        → InTheEnd D.Device device.old device.new (HasChanged slots.now comments.now)) }
     ensures stored { OnOk result (D.known device.old ≡ true → Only (D.seen device.new) (D.time device.new)) }
     // At Ok(false) nothing was done.
     ensures untouched { IfOk result (λ done. done ≡ false → device.new ≡ device.old) }
     // `Failed` is returned only if the device failed.
-    ensures failed { D.known device.old ≡ true → IsErrOf result DeviceError.Failed
-        → D.faults device.old < D.faults device.new }
+    ensures failed { FailureIsCounted D.Device device.old device.new result }
 {
     let (front, back) = slots.split_at(i);
     let Some((padding, others)) = leading_padding(back) else {
@@ -91,17 +90,15 @@ fn try_after<D: Device>(
     requires durable { D.known device.old ≡ true → Only (D.seen device.old) (D.time device.old) }
     ensures known { D.known device.new ≡ D.known device.old }
     // A crash at any moment leaves the blocks as they were, or with the new comments, before the same frames.
-    ensures any_moment { D.known device.old ≡ true
-        → LeavesOldOrChanged slots.now comments.now (D.seen device.old) (D.time device.old) (D.time device.new) }
+    ensures any_moment { AtEachMoment D.Device device.old device.new (LeavesOldOrChanged slots.now comments.now) }
     // At Ok(true) it has the new ones, and they are stored.
-    ensures edited { IfOk result (λ done. done ≡ true → D.known device.old ≡ true
-        → HasChanged slots.now comments.now (D.seen device.old) (D.seen device.new)) }
+    ensures edited { IfOk result (λ done. done ≡ true
+        → InTheEnd D.Device device.old device.new (HasChanged slots.now comments.now)) }
     ensures stored { OnOk result (D.known device.old ≡ true → Only (D.seen device.new) (D.time device.new)) }
     // At Ok(false) nothing was done.
     ensures untouched { IfOk result (λ done. done ≡ false → device.new ≡ device.old) }
     // `Failed` is returned only if the device failed.
-    ensures failed { D.known device.old ≡ true → IsErrOf result DeviceError.Failed
-        → D.faults device.old < D.faults device.new }
+    ensures failed { FailureIsCounted D.Device device.old device.new result }
 {
     let (front, back) = slots.split_at(i);
     if count > back.len() {
@@ -173,17 +170,15 @@ fn try_first_before<D: Device>(
     requires durable { D.known device.old ≡ true → Only (D.seen device.old) (D.time device.old) }
     ensures known { D.known device.new ≡ D.known device.old }
     // A crash at any moment leaves the blocks as they were, or with the new comments, before the same frames.
-    ensures any_moment { D.known device.old ≡ true
-        → LeavesOldOrChanged slots.now comments.now (D.seen device.old) (D.time device.old) (D.time device.new) }
+    ensures any_moment { AtEachMoment D.Device device.old device.new (LeavesOldOrChanged slots.now comments.now) }
     // At Ok(true) it has the new ones, and they are stored.
-    ensures edited { IfOk result (λ done. done ≡ true → D.known device.old ≡ true
-        → HasChanged slots.now comments.now (D.seen device.old) (D.seen device.new)) }
+    ensures edited { IfOk result (λ done. done ≡ true
+        → InTheEnd D.Device device.old device.new (HasChanged slots.now comments.now)) }
     ensures stored { OnOk result (D.known device.old ≡ true → Only (D.seen device.new) (D.time device.new)) }
     // At Ok(false) nothing was done.
     ensures untouched { IfOk result (λ done. done ≡ false → device.new ≡ device.old) }
     // `Failed` is returned only if the device failed.
-    ensures failed { D.known device.old ≡ true → IsErrOf result DeviceError.Failed
-        → D.faults device.old < D.faults device.new }
+    ensures failed { FailureIsCounted D.Device device.old device.new result }
 {
     let size = comments.length();
     match first_with_room(&slots[run.start..run.comments], size + 4) {
@@ -210,17 +205,15 @@ fn try_first_after<D: Device>(
     requires durable { D.known device.old ≡ true → Only (D.seen device.old) (D.time device.old) }
     ensures known { D.known device.new ≡ D.known device.old }
     // A crash at any moment leaves the blocks as they were, or with the new comments, before the same frames.
-    ensures any_moment { D.known device.old ≡ true
-        → LeavesOldOrChanged slots.now comments.now (D.seen device.old) (D.time device.old) (D.time device.new) }
+    ensures any_moment { AtEachMoment D.Device device.old device.new (LeavesOldOrChanged slots.now comments.now) }
     // At Ok(true) it has the new ones, and they are stored.
-    ensures edited { IfOk result (λ done. done ≡ true → D.known device.old ≡ true
-        → HasChanged slots.now comments.now (D.seen device.old) (D.seen device.new)) }
+    ensures edited { IfOk result (λ done. done ≡ true
+        → InTheEnd D.Device device.old device.new (HasChanged slots.now comments.now)) }
     ensures stored { OnOk result (D.known device.old ≡ true → Only (D.seen device.new) (D.time device.new)) }
     // At Ok(false) nothing was done.
     ensures untouched { IfOk result (λ done. done ≡ false → device.new ≡ device.old) }
     // `Failed` is returned only if the device failed.
-    ensures failed { D.known device.old ≡ true → IsErrOf result DeviceError.Failed
-        → D.faults device.old < D.faults device.new }
+    ensures failed { FailureIsCounted D.Device device.old device.new result }
 {
     let size = comments.length();
     let after = run.comments + 1;
@@ -244,17 +237,15 @@ pub(crate) fn change_in_place<D: Device>(
     requires durable { D.known device.old ≡ true → Only (D.seen device.old) (D.time device.old) }
     ensures known { D.known device.new ≡ D.known device.old }
     // A crash at any moment leaves the blocks as they were, or with the new comments, before the same frames.
-    ensures any_moment { D.known device.old ≡ true
-        → LeavesOldOrChanged slots.now comments.now (D.seen device.old) (D.time device.old) (D.time device.new) }
+    ensures any_moment { AtEachMoment D.Device device.old device.new (LeavesOldOrChanged slots.now comments.now) }
     // At Ok(true) it has the new ones, and they are stored.
-    ensures edited { IfOk result (λ done. done ≡ true → D.known device.old ≡ true
-        → HasChanged slots.now comments.now (D.seen device.old) (D.seen device.new)) }
+    ensures edited { IfOk result (λ done. done ≡ true
+        → InTheEnd D.Device device.old device.new (HasChanged slots.now comments.now)) }
     ensures stored { OnOk result (D.known device.old ≡ true → Only (D.seen device.new) (D.time device.new)) }
     // At Ok(false) nothing was done.
     ensures untouched { IfOk result (λ done. done ≡ false → device.new ≡ device.old) }
     // `Failed` is returned only if the device failed.
-    ensures failed { D.known device.old ≡ true → IsErrOf result DeviceError.Failed
-        → D.faults device.old < D.faults device.new }
+    ensures failed { FailureIsCounted D.Device device.old device.new result }
 {
     let Some(_size) = head_size(slots) else {
         return Ok(false);

@@ -1,6 +1,7 @@
 //! Three writes by which new comments take the place of old ones.
 
-ghost use Rattle.std.specs.Prelude.{◌≡◌, ◌<◌, ◌≤◌, Bool, true, length, OnOk, IsErrOf};
+ghost use Rattle.std.specs.Prelude.{◌≡◌, true, length, OnOk};
+ghost use Rattle.flac_edit.specs.Calls.{AtEachMoment, InTheEnd, FailureIsCounted};
 ghost use Rattle.flac_edit.specs.Device.{Only, IsWord};
 ghost use Rattle.flac_edit.specs.inner.Flips.{IsInside, LeavesEither, HasNew};
 
@@ -31,14 +32,12 @@ pub(crate) fn flip<D: Device>(device: &mut D, plan: &Change) -> Result<(), Devic
     requires durable { D.known device.old ≡ true → Only (D.seen device.old) (D.time device.old) }
     ensures known { D.known device.new ≡ D.known device.old }
     // A crash at any moment leaves the old blocks or the new ones, before the same frames.
-    ensures any_moment { D.known device.old ≡ true
-        → LeavesEither plan.now (D.seen device.old) (D.time device.old) (D.time device.new) }
+    ensures any_moment { AtEachMoment D.Device device.old device.new (LeavesEither plan.now) }
     // At Ok it has the new ones, and they are stored.
-    ensures edited { OnOk result (D.known device.old ≡ true → HasNew plan.now (D.seen device.old) (D.seen device.new)) }
+    ensures edited { OnOk result (InTheEnd D.Device device.old device.new (HasNew plan.now)) }
     ensures stored { OnOk result (D.known device.old ≡ true → Only (D.seen device.new) (D.time device.new)) }
     // `Failed` is returned only if the device failed.
-    ensures failed { D.known device.old ≡ true → IsErrOf result DeviceError.Failed
-        → D.faults device.old < D.faults device.new }
+    ensures failed { FailureIsCounted D.Device device.old device.new result }
 {
     store(device, plan.at, &plan.bytes)?;
     store(device, plan.header_at, &plan.header)?;

@@ -1,8 +1,9 @@
 //! Edits in place.
 
-ghost use Rattle.std.specs.Prelude.{◌≡◌, ◌≤◌, ◌<◌, ◌+◌, Bool, true, false, length, OnOk, IfOk, IsErrOf};
+ghost use Rattle.std.specs.Prelude.{◌≡◌, ◌≤◌, ◌+◌, true, false, length, OnOk, IfOk};
 ghost use Rattle.flac_bits.specs.Forms.{AreBytes};
 ghost use Rattle.flac_meta.specs.Valid.{AllAre, IsComments};
+ghost use Rattle.flac_edit.specs.Calls.{AtEachMoment, InTheEnd, FailureIsCounted};
 ghost use Rattle.flac_edit.specs.Device.{Only};
 ghost use Rattle.flac_edit.specs.Places.{total_of, LeavesOldOrEdited, ReadsOldOrEdited, HasComments};
 
@@ -61,20 +62,17 @@ pub fn edit_in_place<D: Device>(
     ensures known { D.known device.new ≡ D.known device.old }
     // A crash at any moment leaves a file that is read as the old blocks, or as those with the new comments, before the
     // same frames.
-    ensures any_moment { D.known device.old ≡ true
-        → LeavesOldOrEdited slots.now comments.now (D.seen device.old) (D.time device.old) (D.time device.new) }
+    ensures any_moment { AtEachMoment D.Device device.old device.new (LeavesOldOrEdited slots.now comments.now) }
     // Whatever is returned, a read finds the old blocks, or those with the new comments.
-    ensures reads { D.known device.old ≡ true
-        → ReadsOldOrEdited slots.now comments.now (D.seen device.old) (D.seen device.new) }
+    ensures reads { InTheEnd D.Device device.old device.new (ReadsOldOrEdited slots.now comments.now) }
     // At Ok(true) it has the new comments, and they are stored.
-    ensures edited { IfOk result (λ done. done ≡ true → D.known device.old ≡ true
-        → HasComments slots.now comments.now (D.seen device.old) (D.seen device.new)) }
+    ensures edited { IfOk result (λ done. done ≡ true
+        → InTheEnd D.Device device.old device.new (HasComments slots.now comments.now)) }
     ensures stored { OnOk result (D.known device.old ≡ true → Only (D.seen device.new) (D.time device.new)) }
     // At Ok(false) nothing was done.
     ensures untouched { IfOk result (λ done. done ≡ false → device.new ≡ device.old) }
     // `Failed` is returned only if the device failed.
-    ensures failed { D.known device.old ≡ true → IsErrOf result DeviceError.Failed
-        → D.faults device.old < D.faults device.new }
+    ensures failed { FailureIsCounted D.Device device.old device.new result }
 {
     comments_fit(comments);
     change_in_place(alloc, device, slots, comments)

@@ -1,10 +1,13 @@
 //! Edits the comments of a native stream in place: a crash at any moment leaves the old blocks or the new ones.
 #![tactic(auto)]
 
+mod block_edits;
 mod choosing;
 mod crash_file;
 mod device;
 mod edits;
+mod exporting;
+mod exporting_parts;
 mod flipping;
 mod in_place;
 mod laws;
@@ -12,16 +15,21 @@ mod memory;
 mod padding;
 mod planning;
 mod rewriting;
+mod rewriting_blocks;
 mod slots;
 mod store;
 mod tagging;
 
+pub use block_edits::{BlockEdits, BlockFault, Removal, edited_blocks};
 pub use crash_file::{Call, CrashFile};
 pub use device::{Device, DeviceError};
 pub use edits::{Edit, edited};
+pub use exporting::{comment_lines, content_of, first_picture};
+pub use exporting_parts::{Part, export_part};
 pub use in_place::edit_in_place;
 pub use laws::{edits_settle, streams_stay};
 pub use memory::MemoryFile;
 pub use rewriting::rewrite;
+pub use rewriting_blocks::{EditFault, rewrite_blocks};
 pub use slots::Slot;
 pub use tagging::{TagFault, Tagged, tag_in_place};

@@ -1,7 +1,8 @@
 //! Edits in padding before the comments, and after them.
 
-ghost use Rattle.std.specs.Prelude.{◌≡◌, ◌≤◌, ◌<◌, ◌+◌, ◌%◌, ◌^◌, Bool, true, length, OnOk, IsErrOf};
+ghost use Rattle.std.specs.Prelude.{◌≡◌, ◌≤◌, ◌<◌, ◌+◌, ◌%◌, ◌^◌, true, length, OnOk};
 ghost use Rattle.flac_meta.specs.Spelling.{comments_length};
+ghost use Rattle.flac_edit.specs.Calls.{AtEachMoment, InTheEnd, FailureIsCounted};
 ghost use Rattle.flac_edit.specs.Device.{Only};
 ghost use Rattle.flac_edit.specs.inner.Changed.{LeavesBefore, HasNewBefore, LeavesAfter, HasNewAfter};
 
@@ -54,15 +55,12 @@ pub(crate) fn edit_before<D: Device>(
     requires durable { D.known device.old ≡ true → Only (D.seen device.old) (D.time device.old) }
     ensures known { D.known device.new ≡ D.known device.old }
     // A crash at any moment of the call leaves the old blocks or the new ones, before the same frames.
-    ensures any_moment { D.known device.old ≡ true
-        → LeavesBefore place.now comments.now (D.seen device.old) (D.time device.old) (D.time device.new) }
+    ensures any_moment { AtEachMoment D.Device device.old device.new (LeavesBefore place.now comments.now) }
     // At Ok it has the new ones, and they are stored.
-    ensures edited { OnOk result (D.known device.old ≡ true
-        → HasNewBefore place.now comments.now (D.seen device.old) (D.seen device.new)) }
+    ensures edited { OnOk result (InTheEnd D.Device device.old device.new (HasNewBefore place.now comments.now)) }
     ensures stored { OnOk result (D.known device.old ≡ true → Only (D.seen device.new) (D.time device.new)) }
     // `Failed` is returned only if the device failed.
-    ensures failed { D.known device.old ≡ true → IsErrOf result DeviceError.Failed
-        → D.faults device.old < D.faults device.new }
+    ensures failed { FailureIsCounted D.Device device.old device.new result }
 {
     match change_before(
         alloc,
@@ -95,15 +93,12 @@ pub(crate) fn edit_after<D: Device>(
     requires durable { D.known device.old ≡ true → Only (D.seen device.old) (D.time device.old) }
     ensures known { D.known device.new ≡ D.known device.old }
     // A crash at any moment of the call leaves the old blocks or the new ones, before the same frames.
-    ensures any_moment { D.known device.old ≡ true
-        → LeavesAfter place.now comments.now (D.seen device.old) (D.time device.old) (D.time device.new) }
+    ensures any_moment { AtEachMoment D.Device device.old device.new (LeavesAfter place.now comments.now) }
     // At Ok it has the new ones, and they are stored.
-    ensures edited { OnOk result (D.known device.old ≡ true
-        → HasNewAfter place.now comments.now (D.seen device.old) (D.seen device.new)) }
+    ensures edited { OnOk result (InTheEnd D.Device device.old device.new (HasNewAfter place.now comments.now)) }
     ensures stored { OnOk result (D.known device.old ≡ true → Only (D.seen device.new) (D.time device.new)) }
     // `Failed` is returned only if the device failed.
-    ensures failed { D.known device.old ≡ true → IsErrOf result DeviceError.Failed
-        → D.faults device.old < D.faults device.new }
+    ensures failed { FailureIsCounted D.Device device.old device.new result }
 {
     match change_after(
         alloc,

@@ -1,11 +1,8 @@
 //! Writes a stream with edited comments to another file.
 
-ghost use Rattle.std.specs.Prelude.{◌≡◌, ◌≢◌, ◌++◌, true, OnOk, IfOk, IfErr};
-ghost use Rattle.flac_bits.specs.Bits.{bits_of};
-ghost use Rattle.flac_bits.specs.Fencing.{lifted};
-ghost use Rattle.flac_native.specs.Decoding.{source_start};
+ghost use Rattle.std.specs.Prelude.{◌≡◌, ◌≢◌, ◌++◌, OnOk, IfOk, IfErr};
 ghost use Rattle.flac_native.specs.Retag.{not_read, not_written};
-ghost use Rattle.flac_edit.specs.Tagged.{is_other, other_of, others_of, arranged, RewritesAt};
+ghost use Rattle.flac_edit.specs.Tagged.{is_other, other_of, others_of, arranged, SendsRewritten, SendsRewrittenFrom};
 
 use crate::edits::{Edit, edited};
 use crate::tagging::comments_among;
@@ -88,9 +85,8 @@ pub fn rewrite<R: Source, W: Target>(
     target: &mut W,
 ) -> Result<(), RetagFault>
     // What was written is the input with its blocks arranged so; its frames and all after them are the same.
-    ensures written { OnOk result (R.known source.old ≡ true → W.known target.old ≡ true
-        → RewritesAt (source_start R.Source source.old) edits.now padding (bits_of (W.sent target.old))
-        (bits_of (W.sent target.new))) }
+    ensures written { OnOk result
+        (SendsRewritten R.Source W.Target source.old edits.now padding target.old target.new) }
     // Unless a device failed, nothing was written.
     ensures nothing { IfErr result (λ f. f ≢ not_read → f ≢ not_written → target.new ≡ target.old) }
 {
@@ -109,9 +105,7 @@ fn rewrite_from<R: Source, W: Target>(
     target: &mut W,
 ) -> Result<(), RetagFault>
     requires { reader.old.cursor.mark.unread ≡ 0 }
-    ensures written { OnOk result (reader.old.known ≡ true → W.known target.old ≡ true
-        → RewritesAt (lifted reader.old).cursor edits.now padding (bits_of (W.sent target.old))
-        (bits_of (W.sent target.new))) }
+    ensures written { OnOk result (SendsRewrittenFrom W.Target reader.old edits.now padding target.old target.new) }
     ensures nothing { IfErr result (λ f. f ≢ not_read → f ≢ not_written → target.new ≡ target.old) }
 {
     let blocks = match read_blocks(alloc, reader) {

@@ -1,6 +1,7 @@
 //! A write that is stored before the next one begins.
 
-ghost use Rattle.std.specs.Prelude.{◌≡◌, ◌≤◌, ◌<◌, Bool, true, length, OnOk, IsErrOf};
+ghost use Rattle.std.specs.Prelude.{◌≡◌, ◌≤◌, true, length, OnOk};
+ghost use Rattle.flac_edit.specs.Calls.{FailureIsCounted};
 ghost use Rattle.flac_edit.specs.Device.{Fits, Only, Torn, Whole, IsWord, Holds, LeavesOnly};
 
 use crate::device::{Device, DeviceError};
@@ -21,8 +22,7 @@ pub(crate) fn store<D: Device>(device: &mut D, at: usize, bytes: &[u8]) -> Resul
     ensures whole { D.known device.old ≡ true → IsWord at (length bytes.now)
         → LeavesOnly (D.time device.old) (D.time device.new) (Whole at bytes.now (D.seen device.old)) }
     ensures faults { D.known device.old ≡ true → D.faults device.old ≤ D.faults device.new }
-    ensures failed { D.known device.old ≡ true → IsErrOf result DeviceError.Failed
-        → D.faults device.old < D.faults device.new }
+    ensures failed { FailureIsCounted D.Device device.old device.new result }
 {
     device.write_at(at, bytes)?;
     device.sync()

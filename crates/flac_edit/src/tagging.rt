@@ -1,11 +1,12 @@
 //! Edits the comments of a file in place, after it was read.
 
-ghost use Rattle.std.specs.Prelude.{◌≡◌, ◌≢◌, ◌≤◌, ◌<◌, ◌+◌, ◌⊎◌, ◌↔◌, true, length, Err, OnOk, IfOk, IfErr, IfSome, IsErrOf};
+ghost use Rattle.std.specs.Prelude.{◌≡◌, ◌≢◌, ◌≤◌, ◌<◌, ◌+◌, ◌↔◌, true, length, Err, OnOk, IfOk, IfErr, IfSome};
 ghost use Rattle.flac_native.specs.Decoding.{source_start};
-ghost use Rattle.flac_native.specs.Retag.{IsRefusedAt};
+ghost use Rattle.flac_edit.specs.Calls.{AtEachMoment, InTheEnd, FailureIsCounted};
 ghost use Rattle.flac_edit.specs.Device.{Only};
-ghost use Rattle.flac_edit.specs.Places.{slot_of, slots_of, total_of, LeavesOldOrEdited, ReadsOldOrEdited, HasComments};
-ghost use Rattle.flac_edit.specs.Faults.{IsOfStream, IfStream};
+ghost use Rattle.flac_edit.specs.Places.{slot_of, slots_of, total_of};
+ghost use Rattle.flac_edit.specs.inner.Tagging.{LeavesSameOrEdited, ReadsSameOrEdited, HasEdited};
+ghost use Rattle.flac_edit.specs.Faults.{IsOfStream, IfStream, RefusalIsDueIn};
 ghost use Rattle.flac_edit.specs.declared.tagging.TagFault.TheVariants as fault;
 ghost use Rattle.flac_edit.specs.Tagged.{no_comments, comments_among, new_comments, LeavesOldOrTagged, ReadsOldOrTagged, IsTagged, ChangesNothing};
 
@@ -107,21 +108,15 @@ fn change_comments<D: Device>(
         → 4 + total_of (slots_of blocks.now) ≤ length (D.seen device.old) }
     requires durable { D.known device.old ≡ true → Only (D.seen device.old) (D.time device.old) }
     ensures known { D.known device.new ≡ D.known device.old }
-    ensures any_moment { D.known device.old ≡ true → (device.new ≡ device.old)
-        ⊎ LeavesOldOrEdited (slots_of blocks.now) (new_comments edits.now blocks.now) (D.seen device.old)
-        (D.time device.old) (D.time device.new) }
-    ensures reads { D.known device.old ≡ true → (device.new ≡ device.old)
-        ⊎ ReadsOldOrEdited (slots_of blocks.now) (new_comments edits.now blocks.now) (D.seen device.old)
-        (D.seen device.new) }
-    ensures flipped { IfOk result (λ done. done ≡ Tagged.Flipped → D.known device.old ≡ true
-        → HasComments (slots_of blocks.now) (new_comments edits.now blocks.now) (D.seen device.old)
-        (D.seen device.new)) }
+    ensures any_moment { LeavesSameOrEdited D.Device edits.now blocks.now device.old device.new }
+    ensures reads { ReadsSameOrEdited D.Device edits.now blocks.now device.old device.new }
+    ensures flipped { IfOk result (λ done. done ≡ Tagged.Flipped
+        → HasEdited D.Device edits.now blocks.now device.old device.new) }
     ensures stored { OnOk result (D.known device.old ≡ true → Only (D.seen device.new) (D.time device.new)) }
     ensures untouched { IfOk result (λ done. done ≢ Tagged.Flipped → device.new ≡ device.old) }
     ensures same { IfOk result (λ done. (done ≡ Tagged.Same)
         ↔ (new_comments edits.now blocks.now ≡ comments_among blocks.now)) }
-    ensures failed { D.known device.old ≡ true → IsErrOf result DeviceError.Failed
-        → D.faults device.old < D.faults device.new }
+    ensures failed { FailureIsCounted D.Device device.old device.new result }
 {
     let old = comments_among(alloc, blocks)?;
     let new = edited(alloc, &old, edits)?;
@@ -172,14 +167,14 @@ pub fn tag_in_place<R: Source, D: Device>(
     ensures known { D.known device.new ≡ D.known device.old }
     // A crash at any moment leaves a file that is read as the old blocks, or as those with the edited comments, before the
     // same frames.
-    ensures any_moment { D.known device.old ≡ true → LeavesOldOrTagged (source_start R.Source source.old).mark edits.now
-        (D.seen device.old) (D.time device.old) (D.time device.new) }
+    ensures any_moment { AtEachMoment D.Device device.old device.new
+        (LeavesOldOrTagged (source_start R.Source source.old).mark edits.now) }
     // Whatever is returned, a read finds the old blocks, or those with the edited comments.
-    ensures reads { D.known device.old ≡ true → ReadsOldOrTagged (source_start R.Source source.old).mark edits.now
-        (D.seen device.old) (D.seen device.new) }
+    ensures reads { InTheEnd D.Device device.old device.new
+        (ReadsOldOrTagged (source_start R.Source source.old).mark edits.now) }
     // `Flipped`: it has the edited comments. After each Ok all is stored.
-    ensures flipped { IfOk result (λ done. done ≡ Tagged.Flipped → D.known device.old ≡ true
-        → IsTagged (source_start R.Source source.old).mark edits.now (D.seen device.old) (D.seen device.new)) }
+    ensures flipped { IfOk result (λ done. done ≡ Tagged.Flipped → InTheEnd D.Device device.old device.new
+        (IsTagged (source_start R.Source source.old).mark edits.now)) }
     ensures stored { OnOk result (D.known device.old ≡ true → Only (D.seen device.new) (D.time device.new)) }
     // Unless it is `Flipped`, nothing was written; nor was it if the stream is refused.
     ensures untouched { IfOk result (λ done. done ≢ Tagged.Flipped → device.new ≡ device.old) }
@@ -190,9 +185,7 @@ pub fn tag_in_place<R: Source, D: Device>(
     ensures idle { IfOk result (λ done. R.known source.old ≡ true
         → ChangesNothing (source_start R.Source source.old).mark edits.now (R.coming source.old) → done ≡ Tagged.Same) }
     // Refused only as the marker and the blocks are, at that place and for that reason.
-    ensures refused { IfErr result (IfStream (λ f. R.known source.old ≡ true
-        → R.errors source.new ≡ R.errors source.old → f.why ≢ Why.Memory
-        → IsRefusedAt (source_start R.Source source.old) f.at f.why)) }
+    ensures refused { IfErr result (IfStream (RefusalIsDueIn R.Source source.old source.new)) }
     // `Failed` is returned only if the device failed.
     ensures failed { D.known device.old ≡ true → result ≡ Err (fault.Device DeviceError.Failed)
         → D.faults device.old < D.faults device.new }

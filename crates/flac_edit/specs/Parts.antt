@@ -1,0 +1,58 @@
+-- A part of the metadata of a stream, written to another file.
+use Rattle.std.specs.Prelude.{◌≡◌, ◌≤◌, ◌<◌, ℕ, Bool, List, ◌∷◌, ◌++◌, length, slice_index_or, Some, None}
+use Rattle.flac_bits.specs.Bits.{bits_of}
+use Rattle.flac_bits.specs.State.{Mark, Cursor}
+use Rattle.flac_info.specs.Info.{Info}
+use Rattle.flac_meta.specs.Spelling.{content_spelling}
+use Rattle.flac_meta.specs.declared.picture.Picture.{Picture}
+use Rattle.flac_meta.specs.declared.block.Block.{Block}
+use Rattle.flac_meta.specs.declared.block.Block.TheVariants as block_of
+use Rattle.flac_native.specs.Retag.{BeginsWith}
+use Rattle.flac_edit.specs.Tagged.{comments_among}
+use Rattle.flac_edit.specs.Exported.{comment_lines, first_picture}
+use Rattle.flac_edit.specs.declared.block_edits.BlockFault.{BlockFault}
+use Rattle.flac_edit.specs.declared.block_edits.BlockFault.TheVariants as fault
+use Rattle.flac_edit.specs.declared.exporting_parts.Part.{Part}
+use Rattle.flac_edit.specs.declared.exporting_parts.Part.TheVariants as part
+
+-- block n of a list, STREAMINFO being block 0
+abbrev pub IsBlock : ℕ → List Block → Block → Type 0
+IsBlock n list b = (n < length list) × (b ≡ slice_index_or list n b)
+
+-- These bytes are that part of blocks, STREAMINFO the first: the lines of the comments, none without a comment block; the
+-- data of the first picture; the content of a block (RFC 9639, section 8.1).
+abbrev pub IsPart : Part → List Block → (bytes : List ℕ) → Type 0
+IsPart part.Tags list bytes = bytes ≡ comment_lines (comments_among list).list
+IsPart part.Picture list bytes = (p : Picture) × (first_picture list ≡ Some p) × (bytes ≡ p.bytes)
+IsPart (part.Block n) list bytes = (b : Block) × IsBlock n list b × (bits_of bytes ≡ content_spelling b)
+
+-- The blocks have no such part: no picture, or no block of this number.
+abbrev pub Lacks : Part → List Block → BlockFault → Type 0
+Lacks part.Tags list why = ⊥
+Lacks part.Picture list why = (first_picture list ≡ None) × (why ≡ fault.NoPicture)
+Lacks (part.Block n) list why = (length list ≤ n) × (why ≡ fault.NoBlock n)
+
+-- After the bytes that were there, that part of the input was written.
+pub record Exports (m : Mark) (text : List Bool) (p : Part) (before after : List ℕ) : Type 0 where
+  pub info : Info
+  pub list : List Block
+  pub rest : List Bool
+  pub input : BeginsWith m text info list rest
+  pub bytes : List ℕ
+  pub is_part : IsPart p (block_of.StreamInfo info ∷ list) bytes
+  pub output : after ≡ before ++ bytes
+
+-- The input begins with blocks that have no such part.
+pub record LacksPart (m : Mark) (text : List Bool) (p : Part) (why : BlockFault) : Type 0 where
+  pub info : Info
+  pub list : List Block
+  pub rest : List Bool
+  pub input : BeginsWith m text info list rest
+  pub lacks : Lacks p (block_of.StreamInfo info ∷ list) why
+
+-- the same of the bits of a cursor
+abbrev pub ExportsAt : Cursor → Part → (before after : List ℕ) → Type 0
+ExportsAt c p before after = Exports c.mark c.left p before after
+
+abbrev pub LacksAt : Cursor → Part → BlockFault → Type 0
+LacksAt c p why = LacksPart c.mark c.left p why

@@ -1,0 +1,132 @@
+//! Writes a stream with edited metadata blocks to another file.
+
+ghost use Rattle.std.specs.Prelude.{◌≡◌, ◌≢◌, true, OnOk, IfOk, IfErr};
+ghost use Rattle.flac_bits.specs.Bits.{bits_of};
+ghost use Rattle.flac_bits.specs.Fencing.{lifted};
+ghost use Rattle.flac_native.specs.Decoding.{source_start};
+ghost use Rattle.flac_native.specs.Retag.{not_read, not_written};
+ghost use Rattle.flac_edit.specs.BlockEdits.{edited_blocks, block_fault};
+ghost use Rattle.flac_edit.specs.Rewritten.{Judges, IfRefused, RewritesBlocksAt, RefusesBlocksAt};
+ghost use Rattle.flac_edit.specs.declared.rewriting_blocks.EditFault.TheVariants as fault;
+
+use crate::block_edits::{BlockEdits, BlockFault, edited_blocks, missing, pictures_fault};
+use flac_bits::{BitReader, Source, Target, Why};
+use flac_meta::Block;
+use flac_native::{RetagFault, read_blocks, send_with_blocks};
+use std::alloc::Global;
+
+/// Why a stream was not written with edited blocks.
+#[derive(Clone, Copy, Debug, PartialEq, Eq)]
+pub enum EditFault {
+    /// The edits do not fit its blocks.
+    Blocks(BlockFault),
+    /// The stream is refused, or it could not be read or written.
+    Stream(RetagFault),
+}
+
+/// The blocks after these edits.
+///
+/// # Errors
+/// The edits do not fit the blocks, or an allocation failed ([`Why::Memory`], without a place).
+fn changed_blocks(
+    alloc: Global,
+    edits: &BlockEdits<'_>,
+    blocks: &[Block],
+) -> Result<Vec<Block>, EditFault>
+    ensures made { IfOk result (λ list. list.items ≡ edited_blocks edits.now blocks.now) }
+    ensures judged { Judges result (block_fault edits.now blocks.now) }
+{
+    if let Some(fault) = missing(blocks.len(), edits.removals) {
+        return Err(EditFault::Blocks(fault));
+    }
+    let Ok(list) = edited_blocks(alloc, edits, blocks) else {
+        return Err(EditFault::Stream(RetagFault {
+            at: None,
+            why: Why::Memory,
+        }));
+    };
+    match pictures_fault(edits, &list) {
+        Some(fault) => Err(EditFault::Blocks(fault)),
+        None => Ok(list),
+    }
+}
+
+/// Writes a native stream with edited metadata blocks (RFC 9639, sections 6 and 8): the marker, the blocks that are not
+/// removed, with new pictures before the comments and the padding, new padding last, and then all bytes that follow the
+/// metadata. These are copied as they are, and not verified; so the offsets of a seek table stay right.
+///
+/// ```
+/// let edits = BlockEdits { removals: &[Removal::Kind(6)], pictures: &[], padding: Some(8192) };
+/// rewrite_blocks(rt.alloc(), &mut source, &edits, &mut target)?; // without its pictures
+/// ```
+///
+/// # Errors
+/// - [`EditFault::Blocks`]: a removal names a block that is not there, or STREAMINFO; or there would be two pictures of
+///   type 1, or of type 2, one of them new (section 8.8). Nothing was written.
+/// - [`EditFault::Stream`] with a reason of the marker or of a metadata block, at its place, as [`flac_native::decode`]
+///   refuses it; [`Why::Read`] there if the source returned an error. Nothing was written.
+/// - The same with [`Why::BlockLength`] without a place: a picture or the padding is longer than 16777215 bytes; with
+///   [`Why::Memory`] at a block or without a place: an allocation failed. Nothing was written.
+/// - The same with [`Why::Read`] at frame 0: the source returned an error after the metadata; with [`Why::Write`] without
+///   a place: the target returned an error. A prefix of the output was written.
+pub fn rewrite_blocks<R: Source, W: Target>(
+    alloc: Global,
+    source: &mut R,
+    edits: &BlockEdits<'_>,
+    target: &mut W,
+) -> Result<(), EditFault>
+    // What was written is the input with its blocks edited so; its frames and all after them are the same.
+    ensures written { OnOk result (R.known source.old ≡ true → W.known target.old ≡ true
+        → RewritesBlocksAt (source_start R.Source source.old) edits.now (bits_of (W.sent target.old))
+        (bits_of (W.sent target.new))) }
+    // Edits are refused only if they do not fit the blocks, for that reason.
+    ensures refused { IfErr result (IfRefused (λ why. R.known source.old ≡ true
+        → RefusesBlocksAt (source_start R.Source source.old) edits.now why)) }
+    // Unless a device failed, nothing was written.
+    ensures nothing { IfErr result (λ f. f ≢ fault.Stream not_read → f ≢ fault.Stream not_written
+        → target.new ≡ target.old) }
+{
+    let mut reader = BitReader::new(source);
+    let outcome = rewrite_blocks_from(alloc, &mut reader, edits, target);
+    let _source = reader.into_source(); // for its clauses alone
+    outcome
+}
+
+/// Writes what is still to come with edited blocks.
+fn rewrite_blocks_from<R: Source, W: Target>(
+    alloc: Global,
+    reader: &mut BitReader<R>,
+    edits: &BlockEdits<'_>,
+    target: &mut W,
+) -> Result<(), EditFault>
+    requires { reader.old.cursor.mark.unread ≡ 0 }
+    ensures written { OnOk result (reader.old.known ≡ true → W.known target.old ≡ true
+        → RewritesBlocksAt (lifted reader.old).cursor edits.now (bits_of (W.sent target.old))
+        (bits_of (W.sent target.new))) }
+    ensures refused { IfErr result (IfRefused (λ why. reader.old.known ≡ true
+        → RefusesBlocksAt (lifted reader.old).cursor edits.now why)) }
+    ensures nothing { IfErr result (λ f. f ≢ fault.Stream not_read → f ≢ fault.Stream not_written
+        → target.new ≡ target.old) }
+{
+    let blocks = match read_blocks(alloc, reader) {
+        Ok(blocks) => blocks,
+        Err(fault) => {
+            return Err(EditFault::Stream(RetagFault {
+                at: Some(fault.at),
+                why: fault.why,
+            }));
+        }
+    };
+    let made = changed_blocks(alloc, edits, &blocks);
+    drop(blocks);
+    let list = match made {
+        Ok(list) => list,
+        Err(fault) => return Err(fault),
+    };
+    let outcome = send_with_blocks(alloc, reader, &list, target);
+    drop(list);
+    match outcome {
+        Ok(()) => Ok(()),
+        Err(fault) => Err(EditFault::Stream(fault)),
+    }
+}

@@ -1,0 +1,3 @@
+pub mod Png
+pub mod Jpeg
+pub mod Images

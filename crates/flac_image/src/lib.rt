@@ -1,0 +1,10 @@
+//! The sizes of a PNG or JPEG picture, read from its first bytes, as a picture block states them (RFC 9639, section 8.8).
+#![tactic(auto)]
+
+mod image;
+mod jpeg;
+mod png;
+#[cfg(test)]
+mod tests;
+
+pub use image::{Image, ImageKind, image_of};
