@@ -1,12 +1,21 @@
-//! The program `flac`: tests, decodes, lists, encodes, retags and verifies FLAC streams (RFC 9639).
+//! The program `flac`: tests, decodes, lists, encodes, retags, verifies and compares FLAC streams (RFC 9639).
 #![tactic(auto)]
 
+mod between;
+mod edit;
+mod export;
+mod same;
 mod tag;
 
+use crate::between::{do_between, list_front_between};
+use crate::edit::edit_files;
+use crate::export::export;
+use crate::same::same;
 use crate::tag::tag_files;
+use flac_around::BetweenShelf;
 use flac_bits::Counted;
 use flac_cli::{Task, list_head, run, verify_files};
-use flac_files::{FileShelf, JobFiles};
+use flac_files::{FileShelf, JobFiles, ReportFile, end_report};
 use flac_jobs::{CommandLine, Job, Listing, Request, Verification};
 use flac_words::{given_words, request};
 use std::process::ExitCode;
@@ -21,7 +30,10 @@ fn main(rt: HostRuntime) -> ExitCode {
         Ok(Request::Job(line)) => perform(&rt, &line),
         Ok(Request::ListFiles(listing)) => list_files(&rt, &listing),
         Ok(Request::Tag(tagging)) => tag_files(&rt, &tagging),
+        Ok(Request::Edit(editing)) => edit_files(&rt, &editing),
+        Ok(Request::Export(exporting)) => export(&rt, &exporting),
         Ok(Request::Verify(verification)) => verify(&rt, &verification),
+        Ok(Request::Same(comparison)) => same(&rt, &comparison),
         Err(fault) => fault.tell(&rt),
     })
 }
@@ -47,15 +59,18 @@ fn list_file(rt: &HostRuntime, input: &str, listing: &Listing<'_>) -> u8 {
     let lax = listing.lax;
     let job = Job::List { input, lax };
     if listing.head {
-        list_front(rt, input, &job)
+        list_front(rt, input, &job, listing.any)
     } else {
-        perform(rt, &CommandLine { job, force: false })
+        let any = listing.any;
+        let force = false;
+        perform(rt, &CommandLine { job, force, any })
     }
 }
 
 /// Lists the metadata of the stream of a job, and reads no frame. Returns the status.
-fn list_front(rt: &HostRuntime, input: &str, job: &Job<'_>) -> u8 {
+fn list_front(rt: &HostRuntime, input: &str, job: &Job<'_>, any: bool) -> u8 {
     match JobFiles::open(rt, job, false) {
+        Ok(files) if any => list_front_between(rt, input, files),
         Ok(files) => {
             let mut source = Counted::new(files.input);
             let mut out = Counted::new(rt.stdout());
@@ -68,24 +83,51 @@ fn list_front(rt: &HostRuntime, input: &str, job: &Job<'_>) -> u8 {
 
 /// Verifies files, and those of folders. Returns the status.
 fn verify(rt: &HostRuntime, verification: &Verification<'_>) -> u8 {
-    let Ok(mut shelf) = FileShelf::new(rt, verification.paths.as_slice()) else {
+    let Ok(shelf) = FileShelf::new(rt, verification.paths.as_slice()) else {
         let _ = eprintln!(rt; "flac: command: 2 Memory");
         return 1;
     };
+    match ReportFile::open(rt, verification) {
+        Ok(report) => verify_into(rt, verification, shelf, report),
+        Err(refused) => refused.tell(rt),
+    }
+}
+
+/// Verifies the files of a list, with a report. Returns the status.
+fn verify_into(
+    rt: &HostRuntime,
+    verification: &Verification<'_>,
+    mut shelf: FileShelf,
+    mut report: ReportFile,
+) -> u8 {
+    shelf.leave_out(&mut report);
+    let mut shelf = BetweenShelf::new(shelf);
     let mut out = Counted::new(rt.stdout());
     let mut err = Counted::new(rt.stderr());
-    verify_files(
+    let mut lines = Counted::new(report.output);
+    let status = verify_files(
         rt.alloc(),
         &mut shelf,
         verification.subset,
         &mut out,
         &mut err,
-    )
+        &mut lines,
+    );
+    if lines.last_error().is_some() {
+        let path = verification.report.or(verification.resume).unwrap_or("");
+        let _ = eprintln!(rt; "flac: {path}: 39 Write");
+        return 1;
+    }
+    match end_report(verification, lines.into_inner()) {
+        Ok(()) => status,
+        Err(refused) => refused.tell(rt),
+    }
 }
 
 /// Opens the files of the job, and does it. Returns the status.
 fn perform(rt: &HostRuntime, line: &CommandLine<'_>) -> u8 {
     match JobFiles::open(rt, &line.job, line.force) {
+        Ok(files) if line.any => do_between(rt, &line.job, files),
         Ok(files) => do_over(rt, &line.job, files),
         Err(refused) => refused.tell(rt),
     }

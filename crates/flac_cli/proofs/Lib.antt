@@ -2,6 +2,10 @@
 pub mod Lined
 pub mod Printed
 pub mod NamedLines
+-- Lines of JSON.
+pub mod Objects
+pub mod OneReading
+pub mod Entries
 -- Streams that are read, and what is reported of them.
 pub mod BlocksFirst
 pub mod Heading
@@ -26,7 +30,9 @@ pub mod Searched
 -- WAV files: those that a stream keeps, writing them, and why one is refused.
 pub mod Kept
 pub mod ReadKept
+pub mod TakenWaves
 pub mod WaveDecoded
+pub mod WaveReady
 pub mod WaveRefused
 pub mod Waved
 pub mod Waving

@@ -2,7 +2,7 @@
 use Rattle.std.proofs.Common.{◌≡◌, ◌≤◌, ◌<◌, ℕ, Bool, true, false, List, [], ◌++◌, Result, Ok, Err, OnOk, OnErr, refl, sym, ap, subst, ◌∙◌, append-nil, append_assoc, arith}
 use Rattle.std.specs.Result.{is_ok}
 use Rattle.flac_bits.specs.declared.target.Target as target
-use Rattle.flac_cli.specs.inner.Verifying.{IsSent, IsTold}
+use Rattle.flac_cli.specs.inner.Verifying.{IsSent, IsTold, IsEntered}
 
 not_both : {X : Type 0} (b : Bool) → b ≡ true → b ≡ false → X
 not_both true holds fails = absurd cc
@@ -53,3 +53,29 @@ module _ {T : Type 0} (g : target.Ghosts T) where
 
   pub sent_same : {text other : List ℕ} {old new : T} {done : Bool} → IsSent g text old new done → text ≡ other → IsSent g other old new done
   sent_same {old = old} {new = new} {done = done} p same = subst (λ l. IsSent g l old new done) same p
+
+  -- a line of a report, which is going on or not
+  pub entered_of : {X E : Type 0} {text : List ℕ} {old new : T} (r : Result X E) (done : Bool) → done ≡ is_ok r → g.errors old ≤ g.errors new → OnOk r (g.known old ≡ true → g.known new ≡ true)
+      → OnOk r (g.known old ≡ true → g.sent new ≡ g.sent old ++ text) → OnErr r (g.known old ≡ true → g.errors old < g.errors new) → IsEntered g true text old new done
+  entered_of r done is kept known sent failed =
+      let s = sent_of r done is kept known sent failed in
+      record {
+        kept = s.kept;
+        was = λ holds. refl;
+        sent = s.sent;
+        lost = λ going. s.lost;
+      }
+
+  pub not_entered : {text : List ℕ} (t : T) → IsEntered g false text t t false
+  not_entered t = record {
+    kept = omega arith;
+    was = λ holds. holds;
+    sent = λ holds. not_both false holds refl;
+    lost = λ going. not_both false going refl;
+  }
+
+  pub entered_same : {going : Bool} {text other : List ℕ} {old new : T} {done : Bool} → IsEntered g going text old new done → text ≡ other → IsEntered g going other old new done
+  entered_same {going = going} {old = old} {new = new} {done = done} n same = subst (λ l. IsEntered g going l old new done) same n
+
+  pub going_same : {going is_going : Bool} {text : List ℕ} {old new : T} {done : Bool} → IsEntered g going text old new done → is_going ≡ going → IsEntered g is_going text old new done
+  going_same {text = text} {old = old} {new = new} {done = done} n same = subst (λ b. IsEntered g b text old new done) (sym same) n

@@ -1,12 +1,15 @@
 -- A list of files that is read one after another.
-use Rattle.std.proofs.Common.{◌≡◌, ◌≤◌, ◌<◌, ◌⊎◌, ◌+◌, ◌&&◌, ℕ, Bool, true, false, List, [], ◌∷◌, ◌++◌, length, cond, Option, Some, None, refl, sym, ap, subst, ◌∙◌, append-nil, append_assoc, arith, inl, inr}
+use Rattle.std.proofs.Common.{◌≡◌, ◌≤◌, ◌<◌, ◌⊎◌, ◌+◌, ◌&&◌, ◌||◌, ℕ, Bool, true, false, List, [], ◌∷◌, ◌++◌, length, cond, Option, Some, None, IfSome, refl, sym, ap, subst, ◌∙◌, append-nil, append_assoc, arith, inl, inr}
 use Rattle.flac_bits.specs.declared.target.Target as target
 use Rattle.flac_shelf.specs.Listed.{Contents, Listed}
+use Rattle.flac_shelf.specs.declared.stamp.Stamp.{Stamp}
 use Rattle.flac_cli.specs.Counted.{printed}
 use Rattle.flac_cli.specs.Outcomes.{Fits}
 use Rattle.flac_cli.specs.Reports.{Serves}
-use Rattle.flac_cli.specs.Verified.{IsFinding, HasNoMemory, AreFound, AreWhole, IsWhole, Verifies, ok_part, bad_part, ok_lines, bad_lines, printed_lines, last_line, good_count, bad_count}
-use Rattle.flac_cli.specs.inner.Verifying.{IsSent, IsTold, IsCounted, IsEnded, SoFar, Underway, good_after, bad_after}
+use Rattle.flac_cli.specs.Verified.{IsFinding, HasNoMemory, AreFound, AreWhole, IsWhole, ok_part, bad_part, ok_lines, bad_lines, printed_lines, last_line, good_count, bad_count}
+use Rattle.flac_cli.specs.Reported.{entry_line, is_sought_in, report_line, report_lines}
+use Rattle.flac_cli.specs.Verifies.{Verifies}
+use Rattle.flac_cli.specs.inner.Verifying.{IsSent, IsTold, IsEntered, IsCounted, IsEnded, SoFar, Underway, good_after, bad_after}
 use Rattle.flac_cli.specs.declared.verify_facts.Facts.{Facts}
 use Rattle.flac_cli.specs.declared.verify.Finding.{Finding}
 use Rattle.flac_cli.specs.declared.verify.Finding.TheVariants.{Good, Bad, Unopened}
@@ -80,15 +83,31 @@ none_of file left now false fails is = is
 pub calm_so_far : (began before at after : ℕ) → began ≤ before → at ≡ before → at ≤ after → after ≡ began → (before ≡ began) × (after ≡ at)
 calm_so_far began before at after kept is more same = (omega (arith, kept, is, more, same), omega (arith, kept, is, more, same))
 
-module _ {O E : Type 0} (o : target.Ghosts O) (e : target.Ghosts E) (subset : Bool) (files : List Listed) (first : O) (began : E) where
+-- the line of the report of a file whose size, time and kind were asked for
+pub line_is : (subset again sought : Bool) (file : Listed) (path : List ℕ) (stamp : Stamp) (finding : Finding) → sought ≡ (subset || again) → path ≡ file.path → stamp ≡ file.stamp → IfSome file.contents (λ of. again ≡ of.again)
+    → Fits HasNoMemory (IsFinding subset file.contents) finding → entry_line path stamp sought finding ≡ report_line subset file finding
+line_is subset again sought file path stamp finding look paths stamps seen fits =
+    ap (λ b. entry_line path stamp b finding) look ∙ ap (λ l. entry_line l stamp (subset || again) finding) paths ∙ ap (λ s. entry_line file.path s (subset || again) finding) stamps ∙ kinds file.contents finding seen fits
+  where
+    kinds : (contents : Option Contents) (finding : Finding) → IfSome contents (λ of. again ≡ of.again) → Fits HasNoMemory (IsFinding subset contents) finding
+        → entry_line file.path file.stamp (subset || again) finding ≡ entry_line file.path file.stamp (is_sought_in subset contents) finding
+    kinds None (Good facts) seen fits = elim fits.right [ inl out ↦ absurd out | inr is ↦ absurd is ]
+    kinds (Some of) (Good facts) seen fits = ap (λ a. entry_line file.path file.stamp (subset || a) (Good facts)) seen
+    kinds contents (Bad fault) seen fits = refl
+    kinds contents Unopened seen fits = refl
+
+module _ {O E P : Type 0} (o : target.Ghosts O) (e : target.Ghosts E) (p : target.Ghosts P) (subset : Bool) (files : List Listed) (first : O) (began : E) (blank : P) where
   -- before the first file
-  pub begins : (tally : Tally) → tally.files ≡ 0 → tally.good ≡ 0 → tally.bad ≡ 0 → tally.is_written ≡ true → Underway o e subset files files first first began began tally
-  begins tally no_files no_good no_bad written = record {
+  pub begins : (tally : Tally) → tally.files ≡ 0 → tally.good ≡ 0 → tally.bad ≡ 0 → tally.is_written ≡ true → tally.is_reported ≡ true → Underway o e p subset files files first first began began blank blank tally
+  begins tally no_files no_good no_bad written reported = record {
     kept = omega arith;
     known = λ w k. k;
     lost = λ fails. absurd (let both : true ≡ false = sym written ∙ fails in cc);
     told = omega arith;
     told_known = λ k same. k;
+    report_kept = omega arith;
+    report_known = λ w k. k;
+    report_lost = λ fails. absurd (let both : true ≡ false = sym reported ∙ fails in cc);
     files_fit = omega (arith, no_files);
     good_fits = omega (arith, no_good);
     bad_fits = omega (arith, no_bad);
@@ -97,6 +116,7 @@ module _ {O E : Type 0} (o : target.Ghosts O) (e : target.Ghosts E) (subset : Bo
       found = found;
       sent_is = λ w k. refl;
       told_is = λ k same. refl;
+      reported_is = λ w k. refl;
       files_are = omega (arith, no_files);
       good_are = omega (arith, no_good);
       bad_are = omega (arith, no_bad);
@@ -104,20 +124,25 @@ module _ {O E : Type 0} (o : target.Ghosts O) (e : target.Ghosts E) (subset : Bo
   }
 
   -- a file more
-  pub read_more : {rest more : List Listed} {out sent : O} {err told : E} {tally counted : Tally} (file : Listed) (finding : Finding) (done : Bool) → Underway o e subset files rest first out began err tally → rest ≡ file ∷ more
-      → Fits HasNoMemory (IsFinding subset file.contents) finding → IsSent o (ok_part file.path finding) out sent done → IsTold e (bad_part file.path finding) err told → IsCounted finding done tally counted
-      → Underway o e subset files more first sent began told counted
-  read_more {rest = rest} {more = more} {out = out} {sent = sent} {err = err} {told = told} {tally = tally} {counted = counted} file finding done u is fits s t c = record {
+  pub read_more : {rest more : List Listed} {out sent : O} {err told : E} {report reported : P} {tally counted : Tally} (file : Listed) (finding : Finding) (done entered : Bool)
+      → Underway o e p subset files rest first out began err blank report tally → rest ≡ file ∷ more
+      → Fits HasNoMemory (IsFinding subset file.contents) finding → IsSent o (ok_part file.path finding) out sent done → IsTold e (bad_part file.path finding) err told
+      → IsEntered p tally.is_reported (report_line subset file finding) report reported entered → IsCounted finding done entered tally counted
+      → Underway o e p subset files more first sent began told blank reported counted
+  read_more {rest = rest} {more = more} {out = out} {sent = sent} {err = err} {told = told} {report = report} {reported = reported} {tally = tally} {counted = counted} file finding done entered u is fits s t n c = record {
     kept = omega (arith, u.kept, s.kept);
     known = λ w k. let b = were w in (s.sent b.1 (u.known b.0 k)).0;
     lost = λ w k. were_not w k;
     told = omega (arith, u.told, t.kept);
     told_known = λ k same. let calm = calm_before same in (t.told (u.told_known k calm.0) calm.1).0;
+    report_kept = omega (arith, u.report_kept, n.kept);
+    report_known = λ w k. (n.sent (was_entered w) (u.report_known (n.was (was_entered w)) k)).0;
+    report_lost = λ w k. not_entered tally.is_reported refl (sym c.reported ∙ w) k;
     files_fit = omega (arith, c.files);
     good_fits = good_small tally.good counted.good finding u.good_fits c.good;
     bad_fits = bad_small tally.bad counted.bad finding u.bad_fits c.bad;
     so_far = λ left found.
-        let f : SoFar o e subset files rest first out began err tally (finding ∷ left) = u.so_far (finding ∷ left) (subst (λ fs. AreFound subset fs (finding ∷ left)) (sym is) (fits, found)) in
+        let f : SoFar o e p subset files rest first out began err blank report tally (finding ∷ left) = u.so_far (finding ∷ left) (subst (λ fs. AreFound subset fs (finding ∷ left)) (sym is) (fits, found)) in
         record {
           all = f.all;
           found = f.found;
@@ -129,6 +154,10 @@ module _ {O E : Type 0} (o : target.Ghosts O) (e : target.Ghosts E) (subset : Bo
               let calm = calm_before same in
               ap (λ l. l ++ bad_lines more left) (t.told (u.told_known k calm.0) calm.1).1 ∙ append_assoc (e.sent err) (bad_part file.path finding) (bad_lines more left)
               ∙ ap (λ fs. e.sent err ++ bad_lines fs (finding ∷ left)) (sym is) ∙ f.told_is k calm.0;
+          reported_is = λ w k.
+              let d = was_entered w in
+              ap (λ l. l ++ report_lines subset more left) (n.sent d (u.report_known (n.was d) k)).1 ∙ append_assoc (p.sent report) (report_line subset file finding) (report_lines subset more left)
+              ∙ ap (λ fs. p.sent report ++ report_lines subset fs (finding ∷ left)) (sym is) ∙ f.reported_is (n.was d) k;
           files_are = files_more tally.files counted.files (length f.all) finding left c.files f.files_are;
           good_are = good_more tally.good counted.good (good_count f.all) finding left c.good f.good_are;
           bad_are = bad_more tally.bad counted.bad (bad_count f.all) finding left c.bad f.bad_are;
@@ -138,19 +167,26 @@ module _ {O E : Type 0} (o : target.Ghosts O) (e : target.Ghosts E) (subset : Bo
       were : counted.is_written ≡ true → (tally.is_written ≡ true) × (done ≡ true)
       were w = both_true tally.is_written done (sym c.written ∙ w)
 
+      was_entered : counted.is_reported ≡ true → entered ≡ true
+      was_entered w = sym c.reported ∙ w
+
+      not_entered : (b : Bool) → tally.is_reported ≡ b → entered ≡ false → p.known blank ≡ true → p.errors blank < p.errors reported
+      not_entered true going fails k = omega (arith, u.report_kept, n.lost going fails (u.report_known going k))
+      not_entered false going fails k = omega (arith, u.report_lost going k, n.kept)
+
       were_not : counted.is_written ≡ false → o.known first ≡ true → o.errors first < o.errors sent
       were_not w k = elim (one_false tally.is_written done (sym c.written ∙ w)) [
         | inl fails ↦ omega (arith, u.lost fails k, s.kept)
-        | inr p ↦ omega (arith, u.kept, s.lost p.1 (u.known p.0 k))
+        | inr q ↦ omega (arith, u.kept, s.lost q.1 (u.known q.0 k))
       ]
 
       calm_before : e.errors told ≡ e.errors began → (e.errors err ≡ e.errors began) × (e.errors told ≡ e.errors err)
       calm_before same = (omega (arith, same, u.told, t.kept), omega (arith, same, u.told, t.kept))
 
   -- all files were read
-  module _ {rest : List Listed} {out ended : O} {err told : E} {tally : Tally} (done : Bool) (status : ℕ) (u : Underway o e subset files rest first out began err tally) (none : rest ≡ [])
-      (over : IsEnded o e tally out ended err told done) (zero : status ≡ 0 → (done ≡ true) × (tally.bad ≡ 0)) (one : done ≡ true → tally.bad ≡ 0 → status ≡ 0) where
-    last : SoFar o e subset files rest first out began err tally []
+  module _ {rest : List Listed} {out ended : O} {err told : E} {report : P} {tally : Tally} (done : Bool) (status : ℕ) (u : Underway o e p subset files rest first out began err blank report tally) (none : rest ≡ [])
+      (over : IsEnded o e tally out ended err told done) (zero : status ≡ 0 → (done ≡ true) × (tally.is_reported ≡ true) × (tally.bad ≡ 0)) (one : done ≡ true → tally.is_reported ≡ true → tally.bad ≡ 0 → status ≡ 0) where
+    last : SoFar o e p subset files rest first out began err blank report tally []
     last = u.so_far [] (subst (λ fs. AreFound subset fs []) (sym none) tt)
 
     files_are : tally.files ≡ printed (length last.all)
@@ -182,23 +218,33 @@ module _ {O E : Type 0} (o : target.Ghosts O) (e : target.Ghosts E) (subset : Bo
     was_done true false is fails served = let rose = (over.sent is).lost fails (u.known is served.0) in absurd (omega (arith, rose, u.kept, served.1))
     was_done false false is fails served = let rose = u.lost is served.0 in absurd (omega (arith, rose, over.kept, served.1))
 
+    -- the report, if it did not fail
+    report_is : tally.is_reported ≡ true → p.known blank ≡ true → p.sent report ≡ p.sent blank ++ report_lines subset files last.all
+    report_is w k = sym (append-nil (p.sent report)) ∙ ap (λ fs. p.sent report ++ report_lines subset fs []) (sym none) ∙ last.reported_is w k
+
+    was_reported : (b : Bool) → tally.is_reported ≡ b → Serves p blank report → tally.is_reported ≡ true
+    was_reported true is served = is
+    was_reported false is served = let rose = u.report_lost is served.0 in absurd (omega (arith, rose, served.1))
+
     err_lines : (d : Bool) → done ≡ d → done ≡ true → Serves e began told → e.sent told ≡ e.sent began ++ bad_lines files last.all
     err_lines d is holds served =
         let same = over.unheard holds in
         let calm : e.errors err ≡ e.errors began = ap e.errors (sym same) ∙ served.1 in
         ap e.sent same ∙ sym (append-nil (e.sent err)) ∙ ap (λ fs. e.sent err ++ bad_lines fs []) (sym none) ∙ last.told_is served.0 calm
 
-    pub all_read : Verifies o e subset files status first ended began told
+    pub all_read : Verifies o e p subset files status first ended began told blank report
     all_read = record {
       findings = last.all;
       found = last.found;
-      good = λ ok. is_zero tally.bad (bad_count last.all) bad_are (zero ok).1;
+      good = λ ok. is_zero tally.bad (bad_count last.all) bad_are (zero ok).2;
       written = λ ok. ended_line (zero ok).0;
-      done = λ served none. one (was_done tally.is_written done refl refl served) (zero_is tally.bad (bad_count last.all) bad_are none);
+      entered = λ ok. report_is (zero ok).1;
+      done = λ served stored none. one (was_done tally.is_written done refl refl served) (was_reported tally.is_reported refl stored) (zero_is tally.bad (bad_count last.all) bad_are none);
       printed_is = λ served. ended_line (was_done tally.is_written done refl refl served) served.0;
+      entered_is = λ stored. report_is (was_reported tally.is_reported refl stored) stored.0;
       told_is = λ served heard. err_lines done refl (was_done tally.is_written done refl refl served) heard;
     }
 
     -- after status 0 each file is a stream
     pub all_whole : status ≡ 0 → AreWhole subset files
-    all_whole ok = are_whole subset files last.all last.found (is_zero tally.bad (bad_count last.all) bad_are (zero ok).1)
+    all_whole ok = are_whole subset files last.all last.found (is_zero tally.bad (bad_count last.all) bad_are (zero ok).2)

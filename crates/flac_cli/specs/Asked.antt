@@ -1,5 +1,6 @@
 -- What an encoding is asked for.
 use Rattle.std.specs.Prelude.{ℕ, Bool, List, map}
+use denote.Bor.{Bor}
 use Rattle.flac_header.specs.declared.subset.Profile.{Profile}
 use Rattle.flac_jobs.specs.declared.formats.RawFormat.{RawFormat}
 use Rattle.flac_jobs.specs.declared.formats.ContainerKind.{ContainerKind}
@@ -23,3 +24,7 @@ pub record Asked : Type 0 where
 
 abbrev pub asked_of : Encoding → Asked
 asked_of e = record { profile = e.profile; format = e.format; container = e.container; words = map (λ w. w.now) e.comments.now; list = e.list.now; effort = e.effort; any = e.any; keep = e.keep; to_end = e.to_end }
+
+-- the words of an argument
+abbrev pub texts_of : List (Bor (List ℕ)) → List (List ℕ)
+texts_of words = map (λ word. word.now) words

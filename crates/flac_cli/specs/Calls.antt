@@ -2,8 +2,11 @@
 -- target's type.
 use Rattle.std.specs.Prelude.{◌≡◌, ℕ, Bool, true, List, ◌++◌, Result, OnOk}
 use Rattle.flac_bits.specs.Bits.{bits_of}
+use Rattle.flac_bits.specs.State.{After}
 use Rattle.flac_bits.specs.declared.source.Source as source
 use Rattle.flac_bits.specs.declared.target.Target as target
+use Rattle.flac_cli.specs.Reports.{Serves}
+use Rattle.flac_cli.specs.Streams.{Tells}
 
 -- If the bytes of the source and of the target are known, this holds of the bytes that the source had to give, and of the
 -- bits that the target had got before the call and has got after it.
@@ -18,3 +21,22 @@ IfServed h old new Says = h.known old ≡ true → h.errors new ≡ h.errors old
 -- If the call returned Ok, and the bytes of the target are known, it has sent exactly this text.
 abbrev pub HasSent : {T X E : Type 0} (h : target.Ghosts T) (old new : T) (text : List ℕ) → Result X E → Type 0
 HasSent h old new text result = OnOk result (h.known old ≡ true → h.sent new ≡ h.sent old ++ text)
+
+-- If the bytes of the source are known, this holds of those that it had to give.
+abbrev pub IfKnown : {S : Type 0} (g : source.Ghosts S) (from : S) → (List ℕ → Type 0) → Type 0
+IfKnown g from Says = g.known from ≡ true → Says (g.coming from)
+
+-- The same if it also returned no error in the call, foretold or not.
+abbrev pub IfRead : {S : Type 0} (g : source.Ghosts S) (old new : S) → (List ℕ → Type 0) → Type 0
+IfRead g old new Says = g.known old ≡ true → g.raised new ≡ g.raised old → Says (g.coming old)
+
+-- If neither the source nor standard error failed, this holds of the bytes that the source had to give, of what comes
+-- after them, and of the bytes that standard error had got before the call, and has got after it. `k` is that of the type
+-- of standard error.
+abbrev pub IfBothServe : {S E : Type 0} (g : source.Ghosts S) (k : target.Ghosts E) (from to : S) (before after : E) → (List ℕ → After → (before after : List ℕ) → Type 0) → Type 0
+IfBothServe g k from to before after Says = Tells g from to → Serves k before after → Says (g.coming from) (g.after from) (k.sent before) (k.sent after)
+
+-- The same if the target did not fail, either.
+abbrev pub IfAllServe : {S T E : Type 0} (g : source.Ghosts S) (h : target.Ghosts T) (k : target.Ghosts E) (from to : S) (old new : T) (before after : E) → (List ℕ → After → (before after : List ℕ) → Type 0) → Type 0
+IfAllServe g h k from to old new before after Says =
+    Tells g from to → Serves h old new → Serves k before after → Says (g.coming from) (g.after from) (k.sent before) (k.sent after)

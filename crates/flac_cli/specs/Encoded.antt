@@ -1,5 +1,7 @@
 -- What an encoding of raw samples has written.
-use Rattle.std.specs.Prelude.{◌≡◌, ℕ, Bool, List, [], ◌∷◌, ◌++◌, ◌⊎◌, map, codes, false, Option, Some, None}
+use Rattle.std.specs.Prelude.{◌≡◌, ℕ, Bool, true, List, [], ◌∷◌, ◌++◌, ◌⊎◌, map, codes, false, Option, Some, None}
+use Rattle.flac_bits.specs.Bits.{bits_of}
+use Rattle.flac_bits.specs.declared.target.Target as target
 use Rattle.flac_meta.specs.declared.comments.Comments.{Comments}
 use Rattle.flac_meta.specs.declared.block.Block.{Block}
 use Rattle.flac_meta.specs.declared.block.Block.TheVariants.{StreamInfo, VorbisComment}
@@ -104,3 +106,17 @@ pub record BeginsRaw (asked : Asked) (bytes : List ℕ) (before after : List Boo
 abbrev pub HasBegun : Option Asked → (bytes : List ℕ) → (before after : List Bool) → Type 0
 HasBegun (Some asked) bytes before after = (after ≡ before) ⊎ BeginsRaw asked bytes before after
 HasBegun None bytes before after = Unit {0}
+
+-- the same of an encoding that may be refused
+abbrev pub HasBegunRaw : Asked → (bytes : List ℕ) → (before after : List Bool) → Type 0
+HasBegunRaw asked bytes before after = (after ≡ before) ⊎ BeginsRaw asked bytes before after
+
+-- ---- a target, `old` before a call and `new` after it, if its bytes are known
+
+-- it was sent a stream of what was given
+abbrev pub SendsEncodedIn : {T : Type 0} (h : target.Ghosts T) → ContainerKind → Cut → List Block → Sound → (old new : T) → Type 0
+SendsEncodedIn h c p list a old new = h.known old ≡ true → EncodesIn c p list a (bits_of (h.sent old)) (bits_of (h.sent new))
+
+-- nothing changed, or it was sent a prefix of one
+abbrev pub SendsPrefixIn : {T : Type 0} (h : target.Ghosts T) → ContainerKind → Cut → List Block → Sound → (old new : T) → Type 0
+SendsPrefixIn h c p list a old new = h.known old ≡ true → (new ≡ old) ⊎ BeginsIn c p list a (bits_of (h.sent old)) (bits_of (h.sent new))

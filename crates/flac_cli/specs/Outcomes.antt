@@ -1,11 +1,12 @@
 -- What the program reports of a job that reads a stream, native or Ogg.
-use Rattle.std.specs.Prelude.{◌≡◌, ◌⊎◌, ◌≤◌, ◌<◌, true, ℕ, List, [], ◌++◌, map, codes, Option, Some, None}
+use Rattle.std.specs.Prelude.{◌≡◌, ◌⊎◌, ◌≤◌, ◌<◌, true, ℕ, List, [], ◌++◌, map, codes, Option, Some, None, Result, OnOk}
 use Rattle.flac_bits.specs.Bits.{bits_of}
 use Rattle.flac_bits.specs.Handing.{InputReading}
 use Rattle.flac_bits.specs.Reasons as reasons
 use Rattle.flac_bits.specs.Forms.{AreBytes}
 use Rattle.flac_bits.specs.State.{After, short_of, the_end}
 use Rattle.flac_bits.specs.declared.source.Source as source
+use Rattle.flac_bits.specs.declared.target.Target as target
 use Rattle.flac_bits.specs.declared.why.Why.{Why}
 use Rattle.flac_bits.specs.declared.why.Why.TheVariants as why
 use Rattle.flac_meta.specs.Spelling.{comments_length}
@@ -19,7 +20,7 @@ use Rattle.flac_ogg.specs.Either.{begins_page, read_any}
 use Rattle.flac_cli.specs.Asked.{Asked}
 use Rattle.flac_cli.specs.Encoded.{comments_of}
 use Rattle.flac_cli.specs.Reports.{fault_line}
-use Rattle.flac_cli.specs.Streams.{profile_of}
+use Rattle.flac_cli.specs.Streams.{profile_of, Tells}
 use Rattle.flac_cli.specs.Waves.{kept_fault, EncodesWave}
 use Rattle.flac_cli.specs.declared.held_wave.KeptFault.{KeptFault}
 use Rattle.flac_cli.specs.declared.held_wave.KeptFault.TheVariants as kept
@@ -51,6 +52,15 @@ input_reading profile bytes after = read_any profile (begins_page bytes) (beginn
 -- the bytes that the source has to give are read as parts of which this holds
 abbrev pub IsReadAs : {S : Type 0} (g : source.Ghosts S) → Profile → S → (List Piece → Type 0) → Type 0
 IsReadAs g profile s Says = (parts : List Piece) × (input_reading profile (g.coming s) (g.after s)).whole parts × Says parts
+
+-- If the source did not fail, and the bytes of the target are known: the source's bytes are read as parts, of which the
+-- target was sent exactly this text.
+abbrev pub SendsOfReading : {S T : Type 0} (g : source.Ghosts S) (h : target.Ghosts T) → Profile → (text : List Piece → List ℕ) → (from to : S) (old new : T) → Type 0
+SendsOfReading g h profile text from to old new = Tells g from to → h.known old ≡ true → IsReadAs g profile from (λ parts. h.sent new ≡ h.sent old ++ text parts)
+
+-- the same of a call that returned Ok
+abbrev pub HasSentOfReading : {S T X E : Type 0} (g : source.Ghosts S) (h : target.Ghosts T) → Profile → (text : List Piece → List ℕ) → (from to : S) (old new : T) → Result X E → Type 0
+HasSentOfReading g h profile text from to old new result = Tells g from to → h.known old ≡ true → OnOk result (IsReadAs g profile from (λ parts. h.sent new ≡ h.sent old ++ text parts))
 
 -- it is a stream, or is refused at this place and for this reason
 abbrev pub Reads : Profile → List ℕ → After → Outcome → Type 0
@@ -94,6 +104,17 @@ pub record Reports (outside is : Outcome → Type 0) (path : List ℕ) (status :
   pub answer : IsAnswer outcome path status before after
   pub fits : Fits outside is outcome
 
+-- The same, in the order in which calls name what they were given and what they returned: of a stream that is read whole;
+-- of one whose blocks are listed, which `printed` says could be; and of one that gets these words as comments.
+abbrev pub ReportsStream : Profile → (path : List ℕ) → (status : ℕ) → List ℕ → After → (before later : List ℕ) → Type 0
+ReportsStream profile path status bytes after before later = Reports IsOutOfMemory (Reads profile bytes after) path status before later
+
+abbrev pub ReportsListing : (printed : Type 0) → Profile → (path : List ℕ) → (status : ℕ) → List ℕ → After → (before later : List ℕ) → Type 0
+ReportsListing printed profile path status bytes after before later = Reports (IsUnlisted printed) (Reads profile bytes after) path status before later
+
+abbrev pub ReportsRetagging : (words : List (List ℕ)) → (path : List ℕ) → (status : ℕ) → List ℕ → After → (before later : List ℕ) → Type 0
+ReportsRetagging words path status bytes after before later = Reports IsRetagOutOfMemory (IsRetagged words bytes after) path status before later
+
 -- ---- decoding to a WAV file
 
 -- What is reported: of the stream, or why there is no WAV file of its samples.
@@ -126,6 +147,10 @@ pub record ReportsWaveDecoding (profile : Profile) (bytes : List ℕ) (after : A
   pub answer : IsWaveAnswer outcome path status before later
   pub fits : Fits IsWaveOutOfMemory (ReadsWave profile bytes after) outcome
 
+-- the same, in the order in which calls name it
+abbrev pub ReportsWave : Profile → (path : List ℕ) → (status : ℕ) → List ℕ → After → (before later : List ℕ) → Type 0
+ReportsWave profile path status bytes after before later = ReportsWaveDecoding profile bytes after path status before later
+
 -- The bytes of a stream that was encoded of a WAV file and keeps it are a stream that becomes a WAV file.
 abbrev pub KeptFilesAreRead : Type 0
 KeptFilesAreRead = (asked : Asked) (bytes stream : List ℕ) → asked.keep ≡ true → AreBytes stream → EncodesWave asked bytes [] (bits_of stream) → ReadsWave asked.profile stream the_end (streamed None)
@@ -152,3 +177,7 @@ ReportsInput (job.DecodeWave input output lax) bytes after served printed status
 ReportsInput (job.EncodeWave input output block seek_every c comments lax predictors effort keep to_end) bytes after served printed status before later = Unit {0}
 ReportsInput (job.Retag input output comments) bytes after served printed status before later =
     served → Reports IsRetagOutOfMemory (IsRetagged (map (λ c. c.now) comments.items) bytes after) input.now status before later
+
+-- the same, in the order in which calls name it
+abbrev pub ReportsJob : Job → (served printed : Type 0) → (status : ℕ) → List ℕ → After → (before later : List ℕ) → Type 0
+ReportsJob j served printed status bytes after before later = ReportsInput j bytes after served printed status before later

@@ -1,5 +1,6 @@
 -- What the program reports of an encoding.
 use Rattle.std.specs.Prelude.{◌≡◌, ◌⊎◌, ℕ, true, List, ◌++◌, codes, Option, Some, None, unwrap_or}
+use Rattle.flac_bits.specs.State.{After}
 use Rattle.flac_bits.specs.declared.target.Target as target
 use Rattle.flac_frame.specs.declared.setup.SetupFault.TheVariants as setup
 use Rattle.flac_native.specs.declared.fault.EncodeFault.TheVariants as encode
@@ -7,6 +8,8 @@ use Rattle.flac_cli.specs.Asked.{Asked}
 use Rattle.flac_cli.specs.Lined.{text_at}
 use Rattle.flac_cli.specs.declared.lines.At.TheVariants as at
 use Rattle.flac_cli.specs.Refusals.{IsReason, text_of}
+use Rattle.flac_cli.specs.Encoded.{asked_by}
+use Rattle.flac_cli.specs.declared.dispatch.Task.{Task}
 use Rattle.flac_cli.specs.declared.encode.Refusal.{Refusal}
 use Rattle.flac_cli.specs.declared.encode.Refusal.TheVariants.{Setup, Line, Output}
 use Rattle.flac_jobs.specs.declared.jobs.Job.{Job}
@@ -15,6 +18,10 @@ use Rattle.flac_jobs.specs.Asks.{input_of, output_of, list_of}
 -- the line of a fault, whose text is its number and its name, of the file of this path
 abbrev pub fault_line : (path text : List ℕ) → List ℕ
 fault_line path text = codes "flac: " ++ (path ++ (codes ": " ++ (text ++ codes "\n")))
+
+-- exactly this line was added
+abbrev pub AddsLine : (path text : List ℕ) → (before after : List ℕ) → Type 0
+AddsLine path text before after = after ≡ before ++ fault_line path text
 
 -- the paths of an encoding's files; that of the input in place of the list's if there is no list
 pub record Files : Type 0 where
@@ -61,3 +68,7 @@ files_of j = record { input = input_of j; output = unwrap_or (output_of j) (inpu
 abbrev pub Reports : Option Asked → (bytes : List ℕ) → Files → (status : ℕ) → (before after : List ℕ) → Type 0
 Reports (Some asked) bytes files status before after = IsReport asked bytes files status before after
 Reports None bytes files status before after = Unit {0}
+
+-- the same of a task, in the order in which calls name it
+abbrev pub ReportsTask : Task → (status : ℕ) → (bytes : List ℕ) → After → (before after : List ℕ) → Type 0
+ReportsTask task status bytes follows before after = Reports (asked_by task) bytes (files_of task.job.now) status before after

@@ -137,16 +137,3 @@ last_line files good bad = codes "verified " ++ (decimal files ++ (codes " ok " 
 -- all that is printed to standard output
 abbrev pub printed_lines : List Listed → List Finding → List ℕ
 printed_lines files findings = ok_lines files findings ++ last_line (printed (length findings)) (printed (good_count findings)) (printed (bad_count findings))
-
--- What was done for these files: what was found of each, the status, and what was sent to standard output and standard
--- error.
-pub record Verifies {O E : Type 0} (o : target.Ghosts O) (e : target.Ghosts E) (subset : Bool) (files : List Listed) (status : ℕ) (out printed_to : O) (err told : E) : Type 0 where
-  pub findings : List Finding
-  pub found : AreFound subset files findings
-  -- the status is 0 only if all are streams and every line was written
-  pub good : status ≡ 0 → bad_count findings ≡ 0
-  pub written : status ≡ 0 → o.known out ≡ true → o.sent printed_to ≡ o.sent out ++ printed_lines files findings
-  -- and if standard output did not fail, it is 0 if all are
-  pub done : Serves o out printed_to → bad_count findings ≡ 0 → status ≡ 0
-  pub printed_is : Serves o out printed_to → o.sent printed_to ≡ o.sent out ++ printed_lines files findings
-  pub told_is : Serves o out printed_to → Serves e err told → e.sent told ≡ e.sent err ++ bad_lines files findings

@@ -1,6 +1,7 @@
 -- Which WAV files cannot be encoded as asked for, for which first reason, and what is reported of it.
 use Rattle.std.specs.Prelude.{◌≡◌, ◌⊎◌, ℕ, List, ◌++◌, codes, Err, Option, Some, None, option_map}
 use Rattle.std.specs.Option.{option_or}
+use Rattle.flac_bits.specs.State.{After}
 use Rattle.flac_bits.specs.declared.why.Why.TheVariants as why
 use Rattle.flac_meta.specs.Listed.{list_fault, info_seen}
 use Rattle.flac_meta.specs.declared.block.Block.{Block}
@@ -17,8 +18,9 @@ use Rattle.flac_cli.specs.Lined.{text_at}
 use Rattle.flac_cli.specs.Predictors.{predictors_in, AreListed}
 use Rattle.flac_cli.specs.Raw.{raw_sound}
 use Rattle.flac_cli.specs.Refusals.{raw_fault, stream_fault, IsOutside as IsOutsideOf}
-use Rattle.flac_cli.specs.Reports.{Files, fault_line, path_of, line_text}
-use Rattle.flac_cli.specs.Waves.{samples_for, blocks_for, asked_of_wave}
+use Rattle.flac_cli.specs.Reports.{Files, fault_line, path_of, line_text, files_of}
+use Rattle.flac_cli.specs.Waves.{samples_for, blocks_for, asked_of_wave, wave_asked_by}
+use Rattle.flac_cli.specs.declared.dispatch.Task.{Task}
 use Rattle.flac_cli.specs.declared.encode.Refusal.{Refusal}
 use Rattle.flac_cli.specs.declared.encode.Refusal.TheVariants as refusal
 use Rattle.flac_cli.specs.declared.lines.At.{At}
@@ -103,3 +105,7 @@ IsWaveReport asked bytes files status before after =
 abbrev pub ReportsWaveEncoding : Option Asked → (bytes : List ℕ) → Files → (status : ℕ) → (before after : List ℕ) → Type 0
 ReportsWaveEncoding (Some asked) bytes files status before after = IsWaveReport asked bytes files status before after
 ReportsWaveEncoding None bytes files status before after = Unit {0}
+
+-- the same of a task, in the order in which calls name it
+abbrev pub ReportsWaveTask : Task → (status : ℕ) → (bytes : List ℕ) → After → (before after : List ℕ) → Type 0
+ReportsWaveTask task status bytes follows before after = ReportsWaveEncoding (wave_asked_by task) bytes (files_of task.job.now) status before after

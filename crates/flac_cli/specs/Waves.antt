@@ -24,6 +24,7 @@ use Rattle.flac_cli.specs.Raw.{IsRaw}
 use Rattle.flac_cli.specs.Samples.{all_samples}
 use Rattle.flac_cli.specs.Speakers.{mask_in, words_with}
 use Rattle.flac_cli.specs.Streams.{profile_of}
+use Rattle.flac_cli.specs.declared.dispatch.Task.{Task}
 use Rattle.flac_cli.specs.declared.held_wave.KeptFault.{KeptFault}
 use Rattle.flac_cli.specs.declared.held_wave.KeptFault.TheVariants as kept
 use Rattle.flac_jobs.specs.declared.formats.RawFormat.{RawFormat}
@@ -234,6 +235,9 @@ abbrev pub asked_for_wave : Job → (list : List ℕ) → Option Asked
 asked_for_wave (job.EncodeWave input output size seek_every c comments lax predictors effort keep to_end) list =
     Some (record { profile = profile_of lax; format = record { rate = 0; channels = 0; bits = 0; block = size; seek_every = seek_every }; container = c; words = map (λ w. w.now) comments.items; list = list; effort = effort; any = true; keep = keep; to_end = to_end })
 asked_for_wave other list = None
+
+abbrev pub wave_asked_by : Task → Option Asked
+wave_asked_by task = asked_for_wave task.job.now task.list.now
 
 -- this holds if the job is such an encoding
 abbrev pub HasEncodedWave : Option Asked → (bytes : List ℕ) → (before after : List Bool) → Type 0

@@ -1,13 +1,12 @@
 //! `flac decode` to raw samples.
 
-ghost use Rattle.std.specs.Prelude.{◌≡◌, ◌≢◌, ◌≤◌, ◌<◌, ◌++◌, true, Some, IfErr, OnOk};
-ghost use Rattle.flac_bits.specs.Handing.{outcome_of};
+ghost use Rattle.std.specs.Prelude.{◌≡◌, ◌≢◌, ◌≤◌, Some, IfErr, OnOk};
 ghost use Rattle.flac_native.specs.Samples.{samples_from};
-ghost use Rattle.flac_cli.specs.Calls.{IfServed};
-ghost use Rattle.flac_cli.specs.Streams.{Tells, GivesStream, GivesStreamOf};
+ghost use Rattle.flac_cli.specs.Calls.{IfServed, IfAllServe};
+ghost use Rattle.flac_cli.specs.Streams.{Tells, GivesStream, SendsOfStream, HasSentOfStream};
 ghost use Rattle.flac_cli.specs.Samples.{all_samples};
-ghost use Rattle.flac_cli.specs.Outcomes.{Fits, Reads, IsOutOfMemory, Reports as ReportsOf};
-ghost use Rattle.flac_cli.specs.inner.Outcomes.{at_place};
+ghost use Rattle.flac_cli.specs.Outcomes.{ReportsStream};
+ghost use Rattle.flac_cli.specs.inner.Outcomes.{FitsStream};
 ghost use Rattle.flac_cli.specs.Reports.{Serves};
 ghost use Rattle.flac_cli.specs.Named.{NamesDecoding};
 
@@ -27,11 +26,10 @@ fn decode_wave_into<R: Source, W: Target>(
     requires none { sink.old.failures.count ≡ 0 }
     requires began { sink.old.began.value ≡ sink.old.target }
     ensures stream { Tells R.Source source.old source.new → OnOk result (GivesStream R.Source profile source.old) }
-    ensures written { Tells R.Source source.old source.new → W.known sink.old.target ≡ true →
-        OnOk result (GivesStreamOf R.Source profile source.old
-        (λ parts. W.sent sink.new.target ≡ W.sent sink.old.target ++ samples_from sink.old.asked sink.old.depth parts)) }
+    ensures written { HasSentOfStream R.Source W.Target profile (samples_from sink.old.asked sink.old.depth)
+        source.old source.new sink.old.target sink.new.target result }
     ensures outcome { Tells R.Source source.old source.new → Serves W.Target sink.old.target sink.new.target →
-        Fits IsOutOfMemory (Reads profile (R.coming source.old) (R.after source.old)) (outcome_of at_place result) }
+        FitsStream R.Source profile source.old result }
     ensures served { Serves W.Target sink.old.target sink.new.target → IfErr result (λ f. f.why ≢ Why.Sink) }
     ensures names { W.names sink.new.target ≡ W.names sink.old.target }
 {
@@ -49,11 +47,10 @@ fn decode_samples<R: Source, W: Target>(
     target: &mut W,
 ) -> Result<(), Fault>
     ensures stream { Tells R.Source source.old source.new → OnOk result (GivesStream R.Source profile source.old) }
-    ensures written { Tells R.Source source.old source.new → W.known target.old ≡ true →
-        OnOk result (GivesStreamOf R.Source profile source.old
-        (λ parts. W.sent target.new ≡ W.sent target.old ++ all_samples 0 parts)) }
+    ensures written { HasSentOfStream R.Source W.Target profile (all_samples 0)
+        source.old source.new target.old target.new result }
     ensures outcome { Tells R.Source source.old source.new → Serves W.Target target.old target.new →
-        Fits IsOutOfMemory (Reads profile (R.coming source.old) (R.after source.old)) (outcome_of at_place result) }
+        FitsStream R.Source profile source.old result }
     ensures served { Serves W.Target target.old target.new → IfErr result (λ f. f.why ≢ Why.Sink) }
 {
     let mut sink = SampleWriter::new(target, 0);
@@ -74,12 +71,10 @@ pub(crate) fn run_decode<R: Source, W: Target, E: Target>(
 ) -> u8
     ensures status { result ≤ 1 }
     ensures stream { result ≡ 0 → Tells R.Source source.old source.new → GivesStream R.Source profile source.old }
-    ensures decoded { result ≡ 0 → Tells R.Source source.old source.new → W.known target.old ≡ true →
-        GivesStreamOf R.Source profile source.old
-        (λ parts. W.sent target.new ≡ W.sent target.old ++ all_samples 0 parts) }
-    ensures reported { Tells R.Source source.old source.new → Serves W.Target target.old target.new →
-        Serves E.Target err.old err.new →
-        ReportsOf IsOutOfMemory (Reads profile (R.coming source.old) (R.after source.old)) paths.now.input.now result (E.sent err.old) (E.sent err.new) }
+    ensures decoded { result ≡ 0 → SendsOfStream R.Source W.Target profile (all_samples 0)
+        source.old source.new target.old target.new }
+    ensures reported { IfAllServe R.Source W.Target E.Target source.old source.new target.old target.new err.old err.new
+        (ReportsStream profile paths.now.input.now result) }
     ensures named { result ≡ 1 →
         IfServed E.Target err.old err.new (NamesDecoding paths.now.input.now paths.now.output.now) }
 {

@@ -7,13 +7,13 @@ ghost use Rattle.flac_native.specs.Item.{frame as frame_item};
 ghost use Rattle.flac_native.specs.Message.{sample_width};
 ghost use Rattle.flac_native.specs.Samples.{frame_bytes};
 ghost use Rattle.flac_wave.specs.Wave.{all_of, begins_empty};
-ghost use Rattle.flac_cli.specs.Calls.{IfServed, HasSent};
-ghost use Rattle.flac_cli.specs.Outcomes.{Fits, ReadsWave, IsWaveOutOfMemory, ReportsWaveDecoding, text_of_kept, IsReadAs};
-ghost use Rattle.flac_cli.specs.Reports.{Serves, fault_line};
+ghost use Rattle.flac_cli.specs.Calls.{IfServed, IfAllServe, HasSent};
+ghost use Rattle.flac_cli.specs.Outcomes.{SendsOfReading, HasSentOfReading, ReportsWave, text_of_kept};
+ghost use Rattle.flac_cli.specs.Reports.{Serves, AddsLine};
 ghost use Rattle.flac_cli.specs.Streams.{Tells};
 ghost use Rattle.flac_cli.specs.Waves.{wave_samples, file_samples, wave_in};
 ghost use Rattle.flac_cli.specs.inner.Waving.{nothing_held, held_after, adds, front_left, end_pad, ending, Holds};
-ghost use Rattle.flac_cli.specs.inner.WaveOutcomes.{fault_by, wave_outcome, IsOfInput};
+ghost use Rattle.flac_cli.specs.inner.WaveOutcomes.{fault_by, FitsWave, IsOfInput};
 ghost use Rattle.flac_cli.specs.Named.{NamesWaveDecoding};
 
 use crate::held_wave::{HeldWave, KeptFault};
@@ -52,7 +52,7 @@ fn send_pieces<W: Target>(pieces: &[Vec<u8>], target: &mut W) -> Result<(), Why>
 }
 
 /// Turns bytes into their other form, if they are samples of a byte each.
-fn turn(wide: usize, bytes: &mut [u8])
+pub(crate) fn turn(wide: usize, bytes: &mut [u8])
     requires { wide ≤ 4 }
     ensures { bytes.new ≡ wave_samples (8 * wide) bytes.old }
 {
@@ -381,11 +381,10 @@ fn decode_wave_into<R: Source, W: Target>(
     requires none { sink.old.failures.count ≡ 0 }
     requires began { sink.old.began.value ≡ sink.old.target }
     requires held { sink.old.held ≡ nothing_held }
-    ensures written { Tells R.Source source.old source.new → W.known sink.old.target ≡ true →
-        OnOk result (IsReadAs R.Source profile source.old
-        (λ parts. W.sent sink.new.target ≡ W.sent sink.old.target ++ wave_in parts)) }
+    ensures written { HasSentOfReading R.Source W.Target profile wave_in
+        source.old source.new sink.old.target sink.new.target result }
     ensures outcome { Tells R.Source source.old source.new → Serves W.Target sink.old.target sink.new.target →
-        Fits IsWaveOutOfMemory (ReadsWave profile (R.coming source.old) (R.after source.old)) (wave_outcome result) }
+        FitsWave R.Source profile source.old result }
     ensures served { Tells R.Source source.old source.new → Serves W.Target sink.old.target sink.new.target →
         IfErr result IsOfInput }
     ensures names { W.names sink.new.target ≡ W.names sink.old.target }
@@ -417,11 +416,10 @@ pub(crate) fn decode_wave<R: Source, W: Target>(
     profile: Profile,
     target: &mut W,
 ) -> Result<(), WaveFailure>
-    ensures written { Tells R.Source source.old source.new → W.known target.old ≡ true →
-        OnOk result (IsReadAs R.Source profile source.old
-        (λ parts. W.sent target.new ≡ W.sent target.old ++ wave_in parts)) }
+    ensures written { HasSentOfReading R.Source W.Target profile wave_in
+        source.old source.new target.old target.new result }
     ensures outcome { Tells R.Source source.old source.new → Serves W.Target target.old target.new →
-        Fits IsWaveOutOfMemory (ReadsWave profile (R.coming source.old) (R.after source.old)) (wave_outcome result) }
+        FitsWave R.Source profile source.old result }
     ensures served { Tells R.Source source.old source.new → Serves W.Target target.old target.new →
         IfErr result IsOfInput }
 {
@@ -435,8 +433,7 @@ pub(crate) fn decode_wave<R: Source, W: Target>(
 /// Writes the line of a stream that becomes no WAV file of its samples, and returns the status 1.
 fn refuse_kept<E: Target>(err: &mut E, path: &str, fault: KeptFault) -> u8
     ensures status { result ≡ 1 }
-    ensures line { IfServed E.Target err.old err.new
-        (λ before after. after ≡ before ++ fault_line path.now (text_of_kept fault)) }
+    ensures line { IfServed E.Target err.old err.new (AddsLine path.now (text_of_kept fault)) }
 {
     // If it cannot be written, there is no one left to report it to.
     let _ = write_line(err, path, At::Whole, fault.as_str());
@@ -453,11 +450,10 @@ pub(crate) fn run_decode_wave<R: Source, W: Target, E: Target>(
     err: &mut E,
 ) -> u8
     ensures status { result ≤ 1 }
-    ensures decoded { result ≡ 0 → Tells R.Source source.old source.new → W.known target.old ≡ true →
-        IsReadAs R.Source profile source.old (λ parts. W.sent target.new ≡ W.sent target.old ++ wave_in parts) }
-    ensures reported { Tells R.Source source.old source.new → Serves W.Target target.old target.new →
-        Serves E.Target err.old err.new →
-        ReportsWaveDecoding profile (R.coming source.old) (R.after source.old) paths.now.input.now result (E.sent err.old) (E.sent err.new) }
+    ensures decoded { result ≡ 0 → SendsOfReading R.Source W.Target profile wave_in
+        source.old source.new target.old target.new }
+    ensures reported { IfAllServe R.Source W.Target E.Target source.old source.new target.old target.new err.old err.new
+        (ReportsWave profile paths.now.input.now result) }
     ensures named { result ≡ 1 →
         IfServed E.Target err.old err.new (NamesWaveDecoding paths.now.input.now paths.now.output.now) }
 {

@@ -1,19 +1,19 @@
 //! What the program does for a job: each command is in the file of its name.
 
-ghost use Rattle.std.specs.Prelude.{◌≡◌, ◌≤◌, ◌<◌, ◌++◌, true, List};
-ghost use Rattle.flac_cli.specs.Calls.{HasWritten, IfServed};
-ghost use Rattle.flac_cli.specs.Streams.{Tells, profile_of, GivesStream, GivesStreamOf};
-ghost use Rattle.flac_jobs.specs.Asks.{AsksDecode, AsksDecodeWave, AsksStream, asks_lax};
+ghost use Rattle.std.specs.Prelude.{◌≡◌, ◌≤◌, true, List};
+ghost use Rattle.flac_cli.specs.Calls.{HasWritten, IfServed, IfBothServe, IfAllServe};
+ghost use Rattle.flac_cli.specs.Streams.{Tells, profile_for, GivesStream, SendsOfStream};
+ghost use Rattle.flac_jobs.specs.Asks.{AsksDecode, AsksDecodeWave, AsksStream};
 ghost use Rattle.flac_cli.specs.Samples.{all_samples};
 ghost use Rattle.flac_cli.specs.Counted.{AsksTest, counts_line};
 ghost use Rattle.flac_cli.specs.Encoded.{asked_by, HasEncoded, HasBegun};
-ghost use Rattle.flac_cli.specs.Outcomes.{ReportsInput, IsReadAs};
+ghost use Rattle.flac_cli.specs.Outcomes.{ReportsJob, SendsOfReading};
 ghost use Rattle.flac_cli.specs.Refusals.{CanBeEncoded};
-ghost use Rattle.flac_cli.specs.Reports.{files_of, Serves, Reports};
+ghost use Rattle.flac_cli.specs.Reports.{Serves, ReportsTask};
 ghost use Rattle.flac_cli.specs.Retagged.{HasRetagged};
 ghost use Rattle.flac_cli.specs.Named.{NamesFault};
-ghost use Rattle.flac_cli.specs.Waves.{wave_in, asked_for_wave, HasEncodedWave, HasBegunWave};
-ghost use Rattle.flac_cli.specs.WaveRefusals.{CanBeKept, ReportsWaveEncoding};
+ghost use Rattle.flac_cli.specs.Waves.{wave_in, wave_asked_by, HasEncodedWave, HasBegunWave};
+ghost use Rattle.flac_cli.specs.WaveRefusals.{CanBeKept, ReportsWaveTask};
 
 use crate::decode::run_decode;
 use crate::decode_wave::run_decode_wave;
@@ -52,17 +52,15 @@ pub fn run<R: Source, W: Target, O: Target, E: Target>(
 ) -> u8
     // Test, decode and list are done only if the input is a stream.
     ensures stream { AsksStream task.now.job.now → result ≡ 0 → Tells R.Source source.old source.new →
-        GivesStream R.Source (profile_of (asks_lax task.now.job.now)) source.old }
+        GivesStream R.Source (profile_for task.now.job.now) source.old }
     // After status 0, a test has added to standard output exactly the line of the stream's counts.
-    ensures tested { AsksTest task.now.job.now → result ≡ 0 → Tells R.Source source.old source.new →
-        O.known out.old ≡ true →
-        GivesStreamOf R.Source (profile_of (asks_lax task.now.job.now)) source.old
-        (λ parts. O.sent out.new ≡ O.sent out.old ++ counts_line parts) }
+    ensures tested { AsksTest task.now.job.now → result ≡ 0 →
+        SendsOfStream R.Source O.Target (profile_for task.now.job.now) counts_line
+        source.old source.new out.old out.new }
     // After status 0, a decoding has added to the file exactly the samples of the stream's frames.
-    ensures decoded { AsksDecode task.now.job.now → result ≡ 0 → Tells R.Source source.old source.new →
-        W.known target.old ≡ true →
-        GivesStreamOf R.Source (profile_of (asks_lax task.now.job.now)) source.old
-        (λ parts. W.sent target.new ≡ W.sent target.old ++ all_samples 0 parts) }
+    ensures decoded { AsksDecode task.now.job.now → result ≡ 0 →
+        SendsOfStream R.Source W.Target (profile_for task.now.job.now) (all_samples 0)
+        source.old source.new target.old target.new }
     // After status 0, an encoding has added to the file a stream of exactly the samples that the input is, in the
     // profile that is asked for, each frame a shortest one also over the predictors of the list.
     ensures encoded { result ≡ 0 →
@@ -76,9 +74,8 @@ pub fn run<R: Source, W: Target, O: Target, E: Target>(
     // If no device fails: if there is a reason to refuse the encoding, the status is 1, and the line of the first one
     // was added to standard error; if there is none, the status is 0, and nothing was added. Or memory ran out: then
     // the status is 1, and the line says that.
-    ensures refused { Tells R.Source source.old source.new → Serves W.Target target.old target.new →
-        Serves E.Target err.old err.new →
-        Reports (asked_by task.now) (R.coming source.old) (files_of task.now.job.now) result (E.sent err.old) (E.sent err.new) }
+    ensures refused { IfAllServe R.Source W.Target E.Target source.old source.new target.old target.new err.old err.new
+        (ReportsTask task.now result) }
     // After status 0, a retagging has added to the file the same STREAMINFO, the comments, the other blocks and the
     // rest of the input.
     ensures retagged { result ≡ 0 → HasWritten R.Source W.Target source.old target.old target.new
@@ -87,25 +84,23 @@ pub fn run<R: Source, W: Target, O: Target, E: Target>(
     // it, the WAV file of this stream is the input, byte for byte.
     ensures wave_encoded { result ≡ 0 →
         HasWritten R.Source W.Target source.old target.old target.new
-        (HasEncodedWave (asked_for_wave task.now.job.now task.now.list.now)) }
+        (HasEncodedWave (wave_asked_by task.now)) }
     // After status 0 the input is a WAV file, and there was no reason to refuse its encoding.
     ensures wave_accepted { result ≡ 0 → R.known source.old ≡ true →
-        CanBeKept (asked_for_wave task.now.job.now task.now.list.now) (R.coming source.old) }
+        CanBeKept (wave_asked_by task.now) (R.coming source.old) }
     // After status 1, such an encoding has added nothing, or a prefix of such a stream.
     ensures wave_begun { result ≡ 1 →
         HasWritten R.Source W.Target source.old target.old target.new
-        (HasBegunWave (asked_for_wave task.now.job.now task.now.list.now)) }
+        (HasBegunWave (wave_asked_by task.now)) }
     // If no device fails: if there is a reason to refuse the encoding of the WAV file, the status is 1, and the line of the
     // first one was added to standard error; if there is none, the status is 0, and nothing was added. Or memory ran out:
     // then the status is 1, and the line says that.
-    ensures wave_refused { Tells R.Source source.old source.new → Serves W.Target target.old target.new →
-        Serves E.Target err.old err.new →
-        ReportsWaveEncoding (asked_for_wave task.now.job.now task.now.list.now) (R.coming source.old) (files_of task.now.job.now) result (E.sent err.old) (E.sent err.new) }
+    ensures wave_refused { IfAllServe R.Source W.Target E.Target source.old source.new target.old target.new
+        err.old err.new (ReportsWaveTask task.now result) }
     // After status 0, a decoding to a WAV file has added to the file exactly the WAV file of the stream.
-    ensures wave_decoded { AsksDecodeWave task.now.job.now → result ≡ 0 → Tells R.Source source.old source.new →
-        W.known target.old ≡ true →
-        IsReadAs R.Source (profile_of (asks_lax task.now.job.now)) source.old
-        (λ parts. W.sent target.new ≡ W.sent target.old ++ wave_in parts) }
+    ensures wave_decoded { AsksDecodeWave task.now.job.now → result ≡ 0 →
+        SendsOfReading R.Source W.Target (profile_for task.now.job.now) wave_in
+        source.old source.new target.old target.new }
     // The status is 0 or 1.
     ensures status { result ≤ 1 }
     // If no device that the job uses fails: if the input is a stream, test, decode and list return 0 and add nothing to
@@ -113,8 +108,8 @@ pub fn run<R: Source, W: Target, O: Target, E: Target>(
     // for the marker, the blocks and comments that are too long. So does a decoding to a WAV file, which also refuses a
     // stream that becomes no WAV file of its samples. Or memory ran out, or standard output failed while blocks were
     // listed: then the line says that.
-    ensures reported { Tells R.Source source.old source.new → Serves E.Target err.old err.new →
-        ReportsInput task.now.job.now (R.coming source.old) (R.after source.old) (Serves W.Target target.old target.new) (Serves O.Target out.old out.new) result (E.sent err.old) (E.sent err.new) }
+    ensures reported { IfBothServe R.Source E.Target source.old source.new err.old err.new
+        (ReportsJob task.now.job.now (Serves W.Target target.old target.new) (Serves O.Target out.old out.new) result) }
     // After status 1 of a decoding, an encoding or a retagging, also of WAV files, whatever failed, its line was added to
     // standard error, if that did not fail. It names the output if that could not be written (30 of a decoding, 39), and
     // else the file at fault.

@@ -1,17 +1,17 @@
 //! `flac encode` of raw samples.
 
-ghost use Rattle.std.specs.Prelude.{◌≡◌, ◌+◌, ◌++◌, length, ◌≢◌, ◌<◌, ◌⊎◌, ◌&&◌, not, is_some, true, map, MatchResult, IfOk, IfErr, OnOk, OnErr, Some, None};
-ghost use Rattle.flac_bits.specs.Bits.{bits_of};
+ghost use Rattle.std.specs.Prelude.{◌≡◌, ◌+◌, ◌++◌, length, ◌≢◌, ◌⊎◌, ◌&&◌, not, is_some, true, IfOk, IfErr, OnOk, OnErr, Some, None};
 ghost use Rattle.flac_jobs.specs.Kinds.{file_kind};
 ghost use Rattle.flac_meta.specs.Listed.{list_fault, info_seen};
-ghost use Rattle.flac_native.specs.Given.{cut_of, with_predictors, fits_plan, plan_fault};
-ghost use Rattle.flac_cli.specs.Calls.{HasWritten, IfServed};
-ghost use Rattle.flac_cli.specs.Asked.{asked_of};
-ghost use Rattle.flac_cli.specs.Encoded.{comments_of, comment_list, EncodesIn, EncodesRaw, BeginsIn, BeginsRaw};
+ghost use Rattle.flac_native.specs.Given.{cut_of, with_predictors, fits_plan, plan_fault, MakesPlan};
+ghost use Rattle.flac_native.specs.Sent.{TargetFailed};
+ghost use Rattle.flac_cli.specs.Calls.{HasWritten, IfServed, IfKnown, IfRead};
+ghost use Rattle.flac_cli.specs.Asked.{asked_of, texts_of};
+ghost use Rattle.flac_cli.specs.Encoded.{comments_of, comment_list, EncodesRaw, HasBegunRaw, SendsEncodedIn, SendsPrefixIn};
 ghost use Rattle.flac_cli.specs.Lined.{text_at};
 ghost use Rattle.flac_cli.specs.Raw.{IsRaw, raw_sound};
 ghost use Rattle.flac_cli.specs.Refusals.{raw_fault, input_fault, stream_fault, refusal_of, text_of, IsReason, IsOutside};
-ghost use Rattle.flac_cli.specs.Reports.{line_text, fault_line, path_of, files_of};
+ghost use Rattle.flac_cli.specs.Reports.{line_text, AddsLine, path_of, files_of};
 ghost use Rattle.flac_cli.specs.declared.encode.Refusal.TheVariants.{Input, Setup, Output};
 
 use crate::comments::comments_of;
@@ -191,8 +191,8 @@ pub(crate) fn audio_of<R: Source>(
     ensures raw { IfOk result (λ a. R.known source.old ≡ true → IsRaw profile format (R.coming source.old) a) }
     ensures sound { IfOk result (λ a. R.known source.old ≡ true → a ≡ raw_sound profile format (R.coming source.old)) }
     ensures accepted { OnOk result (R.known source.old ≡ true → raw_fault profile format (R.coming source.old) ≡ None) }
-    ensures refused { IfErr result (λ e. R.known source.old ≡ true → R.raised source.new ≡ R.raised source.old →
-        IsOutside e ⊎ (raw_fault profile format (R.coming source.old) ≡ Some e)) }
+    ensures refused { IfErr result (λ e. IfRead R.Source source.old source.new
+        (λ bytes. IsOutside e ⊎ (raw_fault profile format bytes ≡ Some e))) }
     ensures unwritten { IfErr result (λ e. e ≢ Output EncodeFault.Write) }
     ensures names { R.names source.new ≡ R.names source.old }
 {
@@ -215,8 +215,7 @@ pub(crate) fn audio_of<R: Source>(
 /// # Errors
 /// The first reason for which they cannot be: the block size, the seek points.
 fn own_plan(format: RawFormat, audio: &Audio) -> Result<Plan, SetupFault>
-    ensures made { MatchResult result (λ p. p ≡ cut_of format.block audio.now format.seek_every)
-        (λ e. plan_fault (cut_of format.block audio.now format.seek_every) ≡ Some e) }
+    ensures made { MakesPlan (cut_of format.block audio.now format.seek_every) result }
     ensures fits { IfOk result (λ p. fits_plan p audio.now ≡ true) }
 {
     Plan::new_in(audio.profile(), format.block, audio, format.seek_every)
@@ -240,14 +239,14 @@ fn samples_of<R: Source>(
     encoding: &Encoding<'_>,
     source: &mut R,
 ) -> Result<Audio, Refusal>
-    ensures raw { IfOk result (λ a. R.known source.old ≡ true →
-        IsRaw encoding.now.profile encoding.now.format (R.coming source.old) a) }
-    ensures sound { IfOk result (λ a. R.known source.old ≡ true →
-        a ≡ raw_sound encoding.now.profile encoding.now.format (R.coming source.old)) }
-    ensures accepted { OnOk result (R.known source.old ≡ true →
-        input_fault (asked_of encoding.now) (R.coming source.old) ≡ None) }
-    ensures refused { IfErr result (λ e. R.known source.old ≡ true → R.raised source.new ≡ R.raised source.old →
-        IsOutside e ⊎ (input_fault (asked_of encoding.now) (R.coming source.old) ≡ Some e)) }
+    ensures raw { IfOk result (λ a. IfKnown R.Source source.old
+        (λ bytes. IsRaw encoding.now.profile encoding.now.format bytes a)) }
+    ensures sound { IfOk result (λ a. IfKnown R.Source source.old
+        (λ bytes. a ≡ raw_sound encoding.now.profile encoding.now.format bytes)) }
+    ensures accepted { OnOk result (IfKnown R.Source source.old
+        (λ bytes. input_fault (asked_of encoding.now) bytes ≡ None)) }
+    ensures refused { IfErr result (λ e. IfRead R.Source source.old source.new
+        (λ bytes. IsOutside e ⊎ (input_fault (asked_of encoding.now) bytes ≡ Some e))) }
     ensures unwritten { IfErr result (λ e. e ≢ Output EncodeFault.Write) }
 {
     let format = encoding.format;
@@ -276,9 +275,7 @@ pub(crate) fn plan_of(
     audio: &Audio,
     predictors: Vec<LinearPredictor>,
 ) -> Result<Plan, SetupFault>
-    ensures made { MatchResult result
-        (λ p. p ≡ with_predictors (cut_of format.block audio.now format.seek_every) predictors.items)
-        (λ e. plan_fault (with_predictors (cut_of format.block audio.now format.seek_every) predictors.items) ≡ Some e) }
+    ensures made { MakesPlan (with_predictors (cut_of format.block audio.now format.seek_every) predictors.items) result }
     ensures fits { IfOk result (λ p. fits_plan p audio.now ≡ true) }
     ensures good { IfOk result (λ p. plan_fault p ≡ None) }
 {
@@ -292,10 +289,10 @@ pub(crate) fn plan_of(
 
 /// The one block after STREAMINFO: comments of these words.
 fn comment_list(alloc: Global, words: &[&str]) -> Result<BlockList, Why>
-    ensures list { IfOk result (λ list. list ≡ comment_list (map (λ word. word.now) words.now)) }
-    ensures accepted { OnOk result (list_fault info_seen (comment_list (map (λ word. word.now) words.now)) ≡ None) }
+    ensures list { IfOk result (λ list. list ≡ comment_list (texts_of words.now)) }
+    ensures accepted { OnOk result (list_fault info_seen (comment_list (texts_of words.now)) ≡ None) }
     ensures refused { IfErr result (λ e. (e ≡ Why.Memory) ⊎
-        (list_fault info_seen (comment_list (map (λ word. word.now) words.now)) ≡ Some e)) }
+        (list_fault info_seen (comment_list (texts_of words.now)) ≡ Some e)) }
 {
     let comments = comments_of(alloc, words)?;
     BlockList::of_comments(alloc, comments)
@@ -311,15 +308,14 @@ pub(crate) fn write_stream<W: Target>(
     target: &mut W,
 ) -> Result<(), EncodeFault>
     requires { fits_plan plan.now audio.now ≡ true }
-    ensures written { OnOk result (W.known target.old ≡ true →
-        EncodesIn container plan.now list.now audio.now (bits_of (W.sent target.old)) (bits_of (W.sent target.new))) }
-    ensures begun { OnErr result (W.known target.old ≡ true → (target.new ≡ target.old) ⊎
-        BeginsIn container plan.now list.now audio.now (bits_of (W.sent target.old)) (bits_of (W.sent target.new))) }
+    ensures written { OnOk result
+        (SendsEncodedIn W.Target container plan.now list.now audio.now target.old target.new) }
+    ensures begun { OnErr result
+        (SendsPrefixIn W.Target container plan.now list.now audio.now target.old target.new) }
     ensures accepted { OnOk result (stream_fault container plan.now list.now ≡ None) }
     ensures refused { IfErr result (λ e. IsOutside (Refusal.Output e) ⊎
         (stream_fault container plan.now list.now ≡ Some e)) }
-    ensures failed { IfErr result (λ e. e ≡ EncodeFault.Write → W.known target.old ≡ true →
-        W.errors target.old < W.errors target.new) }
+    ensures failed { IfErr result (λ e. e ≡ EncodeFault.Write → TargetFailed W.Target target.old target.new) }
 {
     match container {
         ContainerKind::Native => encode(alloc, plan, list, audio, target),
@@ -347,15 +343,13 @@ pub(crate) fn encode_raw<R: Source, W: Target>(
 ) -> Result<(), Refusal>
     ensures written { OnOk result (HasWritten R.Source W.Target source.old target.old target.new
         (EncodesRaw (asked_of encoding.now))) }
-    ensures begun { OnErr result (R.known source.old ≡ true → W.known target.old ≡ true →
-        (bits_of (W.sent target.new) ≡ bits_of (W.sent target.old))
-        ⊎ BeginsRaw (asked_of encoding.now) (R.coming source.old) (bits_of (W.sent target.old)) (bits_of (W.sent target.new))) }
-    ensures accepted { OnOk result (R.known source.old ≡ true →
-        IsReason (asked_of encoding.now) (R.coming source.old) None) }
-    ensures refused { IfErr result (λ e. R.known source.old ≡ true → R.raised source.new ≡ R.raised source.old →
-        IsOutside e ⊎ IsReason (asked_of encoding.now) (R.coming source.old) (Some e)) }
-    ensures failed { IfErr result (λ e. e ≡ Output EncodeFault.Write → W.known target.old ≡ true →
-        W.errors target.old < W.errors target.new) }
+    ensures begun { OnErr result (HasWritten R.Source W.Target source.old target.old target.new
+        (HasBegunRaw (asked_of encoding.now))) }
+    ensures accepted { OnOk result (IfKnown R.Source source.old
+        (λ bytes. IsReason (asked_of encoding.now) bytes None)) }
+    ensures refused { IfErr result (λ e. IfRead R.Source source.old source.new
+        (λ bytes. IsOutside e ⊎ IsReason (asked_of encoding.now) bytes (Some e))) }
+    ensures failed { IfErr result (λ e. e ≡ Output EncodeFault.Write → TargetFailed W.Target target.old target.new) }
 {
     let predictors = predictors_in(alloc, encoding.list)?;
     let audio = samples_of(alloc, encoding, source)?;
@@ -384,7 +378,7 @@ fn path_at_fault<'a>(job: &Job<'a>, refusal: Refusal) -> &'a str
 pub(crate) fn refuse_encoding<E: Target>(err: &mut E, job: &Job<'_>, refusal: Refusal) -> u8
     ensures status { result ≡ 1 }
     ensures line { IfServed E.Target err.old err.new
-        (λ before after. after ≡ before ++ fault_line (path_of (files_of job.now) refusal) (line_text refusal)) }
+        (AddsLine (path_of (files_of job.now) refusal) (line_text refusal)) }
 {
     let path = path_at_fault(job, refusal);
     // If it cannot be written, there is no one left to report it to.

@@ -1,16 +1,18 @@
 //! `flac encode` of WAV files.
 
-ghost use Rattle.std.specs.Prelude.{◌≡◌, ◌≢◌, ◌≤◌, ◌<◌, ◌*◌, ◌%◌, ◌++◌, ◌⊎◌, true, map, length, unwrap_or, option_map, IfOk, IfErr, OnOk, OnErr, Some, None};
+ghost use Rattle.std.specs.Prelude.{◌≡◌, ◌≢◌, ◌≤◌, ◌<◌, ◌++◌, ◌⊎◌, ℕ, List, [], true, map, IfOk, IfErr, OnOk, OnErr, Some, None};
 ghost use Rattle.flac_bits.specs.Bits.{bits_of};
 ghost use Rattle.flac_meta.specs.Listed.{list_fault, info_seen};
+ghost use Rattle.flac_native.specs.Given.{fits_plan};
 ghost use Rattle.flac_cli.specs.Calls.{HasWritten, IfServed};
 ghost use Rattle.flac_cli.specs.Asked.{asked_of};
-ghost use Rattle.flac_cli.specs.Refusals.{raw_fault, refusal_of, IsOutside as IsOutsideOf};
-ghost use Rattle.flac_cli.specs.Raw.{IsRaw, raw_sound};
+ghost use Rattle.flac_cli.specs.Refusals.{refusal_of};
 ghost use Rattle.flac_cli.specs.WaveRefusals.{refusal_of_wave, IsFileReason, IsWaveReason, IsOutside, IsWaveReport, at_chunk, wave_text};
-ghost use Rattle.flac_cli.specs.Waves.{turned, stream_samples, format_with, contents, kept_list, blocks_for, riff_block, EncodesWave, BeginsWave};
+ghost use Rattle.flac_cli.specs.Waves.{format_with, contents, kept_list, blocks_for, riff_block, EncodesWave, BeginsWave};
 ghost use Rattle.flac_cli.specs.Speakers.{words_with};
 ghost use Rattle.flac_cli.specs.inner.Preparing.{IsReady};
+ghost use Rattle.flac_cli.specs.inner.WaveSamples.{IsTaken, MakesRaw};
+ghost use Rattle.flac_wave.specs.Calls.{IfRead};
 ghost use Rattle.flac_cli.specs.declared.encode_wave.WaveRefusal.TheVariants.{Refused};
 ghost use Rattle.flac_cli.specs.declared.encode.Refusal.TheVariants as refusal;
 ghost use Rattle.flac_bits.specs.declared.why.Why.TheVariants as why;
@@ -19,18 +21,20 @@ ghost use Rattle.flac_cli.specs.Reports.{fault_line, files_of, Serves};
 ghost use Rattle.flac_cli.specs.Named.{NamesWaveEncoding};
 
 use crate::comments::comments_of;
-use crate::encode::{Encoding, Refusal, audio_of, plan_of, refuse_encoding, write_stream};
+use crate::encode::{Encoding, Refusal, plan_of, refuse_encoding, write_stream};
 use crate::lines::{At, write_line};
 use crate::predictors::{ListFault, predictors_in};
 use crate::searching::searched;
 use crate::speakers::with_mask;
-use flac_bits::{Memory, Source, Target, Why, bytes_fit};
-use flac_frame::{Audio, SetupFault};
+use crate::wave_file::{WaveFile, read_file};
+use crate::wave_samples::WaveSamples;
+use flac_bits::{Source, Target, Why};
+use flac_frame::{Audio, SetupFault, format_fault};
 use flac_jobs::{Job, RawFormat};
 use flac_meta::{Block, BlockList, Bytes};
-use flac_native::{EncodeFault, Plan, Profile, sample_width};
+use flac_native::{EncodeFault, Plan, Profile};
 use flac_subframe::LinearPredictor;
-use flac_wave::{WaveError, WaveFault, WaveFormat, cut, lower, read_all, wave_of};
+use flac_wave::{WaveError, WaveFault, WaveFormat};
 use std::alloc::{AllocError, Global};
 
 /// Why a WAV file is not encoded.
@@ -102,77 +106,25 @@ impl From<Refusal> for WaveRefusal {
     }
 }
 
-/// Bytes in their other form: as unsigned numbers, or in two's complement.
-fn turned(alloc: Global, bytes: &[u8]) -> Result<Vec<u8>, AllocError>
-    ensures { IfOk result (λ v. v.items ≡ map turned bytes.now) }
-{
-    let mut all = Vec::with_capacity(alloc, bytes.len())?;
-    for byte in bytes {
-        all.push(*byte ^ 128)?;
-    }
-    Ok(all)
-}
-
-/// The samples of a WAV file, of `wide` bytes each, as those of a stream of this depth; `None` if they are the same.
-fn changed(
-    alloc: Global,
-    wide: usize,
-    depth: u32,
-    samples: &[u8],
-) -> Result<Option<Vec<u8>>, AllocError>
-    requires wide { (0 < wide) × (wide ≤ 4) }
-    requires depth { (0 < depth) × (depth ≤ 8 * wide) }
-    requires high { depth ≡ 8 * wide ⊎ (1 < wide) }
-    requires whole { length samples.now % wide ≡ 0 }
-    ensures { IfOk result (λ o. unwrap_or (option_map (λ v. v.items) o) samples.now ≡
-        stream_samples wide depth samples.now) }
-{
-    let shift = 8 * wide as u32 - depth;
-    if shift > 0 {
-        let low = lower(alloc, wide, sample_width(depth), shift, samples)?;
-        return Ok(Some(low));
-    }
-    if wide > 1 {
-        return Ok(None);
-    }
-    let all = turned(alloc, samples)?;
-    Ok(Some(all))
-}
-
-/// The bytes that were changed, or those that were not.
-fn changed_or<'a>(changed: &'a Option<Vec<u8>>, samples: &'a [u8]) -> &'a [u8]
-    ensures { result.now ≡ unwrap_or (option_map (λ v. v.items) changed.now) samples.now }
-{
-    match changed {
-        Some(bytes) => bytes.as_slice(),
-        None => samples,
-    }
-}
-
-/// The samples of a WAV file, of `wide` bytes each, in this format.
+/// Samples in this format.
+///
+/// # Errors
+/// The first reason for which they cannot be encoded: rate, depth, channels, too many samples.
 fn wave_audio(
-    alloc: Global,
     profile: Profile,
     format: RawFormat,
-    wide: usize,
-    samples: &[u8],
-) -> Result<Audio, Refusal>
-    requires wide { (0 < wide) × (wide ≤ 4) }
-    requires depth { (0 < format.bits) × (format.bits ≤ 8 * wide) }
-    requires high { format.bits ≡ 8 * wide ⊎ (1 < wide) }
-    requires whole { length samples.now % wide ≡ 0 }
-    ensures raw { IfOk result (λ a. IsRaw profile format (stream_samples wide format.bits samples.now) a) }
-    ensures sound { IfOk result (λ a. a ≡ raw_sound profile format (stream_samples wide format.bits samples.now)) }
-    ensures accepted { OnOk result (raw_fault profile format (stream_samples wide format.bits samples.now) ≡ None) }
-    ensures refused { IfErr result (λ e. IsOutsideOf e ⊎
-        (raw_fault profile format (stream_samples wide format.bits samples.now) ≡ Some e)) }
-    ensures unwritten { IfErr result (λ e. e ≢ refusal.Output EncodeFault.Write) }
+    channels: Vec<Vec<i32>>,
+) -> Result<Audio, SetupFault>
+    ensures { MakesRaw profile format (map (λ c. c.items) channels.items) result }
 {
-    let Ok(changed) = changed(alloc, wide, format.bits, samples) else {
-        return Err(Refusal::Input(Why::Memory));
-    };
-    let raw = changed_or(&changed, samples);
-    audio_of(alloc, &mut Memory::new(raw), profile, format)
+    let count = format.channels as usize;
+    if let Some(fault) = format_fault(profile, format.rate, format.bits, count) {
+        return Err(fault);
+    }
+    let audio = Audio::new_in(profile, format.rate, format.bits, channels)?;
+    // Read only for the proof, which then knows what the model of an `Audio` keeps to.
+    let _channels = audio.channels();
+    Ok(audio)
 }
 
 /// Adds blocks that keep these pieces.
@@ -258,39 +210,71 @@ fn format_of(format: &WaveFormat, depth: u32, asked: RawFormat) -> RawFormat
     }
 }
 
-/// Makes the bytes of a WAV file ready to be encoded with these predictors.
+/// Makes a WAV file ready to be encoded with these predictors.
 ///
 /// # Errors
-/// The first reason for which it cannot be: the file, its samples, the block size and the seek points, the predictors,
-/// the comments and the pieces. Out of memory.
-fn taken_apart(
+/// The first reason for which it cannot be: its samples, the block size and the seek points, the predictors, the comments
+/// and the pieces. Out of memory.
+fn ready_of(
     alloc: Global,
     encoding: &Encoding<'_>,
     predictors: Vec<LinearPredictor>,
-    bytes: &[u8],
-) -> Result<Ready, WaveRefusal>
-    ensures found { IfOk result (λ r.
-        IsReady (asked_of encoding.now) predictors.items bytes.now r.format r.plan r.list r.audio) }
-    ensures refused { IfErr result (λ e. IsOutside e ⊎
-        IsFileReason (asked_of encoding.now) predictors.items bytes.now (Some e)) }
-    ensures unwritten { IfErr result (λ e. e ≢ Refused (refusal.Output EncodeFault.Write)) }
+    file: WaveFile,
+) -> Result<Ready, Refusal>
+    ensures found { IfOk result (λ r. (bytes : List ℕ) → IsTaken encoding.now.to_end bytes file →
+        IsReady (asked_of encoding.now) predictors.items bytes r.format r.plan r.list r.audio) }
+    ensures fits { IfOk result (λ r. fits_plan r.plan r.audio ≡ true) }
+    ensures none { IfOk result (λ r. r.plan.found ≡ []) }
+    ensures refused { IfErr result (λ e. (bytes : List ℕ) → IsTaken encoding.now.to_end bytes file →
+        IsOutside (Refused e) ⊎ IsFileReason (asked_of encoding.now) predictors.items bytes (Some (Refused e))) }
+    ensures unwritten { IfErr result (λ e. e ≢ refusal.Output EncodeFault.Write) }
 {
-    let wave = wave_of(alloc, bytes, encoding.to_end)?;
-    bytes_fit(wave.samples);
-    let depth = wave.format.depth_of(wave.samples);
-    let format = format_of(&wave.format, depth, encoding.format);
-    let after = cut(alloc, wave.samples, wave.back)?;
-    let wide = sample_width(wave.format.bits);
-    let audio = wave_audio(alloc, encoding.profile, format, wide, wave.samples)?;
+    let WaveFile {
+        format: wave,
+        pieces,
+        samples,
+        after,
+    } = file;
+    let WaveSamples {
+        depth,
+        channels,
+        odd: _,
+    } = samples;
+    let format = format_of(&wave, depth, encoding.format);
+    let audio = wave_audio(encoding.profile, format, channels)?;
     let plan = plan_of(format, &audio, predictors)?;
-    let before = wave.pieces.as_slice();
-    let list = blocks_of(alloc, encoding, &wave.format, before, after.as_slice())?;
+    let list = blocks_of(alloc, encoding, &wave, pieces.as_slice(), after.as_slice())?;
     Ok(Ready {
         format,
         plan,
         list,
         audio,
     })
+}
+
+/// Reads a WAV file, and makes it ready to be encoded with these predictors. Of its bytes none are held that are
+/// neither its samples nor kept.
+///
+/// # Errors
+/// The first reason for which it cannot be: the file, its samples, the block size and the seek points, the predictors,
+/// the comments and the pieces. An error of the source, or out of memory.
+fn taken_apart<R: Source>(
+    alloc: Global,
+    encoding: &Encoding<'_>,
+    predictors: Vec<LinearPredictor>,
+    source: &mut R,
+) -> Result<Ready, WaveRefusal>
+    ensures found { IfOk result (λ r. R.known source.old ≡ true →
+        IsReady (asked_of encoding.now) predictors.items (R.coming source.old) r.format r.plan r.list r.audio) }
+    ensures fits { IfOk result (λ r. fits_plan r.plan r.audio ≡ true) }
+    ensures none { IfOk result (λ r. r.plan.found ≡ []) }
+    ensures refused { IfErr result (λ e. IfRead R.Source source.old source.new
+        (IsOutside e ⊎ IsFileReason (asked_of encoding.now) predictors.items (R.coming source.old) (Some e))) }
+    ensures unwritten { IfErr result (λ e. e ≢ Refused (refusal.Output EncodeFault.Write)) }
+{
+    let file = read_file(alloc, encoding.to_end, source)?;
+    let ready = ready_of(alloc, encoding, predictors, file)?;
+    Ok(ready)
 }
 
 /// Encodes a WAV file, and writes the stream, which keeps all of the file if that is asked for. After an error, nothing or a prefix of the
@@ -321,9 +305,7 @@ pub(crate) fn encode_wave<R: Source, W: Target>(
         W.errors target.old < W.errors target.new) }
 {
     let predictors = predictors_in(alloc, encoding.list)?;
-    let bytes = read_all(alloc, source)?;
-    let ready = taken_apart(alloc, encoding, predictors, bytes.as_slice())?;
-    drop(bytes);
+    let ready = taken_apart(alloc, encoding, predictors, source)?;
     let tried = searched(alloc, encoding.effort, ready.plan, &ready.audio)?;
     write_stream(
         alloc,

@@ -1,5 +1,6 @@
 //! Laws of what the program writes.
 
+ghost use Rattle.flac_cli.specs.Objects.{LinesHaveOneReading};
 ghost use Rattle.flac_cli.specs.Outcomes.{KeptFilesAreRead, KeptFilesAreDecoded};
 ghost use Rattle.flac_cli.specs.Waves.{KeptFilesComeBack};
 
@@ -14,4 +15,10 @@ pub fn kept_files_come_back()
 pub fn kept_files_are_read()
     ensures read { KeptFilesAreRead }
     ensures decoded { KeptFilesAreDecoded }
+{}
+
+/// A line of the report of `flac verify` is that of one list of members: no path, whatever bytes it has, makes it read
+/// otherwise.
+pub fn lines_have_one_reading()
+    ensures { LinesHaveOneReading }
 {}

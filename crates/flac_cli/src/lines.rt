@@ -50,6 +50,8 @@ pub(crate) struct Lines<W: Target> {
 }
 
 impl<W: Target> Lines<W> {
+    ghost use Rattle.flac_cli.specs.inner.Lines.{AddsTo};
+
     /// An empty buffer over the target.
     pub(crate) fn new(target: W) -> Lines<W>
         ensures target { result.target ≡ target }
@@ -109,8 +111,7 @@ impl<W: Target> Lines<W> {
     /// # Errors
     /// [`Why::Write`] if the target fails.
     pub(crate) fn put_bytes(&mut self, text: &[u8]) -> Result<(), Why>
-        ensures { Adds W.Target text.now self.old.target self.new.target
-            (take self.old.held self.old.bytes) (take self.new.held self.new.bytes) result }
+        ensures { AddsTo W.Target text.now self.old self.new result }
     {
         if text.len() <= ROOM - self.held {
             self.hold(text);
@@ -129,8 +130,7 @@ impl<W: Target> Lines<W> {
     /// # Errors
     /// [`Why::Write`] if the target fails.
     pub(crate) fn put(&mut self, text: &str) -> Result<(), Why>
-        ensures { Adds W.Target text.now self.old.target self.new.target
-            (take self.old.held self.old.bytes) (take self.new.held self.new.bytes) result }
+        ensures { AddsTo W.Target text.now self.old self.new result }
     {
         self.put_bytes(text.as_bytes())
     }
@@ -140,8 +140,7 @@ impl<W: Target> Lines<W> {
     /// # Errors
     /// [`Why::Write`] if the target fails.
     pub(crate) fn put_both(&mut self, first: &str, second: &str) -> Result<(), Why>
-        ensures { Adds W.Target (first.now ++ second.now) self.old.target self.new.target
-            (take self.old.held self.old.bytes) (take self.new.held self.new.bytes) result }
+        ensures { AddsTo W.Target (first.now ++ second.now) self.old self.new result }
     {
         self.put(first)?;
         self.put(second)
@@ -152,8 +151,7 @@ impl<W: Target> Lines<W> {
     /// # Errors
     /// [`Why::Write`] if the target fails.
     pub(crate) fn put_number(&mut self, number: u64) -> Result<(), Why>
-        ensures { Adds W.Target (decimal number) self.old.target self.new.target
-            (take self.old.held self.old.bytes) (take self.new.held self.new.bytes) result }
+        ensures { AddsTo W.Target (decimal number) self.old self.new result }
     {
         let mut buffer = Buffer::new();
         self.put(buffer.format(number))
@@ -164,8 +162,7 @@ impl<W: Target> Lines<W> {
     /// # Errors
     /// [`Why::Write`] if the target fails.
     pub(crate) fn put_counted(&mut self, name: &str, number: u64) -> Result<(), Why>
-        ensures { Adds W.Target (name.now ++ decimal number) self.old.target self.new.target
-            (take self.old.held self.old.bytes) (take self.new.held self.new.bytes) result }
+        ensures { AddsTo W.Target (name.now ++ decimal number) self.old self.new result }
     {
         self.put(name)?;
         self.put_number(number)
@@ -176,8 +173,7 @@ impl<W: Target> Lines<W> {
     /// # Errors
     /// [`Why::Write`] if the target fails.
     fn put_place(&mut self, place: Place) -> Result<(), Why>
-        ensures { Adds W.Target (place_text place) self.old.target self.new.target
-            (take self.old.held self.old.bytes) (take self.new.held self.new.bytes) result }
+        ensures { AddsTo W.Target (place_text place) self.old self.new result }
     {
         self.put(place.kind_name())?;
         match place {
@@ -194,8 +190,7 @@ impl<W: Target> Lines<W> {
     /// # Errors
     /// [`Why::Write`] if the target fails.
     fn put_reason(&mut self, at: At, text: &str) -> Result<(), Why>
-        ensures { Adds W.Target (text_at at text.now) self.old.target self.new.target
-            (take self.old.held self.old.bytes) (take self.new.held self.new.bytes) result }
+        ensures { AddsTo W.Target (text_at at text.now) self.old self.new result }
     {
         match at {
             At::Whole => self.put(text),

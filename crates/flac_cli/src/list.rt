@@ -3,10 +3,11 @@
 ghost use Rattle.flac_cli.specs.inner.Lined.{Prints};
 ghost use Rattle.std.specs.Prelude.{◌≡◌, ◌≤◌, ◌<◌, ◌∷◌, ⊤, nat_lt, true, Some, OnOk};
 ghost use Rattle.flac_bits.specs.Bits.{bit_value};
-ghost use Rattle.flac_bits.specs.Handing.{outcome_of};
+ghost use Rattle.flac_native.specs.Sent.{FailedIfCounted};
+ghost use Rattle.flac_cli.specs.Calls.{IfBothServe};
 ghost use Rattle.flac_cli.specs.Streams.{Tells, GivesStream};
-ghost use Rattle.flac_cli.specs.Outcomes.{Fits, Reads, IsUnlisted, Reports as ReportsOf};
-ghost use Rattle.flac_cli.specs.inner.Outcomes.{at_place};
+ghost use Rattle.flac_cli.specs.Outcomes.{ReportsListing};
+ghost use Rattle.flac_cli.specs.inner.Outcomes.{FitsListing};
 ghost use Rattle.flac_cli.specs.Reports.{Serves};
 
 use crate::lines::{Lines, Part};
@@ -226,8 +227,7 @@ impl<W: Target> Listing<W> {
     pub(crate) fn failures(&self) -> u64
         ensures count { result ≡ self.now.failures.count }
         // Each time is an error of the target.
-        ensures failed { W.known self.now.began.value ≡ true → 0 < self.now.failures.count →
-            W.errors self.now.began.value < W.errors self.now.lines.target }
+        ensures failed { FailedIfCounted W.Target self.now.failures.count self.now.began.value self.now.lines.target }
     {
         self.failures.count()
     }
@@ -281,7 +281,7 @@ fn list_into<R: Source, W: Target>(
     requires began { sink.old.began.value ≡ sink.old.lines.target }
     ensures stream { Tells R.Source source.old source.new → OnOk result (GivesStream R.Source profile source.old) }
     ensures outcome { Tells R.Source source.old source.new →
-        Fits (IsUnlisted (Serves W.Target sink.old.lines.target sink.new.lines.target)) (Reads profile (R.coming source.old) (R.after source.old)) (outcome_of at_place result) }
+        FitsListing R.Source (Serves W.Target sink.old.lines.target sink.new.lines.target) profile source.old result }
     ensures names { W.names sink.new.lines.target ≡ W.names sink.old.lines.target }
 {
     let outcome = decode_stream(alloc, source, profile, sink);
@@ -299,7 +299,7 @@ fn list<R: Source, O: Target>(
 ) -> Result<(), Fault>
     ensures stream { Tells R.Source source.old source.new → OnOk result (GivesStream R.Source profile source.old) }
     ensures outcome { Tells R.Source source.old source.new →
-        Fits (IsUnlisted (Serves O.Target out.old out.new)) (Reads profile (R.coming source.old) (R.after source.old)) (outcome_of at_place result) }
+        FitsListing R.Source (Serves O.Target out.old out.new) profile source.old result }
 {
     let mut sink = Listing::new(out);
     let outcome = list_into(alloc, source, profile, &mut sink);
@@ -319,8 +319,8 @@ pub(crate) fn run_list<R: Source, O: Target, E: Target>(
 ) -> u8
     ensures status { result ≤ 1 }
     ensures stream { result ≡ 0 → Tells R.Source source.old source.new → GivesStream R.Source profile source.old }
-    ensures reported { Tells R.Source source.old source.new → Serves E.Target err.old err.new →
-        ReportsOf (IsUnlisted (Serves O.Target out.old out.new)) (Reads profile (R.coming source.old) (R.after source.old)) input.now result (E.sent err.old) (E.sent err.new) }
+    ensures reported { IfBothServe R.Source E.Target source.old source.new err.old err.new
+        (ReportsListing (Serves O.Target out.old out.new) profile input.now result) }
 {
     match list(alloc, source, profile, out) {
         Ok(()) => 0,

@@ -5,6 +5,7 @@ ghost use Rattle.flac_bits.specs.Signed.{FitsBits};
 ghost use Rattle.flac_native.specs.Message.{sample_bytes};
 ghost use Rattle.flac_cli.specs.Raw.{number_of};
 ghost use Rattle.flac_cli.specs.inner.Raw.{IsPart, AreParts, IsMore, AreChannels};
+ghost use Rattle.flac_cli.specs.inner.Sources.{HasRead};
 
 use byteorder::{ByteOrder, LittleEndian};
 use flac_bits::{Source, Why};
@@ -171,6 +172,7 @@ pub(crate) fn read_channels<R: Source>(
         AreChannels (R.coming source.old) channels width (map (λ c. c.items) lists.items))) }
     ensures part { IfOk result (λ o. o ≡ None → R.known source.old ≡ true →
         length (R.coming source.old) % (channels * width) ≢ 0) }
+    ensures read { OnOk result (HasRead R.Source source.old source.new) }
     ensures memory { IfErr result (λ e. R.known source.old ≡ true → R.raised source.new ≡ R.raised source.old →
         e ≡ Why.Memory) }
     ensures names { R.names source.new ≡ R.names source.old }

@@ -1,11 +1,11 @@
 //! `flac retag`: a stream with other comments.
 
-ghost use Rattle.std.specs.Prelude.{◌≡◌, ◌≢◌, true, map, OnOk, IfErr, ◌↔◌, ◌≤◌, ◌<◌};
-ghost use Rattle.flac_bits.specs.Handing.{outcome_of};
+ghost use Rattle.std.specs.Prelude.{◌≡◌, ◌≢◌, true, OnOk, IfErr, ◌↔◌, ◌≤◌};
 ghost use Rattle.flac_native.specs.Retag.{not_written};
-ghost use Rattle.flac_cli.specs.Calls.{HasWritten, IfServed};
-ghost use Rattle.flac_cli.specs.Outcomes.{Fits, IsRetagged, IsRetagOutOfMemory, Reports as ReportsOf};
-ghost use Rattle.flac_cli.specs.inner.Outcomes.{at_some_place};
+ghost use Rattle.flac_cli.specs.Asked.{texts_of};
+ghost use Rattle.flac_cli.specs.Calls.{HasWritten, IfServed, IfAllServe};
+ghost use Rattle.flac_cli.specs.Outcomes.{ReportsRetagging};
+ghost use Rattle.flac_cli.specs.inner.Outcomes.{FitsRetagging};
 ghost use Rattle.flac_cli.specs.Reports.{Serves};
 ghost use Rattle.flac_cli.specs.Retagged.{RetagsWith};
 ghost use Rattle.flac_cli.specs.Streams.{Tells};
@@ -25,12 +25,10 @@ pub(crate) fn retag_with<R: Source, W: Target>(
     target: &mut W,
 ) -> Result<(), RetagFault>
     ensures written { OnOk result (HasWritten R.Source W.Target source.old target.old target.new
-        (λ bytes. RetagsWith (map (λ word. word.now) words.now) bytes (R.after source.old))) }
+        (λ bytes. RetagsWith (texts_of words.now) bytes (R.after source.old))) }
     // If no device failed, the outcome is what the input is.
     ensures outcome { Tells R.Source source.old source.new → Serves W.Target target.old target.new →
-        Fits IsRetagOutOfMemory
-        (IsRetagged (map (λ word. word.now) words.now) (R.coming source.old) (R.after source.old))
-        (outcome_of at_some_place result) }
+        FitsRetagging R.Source (texts_of words.now) source.old result }
     ensures served { IfErr result (λ f. Serves W.Target target.old target.new → f ≢ not_written) }
 {
     let Ok(comments) = comments_of(alloc, words) else {
@@ -43,7 +41,7 @@ pub(crate) fn retag_with<R: Source, W: Target>(
 }
 
 /// Whether the error is that of the file that a retagging writes.
-fn is_of_target(fault: RetagFault) -> bool
+pub(crate) fn is_of_target(fault: RetagFault) -> bool
     ensures { (result ≡ true) ↔ (fault ≡ not_written) }
 {
     matches!((fault.at, fault.why), (None, Why::Write))
@@ -60,12 +58,9 @@ pub(crate) fn run_retag<R: Source, W: Target, E: Target>(
 ) -> u8
     ensures status { result ≤ 1 }
     ensures retagged { result ≡ 0 → HasWritten R.Source W.Target source.old target.old target.new
-        (λ bytes. RetagsWith (map (λ word. word.now) words.now) bytes (R.after source.old)) }
-    ensures reported { Tells R.Source source.old source.new → Serves W.Target target.old target.new →
-        Serves E.Target err.old err.new →
-        ReportsOf IsRetagOutOfMemory
-        (IsRetagged (map (λ word. word.now) words.now) (R.coming source.old) (R.after source.old))
-        paths.now.input.now result (E.sent err.old) (E.sent err.new) }
+        (λ bytes. RetagsWith (texts_of words.now) bytes (R.after source.old)) }
+    ensures reported { IfAllServe R.Source W.Target E.Target source.old source.new target.old target.new err.old err.new
+        (ReportsRetagging (texts_of words.now) paths.now.input.now result) }
     ensures named { result ≡ 1 →
         IfServed E.Target err.old err.new (NamesRetagging paths.now.input.now paths.now.output.now) }
 {

@@ -3,8 +3,7 @@
 ghost use Rattle.std.specs.Prelude.{◌≡◌, ◌<◌, true, Some, IfErr, OnOk};
 ghost use Rattle.flac_bits.specs.Handing.{outcome_of, TakesAll};
 ghost use Rattle.flac_cli.specs.Streams.{Tells, profile_of, GivesStreamOf};
-ghost use Rattle.flac_cli.specs.Outcomes.{Fits, Reads, IsOutOfMemory};
-ghost use Rattle.flac_cli.specs.inner.Outcomes.{at_place};
+ghost use Rattle.flac_cli.specs.inner.Outcomes.{at_place, FitsStream};
 ghost use Rattle.flac_bits.specs.State.{Rises};
 ghost use Rattle.flac_native.specs.Decoding.{taken};
 ghost use Rattle.flac_native.specs.declared.fault.Place.{Place};
@@ -33,8 +32,7 @@ pub(crate) fn decode_stream<R: Source, S: Sink>(
         (λ parts. TakesAll (taken S.takes) sink.old parts sink.new)) }
     // If the sink did not fail, the outcome is what the input is; if it did, it is that.
     ensures outcome { Tells R.Source source.old source.new → S.known sink.old ≡ true →
-        S.errors sink.new ≡ S.errors sink.old →
-        Fits IsOutOfMemory (Reads profile (R.coming source.old) (R.after source.old)) (outcome_of at_place result) }
+        S.errors sink.new ≡ S.errors sink.old → FitsStream R.Source profile source.old result }
     ensures failed { Tells R.Source source.old source.new → S.known sink.old ≡ true →
         S.errors sink.old < S.errors sink.new →
         (at : Place) × (outcome_of at_place result ≡ Some (Some at, Why.Sink)) }

@@ -1,15 +1,13 @@
 //! `flac test`: counts the frames and samples of a stream.
 
-ghost use Rattle.std.specs.Prelude.{◌≡◌, true, [], ◌≤◌, ◌<◌, ◌++◌, Some, IfOk, OnErr};
-ghost use Rattle.flac_cli.specs.Calls.{HasSent};
-ghost use Rattle.flac_cli.specs.inner.Taking.{frames_after, samples_after};
-ghost use Rattle.flac_bits.specs.Handing.{outcome_of};
-ghost use Rattle.flac_cli.specs.Streams.{Tells, GivesStream, GivesStreamOf};
-ghost use Rattle.flac_cli.specs.Counted.{line_of, counts_line, frames_in, samples_in_all, printed};
+ghost use Rattle.std.specs.Prelude.{◌≡◌, true, [], ◌≤◌, ◌<◌, Some, IfOk, OnErr};
+ghost use Rattle.flac_cli.specs.Calls.{HasSent, IfAllServe};
+ghost use Rattle.flac_cli.specs.inner.Taking.{frames_after, samples_after, HasCounted};
+ghost use Rattle.flac_cli.specs.Streams.{Tells, GivesStream, GivesStreamOf, SendsOfStream};
+ghost use Rattle.flac_cli.specs.Counted.{line_of, counts_line};
 ghost use Rattle.flac_cli.specs.inner.Lined.{Adds};
-ghost use Rattle.flac_cli.specs.Outcomes.{Fits, Reads, IsOutOfMemory, Reports as ReportsOf};
-ghost use Rattle.flac_cli.specs.inner.Outcomes.{at_place};
-ghost use Rattle.flac_cli.specs.Reports.{Serves};
+ghost use Rattle.flac_cli.specs.Outcomes.{ReportsStream};
+ghost use Rattle.flac_cli.specs.inner.Outcomes.{FitsStream};
 
 use crate::lines::Lines;
 use crate::report::refuse;
@@ -53,10 +51,8 @@ impl Sink for Counts {
 /// Decodes a stream, and counts its frames and samples.
 fn count<R: Source>(alloc: Global, source: &mut R, profile: Profile) -> Result<Counts, Fault>
     ensures counts { Tells R.Source source.old source.new →
-        IfOk result (λ c. GivesStreamOf R.Source profile source.old
-        (λ parts. (c.frames ≡ printed (frames_in parts)) × (c.samples ≡ printed (samples_in_all parts)))) }
-    ensures outcome { Tells R.Source source.old source.new →
-        Fits IsOutOfMemory (Reads profile (R.coming source.old) (R.after source.old)) (outcome_of at_place result) }
+        IfOk result (λ c. GivesStreamOf R.Source profile source.old (HasCounted c)) }
+    ensures outcome { Tells R.Source source.old source.new → FitsStream R.Source profile source.old result }
 {
     let mut counts = Counts {
         frames: 0,
@@ -100,11 +96,10 @@ pub(crate) fn run_test<R: Source, O: Target, E: Target>(
 ) -> u8
     ensures status { result ≤ 1 }
     ensures stream { result ≡ 0 → Tells R.Source source.old source.new → GivesStream R.Source profile source.old }
-    ensures tested { result ≡ 0 → Tells R.Source source.old source.new → O.known out.old ≡ true →
-        GivesStreamOf R.Source profile source.old (λ parts. O.sent out.new ≡ O.sent out.old ++ counts_line parts) }
-    ensures reported { Tells R.Source source.old source.new → Serves O.Target out.old out.new →
-        Serves E.Target err.old err.new →
-        ReportsOf IsOutOfMemory (Reads profile (R.coming source.old) (R.after source.old)) input.now result (E.sent err.old) (E.sent err.new) }
+    ensures tested { result ≡ 0 → SendsOfStream R.Source O.Target profile counts_line
+        source.old source.new out.old out.new }
+    ensures reported { IfAllServe R.Source O.Target E.Target source.old source.new out.old out.new err.old err.new
+        (ReportsStream profile input.now result) }
 {
     match count(alloc, source, profile) {
         Ok(counts) => match write_counts(out, &counts) {

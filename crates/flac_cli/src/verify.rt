@@ -1,12 +1,14 @@
 //! `flac verify`: reads many files, and prints a line for each.
 
-ghost use Rattle.std.specs.Prelude.{◌≡◌, ◌≤◌, ◌↔◌, true, false, IfSome};
+ghost use Rattle.std.specs.Prelude.{◌≡◌, ◌≤◌, ◌↔◌, ◌||◌, true, false, IfSome};
 ghost use Rattle.flac_cli.specs.Outcomes.{Fits};
-ghost use Rattle.flac_cli.specs.Verified.{IsFinding, HasNoMemory, AreWhole, Verifies};
+ghost use Rattle.flac_cli.specs.Verified.{IsFinding, HasNoMemory, AreWhole};
+ghost use Rattle.flac_cli.specs.Verifies.{Verifies};
 ghost use Rattle.flac_cli.specs.inner.Verifying.{IsReading, IsReadingOutside, IsCounted, Stays};
 
 use crate::verify_facts::{Facts, read_facts};
 use crate::verify_lines::{report, report_end};
+use crate::verify_report::{Entry, enter};
 use flac_bits::{Target, Why};
 use flac_native::{Fault, Profile};
 use flac_shelf::Shelf;
@@ -33,14 +35,17 @@ pub(crate) struct Tally {
     pub(crate) bad: u64,
     /// Whether standard output took each line.
     pub(crate) is_written: bool,
+    /// Whether the report did.
+    pub(crate) is_reported: bool,
 }
 
 impl Tally {
-    /// Counts a file, whose line standard output took or not.
-    fn add(&mut self, finding: &Finding, is_sent: bool)
-        ensures { IsCounted finding.now is_sent self.old self.new }
+    /// Counts a file, whose line standard output took or not; `is_entered`: the report took its line and those before.
+    fn add(&mut self, finding: &Finding, is_sent: bool, is_entered: bool)
+        ensures { IsCounted finding.now is_sent is_entered self.old self.new }
     {
         self.is_written = self.is_written && is_sent;
+        self.is_reported = is_entered;
         self.files = self.files.saturating_add(1);
         match finding {
             Finding::Good(_) => self.good = self.good.saturating_add(1),
@@ -130,13 +135,24 @@ fn find<S: Shelf>(alloc: Global, shelf: &mut S, subset: bool) -> Finding
     read_in(alloc, shelf, Profile::Lax)
 }
 
+/// Whether it is looked for that a stream is in the streamable subset.
+fn is_sought(subset: bool, again: bool) -> bool
+    ensures { result ≡ (subset || again) }
+{
+    subset || again
+}
+
 /// The status: 0 if every line was written and no file was bad.
-fn status_of(is_written: bool, bad: u64) -> u8
-    ensures zero { result ≡ 0 → (is_written ≡ true) × (bad ≡ 0) }
-    ensures one { is_written ≡ true → bad ≡ 0 → result ≡ 0 }
+fn status_of(is_written: bool, is_reported: bool, bad: u64) -> u8
+    ensures zero { result ≡ 0 → (is_written ≡ true) × (is_reported ≡ true) × (bad ≡ 0) }
+    ensures one { is_written ≡ true → is_reported ≡ true → bad ≡ 0 → result ≡ 0 }
     ensures most { result ≤ 1 }
 {
-    if is_written && bad == 0 { 0 } else { 1 }
+    if is_written && is_reported && bad == 0 {
+        0
+    } else {
+        1
+    }
 }
 
 /// Reads the files of a list, one after another, and prints a line for each. Returns the status: 0 if all of them are
@@ -148,19 +164,25 @@ fn status_of(is_written: bool, bad: u64) -> u8
 /// of the samples or their number (section 8.2), and ` outside-subset`, if the file can be read again and is not in the
 /// streamable subset. The line of another file is written to `err`: `flac: PATH: PLACE: NUMBER NAME`, or
 /// `flac: PATH: cannot be opened`. After all files `out` gets the line `verified N ok N bad N`.
-pub fn verify_files<S: Shelf, O: Target, E: Target>(
+///
+/// `report_to` gets a line of JSON (RFC 8259) for each file, as it is done: an object of the path, the status `ok`,
+/// `bad` or `unopened`, and what else is known. After a line that it does not take it gets no other.
+pub fn verify_files<S: Shelf, O: Target, E: Target, P: Target>(
     alloc: Global,
     shelf: &mut S,
     subset: bool,
     out: &mut O,
     err: &mut E,
+    report_to: &mut P,
 ) -> u8
     // The status is 0 or 1.
     ensures status { result ≤ 1 }
-    // If no file's device fails: the lines are those of what each file is, by its own bytes, in order, and the status is
-    // 0 exactly if all of them are streams and every line was written. Or memory ran out: then a line says that.
+    // If no file's device fails: the lines are those of what each file is, by its own bytes, in order, also those of the
+    // report, and the status is 0 exactly if all of them are streams and every line was written. Or memory ran out: then
+    // a line says that.
     ensures verified { S.known shelf.old ≡ true → S.faults shelf.new ≡ S.faults shelf.old →
-        Verifies O.Target E.Target subset (S.files shelf.old) result out.old out.new err.old err.new }
+        Verifies O.Target E.Target P.Target subset (S.files shelf.old) result
+        out.old out.new err.old err.new report_to.old report_to.new }
     // So after status 0 each file is a stream.
     ensures streams { result ≡ 0 → S.known shelf.old ≡ true → S.faults shelf.new ≡ S.faults shelf.old →
         AreWhole subset (S.files shelf.old) }
@@ -170,11 +192,20 @@ pub fn verify_files<S: Shelf, O: Target, E: Target>(
         good: 0,
         bad: 0,
         is_written: true,
+        is_reported: true,
     };
     'files: while shelf.next() {
         let finding = find(alloc, shelf, subset);
         let is_sent = report(&finding, shelf.path(), out, err);
-        tally.add(&finding, is_sent);
+        let again = shelf.reads_again();
+        let entry = Entry {
+            path: shelf.path(),
+            stamp: shelf.stamp(),
+            is_sought: is_sought(subset, again),
+        };
+        let is_entered = enter(report_to, &entry, &finding, tally.is_reported);
+        tally.add(&finding, is_sent, is_entered);
     }
-    status_of(report_end(&tally, out, err), tally.bad)
+    let is_written = report_end(&tally, out, err);
+    status_of(is_written, tally.is_reported, tally.bad)
 }

@@ -1,6 +1,6 @@
 //! The files of a job of the program `flac`: what it reads, and what it writes to.
 //!
-//! What a system does with files cannot be claimed. So but for [`List::of`] and [`may_replace`] the calls of this
+//! What a system does with files cannot be claimed. So but for [`List::of`], [`may_replace`] and [`read_picture`] the calls of this
 //! library have few clauses: they are proved to be safe and to return. What the program does with the bytes is stated
 //! by `flac_cli`.
 #![tactic(auto)]
@@ -8,7 +8,11 @@
 mod files;
 mod job_files;
 mod list;
+mod pictures;
+mod progress;
+mod recorded;
 mod replacing;
+mod report;
 mod shelf;
 mod tag_files;
 mod walk;
@@ -16,6 +20,8 @@ mod walk;
 pub use files::{Input, Known, Output};
 pub use job_files::{Ending, FileRefused, JobFiles};
 pub use list::List;
+pub use pictures::read_picture;
 pub use replacing::may_replace;
+pub use report::{ReportFile, end_report};
 pub use shelf::FileShelf;
 pub use tag_files::{FileDevice, NewFile, TagFile};

@@ -2,12 +2,15 @@
 
 ghost use Rattle.std.specs.Prelude.{◌≡◌, ◌≤◌, false, [], None};
 
+use crate::files::Input;
 use crate::job_files::StandIns;
+use crate::progress::Progress;
+use crate::recorded::Record;
+use crate::report::ReportFile;
 use crate::walk::{Look, Names, look_at_found, look_at_named};
 use flac_bits::Counted;
-use flac_shelf::Shelf;
-use std::fs::File;
-use std::io;
+use flac_shelf::{Shelf, Stamp};
+use std::{io, mem};
 
 /// A path that is still to be looked at.
 #[derive(Drop)]
@@ -20,7 +23,7 @@ struct Pending {
 /// Files of the system, one after another: those that are named, whatever their names, and those of the named folders
 /// and of the folders in them whose names end in `.flac`, `.fla` or `.oga`, in any case, or in `.ogg` if the first
 /// packet is FLAC's. The names of a folder come in the order of their bytes. Links to folders are not followed, unless
-/// they are named.
+/// they are named. `-` is standard input.
 ///
 /// A folder that cannot be read, and one with a name that is no UTF-8, come as files that cannot be opened; so does a
 /// pipe or a device that is found in a folder. The names of the folders that are under way are held in memory.
@@ -34,6 +37,9 @@ pub struct FileShelf {
     look: Look,
     /// How many paths may still be looked at.
     room: u64,
+    /// Files that are left out.
+    good: Record,
+    progress: Progress,
     standard: StandIns,
 }
 
@@ -56,8 +62,23 @@ impl FileShelf {
             path: String::new(rt.alloc()),
             look: Look::Pass,
             room: u64::MAX,
+            good: Record::none(rt.alloc()),
+            progress: Progress::new(rt),
             standard: StandIns::new(rt),
         })
+    }
+
+    /// Leaves out the files that this report has as good.
+    pub fn leave_out(&mut self, report: &mut ReportFile) {
+        mem::swap(&mut self.good, &mut report.good);
+    }
+
+    /// Whether the file that it is at is left out.
+    fn is_left_out(&self) -> bool {
+        match self.look {
+            Look::Read { stamp, .. } => self.good.has(self.path.as_str(), stamp),
+            _ => false,
+        }
     }
 
     /// Looks at a path. Returns whether it is a file, or cannot be read.
@@ -124,13 +145,14 @@ fn add_reversed(pending: &mut Vec<Pending>, paths: &mut Vec<String>) -> io::Resu
 }
 
 impl Shelf for FileShelf {
-    type File = Counted<File>;
+    type File = Counted<Input>;
 
     ghost use Rattle.std.specs.Prelude.{false, [], None};
+    ghost use Rattle.flac_shelf.specs.Listed.{no_stamp};
 
     ghost known = { λ _. false };
 
-    ghost current = { λ _. record { path = []; contents = None } };
+    ghost current = { λ _. record { path = []; stamp = no_stamp; contents = None } };
 
     ghost files = { λ _. [] };
 
@@ -144,7 +166,9 @@ impl Shelf for FileShelf {
             let Some(pending) = self.pending.pop() else {
                 return false;
             };
-            if self.look_at(pending) {
+            if self.look_at(pending) && !self.is_left_out() {
+                let stamp = self.stamp();
+                self.progress.show(&self.rt, stamp.bytes);
                 return true;
             }
         }
@@ -155,13 +179,20 @@ impl Shelf for FileShelf {
         self.path.as_str()
     }
 
-    fn reads_again(&self) -> bool {
-        matches!(self.look, Look::Read { again: true })
+    fn stamp(&self) -> Stamp {
+        match self.look {
+            Look::Read { stamp, .. } => stamp,
+            _ => Stamp::unknown(),
+        }
     }
 
-    fn open(&mut self) -> Option<Counted<File>> {
+    fn reads_again(&self) -> bool {
+        matches!(self.look, Look::Read { again: true, .. })
+    }
+
+    fn open(&mut self) -> Option<Counted<Input>> {
         match self.look {
-            Look::Read { .. } => match File::open(&self.rt, self.path.as_str()) {
+            Look::Read { .. } => match Input::open(&self.rt, self.path.as_str()) {
                 Ok(file) => Some(Counted::new(file)),
                 Err(_) => None,
             },
@@ -169,5 +200,5 @@ impl Shelf for FileShelf {
         }
     }
 
-    fn close(&mut self, _file: Counted<File>) {}
+    fn close(&mut self, _file: Counted<Input>) {}
 }

@@ -47,7 +47,24 @@ impl Device for FileDevice {
     }
 }
 
-/// A file whose comments are edited, opened for reading and writing.
+/// In which words a file is refused.
+#[derive(Clone, Copy)]
+struct Refusals {
+    not_regular: &'static str,
+    ogg: &'static str,
+}
+
+const TAGGED: Refusals = Refusals {
+    not_regular: "tagged: it is no regular file",
+    ogg: "tagged: it is an Ogg stream",
+};
+
+const EDITED: Refusals = Refusals {
+    not_regular: "edited: it is no regular file",
+    ogg: "edited: it is an Ogg stream",
+};
+
+/// A file whose comments or blocks are edited, opened for reading and writing.
 #[derive(Drop)]
 pub struct TagFile<'a> {
     path: &'a str,
@@ -61,6 +78,26 @@ impl<'a> TagFile<'a> {
     /// # Errors
     /// The file cannot be opened for reading and writing, is no regular file, is an Ogg stream, or cannot be stored.
     pub fn open(rt: &HostRuntime, path: &'a str) -> Result<TagFile<'a>, FileRefused<'a>> {
+        TagFile::open_as(rt, path, TAGGED)
+    }
+
+    /// Opens a file as [`TagFile::open`] does, to edit its metadata blocks.
+    ///
+    /// # Errors
+    /// Those of [`TagFile::open`].
+    pub fn open_to_edit(rt: &HostRuntime, path: &'a str) -> Result<TagFile<'a>, FileRefused<'a>> {
+        TagFile::open_as(rt, path, EDITED)
+    }
+
+    /// Opens a file, which is refused in these words.
+    ///
+    /// # Errors
+    /// Those of [`TagFile::open`].
+    fn open_as(
+        rt: &HostRuntime,
+        path: &'a str,
+        words: Refusals,
+    ) -> Result<TagFile<'a>, FileRefused<'a>> {
         let Ok(file) = OpenOptions::new().read(true).write(true).open(rt, path) else {
             return Err(FileRefused {
                 path,
@@ -70,13 +107,13 @@ impl<'a> TagFile<'a> {
         let Ok(found) = regular(&file) else {
             return Err(FileRefused {
                 path,
-                what: "tagged: it is no regular file",
+                what: words.not_regular,
             });
         };
         if is_ogg(&file) {
             return Err(FileRefused {
                 path,
-                what: "tagged: it is an Ogg stream",
+                what: words.ogg,
             });
         }
         if file.sync_all().is_err() {

@@ -1,14 +1,19 @@
 //! Files that are streams, by their names, and the names of folders.
 
+use flac_shelf::Stamp;
 use std::fs::{File, Metadata};
 use std::io;
 use std::io::Read;
+use std::os::unix::fs::MetadataExt;
+
+/// The path that stands for standard input.
+pub(crate) const STANDARD: &str = "-";
 
 /// What is to be done with a path.
 #[derive(Clone, Copy)]
 pub(crate) enum Look {
     /// It is a file that is read; `again`: more than once, if need be.
-    Read { again: bool },
+    Read { again: bool, stamp: Stamp },
     /// It is a folder, whose files are read.
     Folder,
     /// It is to be read, and cannot be.
@@ -60,12 +65,32 @@ fn front_of(rt: &HostRuntime, path: &str) -> io::Result<Vec<u8>> {
     Ok(front)
 }
 
-/// What is to be done with a path that the caller named: a file is read whatever its name, and links are followed.
+/// The size and the time of a file; those of a pipe or a device say nothing.
+fn stamp_of(found: &Metadata) -> Stamp {
+    if !found.is_file() {
+        return Stamp::unknown();
+    }
+    Stamp {
+        bytes: Some(found.len()),
+        modified: u64::try_from(found.mtime()).ok(),
+        nanoseconds: u64::try_from(found.mtime_nsec()).ok(),
+    }
+}
+
+/// What is to be done with a path that the caller named: a file is read whatever its name, and links are followed. `-`
+/// is standard input.
 pub(crate) fn look_at_named(rt: &HostRuntime, path: &str) -> Look {
+    if path == STANDARD {
+        return Look::Read {
+            again: false,
+            stamp: Stamp::unknown(),
+        };
+    }
     match std::fs::metadata(rt, path) {
         Ok(found) if found.is_dir() => Look::Folder,
         Ok(found) => Look::Read {
             again: found.is_file(),
+            stamp: stamp_of(&found),
         },
         Err(_) => Look::Refused,
     }
@@ -86,7 +111,10 @@ pub(crate) fn look_at_found(rt: &HostRuntime, path: &str) -> Look {
 fn look_at_stream(rt: &HostRuntime, path: &str) -> Look {
     match std::fs::metadata(rt, path) {
         Ok(found) if found.is_dir() => Look::Pass,
-        Ok(found) if found.is_file() => Look::Read { again: true },
+        Ok(found) if found.is_file() => Look::Read {
+            again: true,
+            stamp: stamp_of(&found),
+        },
         _ => Look::Refused,
     }
 }
@@ -94,8 +122,8 @@ fn look_at_stream(rt: &HostRuntime, path: &str) -> Look {
 /// The same of one whose name is that of an Ogg stream: it is read if its first packet is FLAC's.
 fn look_at_ogg(rt: &HostRuntime, path: &str) -> Look {
     match look_at_stream(rt, path) {
-        Look::Read { again } => match front_of(rt, path) {
-            Ok(front) if begins_with_flac(front.as_slice()) => Look::Read { again },
+        Look::Read { again, stamp } => match front_of(rt, path) {
+            Ok(front) if begins_with_flac(front.as_slice()) => Look::Read { again, stamp },
             Ok(_) => Look::Pass,
             Err(_) => Look::Refused,
         },

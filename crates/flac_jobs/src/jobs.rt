@@ -85,6 +85,8 @@ pub struct CommandLine<'a> {
     pub job: Job<'a>,
     /// Whether it replaces the file that it writes, whatever that is.
     pub force: bool,
+    /// Whether it reads the stream between the tags that other programs put around one. It reads a stream then.
+    pub any: bool,
 }
 
 impl<'a> Job<'a> {

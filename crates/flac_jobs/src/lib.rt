@@ -2,6 +2,9 @@
 //! command line is refused; and the kinds of files that may hold a song.
 #![tactic(auto)]
 
+mod comparisons;
+mod editings;
+mod exportings;
 mod formats;
 mod jobs;
 mod kinds;
@@ -12,6 +15,9 @@ mod search_effort;
 mod taggings;
 mod verifications;
 
+pub use comparisons::Comparison;
+pub use editings::{BlockName, Editing, PictureForm, PictureWord};
+pub use exportings::{ExportPart, Exporting};
 pub use formats::{ContainerKind, RawFormat};
 pub use jobs::{CommandLine, Job};
 pub use kinds::{FileKind, file_kind};

@@ -59,6 +59,64 @@ impl LineFault {
         }
     }
 
+    /// A new report is asked for, and one that is resumed: status 2.
+    pub fn both_reports() -> LineFault
+        ensures { result.status ≡ 2 }
+    {
+        LineFault {
+            text: CowStr::Borrowed("flac: command: --report with --resume\n"),
+            status: 2,
+        }
+    }
+
+    /// A word names no metadata blocks that can be removed: status 2.
+    pub fn block_name() -> LineFault
+        ensures { result.status ≡ 2 }
+    {
+        LineFault {
+            text: CowStr::Borrowed(
+                "flac: command: --remove-block takes a number from 1 on, or a type other than STREAMINFO\n",
+            ),
+            status: 2,
+        }
+    }
+
+    /// A word is no picture: status 2.
+    pub fn picture_word() -> LineFault
+        ensures { result.status ≡ 2 }
+    {
+        LineFault {
+            text: CowStr::Borrowed(
+                "flac: command: --picture takes [TYPE:]FILE, the type 0 to 20\n",
+            ),
+            status: 2,
+        }
+    }
+
+    /// Nothing is to be edited: status 2.
+    pub fn no_edit() -> LineFault
+        ensures { result.status ≡ 2 }
+    {
+        LineFault {
+            text: CowStr::Borrowed(
+                "flac: command: edit needs --padding, --remove-block or --picture\n",
+            ),
+            status: 2,
+        }
+    }
+
+    /// A word is no part of the metadata: status 2.
+    pub fn no_part() -> LineFault
+        ensures { result.status ≡ 2 }
+    {
+        LineFault {
+            text: CowStr::Borrowed(
+                "flac: command: export takes tags, picture or the number of a block\n",
+            ),
+            status: 2,
+        }
+    }
+
     /// The command line asks for something else than a job: status 2.
     pub fn no_job() -> LineFault
         ensures { result.status ≡ 2 }

@@ -7,6 +7,8 @@ pub struct Listing<'a> {
     pub inputs: Vec<&'a str>,
     /// Whether streams outside the streamable subset (RFC 9639, section 7) are accepted too.
     pub lax: bool,
+    /// Whether each stream is read between the tags that other programs put around one.
+    pub any: bool,
     /// Whether the blocks alone are read, and no frame is verified.
     pub head: bool,
 }

@@ -1,5 +1,8 @@
 //! Requests: what a command line asks for.
 
+use crate::comparisons::Comparison;
+use crate::editings::Editing;
+use crate::exportings::Exporting;
 use crate::jobs::CommandLine;
 use crate::listings::Listing;
 use crate::taggings::Tagging;
@@ -14,6 +17,12 @@ pub enum Request<'a> {
     ListFiles(Listing<'a>),
     /// Edits of the comments of files.
     Tag(Tagging<'a>),
+    /// Edits of the metadata blocks of files.
+    Edit(Editing<'a>),
+    /// A part of the metadata of a stream.
+    Export(Exporting<'a>),
     /// The files are verified.
     Verify(Verification<'a>),
+    /// Two streams are compared.
+    Same(Comparison<'a>),
 }

@@ -7,4 +7,9 @@ pub struct Verification<'a> {
     pub paths: Vec<&'a str>,
     /// Whether each stream must be in the streamable subset (RFC 9639, section 7).
     pub subset: bool,
+    /// The path of a new report: a line of JSON for each file.
+    pub report: Option<&'a str>,
+    /// The path of a report that may have lines: files that it has as good, at the same size and time, are left out. Not
+    /// with `report`.
+    pub resume: Option<&'a str>,
 }

@@ -1,9 +1,12 @@
 //! The commands of the program as `clap` is given them: their arguments and their help.
 
 pub(crate) mod decode;
+pub(crate) mod edit;
 pub(crate) mod encode;
+pub(crate) mod export;
 pub(crate) mod list;
 pub(crate) mod retag;
+pub(crate) mod same;
 pub(crate) mod tag;
 pub(crate) mod test;
 pub(crate) mod verify;
@@ -11,9 +14,12 @@ pub(crate) mod verify;
 use clap::builder::ValueParser;
 use clap::{Arg, ArgAction, ArgMatches, Command};
 use decode::DECODE;
+use edit::EDIT;
 use encode::ENCODE;
+use export::EXPORT;
 use list::LIST;
 use retag::RETAG;
+use same::SAME;
 use std::alloc::{AllocError, Global};
 use tag::TAG;
 use test::TEST;
@@ -118,6 +124,18 @@ pub(crate) const LAX: Word = Word {
     help: "Accepts streams outside the streamable subset too, which are else refused with 14",
 };
 
+/// The option `--any` of `test`, `decode` and `list`.
+pub(crate) const ANY: Word = Word {
+    name: "any",
+    kind: WordKind::Flag,
+    help: "Reads all that --lax does, also between an ID3v2 tag before the stream and an ID3v1 tag after it",
+};
+
+/// Whether streams outside the streamable subset are accepted.
+pub(crate) fn asks_lax(given: &ArgMatches<'_>) -> bool {
+    given.get_flag("lax") || given.get_flag("any")
+}
+
 /// The comments that are given.
 pub(crate) fn comments_of<'a>(
     alloc: Global,
@@ -144,7 +162,9 @@ pub(crate) fn command<'a>(alloc: Global) -> Result<Command<'a>, AllocError> {
 /// The commands of the program, in the order in which help lists them.
 fn commands<'a>(alloc: Global) -> Result<Vec<Command<'a>>, AllocError> {
     let mut commands = Vec::new(alloc);
-    for usage in [&TEST, &DECODE, &LIST, &ENCODE, &RETAG, &TAG, &VERIFY] {
+    for usage in [
+        &TEST, &DECODE, &LIST, &ENCODE, &RETAG, &TAG, &EDIT, &EXPORT, &VERIFY, &SAME,
+    ] {
         add_command(&mut commands, alloc, usage)?;
     }
     Ok(commands)

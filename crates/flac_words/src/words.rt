@@ -4,12 +4,15 @@ ghost use Rattle.std.specs.Prelude.{◌≤◌, IfErr, IfSome};
 
 use crate::usage::command;
 use crate::usage::decode::decode_job;
+use crate::usage::edit::{edit_request, fault_of_editing};
 use crate::usage::encode::encode_job;
+use crate::usage::export::{export_request, fault_of_exporting};
 use crate::usage::list::list_request;
 use crate::usage::retag::retag_job;
+use crate::usage::same::same_request;
 use crate::usage::tag::{fault_of_tagging, tag_request};
 use crate::usage::test::test_job;
-use crate::usage::verify::verify_request;
+use crate::usage::verify::{fault_of_verification, verify_request};
 use clap::ArgMatches;
 use clap::error::ErrorKind;
 use flac_jobs::{CommandLine, ContainerKind, Job, LineFault, Request};
@@ -84,7 +87,13 @@ pub fn job<'a>(alloc: Global, words: &'a [String]) -> Result<Job<'a>, LineFault>
     ensures { IfErr result (λ fault. fault.status ≤ 2) }
 {
     match command_line(alloc, words) {
-        Ok(CommandLine { job, force: _ }) => Ok(job),
+        Ok(
+            CommandLine {
+                job,
+                force: _,
+                any: _,
+            },
+        ) => Ok(job),
         Err(refusal) => Err(refusal),
     }
 }
@@ -164,15 +173,25 @@ fn request_of<'a>(
     if name == "list" {
         return list_request(alloc, given);
     }
+    if name == "edit" {
+        return edit_request(alloc, given);
+    }
+    if name == "export" {
+        return Ok(export_request(given));
+    }
     if name == "tag" {
         return tag_request(alloc, given);
     }
     if name == "verify" {
         return verify_request(alloc, given);
     }
+    if name == "same" {
+        return Ok(same_request(given));
+    }
     let force = given.get_flag("force");
+    let any = given.get_flag("any");
     match job_of(alloc, name, given)? {
-        Some(job) => Ok(Some(Request::Job(CommandLine { job, force }))),
+        Some(job) => Ok(Some(Request::Job(CommandLine { job, force, any }))),
         None => Ok(None),
     }
 }
@@ -202,6 +221,9 @@ fn fault_of(alloc: Global, request: &Request<'_>) -> Option<LineFault>
     match request {
         Request::Job(line) => fault_of_job(alloc, &line.job),
         Request::Tag(tagging) => fault_of_tagging(tagging),
+        Request::Verify(verification) => fault_of_verification(verification),
+        Request::Edit(editing) => fault_of_editing(editing),
+        Request::Export(exporting) => fault_of_exporting(exporting),
         _ => None,
     }
 }

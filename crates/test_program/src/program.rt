@@ -538,12 +538,13 @@ fn refusal_of(alloc: Global, status: u8, text: &str) -> Result<String, Fail> {
     Ok(format!(in alloc; "{status} {text}")?)
 }
 
-/// What a command line is read as: the job, after `force` if it may replace any file; another request; or the status and
+/// What a command line is read as: the job, after `force` if it may replace any file, or `any`; another request; or the status and
 /// the text of the refusal, its lines ended by `;`.
 fn read_as(alloc: Global, line: &str) -> Result<String, Fail> {
     let words = words_of(alloc, line)?;
     match request(alloc, words.as_slice()) {
         Ok(Request::Job(line)) if line.force => Ok(format!(in alloc; "force {:?}", line.job)?),
+        Ok(Request::Job(line)) if line.any => Ok(format!(in alloc; "any {:?}", line.job)?),
         Ok(Request::Job(line)) => Ok(format!(in alloc; "{:?}", line.job)?),
         Ok(other) => Ok(format!(in alloc; "{other:?}")?),
         Err(fault) => refusal_of(alloc, fault.status, &fault.text),

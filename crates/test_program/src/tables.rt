@@ -593,8 +593,13 @@ flac test - | Test { input: "-", lax: false }
 flac decode --wav a.flac a.raw --force | force DecodeWave { input: "a.flac", output: "a.raw", lax: false }
 flac list a.flac | List { input: "a.flac", lax: false }
 flac list a.flac --lax | List { input: "a.flac", lax: true }
-flac list a.flac b.flac a.flac --lax | ListFiles(Listing { inputs: ["a.flac", "b.flac", "a.flac"], lax: true, head: false })
-flac list --head a.flac | ListFiles(Listing { inputs: ["a.flac"], lax: false, head: true })
+flac list a.flac b.flac a.flac --lax | ListFiles(Listing { inputs: ["a.flac", "b.flac", "a.flac"], lax: true, any: false, head: false })
+flac test --any a.flac | any Test { input: "a.flac", lax: true }
+flac decode a.flac a.raw --any --lax | any Decode { input: "a.flac", output: "a.raw", lax: true }
+flac decode a.flac a.wav --any | any DecodeWave { input: "a.flac", output: "a.wav", lax: true }
+flac list --any a.flac | any List { input: "a.flac", lax: true }
+flac list --any --head a.flac | ListFiles(Listing { inputs: ["a.flac"], lax: true, any: true, head: true })
+flac list --head a.flac | ListFiles(Listing { inputs: ["a.flac"], lax: false, any: false, head: true })
 flac retag a.flac b.flac A=b | Retag { input: "a.flac", output: "b.flac", comments: ["A=b"] }
 flac retag --force a.flac b.flac A=b | force Retag { input: "a.flac", output: "b.flac", comments: ["A=b"] }
 flac retag a.flac ./TITLE=New | Retag { input: "a.flac", output: "./TITLE=New", comments: [] }
@@ -638,7 +643,7 @@ flac encode a.raw a.flac --raw | 2 flac: command: raw samples need --rate, --cha
 flac encode a.raw a.flac --rate 44100 --channels 2 --bits 16 none | 2 flac: command: comment without =;
 flac encode a.raw a.flac --rate 44100 --channels 2 --bits 16 --ogg --seek-every 5 | 2 flac: command: --ogg with --seek-every;
 flac encode a.raw a.flac --rate 44100 --channels 2 --bits 16 --ogg --seek-every 5 none | 2 flac: command: comment without =;
-flac | 2 error: 'flac' requires a subcommand but one was not provided;  [subcommands: test, decode, list, encode, retag, tag, verify, help];;Usage: flac <COMMAND>;;For more information, try '--help'.;
+flac | 2 error: 'flac' requires a subcommand but one was not provided;  [subcommands: test, decode, list, encode, retag, tag, edit, export, verify, same, help];;Usage: flac <COMMAND>;;For more information, try '--help'.;
 flac test | 2 error: the following required arguments were not provided:;  <IN>;;Usage: flac test <IN>;;For more information, try '--help'.;
 flac list | 2 error: the following required arguments were not provided:;  <IN>...;;Usage: flac list <IN>...;;For more information, try '--help'.;
 flac retag a.flac b.flac --lax | 2 error: unexpected argument '--lax' found*
@@ -650,6 +655,10 @@ flac --test | 2 flac: command: to test a stream: flac test IN;
 flac -d a.flac | 2 flac: command: to decode a stream: flac decode IN OUT;
 flac --decode a.flac a.raw | 2 flac: command: to decode a stream: flac decode IN OUT;
 flac --version | 0 flac (proved) 1.0.0;
+flac edit a.flac | 2 flac: command: edit needs --padding, --remove-block or --picture;
+flac edit a.flac --remove-block 0 | 2 flac: command: --remove-block takes a number from 1 on, or a type other than STREAMINFO;
+flac edit a.flac --picture 21:b.png | 2 flac: command: --picture takes [TYPE:]FILE, the type 0 to 20;
+flac export a.flac pictures b | 2 flac: command: export takes tags, picture or the number of a block;
 flac play a.flac | 2 error: unrecognized subcommand 'play';;Usage: flac <COMMAND>;;For more information, try '--help'.;
 flac --help | 0 Tests*
 flac test --help | 0 Decodes a stream, and prints how many frames*

@@ -2,7 +2,7 @@
 
 use flac_bits::{Collected, Counted, Target};
 use flac_cli::verify_files;
-use flac_shelf::{HeldFile, HeldShelf};
+use flac_shelf::{HeldFile, HeldShelf, Stamp};
 use std::alloc::Global;
 use std::io;
 use std::io::{ErrorKind, Write};
@@ -14,6 +14,7 @@ use test_vectors::{EXAMPLE, OUTSIDE, OUTSIDE_PAGES, bytes_of};
 fn file<'a>(path: &'a str, bytes: &'a [u8]) -> HeldFile<'a> {
     HeldFile {
         path,
+        stamp: Stamp::unknown(),
         bytes: Some(bytes),
         again: true,
     }
@@ -23,6 +24,7 @@ fn file<'a>(path: &'a str, bytes: &'a [u8]) -> HeldFile<'a> {
 fn pipe<'a>(path: &'a str, bytes: &'a [u8]) -> HeldFile<'a> {
     HeldFile {
         path,
+        stamp: Stamp::unknown(),
         bytes: Some(bytes),
         again: false,
     }
@@ -32,6 +34,7 @@ fn pipe<'a>(path: &'a str, bytes: &'a [u8]) -> HeldFile<'a> {
 fn unopened<'a>(path: &'a str) -> HeldFile<'a> {
     HeldFile {
         path,
+        stamp: Stamp::unknown(),
         bytes: None,
         again: false,
     }
@@ -46,7 +49,32 @@ fn verify_on<O: Target>(
     err: &mut Collected,
 ) -> u8 {
     let mut shelf = HeldShelf::new(files);
-    verify_files(alloc, &mut shelf, subset, out, err)
+    let mut report = Collected::new(alloc);
+    verify_files(alloc, &mut shelf, subset, out, err, &mut report)
+}
+
+/// A file of this size and time that can be read again.
+fn stamped<'a>(path: &'a str, bytes: &'a [u8], modified: u64) -> HeldFile<'a> {
+    HeldFile {
+        path,
+        stamp: Stamp {
+            bytes: Some(bytes.len() as u64),
+            modified: Some(modified),
+            nanoseconds: Some(5),
+        },
+        bytes: Some(bytes),
+        again: true,
+    }
+}
+
+/// Whether verifying these files writes this report.
+fn is_reported(alloc: Global, files: &[HeldFile<'_>], due: &str) -> bool {
+    let mut shelf = HeldShelf::new(files);
+    let mut out = Collected::new(alloc);
+    let mut err = Collected::new(alloc);
+    let mut report = Collected::new(alloc);
+    let _status = verify_files(alloc, &mut shelf, false, &mut out, &mut err, &mut report);
+    report.bytes() == due.as_bytes()
 }
 
 /// Whether verifying these files returns this status and prints these texts.
@@ -80,6 +108,51 @@ fn each_file_has_its_line(rt: HostRuntime) -> Result<(), Fail> {
         verified 7 ok 5 bad 2\n";
     let err = "flac: 3.flac: marker: 3 Truncated\nflac: 4: cannot be opened\n";
     assert!(rt; is_verified(alloc, &files, false, (1, out, err)));
+    Ok(())
+}
+
+// The values are those of the streams by RFC 9639, section 8.2, and the layout is that of RFC 8259.
+#[test]
+fn each_file_is_in_the_report(rt: HostRuntime) -> Result<(), Fail> {
+    let alloc = rt.alloc();
+    let example = bytes_of(alloc, EXAMPLE)?;
+    let outside = bytes_of(alloc, OUTSIDE)?;
+    let files = [
+        stamped("a \"b\"/\\1\u{1f}\u{7f}\u{e9}.flac", &example, 1700000000),
+        stamped("2.flac", &outside, 0),
+        pipe("3.flac", &outside),
+        pipe("4.flac", b"fLa"),
+        file("5.flac", &example[..56usize.min(example.len())]),
+        unopened("6"),
+    ];
+    let due = "{\"path\":\"a \\u0022b\\u0022/\\u005c1\\u001f\u{7f}\u{e9}.flac\",\"status\":\"ok\",\
+        \"bytes\":57,\"modified\":1700000000,\"nanoseconds\":5,\"rate\":44100,\"channels\":2,\"depth\":16,\
+        \"frames\":1,\"samples\":1,\"md5_checked\":false,\"subset\":true}\n\
+        {\"path\":\"2.flac\",\"status\":\"ok\",\"bytes\":53,\"modified\":0,\"nanoseconds\":5,\"rate\":65537,\
+        \"channels\":1,\"depth\":5,\"frames\":1,\"samples\":16,\"md5\":\"4ae71336e44bf9bf79d2752e234818a5\",\
+        \"md5_checked\":true,\"subset\":false}\n\
+        {\"path\":\"3.flac\",\"status\":\"ok\",\"rate\":65537,\"channels\":1,\"depth\":5,\"frames\":1,\
+        \"samples\":16,\"md5\":\"4ae71336e44bf9bf79d2752e234818a5\",\"md5_checked\":true}\n\
+        {\"path\":\"4.flac\",\"status\":\"bad\",\"place\":\"marker\",\"error\":3,\"name\":\"Truncated\"}\n\
+        {\"path\":\"5.flac\",\"status\":\"bad\",\"place\":\"frame\",\"index\":0,\"error\":3,\"name\":\"Truncated\"}\n\
+        {\"path\":\"6\",\"status\":\"unopened\"}\n";
+    assert!(rt; is_reported(alloc, &files, due));
+    Ok(())
+}
+
+#[test]
+fn a_report_that_is_not_written(rt: HostRuntime) -> Result<(), Fail> {
+    let alloc = rt.alloc();
+    let example = bytes_of(alloc, EXAMPLE)?;
+    let files = [file("1.flac", &example)];
+    let mut shelf = HeldShelf::new(&files);
+    let mut out = Collected::new(alloc);
+    let mut err = Collected::new(alloc);
+    let mut full = Counted::new(Full);
+    let status = verify_files(alloc, &mut shelf, false, &mut out, &mut err, &mut full);
+    assert!(rt; status == 1);
+    let due = b"ok 1.flac: frames 1 samples 1 no-md5\nverified 1 ok 1 bad 0\n".as_slice();
+    assert!(rt; out.bytes() == due);
     Ok(())
 }
 

@@ -6,6 +6,7 @@ use Rattle.flac_header.specs.declared.subset.Profile.TheVariants.{Lax}
 use Rattle.flac_shelf.specs.Listed.{Contents, Listed}
 use Rattle.flac_cli.specs.Counted.{printed}
 use Rattle.flac_cli.specs.Outcomes.{Fits, Reads, IsOutOfMemory}
+use Rattle.flac_cli.specs.Reported.{report_lines}
 use Rattle.flac_cli.specs.Verified.{IsStreamOf, AreFound, ok_lines, bad_lines, last_line, good_count, bad_count}
 use Rattle.flac_cli.specs.declared.verify.Finding.{Finding}
 use Rattle.flac_cli.specs.declared.verify.Finding.TheVariants.{Good, Bad, Unopened}
@@ -21,6 +22,13 @@ pub record IsSent {T : Type 0} (g : target.Ghosts T) (text : List ℕ) (old new 
 pub record IsTold {T : Type 0} (g : target.Ghosts T) (text : List ℕ) (old new : T) : Type 0 where
   pub kept : g.errors old ≤ g.errors new
   pub told : g.known old ≡ true → g.errors new ≡ g.errors old → (g.known new ≡ true) × (g.sent new ≡ g.sent old ++ text)
+
+-- A call that was to send this text, if it was going on: it was sent, or the target returned an error.
+pub record IsEntered {T : Type 0} (g : target.Ghosts T) (going : Bool) (text : List ℕ) (old new : T) (done : Bool) : Type 0 where
+  pub kept : g.errors old ≤ g.errors new
+  pub was : done ≡ true → going ≡ true
+  pub sent : done ≡ true → g.known old ≡ true → (g.known new ≡ true) × (g.sent new ≡ g.sent old ++ text)
+  pub lost : going ≡ true → done ≡ false → g.known old ≡ true → g.errors old < g.errors new
 
 -- A call that read the current file: the list is still there.
 pub record Stays {S : Type 0} (known : S → Bool) (current : S → Listed) (files : S → List Listed) (faults most : S → ℕ) (old new : S) : Type 0 where
@@ -53,12 +61,13 @@ abbrev pub bad_after : ℕ → Finding → ℕ
 bad_after n (Good facts) = n
 bad_after n other = printed (n + 1)
 
--- a file more was counted, whose line standard output took or not
-pub record IsCounted (finding : Finding) (sent : Bool) (old new : Tally) : Type 0 where
+-- a file more was counted, whose lines standard output and the report took or not
+pub record IsCounted (finding : Finding) (sent entered : Bool) (old new : Tally) : Type 0 where
   pub files : new.files ≡ printed (old.files + 1)
   pub good : new.good ≡ good_after old.good finding
   pub bad : new.bad ≡ bad_after old.bad finding
   pub written : new.is_written ≡ (old.is_written && sent)
+  pub reported : new.is_reported ≡ entered
 
 -- The last line was sent, if those before were.
 pub record IsEnded {O E : Type 0} (o : target.Ghosts O) (e : target.Ghosts E) (tally : Tally) (out ended : O) (err told : E) (done : Bool) : Type 0 where
@@ -71,22 +80,26 @@ pub record IsEnded {O E : Type 0} (o : target.Ghosts O) (e : target.Ghosts E) (t
 
 -- If these are found of the files that are left, then these are found of all files; what was sent and counted so far is
 -- that of the files before.
-pub record SoFar {O E : Type 0} (o : target.Ghosts O) (e : target.Ghosts E) (subset : Bool) (files rest : List Listed) (first out : O) (began err : E) (tally : Tally) (left : List Finding) : Type 0 where
+pub record SoFar {O E P : Type 0} (o : target.Ghosts O) (e : target.Ghosts E) (p : target.Ghosts P) (subset : Bool) (files rest : List Listed) (first out : O) (began err : E) (blank report : P) (tally : Tally) (left : List Finding) : Type 0 where
   pub all : List Finding
   pub found : AreFound subset files all
   pub sent_is : tally.is_written ≡ true → o.known first ≡ true → o.sent out ++ ok_lines rest left ≡ o.sent first ++ ok_lines files all
   pub told_is : e.known began ≡ true → e.errors err ≡ e.errors began → e.sent err ++ bad_lines rest left ≡ e.sent began ++ bad_lines files all
+  pub reported_is : tally.is_reported ≡ true → p.known blank ≡ true → p.sent report ++ report_lines subset rest left ≡ p.sent blank ++ report_lines subset files all
   pub files_are : printed (tally.files + length left) ≡ printed (length all)
   pub good_are : printed (tally.good + good_count left) ≡ printed (good_count all)
   pub bad_are : printed (tally.bad + bad_count left) ≡ printed (bad_count all)
 
-pub record Underway {O E : Type 0} (o : target.Ghosts O) (e : target.Ghosts E) (subset : Bool) (files rest : List Listed) (first out : O) (began err : E) (tally : Tally) : Type 0 where
+pub record Underway {O E P : Type 0} (o : target.Ghosts O) (e : target.Ghosts E) (p : target.Ghosts P) (subset : Bool) (files rest : List Listed) (first out : O) (began err : E) (blank report : P) (tally : Tally) : Type 0 where
   pub kept : o.errors first ≤ o.errors out
   pub known : tally.is_written ≡ true → o.known first ≡ true → o.known out ≡ true
   pub lost : tally.is_written ≡ false → o.known first ≡ true → o.errors first < o.errors out
   pub told : e.errors began ≤ e.errors err
   pub told_known : e.known began ≡ true → e.errors err ≡ e.errors began → e.known err ≡ true
+  pub report_kept : p.errors blank ≤ p.errors report
+  pub report_known : tally.is_reported ≡ true → p.known blank ≡ true → p.known report ≡ true
+  pub report_lost : tally.is_reported ≡ false → p.known blank ≡ true → p.errors blank < p.errors report
   pub files_fit : tally.files ≤ 18446744073709551615
   pub good_fits : tally.good ≤ 18446744073709551615
   pub bad_fits : tally.bad ≤ 18446744073709551615
-  pub so_far : (left : List Finding) → AreFound subset rest left → SoFar o e subset files rest first out began err tally left
+  pub so_far : (left : List Finding) → AreFound subset rest left → SoFar o e p subset files rest first out began err blank report tally left

@@ -1,9 +1,11 @@
 -- For proofs of the reports of decoding to a WAV file: what a call returned.
 use Rattle.std.specs.Prelude.{◌≢◌, Bool, true, false, Some, None, Result, Ok, Err}
+use Rattle.flac_bits.specs.declared.source.Source as source
 use Rattle.flac_bits.specs.declared.why.Why.{Why}
 use Rattle.flac_bits.specs.declared.why.Why.TheVariants as why
+use Rattle.flac_header.specs.declared.subset.Profile.{Profile}
 use Rattle.flac_native.specs.declared.fault.Fault.{Fault}
-use Rattle.flac_cli.specs.Outcomes.{WaveOutcome, streamed, unkept}
+use Rattle.flac_cli.specs.Outcomes.{WaveOutcome, streamed, unkept, Fits, ReadsWave, IsWaveOutOfMemory}
 use Rattle.flac_cli.specs.declared.decode_wave.WaveFailure.{WaveFailure}
 use Rattle.flac_cli.specs.declared.decode_wave.WaveFailure.TheVariants as failure
 
@@ -30,3 +32,7 @@ abbrev pub IsOfInput : WaveFailure → Type 0
 IsOfInput (failure.Stream f) = f.why ≢ why.Sink
 IsOfInput (failure.Kept k) = Unit {0}
 IsOfInput failure.Write = ⊥
+
+-- what a call that decodes the stream of a source to a WAV file returned is what the bytes are
+abbrev pub FitsWave : {S X : Type 0} (g : source.Ghosts S) → Profile → S → Result X WaveFailure → Type 0
+FitsWave g profile from result = Fits IsWaveOutOfMemory (ReadsWave profile (g.coming from) (g.after from)) (wave_outcome result)

@@ -1,6 +1,6 @@
 //! `flac decode`.
 
-use super::{FORCE, LAX, STREAM, Usage, Word, WordKind};
+use super::{ANY, FORCE, LAX, STREAM, Usage, Word, WordKind, asks_lax};
 use clap::ArgMatches;
 use flac_jobs::Job;
 
@@ -27,7 +27,7 @@ pub(crate) static DECODE: Usage = Usage {
 };
 
 /// The arguments of `decode`.
-const DECODE_WORDS: [Word; 5] = [
+const DECODE_WORDS: [Word; 6] = [
     STREAM,
     Word {
         name: "OUT",
@@ -40,6 +40,7 @@ const DECODE_WORDS: [Word; 5] = [
         help: "Writes a WAV file: the one that the stream was encoded of, or else a plain one",
     },
     LAX,
+    ANY,
     FORCE,
 ];
 
@@ -47,7 +48,7 @@ const DECODE_WORDS: [Word; 5] = [
 pub(crate) fn decode_job<'a>(given: &ArgMatches<'a>) -> Option<Job<'a>> {
     let input = given.get_str("IN")?;
     let output = given.get_str("OUT")?;
-    let lax = given.get_flag("lax");
+    let lax = asks_lax(given);
     if given.get_flag("wav") || names_wave(output) {
         return Some(Job::DecodeWave { input, output, lax });
     }

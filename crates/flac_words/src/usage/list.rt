@@ -1,6 +1,6 @@
 //! `flac list`.
 
-use super::{LAX, STREAMS, Usage, Word, WordKind};
+use super::{ANY, LAX, STREAMS, Usage, Word, WordKind, asks_lax};
 use clap::ArgMatches;
 use flac_jobs::{CommandLine, Job, Listing, Request};
 use std::alloc::Global;
@@ -18,6 +18,10 @@ Of several streams each has a line with its path before its own. If one is refus
 line is on standard error, the others are listed, and the exit status is 1. With --head
 the blocks are read and no frame is: a moment also for a long stream.
 
+With --any lines at the end say how long the tags of other programs are, in bytes:
+  before ID3v2 1034
+  after ID3v1 128
+
 Bytes of a text outside 20 to 7E (hexadecimal), and the backslash, are shown as \\x and
 two digits.";
 
@@ -29,7 +33,7 @@ pub(crate) static LIST: Usage = Usage {
 };
 
 /// The arguments of `list`.
-const LIST_WORDS: [Word; 3] = [
+const LIST_WORDS: [Word; 4] = [
     STREAMS,
     Word {
         name: "head",
@@ -37,6 +41,7 @@ const LIST_WORDS: [Word; 3] = [
         help: "Reads the metadata blocks alone: no frame is verified",
     },
     LAX,
+    ANY,
 ];
 
 /// What `list` asks for: a job for one stream without options, a listing for several, or for the blocks alone.
@@ -47,12 +52,17 @@ pub(crate) fn list_request<'a>(
     let Some(inputs) = given.get_strs("IN") else {
         return Ok(None);
     };
-    let lax = given.get_flag("lax");
+    let lax = asks_lax(given);
+    let any = given.get_flag("any");
     let head = given.get_flag("head");
     if let [input] = inputs {
         if !head {
             let job = Job::List { input, lax };
-            return Ok(Some(Request::Job(CommandLine { job, force: false })));
+            return Ok(Some(Request::Job(CommandLine {
+                job,
+                force: false,
+                any,
+            })));
         }
     }
     let mut paths = Vec::new(alloc);
@@ -60,6 +70,7 @@ pub(crate) fn list_request<'a>(
     Ok(Some(Request::ListFiles(Listing {
         inputs: paths,
         lax,
+        any,
         head,
     })))
 }

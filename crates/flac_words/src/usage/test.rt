@@ -1,6 +1,6 @@
 //! `flac test`.
 
-use super::{LAX, STREAM, Usage, Word};
+use super::{ANY, LAX, STREAM, Usage, Word, asks_lax};
 use clap::ArgMatches;
 use flac_jobs::Job;
 
@@ -21,12 +21,12 @@ pub(crate) static TEST: Usage = Usage {
 };
 
 /// The arguments of `test`.
-const TEST_WORDS: [Word; 2] = [STREAM, LAX];
+const TEST_WORDS: [Word; 3] = [STREAM, LAX, ANY];
 
 /// The job of `test`.
 pub(crate) fn test_job<'a>(given: &ArgMatches<'a>) -> Option<Job<'a>> {
     Some(Job::Test {
         input: given.get_str("IN")?,
-        lax: given.get_flag("lax"),
+        lax: asks_lax(given),
     })
 }

@@ -1,8 +1,10 @@
 //! `flac verify`.
 
+ghost use Rattle.std.specs.Prelude.{◌≤◌, IfSome};
+
 use super::{Usage, Word, WordKind};
 use clap::ArgMatches;
-use flac_jobs::{Request, Verification};
+use flac_jobs::{LineFault, Request, Verification};
 use std::alloc::Global;
 
 const VERIFY_EXAMPLE: &str = "Example:
@@ -16,6 +18,9 @@ The line of a good file goes to standard output, that of a bad one to standard e
 word says what a stream does not state: its MD5 digest (no-md5), the number of its samples
 (no-total); or that it is outside the streamable subset (outside-subset).
 
+--report writes a line of JSON for each file, as it is done: its path, size and time, and
+what was found. --resume goes on with such a report after a run that was cut off.
+
 In a folder, and in the folders in it, files are read whose names end in .flac, .fla or
 .oga, and in .ogg if they are FLAC. Links to folders are not followed. The exit status is 0
 if all files are good.";
@@ -28,7 +33,7 @@ pub(crate) static VERIFY: Usage = Usage {
 };
 
 /// The arguments of `verify`.
-const VERIFY_WORDS: [Word; 2] = [
+const VERIFY_WORDS: [Word; 4] = [
     Word {
         name: "PATH",
         kind: WordKind::Files,
@@ -38,6 +43,16 @@ const VERIFY_WORDS: [Word; 2] = [
         name: "subset",
         kind: WordKind::Flag,
         help: "Refuses streams outside the streamable subset, with 14",
+    },
+    Word {
+        name: "report",
+        kind: WordKind::Text("OUT"),
+        help: "Writes a report to this new file, a line of JSON for each file",
+    },
+    Word {
+        name: "resume",
+        kind: WordKind::Text("OUT"),
+        help: "Adds to this report, and leaves out files that it has as good",
     },
 ];
 
@@ -53,5 +68,17 @@ pub(crate) fn verify_request<'a>(
     Ok(Some(Request::Verify(Verification {
         paths,
         subset: given.get_flag("subset"),
+        report: given.get_str("report"),
+        resume: given.get_str("resume"),
     })))
+}
+
+/// Why a verification is refused whose words were all read; `None` if it is not.
+pub(crate) fn fault_of_verification(verification: &Verification<'_>) -> Option<LineFault>
+    ensures { IfSome result (λ fault. fault.status ≤ 2) }
+{
+    if verification.report.is_some() && verification.resume.is_some() {
+        return Some(LineFault::both_reports());
+    }
+    None
 }

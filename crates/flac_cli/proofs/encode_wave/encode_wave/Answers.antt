@@ -19,15 +19,14 @@ returns g c =
     let bytes = g.R.Source.coming c.args.source.now in
     let before = bits_of (g.W.Target.sent c.args.target.now) in
     let after = bits_of (g.W.Target.sent c.write_stream.new.target) in
-    let is = c.in_ok-ready.ensures.found in
     let own = record asked { format = ready.format } in
     let s = c.in_ok-tried.ensures.searched in
     record {
       written = λ known told.
+          let is = c.in_ok-ready.ensures.found known in
           let p = cut_found own ready.audio ps s.found in
           let good = found_good own ready.audio ps ready.plan c.in_ok-tried.tried is.cut s is.good in
-          let same = c.as_slice.ensures.value ∙ c.in_ok-bytes.ensures.bytes known in
-          let keeps : Keeps asked bytes ready.format ready.audio ready.list = subst (λ b. Keeps asked b ready.format ready.audio ready.list) same is.keeps in
+          let keeps : Keeps asked bytes ready.format ready.audio ready.list = is.keeps in
           let all : EncodesIn asked.container p ready.list ready.audio before after = subst (λ k. EncodesIn asked.container k ready.list ready.audio before after) (cut_is own ready.audio ps ready.plan c.in_ok-tried.tried is.cut s) (c.in_ok-write_stream.ensures.written told) in
           record {
             format = ready.format;
@@ -43,8 +42,7 @@ returns g c =
           };
       begun = tt;
       accepted = λ known.
-          file_reason asked ps c.as_slice.result.now bytes ready.format ready.plan ready.list ready.audio c.in_ok-predictors.ensures.list
-          (c.as_slice.ensures.value ∙ c.in_ok-bytes.ensures.bytes known) is
+          file_reason asked ps bytes bytes ready.format ready.plan ready.list ready.audio c.in_ok-predictors.ensures.list refl (c.in_ok-ready.ensures.found known)
           (sym (same_stream asked.container ready.plan c.in_ok-tried.tried s.found ready.list s.is) ∙ c.in_ok-write_stream.ensures.accepted);
       refused = tt;
       failed = tt;
@@ -61,17 +59,6 @@ returns-in_err-predictors g c =
       failed = not_refused _ _ (not_list _ _);
     })
 
-pub returns-in_err-bytes : goal.returns-in_err-bytes
-returns-in_err-bytes g c =
-    let p = err_from_is_err_and c.from_residual-in_err-bytes.result c.from_residual-in_err-bytes.ensures.1 in
-    rw (p.1, p.2) (record {
-      written = tt;
-      begun = λ known told. inl refl;
-      accepted = tt;
-      refused = λ known same. inl (Input _, refl, inl (ap Input (c.in_err-bytes.ensures.memory known same)));
-      failed = not_refused _ _ (not_input _ _);
-    })
-
 pub returns-in_err-ready : goal.returns-in_err-ready
 returns-in_err-ready g c =
     let p = err_from_is_err_and c.from_residual-in_err-ready.result c.from_residual-in_err-ready.ensures.1 in
@@ -81,8 +68,8 @@ returns-in_err-ready g c =
       written = tt;
       begun = λ known told. inl refl;
       accepted = tt;
-      refused = λ known same. listed_reason asked ps c.as_slice.result.now (g.R.Source.coming c.args.source.now) _ c.in_ok-predictors.ensures.list
-          (c.as_slice.ensures.value ∙ c.in_ok-bytes.ensures.bytes known) c.in_err-ready.ensures.refused;
+      refused = λ known same. listed_reason asked ps (g.R.Source.coming c.args.source.now) (g.R.Source.coming c.args.source.now) _ c.in_ok-predictors.ensures.list refl
+          (c.in_err-ready.ensures.refused known same);
       failed = λ is. absurd (c.in_err-ready.ensures.unwritten is);
     })
 
@@ -104,18 +91,17 @@ returns-in_err-write_stream g c =
     let ready = c.in_ok-ready.ready in
     let ps = c.in_ok-predictors.predictors.items in
     let bytes = g.R.Source.coming c.args.source.now in
-    let is = c.in_ok-ready.ensures.found in
     let s = c.in_ok-tried.ensures.searched in
     rw (p.1, p.2) (record {
       written = tt;
       begun = λ known told.
-          begun_wave asked ps c.as_slice.result.now bytes ready.format ready.plan c.in_ok-tried.tried ready.list ready.audio
+          let is = c.in_ok-ready.ensures.found known in
+          begun_wave asked ps bytes bytes ready.format ready.plan c.in_ok-tried.tried ready.list ready.audio
           (bits_of (g.W.Target.sent c.args.target.now)) (bits_of (g.W.Target.sent c.write_stream.new.target))
-          (c.as_slice.ensures.value ∙ c.in_ok-bytes.ensures.bytes known) is.keeps c.in_ok-predictors.ensures.list is.cut s
+          refl is.keeps c.in_ok-predictors.ensures.list is.cut s
           (λ same. ap (λ t. bits_of (g.W.Target.sent t)) same) (c.in_err-write_stream.ensures.begun told);
       accepted = tt;
-      refused = λ known same. container_reason asked ps c.as_slice.result.now bytes ready.format ready.plan ready.list ready.audio c.in_ok-predictors.ensures.list
-          (c.as_slice.ensures.value ∙ c.in_ok-bytes.ensures.bytes known) is _
+      refused = λ known same. container_reason asked ps bytes bytes ready.format ready.plan ready.list ready.audio c.in_ok-predictors.ensures.list refl (c.in_ok-ready.ensures.found known) _
           (same_refusal asked.container ready.plan c.in_ok-tried.tried s.found ready.list _ s.is c.in_err-write_stream.ensures.refused);
       failed = λ is. c.in_err-write_stream.ensures.failed (same_output _ _ (same_refused _ _ is));
     })

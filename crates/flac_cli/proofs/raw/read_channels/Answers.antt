@@ -72,23 +72,24 @@ pieces-smaller g c =
 pub returns-in_err-lists : goal.returns-in_err-lists
 returns-in_err-lists g c =
     let p = err_from_is_err_and c.from_residual.result c.from_residual.ensures.1 in
-    rw (p.1, p.2) (record { whole = tt; channels = tt; part = tt; memory = λ known same. c.in_err-lists.ensures.memory; names = refl })
+    rw (p.1, p.2) (record { whole = tt; channels = tt; part = tt; read = tt; memory = λ known same. c.in_err-lists.ensures.memory; names = refl })
 
 pub returns-in_err-count : goal.returns-in_err-count
 returns-in_err-count g c =
     let p = err_from_is_err_and c.from_residual-in_err-count.result c.from_residual-in_err-count.ensures.1 in
     let inv = c.pieces.invariant in
-    rw (p.1, p.2) (record { whole = tt; channels = tt; part = tt; memory = λ known same. rose _ _ _ (c.in_err-count.ensures.failed (inv.known known)) inv.raised same; names = c.in_err-count.ensures.names ∙ inv.names })
+    rw (p.1, p.2) (record { whole = tt; channels = tt; part = tt; read = tt; memory = λ known same. rose _ _ _ (c.in_err-count.ensures.failed (inv.known known)) inv.raised same; names = c.in_err-count.ensures.names ∙ inv.names })
 
 pub returns-in_err-push_piece : goal.returns-in_err-push_piece
 returns-in_err-push_piece g c =
     let p = err_from_is_err_and c.from_residual-in_err-push_piece.result c.from_residual-in_err-push_piece.ensures.1 in
-    rw (p.1, p.2) (record { whole = tt; channels = tt; part = tt; memory = λ known same. c.in_err-push_piece.ensures.memory; names = c.in_ok-count.ensures.names ∙ c.pieces.invariant.names })
+    rw (p.1, p.2) (record { whole = tt; channels = tt; part = tt; read = tt; memory = λ known same. c.in_err-push_piece.ensures.memory; names = c.in_ok-count.ensures.names ∙ c.pieces.invariant.names })
 
 pub pieces-init : goal.pieces-init
 pieces-init g c = record {
   known = λ known. known;
   read = λ known. none_read (g.R.Source.coming c.args.source.now) c.args.channels c.args.width (map (λ v. v.items) c.in_ok-lists.lists.items) (length-map c.in_ok-lists.lists.items (λ v. v.items) ∙ c.in_ok-lists.ensures.many) c.in_ok-lists.ensures.none;
+  after = λ known. refl;
   raised = refl;
   names = refl;
   many = c.in_ok-lists.ensures.many;
@@ -109,6 +110,12 @@ returns-then-count-stride-ne0 g c =
       part = λ same known.
           part_read (g.R.Source.coming c.args.source.now) (g.R.Source.coming c.pieces.source) (take count c.fill.new.places) (g.R.Source.coming c.fill.new.source) c.args.channels c.args.width count (map (λ v. v.items) c.pieces.lists.items)
           (inv.read known) (e.bytes (inv.known known)) (e.end lt (inv.known known)) long c.if-count-stride-ne0.true;
+      read = record {
+        known = λ known. e.known (inv.known known);
+        end = λ known. e.end lt (inv.known known);
+        after = λ known. e.after (inv.known known) ∙ inv.after known;
+        raised = e.counted ∙ inv.raised;
+      };
       memory = tt;
       names = e.names ∙ inv.names;
     }
@@ -132,6 +139,12 @@ returns-then-count-size g c =
       whole = λ known. (all known).0;
       channels = λ known. rw back (all known).1;
       part = some_none _;
+      read = record {
+        known = λ known. e.known (inv.known known);
+        end = λ known. e.end c.if-count-size.true (inv.known known);
+        after = λ known. e.after (inv.known known) ∙ inv.after known;
+        raised = e.counted ∙ inv.raised;
+      };
       memory = tt;
       names = e.names ∙ inv.names;
     }
@@ -152,6 +165,7 @@ pieces-preserved g c =
       read = λ known.
           more_read (g.R.Source.coming c.args.source.now) (g.R.Source.coming c.pieces.source) (g.R.Source.coming c.fill.new.source) (take count c.fill.new.places) c.args.channels c.args.width (count / stride) (map items c.pieces.lists.items) (map items c.push_piece.new.lists)
           (inv.read known) (e.bytes (inv.known known)) (long ∙ whole_rows count stride c.if-count-stride-ne0.false) more;
+      after = λ known. e.after (inv.known known) ∙ inv.after known;
       raised = e.counted ∙ inv.raised;
       names = e.names ∙ inv.names;
       many = same ∙ inv.many;

@@ -1,0 +1,81 @@
+//! Jobs with `--any`: a stream is read between the tags of other programs.
+
+use flac_around::Between;
+use flac_bits::Counted;
+use flac_cli::{Job, Task, list_head, run};
+use flac_files::JobFiles;
+
+/// Lists the metadata of a stream, and reads no frame. Returns the status.
+pub(crate) fn list_front_between(rt: &HostRuntime, input: &str, files: JobFiles<'_>) -> u8 {
+    let mut source = Between::new(Counted::new(files.input));
+    let mut out = Counted::new(rt.stdout());
+    let mut err = Counted::new(rt.stderr());
+    let status = list_head(rt.alloc(), input, &mut source, &mut out, &mut err);
+    if status != 0 {
+        return status;
+    }
+    // The end was not read, so only a tag before the stream is known.
+    told(rt, input, print_length(rt, "before ID3v2", source.before()))
+}
+
+/// Does the job over its files. Returns the status.
+pub(crate) fn do_between(rt: &HostRuntime, job: &Job<'_>, files: JobFiles<'_>) -> u8 {
+    let (status, before, after) = run_between(rt, job, files);
+    match job {
+        Job::List { input, .. } if status == 0 => list_tags(rt, input, before, after),
+        _ => status,
+    }
+}
+
+/// Does the job over its files. Returns the status, and how many bytes the tags before and after the stream have that
+/// were read.
+fn run_between(rt: &HostRuntime, job: &Job<'_>, files: JobFiles<'_>) -> (u8, u64, u64) {
+    let JobFiles {
+        input,
+        list,
+        output,
+        ending,
+    } = files;
+    let mut source = Between::new(Counted::new(input));
+    let mut target = Counted::new(output);
+    let mut out = Counted::new(rt.stdout());
+    let mut err = Counted::new(rt.stderr());
+    let task = Task {
+        job,
+        list: list.text.as_slice(),
+    };
+    let status = run(
+        rt.alloc(),
+        &task,
+        &mut source,
+        &mut target,
+        &mut out,
+        &mut err,
+    );
+    let (before, after) = (source.before(), source.after());
+    match ending.end(rt, target.into_inner(), status) {
+        Ok(()) => (status, before, after),
+        Err(refused) => (refused.tell(rt), before, after),
+    }
+}
+
+/// Prints how long the tags are that were read, a line for each. Returns the status.
+fn list_tags(rt: &HostRuntime, input: &str, before: u64, after: u64) -> u8 {
+    let is_printed = print_length(rt, "before ID3v2", before)
+        && print_length(rt, "after ID3v1", after);
+    told(rt, input, is_printed)
+}
+
+/// The status after lines that standard output took or not. If not, this is told on standard error.
+fn told(rt: &HostRuntime, input: &str, is_printed: bool) -> u8 {
+    if is_printed {
+        return 0;
+    }
+    let _ = eprintln!(rt; "flac: {input}: 39 Write");
+    1
+}
+
+/// Prints the line of a tag, if there is one. Returns false if standard output fails.
+fn print_length(rt: &HostRuntime, name: &str, length: u64) -> bool {
+    length == 0 || println!(rt; "{name} {length}").is_ok()
+}

@@ -1,0 +1,115 @@
+//! `flac edit`: edits the metadata blocks of files.
+
+use flac_bits::Counted;
+use flac_cli::{edit_file, picture_of, removals_of};
+use flac_edit::{BlockEdits, Removal};
+use flac_files::{FileRefused, TagFile, read_picture};
+use flac_jobs::{Editing, PictureWord};
+use flac_meta::Picture;
+
+/// Edits the metadata blocks of each file. Returns the status: 1 if one is refused.
+pub(crate) fn edit_files(rt: &HostRuntime, editing: &Editing<'_>) -> u8 {
+    let names = match &editing.removals {
+        Some(names) => names.as_slice(),
+        None => &[],
+    };
+    let Ok(removals) = removals_of(rt.alloc(), names) else {
+        let _ = eprintln!(rt; "flac: command: 2 Memory");
+        return 1;
+    };
+    let found = match &editing.pictures {
+        Some(words) => pictures_of(rt, words.as_slice()),
+        None => Ok(Vec::new(rt.alloc())),
+    };
+    match found {
+        Ok(pictures) => edit_each(rt, editing, &removals, &pictures),
+        Err(refused) => refused.tell(rt),
+    }
+}
+
+/// Reads the pictures.
+fn pictures_of<'a>(
+    rt: &HostRuntime,
+    words: &[PictureWord<'a>],
+) -> Result<Vec<Picture>, FileRefused<'a>> {
+    let mut pictures = Vec::new(rt.alloc());
+    for word in words {
+        let picture = picture_in(rt, word)?;
+        if pictures.push(picture).is_err() {
+            return Err(FileRefused {
+                path: word.path,
+                what: "read",
+            });
+        }
+    }
+    Ok(pictures)
+}
+
+/// Reads a picture.
+fn picture_in<'a>(rt: &HostRuntime, word: &PictureWord<'a>) -> Result<Picture, FileRefused<'a>> {
+    let path = word.path;
+    let bytes = read_picture(rt, path)?;
+    match picture_of(rt.alloc(), word, &bytes) {
+        Ok(Some(picture)) => Ok(picture),
+        Ok(None) => Err(FileRefused {
+            path,
+            what: "added: it is no PNG or JPEG picture",
+        }),
+        Err(_) => Err(FileRefused { path, what: "read" }),
+    }
+}
+
+/// Edits each file. Returns the status.
+fn edit_each(
+    rt: &HostRuntime,
+    editing: &Editing<'_>,
+    removals: &[Removal],
+    pictures: &[Picture],
+) -> u8 {
+    let edits = BlockEdits {
+        removals,
+        pictures,
+        padding: editing.padding,
+    };
+    let mut status = 0;
+    for path in &editing.inputs {
+        if edit_one(rt, path, &edits, editing.verbose) != 0 {
+            status = 1;
+        }
+    }
+    status
+}
+
+/// Edits a file. Returns the status.
+fn edit_one(rt: &HostRuntime, path: &str, edits: &BlockEdits<'_>, verbose: bool) -> u8 {
+    match edit_opened(rt, path, edits) {
+        Ok(0) if verbose => print_done(rt, path),
+        Ok(status) => status,
+        Err(refused) => refused.tell(rt),
+    }
+}
+
+/// Prints that a file was edited. Returns the status.
+fn print_done(rt: &HostRuntime, path: &str) -> u8 {
+    if println!(rt; "{path}: rewritten").is_err() {
+        let _ = eprintln!(rt; "flac: {path}: 39 Write");
+        return 1;
+    }
+    0
+}
+
+/// Writes a new file with edited blocks, which takes the place of the old one. Returns the status.
+fn edit_opened<'a>(
+    rt: &HostRuntime,
+    path: &'a str,
+    edits: &BlockEdits<'_>,
+) -> Result<u8, FileRefused<'a>> {
+    let file = TagFile::open_to_edit(rt, path)?;
+    let mut source = Counted::new(file.reader()?);
+    let (output, ending) = file.beside(rt)?;
+    let mut target = Counted::new(output);
+    let mut err = Counted::new(rt.stderr());
+    let status = edit_file(rt.alloc(), path, edits, &mut source, &mut target, &mut err);
+    ending.end(rt, target.into_inner(), status)?;
+    Ok(status)
+}

@@ -1,0 +1,310 @@
+-- The samples of WAV files, as they are taken.
+use Rattle.std.proofs.Common.{◌≡◌, ◌≢◌, ◌≤◌, ◌<◌, ◌+◌, ◌*◌, ◌-◌, ◌/◌, ◌%◌, ◌^◌, ◌&&◌, ◌⊎◌, ℕ, zero, suc, ℤ, pos, Bool, true, false, cond, Option, Some, None, Result, Ok, Err, IfErr, OnOk, List, [], ◌∷◌, ◌++◌, length, take, drop, map, get_or, refl, ap, sym, ◌∙◌, subst, inl, inr, arith, length-append}
+use Rattle.std.specs.Prelude.{nat_lt, nat_eq, not, slice_index_or, is_some, IfSome, Vec}
+use Rattle.std.specs.Global.{Global}
+use Rattle.std.specs.Int.{to_le_bytes, cast_unsigned, w32, bytes_low_first, byte_at}
+use Rattle.std.proofs.Math.Nat.{mod-lt, mul_assoc, mul_comm, add-mul, mul-mod_left, mul-div_cancel}
+use Rattle.std.proofs.lemmas.Nat.{div-add-mod'}
+use Rattle.std.proofs.lemmas.Bool.{le-ltb, eq-eqb, ne_eqb, eqb-true}
+use Rattle.std.proofs.lemmas.List.{length-take-le, length-map}
+use Rattle.flac_native.specs.Message.{sample_width, sample_bytes, row_bytes, rows_bytes}
+use Rattle.flac_frame.specs.Audio.{samples_each}
+use Rattle.flac_wave.specs.Format.{IsInRange, row_of}
+use Rattle.flac_wave.specs.Shift.{lowered, AreBytes, wave_width_of, known_depth, depth_in}
+use Rattle.flac_wave.specs.declared.format.WaveFormat.{WaveFormat}
+use Rattle.flac_wave.proofs.Shifts.{lowered_long, depth_cases, stated_some, depth_known}
+use Rattle.flac_cli.specs.Waves.{turned, wave_samples, low_samples, stream_samples}
+use Rattle.flac_cli.specs.inner.Raw.{AreChannels}
+use Rattle.flac_cli.specs.inner.WaveSamples.{AreTaken, IsTaken, IsJudged, IsSamplesError, samples_fault}
+use Rattle.flac_cli.specs.declared.wave_samples.WaveSamples.{WaveSamples}
+use Rattle.flac_wave.specs.Front.{BeginsWith, front_fault, are_whole}
+use Rattle.flac_wave.specs.Parts.{given, beyond, is_cut}
+use Rattle.flac_wave.specs.Wave.{IsErrorOf, IsNoWave, ArePiecesBy, begins_zero}
+use Rattle.flac_wave.specs.declared.front.WaveFront.{WaveFront}
+use Rattle.flac_wave.specs.declared.waves.WaveError.{WaveError}
+use Rattle.flac_wave.specs.declared.waves.WaveError.TheVariants as error
+use Rattle.flac_wave.proofs.Fronts.{front_file, front_none}
+
+-- ---- bytes
+
+low_small : (i n x : ℕ) → AreBytes (bytes_low_first i n x)
+low_small i zero x = tt
+low_small zero (suc n) x = (mod-lt x {m = 256} (omega arith), low_small 1 n x)
+low_small (suc i) (suc n) x = (mod-lt (x / 256 ^ suc i) {m = 256} (omega arith), low_small (suc (suc i)) n x)
+
+small_front : (n : ℕ) (bs : List ℕ) → AreBytes bs → AreBytes (take n bs)
+small_front zero [] h = tt
+small_front zero (b ∷ bs) h = tt
+small_front (suc n) [] h = tt
+small_front (suc n) (b ∷ bs) h = (h.0, small_front n bs h.1)
+
+small_both : (xs ys : List ℕ) → AreBytes xs → AreBytes ys → AreBytes (xs ++ ys)
+small_both [] ys h k = k
+small_both (x ∷ xs) ys h k = (h.0, small_both xs ys h.1 k)
+
+row_small : (w : ℕ) (channels : List (List ℤ)) (i : ℕ) → AreBytes (row_bytes w channels i)
+unfolding row_bytes
+row_small w [] i = tt
+row_small w (c ∷ cs) i = small_both (sample_bytes w (slice_index_or c i (pos 0))) (row_bytes w cs i) (small_front w _ (low_small 0 4 (cast_unsigned w32 (slice_index_or c i (pos 0))))) (row_small w cs i)
+
+rows_small : (w : ℕ) (channels : List (List ℤ)) (n i : ℕ) → AreBytes (rows_bytes w channels n i)
+unfolding rows_bytes
+rows_small w channels zero i = tt
+rows_small w channels (suc n) i = small_both (row_bytes w channels i) (rows_bytes w channels n (i + 1)) (row_small w channels i) (rows_small w channels n (i + 1))
+
+-- ---- lengths
+
+sample_long : (w : ℕ) (z : ℤ) → w ≤ 4 → length (sample_bytes w z) ≡ w
+sample_long w z few = length-take-le w (to_le_bytes w32 (cast_unsigned w32 z)) (omega (arith, few))
+
+row_long : (w : ℕ) (channels : List (List ℤ)) (i : ℕ) → w ≤ 4 → length (row_bytes w channels i) ≡ length channels * w
+unfolding row_bytes
+row_long w [] i few = omega arith
+row_long w (c ∷ cs) i few =
+    let one = sample_long w (slice_index_or c i (pos 0)) few in
+    let more = row_long w cs i few in
+    let e : suc (length cs) * w ≡ w + length cs * w = omega arith in
+    length-append (sample_bytes w (slice_index_or c i (pos 0))) (row_bytes w cs i) ∙ omega (arith, one, more, e)
+
+rows_long : (w : ℕ) (channels : List (List ℤ)) (n i : ℕ) → w ≤ 4 → length (rows_bytes w channels n i) ≡ n * (length channels * w)
+unfolding rows_bytes
+rows_long w channels zero i few = omega arith
+rows_long w channels (suc n) i few =
+    let row = length channels * w in
+    let one = row_long w channels i few in
+    let more = rows_long w channels n (i + 1) few in
+    let e : suc n * row ≡ row + n * row = omega arith in
+    length-append (row_bytes w channels i) (rows_bytes w channels n (i + 1)) ∙ omega (arith, one, more, e)
+
+module _ (bytes : List ℕ) (count width : ℕ) (channels : List (List ℤ)) (are : AreChannels bytes count width channels) where
+  pub channels_small : AreBytes bytes
+  channels_small = subst AreBytes are.spelled (rows_small width channels (samples_each channels) 0)
+
+  pub channels_long : width ≤ 4 → length bytes ≡ samples_each channels * (count * width)
+  channels_long few = ap length (sym are.spelled) ∙ (rows_long width channels (samples_each channels) 0 few ∙ ap (λ k. samples_each channels * (k * width)) are.many)
+
+-- ---- odd numbers
+
+even_left : (c m n : ℕ) → m ≡ c * 2 → m * n % 2 ≡ 0
+even_left c m n e =
+    let f : m * n ≡ n * c * 2 = ap (λ k. k * n) e ∙ (mul_comm (c * 2) n ∙ sym (mul_assoc n c 2)) in
+    ap (λ k. k % 2) f ∙ mul-mod_left (n * c) 2
+
+even_right : (d m n : ℕ) → n ≡ d * 2 → m * n % 2 ≡ 0
+even_right d m n e =
+    let f : m * n ≡ m * d * 2 = ap (λ k. m * k) e ∙ sym (mul_assoc m d 2) in
+    ap (λ k. k % 2) f ∙ mul-mod_left (m * d) 2
+
+odd_both : (c d m n : ℕ) → m ≡ c * 2 + 1 → n ≡ d * 2 + 1 → m * n % 2 ≡ 0 → ⊥
+odd_both c d m n e h z =
+    let f : m * n ≡ c * 2 * n + 1 * n = ap (λ k. k * n) e ∙ add-mul (c * 2) 1 n in
+    let g : c * 2 * n ≡ n * c * 2 = mul_comm (c * 2) n ∙ sym (mul_assoc n c 2) in
+    omega (arith, f, g, h, z)
+
+both_by : (m n a b : ℕ) → m % 2 ≡ a → n % 2 ≡ b → not (nat_eq a 1 && nat_eq b 1) ≡ nat_eq (m * n % 2) 0
+both_by m n zero b ea eb = sym (eq-eqb (m * n % 2) 0 (even_left (m / 2) m n (let d = div-add-mod' m 2 in omega (arith, d, ea))))
+both_by m n (suc zero) zero ea eb = sym (eq-eqb (m * n % 2) 0 (even_right (n / 2) m n (let d = div-add-mod' n 2 in omega (arith, d, eb))))
+both_by m n (suc zero) (suc zero) ea eb =
+    sym (ne_eqb (m * n % 2) 0 (odd_both (m / 2) (n / 2) m n (let d = div-add-mod' m 2 in omega (arith, d, ea)) (let d = div-add-mod' n 2 in omega (arith, d, eb))))
+both_by m n (suc zero) (suc (suc b)) ea eb = absurd (let l = mod-lt n {m = 2} (omega arith) in omega (arith, l, eb))
+both_by m n (suc (suc a)) b ea eb = absurd (let l = mod-lt m {m = 2} (omega arith) in omega (arith, l, ea))
+
+pub both_odd : (m n : ℕ) (b : Bool) → b ≡ (nat_eq (m % 2) 1 && nat_eq (n % 2) 1) → not b ≡ nat_eq (m * n % 2) 0
+both_odd m n b is = ap not is ∙ both_by m n (m % 2) (n % 2) refl refl
+
+pub none_odd : (m n : ℕ) → m ≡ 0 → true ≡ nat_eq (m * n % 2) 0
+none_odd m n none = sym (eq-eqb (m * n % 2) 0 (even_left 0 m n (omega (arith, none))))
+
+-- ---- samples that are those of a stream as they are
+
+pub same_samples : (wide depth : ℕ) (xs : List ℕ) → depth ≡ 8 * wide → 8 < depth → stream_samples wide depth xs ≡ xs
+same_samples wide depth xs all more =
+    let ys = wave_samples (8 * wide) xs in
+    let low : low_samples wide depth ys ≡ ys = ap (λ b. cond b ys (lowered wide (sample_width depth) (8 * wide - depth) (length ys / wide) ys)) (eq-eqb depth (8 * wide) all) in
+    low ∙ ap (λ b. cond b (map turned xs) xs) (le-ltb (8 * wide) 9 (omega (arith, all, more)))
+
+known_by : (b : Bool) (all depth : ℕ) → cond b None (Some all) ≡ Some depth → depth ≡ all
+known_by true all depth e = absurd cc
+known_by false all depth e = cc
+
+pub known_is : (f : WaveFormat) (depth : ℕ) → known_depth f ≡ Some depth → depth ≡ 8 * wave_width_of f
+known_is f depth e = known_by _ (8 * wave_width_of f) depth e
+
+width_of_all : (w : ℕ) → (8 * w + 7) / 8 ≡ w
+width_of_all w = omega arith
+
+pub width_known : (f : WaveFormat) (depth : ℕ) → known_depth f ≡ Some depth → sample_width depth ≡ wave_width_of f
+width_known f depth e = ap sample_width (known_is f depth e) ∙ width_of_all (wave_width_of f)
+
+-- ---- samples that change
+
+pub depth_fits : (f : WaveFormat) (xs : List ℕ) → IsInRange f → (0 < depth_in f xs) × (depth_in f xs ≤ 8 * wave_width_of f)
+depth_fits f xs r = elim (depth_cases f xs) [
+  | inl all ↦ let some = r.bits in (omega (arith, all, some), omega (arith, all))
+  | inr n ↦ let some = stated_some (depth_in f xs) n.stated in let few = n.few in (omega (arith, some), omega (arith, few))
+]
+
+pub depth_high : (f : WaveFormat) (xs : List ℕ) → (depth_in f xs ≡ 8 * wave_width_of f) ⊎ (1 < wave_width_of f)
+depth_high f xs = elim (depth_cases f xs) [
+  | inl all ↦ inl all
+  | inr n ↦ let some = stated_some (depth_in f xs) n.stated in let few = n.few in inr (omega (arith, some, few))
+]
+
+-- whole samples of a file, of n bytes each
+pub file_whole : (count wide n : ℕ) → n % (count * wide) ≡ 0 → n % wide ≡ 0
+file_whole count wide n whole =
+    let d = div-add-mod' n (count * wide) in
+    let e : n ≡ n / (count * wide) * count * wide = omega (arith, d, whole) in
+    ap (λ k. k % wide) e ∙ mul-mod_left (n / (count * wide) * count) wide
+
+wave_long : (depth : ℕ) (xs : List ℕ) → length (wave_samples depth xs) ≡ length xs
+wave_long depth xs = by_test (nat_lt depth 9)
+  where
+    by_test : (b : Bool) → length (cond b (map turned xs) xs) ≡ length xs
+    by_test true = length-map xs turned
+    by_test false = refl
+
+low_long : (wide depth : ℕ) (xs : List ℕ) → 0 < wide → length xs % wide ≡ 0 → length (low_samples wide depth xs) ≡ length xs / wide * sample_width depth
+low_long wide depth xs some whole = by_depth (nat_eq depth (8 * wide)) refl
+  where
+    low : List ℕ
+    low = lowered wide (sample_width depth) (8 * wide - depth) (length xs / wide) xs
+
+    by_depth : (b : Bool) → nat_eq depth (8 * wide) ≡ b → length (cond b xs low) ≡ length xs / wide * sample_width depth
+    by_depth true e =
+        let all = eqb-true depth (8 * wide) e in
+        let same : sample_width depth ≡ wide = ap sample_width all ∙ width_of_all wide in
+        let d = div-add-mod' (length xs) wide in
+        let back : length xs ≡ length xs / wide * wide = omega (arith, d, whole) in
+        back ∙ ap (λ w. length xs / wide * w) (sym same)
+    by_depth false e = lowered_long wide (sample_width depth) (8 * wide - depth) (length xs / wide) xs
+
+-- and those of a stream
+pub stream_whole : (count wide depth : ℕ) (xs : List ℕ) → 0 < wide → length xs % (count * wide) ≡ 0 → length (stream_samples wide depth xs) % (count * sample_width depth) ≡ 0
+stream_whole count wide depth xs some whole =
+    let ys = wave_samples (8 * wide) xs in
+    let same = wave_long (8 * wide) xs in
+    let w = sample_width depth in
+    let k = length xs / (count * wide) in
+    let d = div-add-mod' (length xs) (count * wide) in
+    let e : length ys ≡ k * count * wide = same ∙ omega (arith, d, whole) in
+    let part : length ys % wide ≡ 0 = ap (λ n. n % wide) e ∙ mul-mod_left (k * count) wide in
+    let many : length ys / wide ≡ k * count = ap (λ n. n / wide) e ∙ mul-div_cancel (k * count) some in
+    let f : length (low_samples wide depth ys) ≡ k * (count * w) = low_long wide depth ys some part ∙ (ap (λ n. n * w) many ∙ mul_assoc k count w) in
+    ap (λ n. n % (count * w)) f ∙ mul-mod_left k (count * w)
+
+-- ---- what is taken
+
+-- what holds of a value that is there
+pub if_some : {X : Type 0} (P : X → Type 0) (o : Option X) (x : X) → o ≡ Some x → IfSome o P → P x
+if_some P None x e h = absurd cc
+if_some P (Some y) x e h = let same : y ≡ x = cc in subst P same h
+
+abbrev lists : Vec (Vec ℤ Global) Global → List (List ℤ)
+lists v = map (λ (c : Vec ℤ Global). c.items) v.items
+
+narrow_width : (bits : ℕ) → bits < 33 → (bits + 7) / 8 ≤ 4
+narrow_width bits few = omega (arith, few)
+
+some_width : (bits : ℕ) → 0 < bits → 0 < (bits + 7) / 8
+some_width bits some = omega (arith, some)
+
+-- a whole number of inter-channel samples stays so
+pub raw_whole : (f : WaveFormat) (range : IsInRange f) (bytes : List ℕ) (depth : ℕ) (raw : List ℕ) (width : ℕ) → length bytes % row_of f ≡ 0 → raw ≡ stream_samples (wave_width_of f) depth bytes → width ≡ sample_width depth → length raw % (f.channels * width) ≡ 0
+raw_whole f range bytes depth raw width whole is wide =
+    ap (λ b. length b % (f.channels * width)) is ∙ (ap (λ w. length (stream_samples (wave_width_of f) depth bytes) % (f.channels * w)) wide
+    ∙ stream_whole f.channels (wave_width_of f) depth bytes (some_width f.bits range.bits) whole)
+
+module _ (f : WaveFormat) (range : IsInRange f) (bytes : List ℕ) (depth : ℕ) (v : Vec (Vec ℤ Global) Global) (odd : Bool) where
+  pub unchanged_taken : (width : ℕ) → known_depth f ≡ Some depth → 8 < depth → width ≡ wave_width_of f → length bytes % (f.channels * width) ≡ 0 → AreChannels bytes f.channels width (lists v)
+      → not odd ≡ nat_eq (samples_each (lists v) * (f.channels * width) % 2) 0 → AreTaken f bytes (record { depth = depth; channels = v; odd = odd })
+  unchanged_taken width known more wide whole are o =
+      let same : stream_samples (wave_width_of f) depth bytes ≡ bytes = same_samples (wave_width_of f) depth bytes (known_is f depth known) more in
+      let width_is : width ≡ sample_width depth = wide ∙ sym (width_known f depth known) in
+      let here : AreChannels bytes f.channels (sample_width depth) (lists v) = subst (λ w. AreChannels bytes f.channels w (lists v)) width_is are in
+      let long = channels_long bytes f.channels width (lists v) are (subst (λ w. w ≤ 4) (sym wide) (narrow_width f.bits range.narrow)) in
+      record {
+        small = channels_small bytes f.channels width (lists v) are;
+        whole = subst (λ w. length bytes % (f.channels * w) ≡ 0) wide whole;
+        deep = sym (depth_known f bytes depth known);
+        raw = record {
+          whole = ap (λ b. length b % (f.channels * sample_width depth)) same ∙ subst (λ w. length bytes % (f.channels * w) ≡ 0) width_is whole;
+          are = subst (λ b. AreChannels b f.channels (sample_width depth) (lists v)) (sym same) here;
+        };
+        odd = o ∙ ap (λ n. nat_eq (n % 2) 0) (sym long);
+      }
+
+  pub changed_taken : (raw : List ℕ) (width : ℕ) → AreBytes bytes → length bytes % row_of f ≡ 0 → depth ≡ depth_in f bytes → raw ≡ stream_samples (wave_width_of f) depth bytes → width ≡ sample_width depth
+      → AreChannels raw f.channels width (lists v) → not odd ≡ nat_eq (length bytes % 2) 0 → AreTaken f bytes (record { depth = depth; channels = v; odd = odd })
+  changed_taken raw width small whole deep is wide are o = record {
+    small = small;
+    whole = whole;
+    deep = deep;
+    raw = record {
+      whole = stream_whole f.channels (wave_width_of f) depth bytes (some_width f.bits range.bits) whole;
+      are = subst (λ b. AreChannels b f.channels (sample_width depth) (lists v)) is (subst (λ w. AreChannels raw f.channels w (lists v)) wide are);
+    };
+    odd = o;
+  }
+
+pub odd_is : (n m : ℕ) → n % 2 ≡ m → not (nat_eq m 1) ≡ nat_eq m 0
+odd_is n zero e = refl
+odd_is n (suc zero) e = refl
+odd_is n (suc (suc m)) e = absurd (let l = mod-lt n {m = 2} (omega arith) in omega (arith, l, e))
+
+-- ---- how many bytes the samples have, by how many there are
+
+pub rows_in : (channels : List (Vec ℤ Global)) (v : Vec ℤ Global) (n : ℕ) → v ≡ get_or channels 0 v → 0 < length channels → n ≡ v.len → v.len ≡ length v.items → n ≡ samples_each (map (λ (c : Vec ℤ Global). c.items) channels)
+rows_in [] v n is some len long = absurd (omega (arith, some))
+rows_in (x ∷ xs) v n is some len long = len ∙ (long ∙ ap (λ (c : Vec ℤ Global). length c.items) is)
+
+pub odd_then : (s n row : ℕ) → n ≡ s → n % 2 ≡ 1 → not (nat_eq (row % 2) 1) ≡ nat_eq (s * row % 2) 0
+odd_then s n row same is = both_odd s row (nat_eq (row % 2) 1) (ap (λ b. b && nat_eq (row % 2) 1) (sym (eq-eqb (s % 2) 1 (ap (λ k. k % 2) (sym same) ∙ is))))
+
+pub odd_else : (s n row : ℕ) → n ≡ s → n % 2 ≢ 1 → not (nat_eq (n % 2) 1) ≡ nat_eq (s * row % 2) 0
+odd_else s n row same other_is =
+    let even : nat_eq (n % 2) 1 ≡ false = ne_eqb (n % 2) 1 other_is in
+    let other : nat_eq (s % 2) 1 ≡ false = ap (λ k. nat_eq (k % 2) 1) (sym same) ∙ even in
+    both_odd s row (nat_eq (n % 2) 1) (even ∙ ap (λ b. b && nat_eq (row % 2) 1) (sym other))
+
+-- ---- samples that were read of a part of a source
+
+pub known_part : (known failed : Bool) → known ≡ true → failed ≡ false → (known && not failed) ≡ true
+known_part true false k f = refl
+known_part true true k f = absurd cc
+known_part false failed k f = absurd cc
+
+pub left_by : {T E : Type 0} (r : Result T E) (K : Type 0) (now then rest : List ℕ) → now ≡ then → (K → then ≡ rest) → OnOk r (K → now ≡ rest)
+left_by (Ok t) K now then rest same is = λ known. same ∙ is known
+left_by (Err e) K now then rest same is = tt
+
+pub whole_by : (read : Option WaveSamples) (f : WaveFormat) (part : List ℕ) (K : Type 0) → IfSome read (λ s. K → AreTaken f part s) → (read ≡ None → K → length part % row_of f ≢ 0) → K → is_some read ≡ nat_eq (length part % row_of f) 0
+whole_by None f part K taken none k = sym (ne_eqb (length part % row_of f) 0 (none refl k))
+whole_by (Some s) f part K taken none k = let t = taken k in sym (eq-eqb (length part % row_of f) 0 t.whole)
+
+pub fault_by : (r : Result WaveSamples WaveError) (read : Option WaveSamples) (front : WaveFront) (to_end cut : Bool) (bytes : List ℕ) (K S : Type 0) → IsJudged read front.count to_end cut r → (K → cut ≡ is_cut front.size bytes)
+    → (K → is_some read ≡ are_whole front.format front.size bytes) → IfErr r (λ e. K → S → IsSamplesError to_end front bytes e)
+fault_by (Ok s) read front to_end cut bytes K S j same whole = tt
+fault_by (Err e) read front to_end cut bytes K S j same whole = λ k s.
+    subst (IsSamplesError to_end front bytes) (sym j.1)
+    (refl, ap (λ b. front_fault to_end b (are_whole front.format front.size bytes)) (sym (same k)) ∙ (ap (λ b. front_fault to_end cut b) (sym (whole k)) ∙ j.2))
+
+-- ---- the file
+
+pub samples_error : (to_end : Bool) (bytes rest : List ℕ) (f : WaveFront) (e : WaveError) → BeginsWith to_end bytes f rest → IsSamplesError to_end f rest e → IsErrorOf to_end bytes e
+samples_error to_end bytes rest f error.Memory b h = tt
+samples_error to_end bytes rest f error.Read b h = absurd h
+samples_error to_end bytes rest f (error.Fault x) b h = subst (λ o. IsNoWave to_end bytes o x.why) (sym h.0) (front_none to_end bytes f.format (map (λ p. p.items) f.pieces.items) f.size f.count rest b x.why h.1)
+
+cut_by : (even other : Bool) (xs ys : List ℕ) (ps : List (List ℕ)) → even ≡ other → xs ≡ ys → ArePiecesBy even (begins_zero xs) xs ps → ArePiecesBy other (begins_zero ys) ys ps
+cut_by even other xs ys ps same is h = subst (λ l. ArePiecesBy other (begins_zero l) l ps) is (subst (λ b. ArePiecesBy b (begins_zero xs) xs ps) same h)
+
+pub file_taken : (to_end : Bool) (bytes rest back : List ℕ) (f : WaveFront) (s : WaveSamples) (after : Vec (Vec ℕ Global) Global) → BeginsWith to_end bytes f rest → samples_fault to_end f rest ≡ None → AreTaken f.format (given f.size rest) s
+    → back ≡ beyond f.size rest → ArePiecesBy (not s.odd) (begins_zero back) back (map (λ p. p.items) after.items) → IsTaken to_end bytes (record { format = f.format; pieces = f.pieces; samples = s; after = after })
+file_taken to_end bytes rest back f s after b good t is pieces = record {
+  samples = given f.size rest;
+  back = beyond f.size rest;
+  wave = front_file to_end bytes f.format (map (λ p. p.items) f.pieces.items) f.size f.count rest b good;
+  cut = cut_by (not s.odd) (nat_eq (length (given f.size rest) % 2) 0) back (beyond f.size rest) (map (λ p. p.items) after.items) t.odd is pieces;
+  taken = t;
+}

@@ -1,0 +1,19 @@
+use Rattle.std.proofs.lemmas.Result.{err_from_is_err_and}
+use Rattle.flac_cli.specs.Objects.{escapes}
+use Rattle.flac_cli.proofs.Lined.{lost, lost_then, adds_lost}
+use Rattle.flac_cli.proofs.Objects.{escapes_joined, none_joined, one_joined, all_joined}
+use Rattle.flac_cli.proofs.lines.Lines.put_escapes.Goals as goal
+
+pub loop-byte-init : goal.loop-byte-init
+loop-byte-init g c = none_joined g.W.Target escapes_joined c.args.text.now _ _
+
+pub loop-byte-preserved : goal.loop-byte-preserved
+loop-byte-preserved g c = one_joined g.W.Target escapes_joined c.args.text.now c.loop-byte.byte-index 0 c.loop-byte-test.true c.loop-byte.invariant c.in_ok-put_escape.ensures
+
+pub returns-in_err-put_escape : goal.returns-in_err-put_escape
+returns-in_err-put_escape g c =
+    let p = err_from_is_err_and c.from_residual.result c.from_residual.ensures.1 in
+    rw p.1 (adds_lost g.W.Target (lost_then g.W.Target c.loop-byte.invariant (lost g.W.Target c.in_err-put_escape.ensures)))
+
+pub returns : goal.returns
+returns g c = all_joined g.W.Target escapes c.args.text.now c.loop-byte.byte-index c.loop-byte-test.false c.loop-byte.invariant

@@ -1,0 +1,29 @@
+use Rattle.std.proofs.Common.{◌≡◌, ap, ◌∙◌, take, [], subst}
+use Rattle.std.proofs.lemmas.Result.{err_from_is_err_and}
+use Rattle.flac_cli.specs.Same.{two_numbers}
+use Rattle.flac_cli.specs.inner.Lined.{Adds}
+use Rattle.flac_cli.proofs.Lined.{none_taken, adds_then, lost, lost_then, adds_lost, sent_adds}
+use Rattle.flac_cli.proofs.same.put_two.Goals as goal
+
+pub returns-in_err-put_counted : goal.returns-in_err-put_counted
+returns-in_err-put_counted g c =
+    let p = err_from_is_err_and c.from_residual.result c.from_residual.ensures.1 in
+    rw p.1 (adds_lost g.O.Target (lost g.O.Target c.in_err-put_counted.ensures))
+
+pub returns-in_err-put_counted-2 : goal.returns-in_err-put_counted-2
+returns-in_err-put_counted-2 g c =
+    let p = err_from_is_err_and c.from_residual-in_err-put_counted-2.result c.from_residual-in_err-put_counted-2.ensures.1 in
+    rw p.1 (adds_lost g.O.Target (lost_then g.O.Target c.in_ok-put_counted.ensures (lost g.O.Target c.in_err-put_counted-2.ensures)))
+
+pub returns-in_err-put : goal.returns-in_err-put
+returns-in_err-put g c =
+    let p = err_from_is_err_and c.from_residual-in_err-put.result c.from_residual-in_err-put.ensures.1 in
+    rw p.1 (adds_lost g.O.Target (lost_then g.O.Target c.in_ok-put_counted.ensures (lost_then g.O.Target c.in_ok-put_counted-2.ensures (lost g.O.Target c.in_err-put.ensures))))
+
+pub returns : goal.returns
+returns g c =
+    let sent = sent_adds g.O.Target _ c.send.result c.send.ensures.names c.send.ensures.kept c.send.ensures.known c.send.ensures.sent c.send.ensures.failed in
+    let b = adds_then g.O.Target _ c.in_ok-put.ensures sent in
+    let a = adds_then g.O.Target _ c.in_ok-put_counted-2.ensures b in
+    let none : take c.args.lines.now.held c.args.lines.now.bytes ≡ [] = ap (λ n. take n c.args.lines.now.bytes) c.requires ∙ none_taken c.args.lines.now.bytes in
+    subst (λ held. Adds g.O.Target (two_numbers c.args.what.now c.args.first c.args.between.now c.args.second) c.args.lines.now.target c.send.new.self.target held [] c.send.result) none (adds_then g.O.Target _ c.in_ok-put_counted.ensures a)

@@ -1,0 +1,19 @@
+-- For proofs of the lines of a report.
+use Rattle.std.specs.Prelude.{◌≡◌, ◌≤◌, ◌<◌, ℕ, true, List, ◌++◌, replicate, Option, Some, None, Result, OnOk, OnErr}
+use Rattle.flac_bits.specs.declared.target.Target as target
+use Rattle.flac_info.specs.Info.{Info}
+use Rattle.flac_cli.specs.Reported.{entry_line}
+use Rattle.flac_cli.specs.declared.verify.Finding.{Finding}
+use Rattle.flac_cli.specs.declared.verify_report.Entry.{Entry}
+
+-- the digest of STREAMINFO, zeros if there is none
+abbrev pub digest_in : Option Info → List ℕ
+digest_in None = replicate 16 0
+digest_in (Some info) = info.digest
+
+-- a call that was to send the line of a file
+pub record EntrySent {T X E : Type 0} (g : target.Ghosts T) (entry : Entry) (finding : Finding) (old new : T) (result : Result X E) : Type 0 where
+  pub kept : g.errors old ≤ g.errors new
+  pub known : OnOk result (g.known old ≡ true → g.known new ≡ true)
+  pub sent : OnOk result (g.known old ≡ true → g.sent new ≡ g.sent old ++ entry_line entry.path.now entry.stamp entry.is_sought finding)
+  pub failed : OnErr result (g.known old ≡ true → g.errors old < g.errors new)

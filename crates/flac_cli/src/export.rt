@@ -1,0 +1,56 @@
+//! `flac export`: a part of the metadata of a native stream.
+
+ghost use Rattle.std.specs.Prelude.{◌≡◌, ◌≤◌, true};
+ghost use Rattle.flac_native.specs.Decoding.{source_start};
+ghost use Rattle.flac_edit.specs.Parts.{ExportsAt};
+ghost use Rattle.flac_cli.specs.Editing.{part_of};
+
+use crate::edit::refuse_edits;
+use crate::report::refuse;
+use crate::retag::is_of_target;
+use flac_bits::{Source, Target};
+use flac_edit::{EditFault, Part, export_part};
+use flac_jobs::{ExportPart, Exporting};
+use std::alloc::Global;
+
+/// The part that a word names.
+fn part_of(part: ExportPart) -> Part
+    ensures { result ≡ part_of part }
+{
+    match part {
+        ExportPart::Tags => Part::Tags,
+        ExportPart::Picture => Part::Picture,
+        ExportPart::Block(number) => Part::Block(number),
+    }
+}
+
+/// Writes a part of the metadata of a native stream, as [`export_part`] does. Returns the status: 1 if it failed, and the
+/// line of the error was written to `err`, if that could be written.
+pub fn export_file<R: Source, W: Target, E: Target>(
+    alloc: Global,
+    exporting: &Exporting<'_>,
+    part: ExportPart,
+    source: &mut R,
+    target: &mut W,
+    err: &mut E,
+) -> u8
+    ensures status { result ≤ 1 }
+    // After status 0 that part of the input was written.
+    ensures exported { result ≡ 0 → R.known source.old ≡ true → W.known target.old ≡ true
+        → ExportsAt (source_start R.Source source.old) (part_of part) (W.sent target.old) (W.sent target.new) }
+    // After status 0 nothing was written to standard error.
+    ensures silent { result ≡ 0 → err.new ≡ err.old }
+{
+    match export_part(alloc, source, part_of(part), target) {
+        Ok(()) => 0,
+        Err(EditFault::Blocks(fault)) => refuse_edits(err, exporting.input, fault),
+        Err(EditFault::Stream(fault)) => {
+            let path = if is_of_target(fault) {
+                exporting.output
+            } else {
+                exporting.input
+            };
+            refuse(err, path, fault.at, fault.why)
+        }
+    }
+}

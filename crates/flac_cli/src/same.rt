@@ -1,0 +1,111 @@
+//! `flac same`: compares the samples of two streams.
+
+ghost use Rattle.std.specs.Prelude.{◌≡◌, ◌≤◌, ◌<◌, ◌++◌, true, [], OnOk, OnErr};
+ghost use Rattle.flac_compare.specs.Streams.{ToldAll, AreSame};
+ghost use Rattle.flac_cli.specs.Reports.{Serves};
+ghost use Rattle.flac_cli.specs.Same.{two_numbers, difference_line, ReportsComparison, lax_input};
+ghost use Rattle.flac_cli.specs.inner.Lined.{Adds};
+
+use crate::lines::Lines;
+use crate::report::refuse;
+use flac_bits::{Source, Target, Why};
+use flac_compare::{Difference, Unread, compare_streams};
+use flac_jobs::Comparison;
+use flac_native::Profile;
+use std::alloc::Global;
+
+/// Sends a line of two numbers through a buffer.
+fn put_two<O: Target>(
+    lines: &mut Lines<O>,
+    what: &str,
+    first: u64,
+    between: &str,
+    second: u64,
+) -> Result<(), Why>
+    requires { lines.old.held ≡ 0 }
+    ensures { Adds O.Target (two_numbers what.now first between.now second)
+        lines.old.target lines.new.target [] [] result }
+{
+    lines.put_counted(what, first)?;
+    lines.put_counted(between, second)?;
+    lines.put("\n")?;
+    lines.send()
+}
+
+/// Sends the line of a difference through a buffer.
+fn put_difference<O: Target>(lines: &mut Lines<O>, difference: Difference) -> Result<(), Why>
+    requires { lines.old.held ≡ 0 }
+    ensures { Adds O.Target (difference_line difference) lines.old.target lines.new.target [] [] result }
+{
+    match difference {
+        Difference::Rate(a, b) => put_two(lines, "rate ", u64::from(a), " ", u64::from(b)),
+        Difference::Channels(a, b) => put_two(lines, "channels ", u64::from(a), " ", u64::from(b)),
+        Difference::Depth(a, b) => put_two(lines, "bits ", u64::from(a), " ", u64::from(b)),
+        Difference::Sample(n, c) => put_two(lines, "differ at sample ", n, " channel ", c as u64),
+        Difference::Length(a, b) => put_two(lines, "samples ", a, " ", b),
+    }
+}
+
+/// Writes the line of a difference.
+///
+/// # Errors
+/// [`Why::Write`] if the target fails.
+fn write_difference<O: Target>(out: &mut O, difference: Difference) -> Result<(), Why>
+    ensures kept { O.errors out.old ≤ O.errors out.new }
+    ensures known { OnOk result (O.known out.old ≡ true → O.known out.new ≡ true) }
+    ensures sent { OnOk result (O.known out.old ≡ true → O.sent out.new ≡ O.sent out.old ++ difference_line difference) }
+    ensures failed { OnErr result (O.known out.old ≡ true → O.errors out.old < O.errors out.new) }
+{
+    let mut lines = Lines::new(out);
+    put_difference(&mut lines, difference)
+}
+
+/// Prints the line of a difference, and returns the status 1.
+fn tell_difference<O: Target, E: Target>(out: &mut O, err: &mut E, difference: Difference) -> u8
+    ensures status { result ≡ 1 }
+    ensures told { Serves O.Target out.old out.new → Serves E.Target err.old err.new →
+        (O.sent out.new ≡ O.sent out.old ++ difference_line difference) × (E.sent err.new ≡ E.sent err.old) }
+{
+    match write_difference(out, difference) {
+        Ok(()) => 1,
+        Err(why) => refuse(err, "standard output", None, why),
+    }
+}
+
+/// Compares two streams, each native or Ogg, also outside the streamable subset: their sample rates, channels, bits per
+/// sample, samples, and numbers of samples. Returns the exit status: 0 if all of these are the same, else 1.
+///
+/// `paths` are those of the files that `first` and `second` are, `out` and `err` are standard output and standard error.
+/// After status 1 the line of the first difference was written to `out`: `rate A B`, `channels A B`, `bits A B`,
+/// `differ at sample N channel C`, or `samples A B`; or one of the streams is refused before any difference, and the
+/// line of the fault of its file was written to `err`.
+pub fn compare_files<R: Source, S: Source, O: Target, E: Target>(
+    alloc: Global,
+    paths: &Comparison<'_>,
+    first: &mut R,
+    second: &mut S,
+    out: &mut O,
+    err: &mut E,
+) -> u8
+    // The status is 0 or 1.
+    ensures status { result ≤ 1 }
+    // After status 0 both inputs are streams of the same format and the same samples.
+    ensures same { result ≡ 0 → ToldAll R.Source first.old first.new → ToldAll S.Source second.old second.new →
+        AreSame (lax_input R.Source first.old) (lax_input S.Source second.old) }
+    // If no device fails, the status and the line are those of what the two inputs are: nothing if they are the same,
+    // the first difference, or the refusal of one of them. Or memory ran out: then the line says that.
+    ensures reported { ToldAll R.Source first.old first.new → ToldAll S.Source second.old second.new →
+        Serves O.Target out.old out.new → Serves E.Target err.old err.new →
+        ReportsComparison (lax_input R.Source first.old) (lax_input S.Source second.old) paths.now.first.now paths.now.second.now result (O.sent out.old) (O.sent out.new) (E.sent err.old) (E.sent err.new) }
+{
+    match compare_streams(alloc, first, second, Profile::Lax) {
+        Ok(found) => match found {
+            None => 0,
+            Some(difference) => tell_difference(out, err, difference),
+        },
+        Err(unread) => match unread {
+            Unread::First(fault) => refuse(err, paths.first, Some(fault.at), fault.why),
+            Unread::Second(fault) => refuse(err, paths.second, Some(fault.at), fault.why),
+        },
+    }
+}

@@ -1,0 +1,227 @@
+//! `flac edit`.
+
+ghost use Rattle.std.specs.Prelude.{◌≤◌, IfSome};
+
+use super::{Usage, Word, WordKind};
+use clap::ArgMatches;
+use flac_jobs::{BlockName, Editing, LineFault, PictureForm, PictureWord, Request};
+use std::alloc::{AllocError, Global};
+
+const EDIT_EXAMPLE: &str = "Examples:
+  $ flac edit --picture cover.jpg song.flac                adds a front cover
+  $ flac edit --remove-block picture --padding 4096 *.flac
+
+A block is named by its number, as list has it, or by its type: padding, application,
+application:ID, seektable, vorbis_comment, cuesheet, picture, or type_7 to type_126. ID is
+four characters, or 0x and eight hexadecimal digits. STREAMINFO cannot be removed.
+
+A picture is a PNG or JPEG file, of which the sizes are read. Any other is given as
+TYPE:MEDIA:WIDTHxHEIGHTxDEPTH:FILE or TYPE:MEDIA:WIDTHxHEIGHTxDEPTH/COLOURS:FILE. TYPE is 0
+to 20: 3 is the front cover, 4 the back cover, 8 the artist; without it, it is 3. Of types
+1 and 2 there is one picture at most. Pictures are put before comments and padding.
+
+With --padding all old padding is replaced by one block at the end. A new file takes the
+place of each; frames are copied as they are and not verified. A file that is refused stays
+as it was, and a line says why; the exit status is then 1. Ogg streams are refused.";
+
+pub(crate) static EDIT: Usage = Usage {
+    name: "edit",
+    about: "Removes metadata blocks of streams, adds pictures, sets the padding",
+    words: &EDIT_WORDS,
+    example: EDIT_EXAMPLE,
+};
+
+/// The arguments of `edit`.
+const EDIT_WORDS: [Word; 5] = [
+    Word {
+        name: "FILE",
+        kind: WordKind::Files,
+        help: "The streams",
+    },
+    Word {
+        name: "remove-block",
+        kind: WordKind::Texts("N|TYPE[:ID]"),
+        help: "Removes the block of this number, or all of this type",
+    },
+    Word {
+        name: "picture",
+        kind: WordKind::Texts("[TYPE:]FILE"),
+        help: "Adds a picture",
+    },
+    Word {
+        name: "padding",
+        kind: WordKind::Wanted,
+        help: "Bytes of padding in place of the old; 0: none",
+    },
+    Word {
+        name: "verbose",
+        kind: WordKind::ShortFlag('v'),
+        help: "Prints a line for each file that was edited",
+    },
+];
+
+/// What `edit` asks for.
+pub(crate) fn edit_request<'a>(
+    alloc: Global,
+    given: &ArgMatches<'a>,
+) -> Result<Option<Request<'a>>, clap::Error> {
+    let Some(files) = given.get_strs("FILE") else {
+        return Ok(None);
+    };
+    let mut inputs = Vec::new(alloc);
+    inputs.extend_from_slice(files)?;
+    Ok(Some(Request::Edit(Editing {
+        inputs,
+        removals: removals_of(alloc, given.get_strs("remove-block").unwrap_or(&[]))?,
+        pictures: pictures_of(alloc, given.get_strs("picture").unwrap_or(&[]))?,
+        padding: given.get_one("padding"),
+        verbose: given.get_flag("verbose"),
+    })))
+}
+
+/// Which blocks the words name; `None` if one names none that can be removed.
+fn removals_of(alloc: Global, words: &[&str]) -> Result<Option<Vec<BlockName>>, AllocError> {
+    let mut removals = Vec::with_capacity(alloc, words.len())?;
+    for word in words {
+        match block_name(word) {
+            Some(name) => removals.push(name)?,
+            None => return Ok(None),
+        }
+    }
+    Ok(Some(removals))
+}
+
+/// Which blocks a word names.
+fn block_name(word: &str) -> Option<BlockName> {
+    if let Some((kind, id)) = word.split_once(':') {
+        if kind.eq_ignore_ascii_case("application") {
+            return Some(BlockName::Application(application_id(id)?));
+        }
+        return None;
+    }
+    if let Ok(number) = word.parse::<u32>() {
+        return if number == 0 {
+            None
+        } else {
+            Some(BlockName::Number(number))
+        };
+    }
+    Some(BlockName::Kind(kind_of(word)?))
+}
+
+/// The names of the types of blocks from 1 on, as `list` has them.
+const KINDS: [&str; 6] = [
+    "PADDING",
+    "APPLICATION",
+    "SEEKTABLE",
+    "VORBIS_COMMENT",
+    "CUESHEET",
+    "PICTURE",
+];
+
+/// The type of a name, 1 to 126, whatever the case of its letters.
+fn kind_of(name: &str) -> Option<u8> {
+    for (i, known) in KINDS.iter().enumerate() {
+        if name.eq_ignore_ascii_case(known) {
+            return Some(i as u8 + 1);
+        }
+    }
+    let (front, number) = name.split_once('_')?;
+    let kind = number.parse::<u8>().ok()?;
+    if front.eq_ignore_ascii_case("TYPE") && kind > 6 && kind < 127 {
+        return Some(kind);
+    }
+    None
+}
+
+/// The identifier of an application: four ASCII characters, or `0x` and eight hexadecimal digits.
+fn application_id(text: &str) -> Option<[u8; 4]> {
+    if let Some(digits) = text.strip_prefix("0x") {
+        if digits.len() == 8 {
+            return Some(u32::from_str_radix(digits, 16).ok()?.to_be_bytes());
+        }
+        return None;
+    }
+    match text.as_bytes() {
+        [a, b, c, d] if text.is_ascii() => Some([*a, *b, *c, *d]),
+        _ => None,
+    }
+}
+
+/// The pictures that the words name; `None` if one is no picture.
+fn pictures_of<'a>(
+    alloc: Global,
+    words: &[&'a str],
+) -> Result<Option<Vec<PictureWord<'a>>>, AllocError> {
+    let mut pictures = Vec::with_capacity(alloc, words.len())?;
+    for word in words {
+        match picture_word(word) {
+            Some(picture) => pictures.push(picture)?,
+            None => return Ok(None),
+        }
+    }
+    Ok(Some(pictures))
+}
+
+/// The picture that a word names. What is before its first `:` is a type if it is a number, and else belongs to the path.
+fn picture_word(word: &str) -> Option<PictureWord<'_>> {
+    let cover = PictureWord {
+        kind: 3,
+        form: None,
+        path: word,
+    };
+    let Some((front, rest)) = word.split_once(':') else {
+        return Some(cover);
+    };
+    let Ok(kind) = front.parse::<u32>() else {
+        return Some(cover);
+    };
+    if kind > 20 {
+        return None;
+    }
+    match formed(rest) {
+        Some((form, path)) => Some(PictureWord {
+            kind,
+            form: Some(form),
+            path,
+        }),
+        None => Some(PictureWord {
+            kind,
+            form: None,
+            path: rest,
+        }),
+    }
+}
+
+/// The format, the sizes and the path of a text `MEDIA:WIDTHxHEIGHTxDEPTH[/COLOURS]:FILE`.
+fn formed(text: &str) -> Option<(PictureForm<'_>, &str)> {
+    let (media, rest) = text.split_once(':')?;
+    let (sizes, path) = rest.split_once(':')?;
+    let (sizes, colours) = sizes.split_once('/').unwrap_or((sizes, "0"));
+    let (width, rest) = sizes.split_once('x')?;
+    let (height, depth) = rest.split_once('x')?;
+    let form = PictureForm {
+        media,
+        width: width.parse::<u32>().ok()?,
+        height: height.parse::<u32>().ok()?,
+        depth: depth.parse::<u32>().ok()?,
+        colours: colours.parse::<u32>().ok()?,
+    };
+    Some((form, path))
+}
+
+/// Why an editing is refused whose words were all read; `None` if it is not.
+pub(crate) fn fault_of_editing(editing: &Editing<'_>) -> Option<LineFault>
+    ensures { IfSome result (λ fault. fault.status ≤ 2) }
+{
+    let Some(removals) = &editing.removals else {
+        return Some(LineFault::block_name());
+    };
+    let Some(pictures) = &editing.pictures else {
+        return Some(LineFault::picture_word());
+    };
+    if removals.is_empty() && pictures.is_empty() && editing.padding.is_none() {
+        return Some(LineFault::no_edit());
+    }
+    None
+}

@@ -1,0 +1,78 @@
+//! `flac export`.
+
+ghost use Rattle.std.specs.Prelude.{◌≤◌, IfSome};
+
+use super::{FORCE, Usage, Word, WordKind};
+use clap::ArgMatches;
+use flac_jobs::{ExportPart, Exporting, LineFault, Request};
+use std::alloc::Global;
+
+const EXPORT_EXAMPLE: &str = "Examples:
+  $ flac export song.flac picture cover.jpg
+  $ flac export song.flac tags - | sort
+
+PART is tags, picture, or the number of a block, as list has it. Tags are a line each,
+escaped as list has them: bytes outside 20 to 7E (hexadecimal) and the backslash are \\x and
+two digits. Of a picture it is the data of the first one, of a block the content without its
+header; that of padding is zeros. No frame is read.
+
+A file OUT that is a stream or a WAV file is not replaced without --force; any other that has
+bytes is replaced once the new one is whole.";
+
+pub(crate) static EXPORT: Usage = Usage {
+    name: "export",
+    about: "Writes tags, a picture or the content of a block to a file",
+    words: &EXPORT_WORDS,
+    example: EXPORT_EXAMPLE,
+};
+
+/// The arguments of `export`.
+const EXPORT_WORDS: [Word; 4] = [
+    Word {
+        name: "IN",
+        kind: WordKind::File,
+        help: "The stream; - for standard input",
+    },
+    Word {
+        name: "PART",
+        kind: WordKind::File,
+        help: "What is written: tags, picture, or the number of a block",
+    },
+    Word {
+        name: "OUT",
+        kind: WordKind::File,
+        help: "The file that it is written to; - for standard output",
+    },
+    FORCE,
+];
+
+/// What `export` asks for.
+pub(crate) fn export_request<'a>(given: &ArgMatches<'a>) -> Option<Request<'a>> {
+    let input = given.get_str("IN")?;
+    let output = given.get_str("OUT")?;
+    Some(Request::Export(Exporting {
+        input,
+        part: part_of(given.get_str("PART")?),
+        output,
+        force: given.get_flag("force"),
+    }))
+}
+
+/// Which part a word names.
+fn part_of(word: &str) -> Option<ExportPart> {
+    match word {
+        "tags" => Some(ExportPart::Tags),
+        "picture" => Some(ExportPart::Picture),
+        _ => Some(ExportPart::Block(word.parse::<u32>().ok()?)),
+    }
+}
+
+/// Why an exporting is refused whose words were all read; `None` if it is not.
+pub(crate) fn fault_of_exporting(exporting: &Exporting<'_>) -> Option<LineFault>
+    ensures { IfSome result (λ fault. fault.status ≤ 2) }
+{
+    if exporting.part.is_none() {
+        return Some(LineFault::no_part());
+    }
+    None
+}
