@@ -43,7 +43,7 @@ class Job:
 
 def built(folder):
     """Proves and builds the program in a folder. Returns its path."""
-    libraries = [name for name in pushing.LIBRARIES if name != "flac_encoder"]
+    libraries = [name for name in pushing.LIBRARIES if name not in ("flac_predict", "flac_encoder")]
     lines = [line for line in read(os.path.join(program.ROOT, "crates.txt")).decode().splitlines() if line.split(":")[0] in libraries]
     subprocess.run(["git", "init", "-q", folder], check=True)
     with open(os.path.join(folder, "crates.txt"), "w", encoding="utf-8") as file:

@@ -8,7 +8,8 @@ by bit, and copies of them, are compared. Status 1 if a case failed.
 
 Of each stream: verify is `test`, the information, vendor and comments are `list`, the samples are `decode`; a native stream frame by
 frame, and from some samples on, has the same samples and ends for the same reason. Of each sound: the stream is that of `encode`,
-byte by byte, and has at most the bytes of the bound; wav2flac and flac2wav give the same WAV file again. Some run under valgrind and
+byte by byte, and has at most the bytes of the bound. The calls that take a profile are compared with `--lax`, and in the subset with those
+that take none; the metadata blocks with what a model of its own reads of the bytes. wav2flac and flac2wav give the same WAV file again. Some run under valgrind and
 under the sanitizers, and with each allocation refused.
 """
 import argparse
@@ -25,8 +26,10 @@ import zlib
 import folders  # noqa: F401  (the path of the modules below)
 import corpus
 import damage
+import model
 import program
 import vectors
+import vectors_lax
 
 EXAMPLES = os.path.join(program.ROOT, "examples", "c")
 HEAP = "/opt/rattle/c/liblibc_c.a"
@@ -74,12 +77,12 @@ class Door:
         self.expect(name, (result.returncode, result.stderr), (0, b""))
         return result.stdout
 
-    def lines(self, paths):
+    def lines(self, paths, word="lines"):
         """What the calls answer of each file: its lines."""
         told = []
         for first in range(0, len(paths), 200):
             part = paths[first:first + 200]
-            result = ran(self.plain, "lines", *part)
+            result = ran(self.plain, word, *part)
             lines = result.stdout.decode().splitlines()
             if result.returncode or result.stderr:
                 sys.exit(f"c_door: status {result.returncode} at {lines[-5:]}: {result.stderr[-500:]!r}")
@@ -91,11 +94,11 @@ class Door:
         return told
 
 
-def due_lines(path, folder):
+def due_lines(path, folder, profile=model.SUBSET):
     """What the program says of a stream: `test`, `list` and `decode`."""
-    answer, raw = program.answer(path), os.path.join(folder, "decoded.raw")
+    answer, raw = program.answer(path, profile), os.path.join(folder, "decoded.raw")
     yield "verify " + ("ok" if answer.startswith("frames ") else answer)
-    listed = program.call("list", path)[1].decode().splitlines()
+    listed = program.call("list", *profile.words, path)[1].decode().splitlines()
     info = [line[2:] for line in listed if line.startswith(("  blocks ", "  md5 "))]
     vendor = [line[2:] for line in listed if line.startswith("  vendor ")]
     yield from info + (vendor or ["vendor "]) if info else ["info " + answer]
@@ -103,12 +106,73 @@ def due_lines(path, folder):
     # a file that is there would be replaced at the end, and what a refused job has written would stay beside it
     if os.path.exists(raw):
         os.remove(raw)
-    status, _, err = program.call("decode", path, raw)
+    status, _, err = program.call("decode", *profile.words, path, raw)
     if status:
         yield "decode " + program.fault_of(path, status, err)
     else:
         data = program.read(raw)
         yield f"decode {len(data)} {zlib.crc32(data):08x}"
+
+
+def parts_of(kind, body):
+    """How many comments, seek points or tracks a block has (RFC 9639, sections 8.5 to 8.7)."""
+    if kind == 3:
+        return len(body) // 18
+    if kind == 4:
+        return int.from_bytes(body[4 + int.from_bytes(body[:4], "little"):][:4], "little")
+    return body[395] if kind == 5 else 0
+
+
+def due_blocks(data):
+    """The lines of the metadata blocks of a native stream, read from its bytes (RFC 9639, sections 8.1 and 8.8)."""
+    at, last = 4, False
+    while not last:
+        last, kind, size = data[at] >= 128, data[at] & 127, int.from_bytes(data[at + 1:at + 4], "big")
+        body = data[at + 4:at + 4 + size]
+        yield f"block {at} {size} {parts_of(kind, body)} {kind} {int(last)}"
+        if kind == 6:
+            fields, where = [], 0
+            for width in ("number", "text", "text", "number", "number", "number", "number", "text"):
+                value, where = int.from_bytes(body[where:where + 4], "big"), where + 4
+                if width == "text":
+                    value, where = body[where:where + value], where + value
+                fields.append(value)
+            kind_of, media, words, *sizes, content = fields
+            yield f"picture {kind_of} {' '.join(map(str, sizes))} {zlib.crc32(content):08x}"
+            yield "media " + shown(media)
+            yield "description " + shown(words)
+        at += 4 + size
+
+
+def shown(text):
+    return "".join(chr(c) if 0x20 <= c <= 0x7e and c != 0x5c else f"\\x{c:02x}" for c in text)
+
+
+def blocks(door, paths):
+    """The metadata blocks of each stream, or why there are none: where the program finds a fault in the marker or in a block."""
+    for path, told in zip(paths, door.lines(paths, "blocks")):
+        answer, data = program.answer(path, model.LAX), program.read(path)
+        if data[:1] == b"O":
+            due = ["refused marker: " + ("4 BadMarker" if len(data) > 3 else "3 Truncated")]
+        else:
+            due = ["refused " + answer] if answer.startswith(("marker", "block")) else [*due_blocks(data)]
+        door.expect("blocks of " + os.path.basename(path), told, due)
+
+
+def profiles(door, paths, folder):
+    """The calls that take a profile: in the subset they say what the others say, and of all streams what the program says with `--lax`. The
+    streams are those at the limits of the subset too."""
+    made = list(paths)
+    for name, data, _, _ in vectors_lax.all_vectors():
+        made.append(os.path.join(folder, f"lax-{name}"))
+        with open(made[-1], "wb") as file:
+            file.write(data)
+    for path, plain, subset, lax in zip(made, *(door.lines(made, word) for word in ("lines", "subset", "lax"))):
+        name = os.path.basename(path)
+        door.expect(f"in the subset, {name}", subset, plain)
+        extra = [line for line in lax if line.startswith("no frame at the seek point")]
+        door.expect(f"of all streams, {name}", lax, [*due_lines(path, folder, model.LAX), *extra])
+    return made
 
 
 def no_frames(name):
@@ -144,7 +208,7 @@ def streams(made):
 
 def checked_runs(door, paths, valgrind):
     """A handful of files under the sanitizers and valgrind, and with each allocation refused."""
-    for words in ([door.checked, "lines"], [door.checked, "refuse"], [door.plain, "refuse"]):
+    for words in ([door.checked, "lines"], [door.checked, "lax"], [door.checked, "blocks"], [door.checked, "refuse"], [door.plain, "refuse"]):
         out = door.quiet(" ".join([os.path.basename(words[0]), words[1]]), *words, *paths)
         if words[1] == "refuse":
             print(out.decode().strip().replace(door.folder + "/", ""), flush=True)
@@ -164,6 +228,37 @@ def encodings(door, made, listed):
         program.succeeds("encode", raw, theirs, *COMMENTS, f"--rate={sound.rate}", f"--channels={sound.channels}", f"--bits={sound.bits}", f"--block={block}",
                          *(["--ogg", "--serial=9"] if ogg else [f"--seek-every={seek}"]))
         door.expect(f"stream of {sound.name}, ogg {ogg}", program.read(ours) == program.read(theirs), True)
+
+
+def lax_encodings(door):
+    """Samples outside the streamable subset: the stream, or why there is none, is that of the program with `--lax`."""
+    raw, ours, theirs = (os.path.join(door.folder, name) for name in ("lax.raw", "ours.flac", "theirs.flac"))
+    with open(raw, "wb") as file:
+        file.write(bytes(index * index % 13 for index in range(90000)))
+    for rate, channels, bits, block, ogg in ((65537, 1, 5, 16, 0), (1048575, 2, 8, 40000, 0), (44100, 1, 7, 65535, 1), (1, 3, 6, 4609, 0), (1048576, 1, 8, 16, 0), (44100, 1, 3, 16, 0),
+                                             (44100, 1, 8, 65536, 0), (44100, 9, 8, 16, 0), (44100, 1, 8, 4096, 0)):
+        words = [str(it) for it in (rate, channels, bits, block, 0, ogg)]
+        found = door.quiet("encode_lax", door.plain, "encode_lax", raw, ours, *words, "9", "flac profile 1", *COMMENTS).decode().strip()
+        status, _, err = program.call("encode", raw, theirs, *COMMENTS, "--lax", f"--rate={rate}", f"--channels={channels}", f"--bits={bits}", f"--block={block}",
+                                      *(["--ogg", "--serial=9"] if ogg else []))
+        if status:
+            door.expect(f"lax {words}", found, program.fault_of(raw, status, err))
+        else:
+            door.expect(f"lax {words}", (found, program.read(ours) == program.read(theirs)), ("", True))
+            os.remove(theirs)
+
+
+def searches(door, made, few):
+    """Each sound with a search for predictors: the bytes are the program's, by the calls that take options, and without a search those of all calls."""
+    ours, theirs = (os.path.join(door.folder, name) for name in ("ours.flac", "theirs.flac"))
+    for index, sound in enumerate(few):
+        raw = made.path(sound.name + ".raw")
+        for word, options in (("encode_subset", []), ("encode_subset_1", ["--search=quick"]), ("encode_subset_2", ["--search=full"])):
+            door.quiet(f"{word} {sound.name}", door.plain, word, raw, ours, str(sound.rate), str(sound.channels), str(sound.bits), "4096", "0", str(index % 2), "9",
+                       "flac profile 1", *COMMENTS)
+            program.succeeds("encode", raw, theirs, *COMMENTS, f"--rate={sound.rate}", f"--channels={sound.channels}", f"--bits={sound.bits}", "--block=4096",
+                             *(["--ogg", "--serial=9"] if index % 2 else []), *options)
+            door.expect(f"{word}, stream of {sound.name}", program.read(ours) == program.read(theirs), True)
 
 
 def refusals(door):
@@ -246,7 +341,7 @@ def module(door, made, listed, paths):
         try:
             library.verify(stream)
             found = "ok"
-        except flac_proved.Refused as refused:
+        except flac_proved.Error as refused:
             found = str(refused)
         door.expect(f"module {os.path.basename(path)}", found, "ok" if answer.startswith("frames ") else answer)
         if found == "ok":
@@ -271,9 +366,76 @@ def module(door, made, listed, paths):
     try:
         library.encode([0], 44100, 2, 16)
         said = "encoded"
-    except flac_proved.NotEncoded as reason:
+    except flac_proved.Error as reason:
         said = str(reason)
     door.expect("module, reason", said, "43 LengthsDiffer")
+    streams_of(door, flac_proved, library)
+
+
+def picture_block(kind, media, words, sizes, data, last):
+    """A block with a picture (RFC 9639, section 8.8)."""
+    parts = [kind.to_bytes(4, "big")]
+    for text in (media, words):
+        parts += [len(text).to_bytes(4, "big"), text]
+    body = b"".join([*parts, *(size.to_bytes(4, "big") for size in sizes), len(data).to_bytes(4, "big"), data])
+    return bytes([6 | 128 * last]) + len(body).to_bytes(3, "big") + body
+
+
+def streams_of(door, flac_proved, library):
+    """The module's streams: information, tags, pictures, frames and samples of one that was just encoded, and errors."""
+    flac_proved.LOADED = library
+    sound = array.array("i", [index * 37 % 2001 - 1000 for index in range(20001 * 2)])
+    plain = flac_proved.encode(sound, rate=44100, channels=2, comments=["TITLE=a", "artist=b", "Artist=c=d"], block_size=1152, seek_every=5000)
+    # a picture as the block before the last one, which is the seek table
+    first = [block for block in library.blocks(plain) if block.kind == 3][0].offset
+    data = bytes(range(200))
+    stream = plain[:first] + picture_block(3, b"image/png", b"front", (2, 3, 24, 0), data, False) + plain[first:]
+    path = os.path.join(door.folder, "module.flac")
+    with open(path, "wb") as file:
+        file.write(stream)
+    found = flac_proved.open(path)
+    found.verify()
+    door.expect("stream, information", (found.info.rate, found.info.channels, found.info.bits, found.info.total, found.is_ogg), (44100, 2, 16, 20001, False))
+    door.expect("stream, tags", (found.vendor, found.tags), ("flac_proved.py", {"TITLE": ["a"], "ARTIST": ["b", "c=d"]}))
+    picture = found.pictures[0]
+    door.expect("stream, picture", (len(found.pictures), picture[:7], bytes(picture.data)), (1, (3, "image/png", "front", 2, 3, 24, 0), data))
+    door.expect("stream, blocks", ([block.kind for block in found.blocks], found.seek_points[0]), ([0, 4, 6, 3], (0, 0, 1152)))
+    numbers, places = array.array("i"), []
+    for frame in found:
+        places.append(frame.first)
+        numbers.frombytes(frame.samples.tobytes())
+    door.expect("stream, frames", (numbers, places), (sound, list(range(0, 20001, 1152))))
+    door.expect("stream, samples", (found.samples().shape, found.samples().tobytes()), ((20001, 2), sound.tobytes()))
+    later = next(found.frames(12000))
+    door.expect("stream, from a sample on", (later.first <= 12000, later.first % 1152, later.samples.tobytes()[:8]), (True, 0, sound[later.first * 2:later.first * 2 + 2].tobytes()))
+    ogg = flac_proved.Stream(flac_proved.encode(sound, rate=44100, channels=2, serial=7))
+    door.expect("stream, Ogg", (ogg.is_ogg, b"".join(frame.samples.tobytes() for frame in ogg)), (True, sound.tobytes()))
+    narrow = flac_proved.encode([1, -2, 3], rate=65537, bits=5, channels=1, lax=True)
+    door.expect("stream, lax", flac_proved.Stream(narrow, lax=True).samples().tolist(), [[1], [-2], [3]])
+    for what, call, due in (("subset", lambda: flac_proved.Stream(narrow).samples(), (14, "NotSubset", "frame", 0)),
+                            ("cut", lambda: list(flac_proved.Stream(stream[:-1])), (3, "Truncated", "frame", 17)),
+                            ("bad", lambda: flac_proved.Stream(b"RIFF"), (4, "BadMarker", "marker", 0)),
+                            ("depth", lambda: flac_proved.encode(sound, rate=44100, channels=2, bits=17), (41, "BadDepth", None, 0)),
+                            ("blocks", lambda: ogg.blocks, (4, "BadMarker", "marker", 0))):
+        try:
+            call()
+            said = None
+        except flac_proved.Error as error:
+            said = error.number, error.name, error.place, error.index
+        door.expect(f"stream, error {what}", said, due)
+    if importlib.util.find_spec("numpy"):
+        import numpy
+        all_samples = numpy.array(sound, dtype="int32").reshape(-1, 2)
+        door.expect("numpy, the same stream", flac_proved.encode(all_samples, rate=44100, comments=["TITLE=a", "artist=b", "Artist=c=d"], block_size=1152, seek_every=5000) == plain, True)
+        frame = next(iter(found))
+        seen = numpy.asarray(frame)
+        door.expect("numpy, a frame", (seen.shape, str(seen.dtype), bool((seen == all_samples[:1152]).all())), ((1152, 2), "int32", True))
+        door.expect("numpy, without a copy", seen.__array_interface__["data"][0], numpy.asarray(frame.samples).__array_interface__["data"][0])
+        door.expect("numpy, all samples", bool((numpy.asarray(found.samples()) == all_samples).all()), True)
+        turned = numpy.asfortranarray(all_samples)
+        door.expect("numpy, with gaps", flac_proved.encode(turned, rate=44100) == flac_proved.encode(all_samples, rate=44100), True)
+    else:
+        print("numpy is not installed: its cases are left out", flush=True)
 
 
 def sounds_of(made, sound):
@@ -302,11 +464,15 @@ def main():
         for path, told in zip(paths, door.lines(paths)):
             name = os.path.basename(path)
             door.expect(name, told, [*due_lines(path, folder), *no_frames(name.partition("-")[2])])
+        made_lax = profiles(door, paths[::8], folder)
+        blocks(door, made_lax)
         few = [path for path in paths if os.path.getsize(path) < 20000]
         few = few[::max(1, len(few) // 12)]
         checked_runs(door, few, not given.no_valgrind)
         encodings(door, made, listed(made))
         refusals(door)
+        lax_encodings(door)
+        searches(door, made, listed(made)[:12])
         wav_programs(door, made, listed(made), not given.no_valgrind)
         module(door, made, listed(made), few)
     print(f"{len(paths)} streams, {door.passed} comparisons passed, {len(door.failed)} failed")

@@ -1,14 +1,16 @@
 #!/usr/bin/env python3
-"""Measures the memory that `flac test` takes on the largest streams, beside what a decoder may hold.
+"""Measures the memory that `flac test` takes on the largest streams, beside what a decoder may hold, and that of `flac encode` of WAV
+files, beside what it takes for the same samples raw and what is kept of the file.
 
 usage: conformance/checks/memory.py [--quick]
 
---quick leaves out the streams of 16 MiB. A decoder holds one metadata block, two arrays of a place for each sample of the largest
+--quick leaves out the streams of 16 MiB, and the WAV file of ten minutes. A decoder holds one metadata block, two arrays of a place for each sample of the largest
 block that STREAMINFO and the subset, or with --lax the format, allow, and in Ogg one page. FLAC names the program; one without --lax
 is asked without it only. Status 1 if more is taken, or an answer is not the one that is due.
 """
 import argparse
 import os
+import struct
 import subprocess
 import sys
 import tempfile
@@ -32,6 +34,8 @@ and of an index point in that of a track."""
 MIRRORED = bytes(int(f"{byte:08b}"[::-1], 2) for byte in range(256))
 SLACK = 3 * 4096
 """The allocator gives whole pages for what is large: two arrays, and a block's content or a page."""
+KEPT = 16384
+"""What an encoding holds of a WAV file beside its samples and the chunks after them: the pieces before the samples, and their blocks."""
 
 
 def arrays(channels, block):
@@ -157,6 +161,38 @@ def large_streams():
     yield "Ogg, application block of 16 MiB in full pages", ogg_of(other), "frames 0 samples 0", least + PAGE + grown(MOST)
 
 
+def wave_cases(quick):
+    """WAV files: name, format and seconds, a chunk after the samples, whether its bytes may be held beside the samples, and whether it
+    comes by standard input."""
+    stereo = dict(rate=44100, channels=2, bits=16)
+    yield "WAV, 16 bits, 30 s", stereo, 30, b"", False, False
+    yield "WAV, 16 bits, 30 s, by -", stereo, 30, b"", False, True
+    yield "WAV, 24 bits, 6 channels, 10 s", dict(rate=48000, channels=6, bits=24), 10, b"", False, False
+    yield "WAV, 8 bits, 30 s", dict(stereo, bits=8), 30, b"", True, False
+    yield "WAV, 16 bits, 30 s, a chunk of 1 MiB after them", stereo, 30, bytes(1 << 20), False, False
+    if not quick:
+        yield "WAV, 16 bits, 10 minutes", stereo, 600, b"", False, False
+        yield "WAV, 16 bits, 10 minutes, by -", stereo, 600, b"", False, True
+
+
+def second_of(rate, channels, bits):
+    """The samples of a second, raw: a saw in each channel, and a little noise."""
+    width, top, seed, out = bits // 8, 1 << bits - 2, 1, bytearray()
+    for at in range(rate):
+        for channel in range(channels):
+            seed = (seed * 1103515245 + 12345) & 0x7FFFFFFF
+            value = at * (37 + channel) * (top // 4096 or 1) % (2 * top) - top + (seed >> 16) % 5
+            out += value.to_bytes(width, "little", signed=True)
+    return bytes(out)
+
+
+def wave_head(rate, channels, bits, size, extra):
+    """What comes before the samples of a WAV file."""
+    row = channels * bits // 8
+    form = struct.pack("<HHIIHH", 1, channels, rate, rate * row, row, bits)
+    return b"RIFF" + struct.pack("<I", 36 + size + extra) + b"WAVEfmt " + struct.pack("<I", 16) + form + b"data" + struct.pack("<I", size)
+
+
 class Meter:
     def __init__(self, folder):
         self.stream, self.report, self.library = (os.path.join(folder, name) for name in ("stream", "report", "failing.so"))
@@ -172,6 +208,33 @@ class Meter:
         lines = {line.split()[0]: dict(pair.split("=") for pair in line.split()[1:]) for line in read(self.report).decode().splitlines()}
         os.remove(self.report)
         return answer, int(lines["exit"]["peak"]) - int(lines["cut"]["live"]), 1024 * int(lines["exit"]["resident"])
+
+    def encoding(self, source, words, piped):
+        """The peak of the memory that `encode` asks for, over the whole run."""
+        out = self.stream + ".flac"
+        with open(source, "rb") as file:
+            done = subprocess.run([program.BINARY, "encode", "-" if piped else source, out, "--force", *words], stdin=file if piped else subprocess.DEVNULL,
+                                  check=False, env={"LD_PRELOAD": self.library, "FAILING_REPORT": self.report})
+        lines = {line.split()[0]: dict(pair.split("=") for pair in line.split()[1:]) for line in read(self.report).decode().splitlines()}
+        for path in (self.report, *([out] if os.path.exists(out) else [])):
+            os.remove(path)
+        return done.returncode, int(lines["exit"]["peak"])
+
+    def wave(self, folder, form, seconds, chunk, piped):
+        """The status of encoding a WAV file and the raw samples, both peaks, and how many bytes the samples have."""
+        one, raw, file = second_of(**form), os.path.join(folder, "x.raw"), os.path.join(folder, "x.wav")
+        unsigned = bytes(byte ^ 128 for byte in one) if form["bits"] == 8 else one
+        piece = b"JUNK" + struct.pack("<I", len(chunk)) + chunk if chunk else b""
+        with open(raw, "wb") as to_raw, open(file, "wb") as to_wave:
+            to_wave.write(wave_head(size=len(one) * seconds, extra=len(piece), **form))
+            for _ in range(seconds):
+                to_raw.write(one)
+                to_wave.write(unsigned)
+            to_wave.write(piece)
+        words = [word for name, value in form.items() for word in (f"--{name}", str(value))]
+        raw_status, least = self.encoding(raw, [*words, "--search", "quick"], False)
+        status, most = self.encoding(file, [], piped)
+        return raw_status or status, least, most, len(one) * seconds
 
 
 def main():
@@ -190,6 +253,12 @@ def main():
                 good, cases = answer == due and taken <= most + SLACK, cases + 1
                 failed += not good
                 print(f"{name:54}  {len(stream):9}  {taken:9}  {most:9}  {whole - least:9}" + ("" if good else f"  FAILED, answers '{answer}'"))
+        for name, form, seconds, chunk, changes, piped in wave_cases(words.quick):
+            status, least, taken, size = meter.wave(folder, form, seconds, chunk, piped)
+            most = least + 3 * len(chunk) + (grown(size) if changes else 0)
+            good, cases = status == 0 and taken <= most + KEPT, cases + 1
+            failed += not good
+            print(f"{name:54}  {size:9}  {taken:9}  {most:9}  {'':9}" + ("" if good else f"  FAILED, status {status}"))
     print(f"memory: {cases} cases, {cases - failed} passed, {failed} failed, {time.time() - began:.0f} seconds")
     return 1 if failed else 0
 

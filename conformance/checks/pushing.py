@@ -3,8 +3,8 @@
 
 usage: conformance/checks/pushing.py [--quick]
 
-What has to hold of each file, native and Ogg: the reference's test passes, both decoders give back the samples, the frames are those
-of `flac encode`, and the total and the digest are stated as unknown. The program that pushes is recorder.rattle; it is proved and built
+What has to hold of each file, native and Ogg, without a search for predictors and with each: the reference's test passes, both decoders
+give back the samples, the frames are those of `flac encode` with the same search, and the total and the digest are stated as unknown. The program that pushes is recorder.rattle; it is proved and built
 in a copy of the sources, over what was kept of the libraries, unless RECORDER names one. FLAC names the program, CORPUS where the
 sounds are kept, JOBS how many runs at once. Status 1 if something does not hold.
 """
@@ -16,6 +16,7 @@ import sys
 import tempfile
 import time
 from concurrent.futures import ThreadPoolExecutor
+from functools import partial
 
 import folders  # noqa: F401  (the path of the modules below)
 import corpus
@@ -30,9 +31,10 @@ FOLDER = os.environ.get("CORPUS", "/tmp/flac-corpus")
 JOBS = int(os.environ.get("JOBS", os.cpu_count() or 1))
 LIBRARIES = [
     *("flac_bits", "flac_info", "flac_meta", "flac_header", "flac_subframe", "flac_frame", "flac_native", "flac_pages", "flac_ogg"),
-    "flac_encoder",
+    "flac_predict", "flac_encoder",
 ]
 BLOCKS = [16, 256, 4096]
+SEARCHES = ["none", "quick", "full"]
 
 
 def built(folder):
@@ -57,19 +59,19 @@ def built(folder):
     return found
 
 
-def pushed(recorder, sound, raw, out, block, kind):
+def pushed(recorder, sound, raw, out, block, kind, search):
     """What the recorder makes of a sound."""
-    form = [out, sound.rate, sound.channels, sound.bits, block, kind]
+    form = [out, sound.rate, sound.channels, sound.bits, block, kind, *([] if search == "none" else [search])]
     with open(raw, "rb") as file:
         ran = subprocess.run([recorder, *map(str, form)], stdin=file, stdout=subprocess.PIPE, stderr=subprocess.STDOUT, timeout=120, check=False)
     if ran.returncode or ran.stdout:
         raise Wrong(f"status {ran.returncode}: {ran.stdout[-200:]!r}")
 
 
-def pushed_case(recorder, sound, raw, bench, block, kind):
+def pushed_case(recorder, sound, raw, bench, block, kind, search):
     container, suffix = (["--ogg", "--serial", "77"], ".oga") if kind == "ogg" else ([], ".flac")
     out = bench.path(suffix)
-    pushed(recorder, sound, raw, out, block, kind)
+    pushed(recorder, sound, raw, out, block, kind, search)
     if not reference.accepts(out):
         raise Wrong("the reference's test of what was pushed fails")
     if sound.length and reference.decoded(out, sound.bits) != read(raw):
@@ -80,7 +82,7 @@ def pushed_case(recorder, sound, raw, bench, block, kind):
     expect(read(back) == read(raw), True)
     info = dict(model.metadata_of(read(out)).blocks[0][2])
     expect([info[name] for name in ("least_frame", "greatest_frame", "total", "digest")], [0, 0, 0, bytes(16)])
-    whole = encoding.encode(sound, raw, bench, "--block", str(block), *container, suffix=suffix)
+    whole = encoding.encode(sound, raw, bench, "--block", str(block), "--search", search, *container, suffix=suffix)
     if frames(out, kind) != frames(whole, kind):
         raise Wrong("the frames are not those of 'encode'")
     for path in (out, back, whole):
@@ -104,7 +106,9 @@ def cases(recorder, made, bench):
             for kind in ("native", "ogg"):
                 if encoding.has_code(sound.rate) and sound.bits in (8, 12, 16, 20, 24, 32) and sound.length // block < 4000:
                     raw = made.path(sound.name + ".raw")
-                    yield f"{sound.name}, blocks of {block}, {kind}", lambda s=sound, r=raw, b=block, k=kind: pushed_case(recorder, s, r, bench, b, k)
+                    for search in SEARCHES:
+                        call = partial(pushed_case, recorder, sound, raw, bench, block, kind, search)
+                        yield f"{sound.name}, blocks of {block}, {kind}, search {search}", call
 
 
 def outcome(case):

@@ -1,19 +1,26 @@
 #!/usr/bin/env python3
 """`flac verify` over files and folders: each line, their order, the last line and the status, predicted by the model of the format.
 
-usage: conformance/checks/verify.py
+usage: conformance/checks/verify.py [--quick]
 
 The tree has streams of the reference encoder, some of them damaged, some without a digest or a number of samples or outside the
-streamable subset, in both containers; names of all kinds; files that are no streams; links to files and folders; a pipe. FLAC names
-the program. Status 1 if an answer is not the one that is due.
+streamable subset, in both containers; names of all kinds; files that are no streams; links to files and folders; a pipe. A second
+tree has 2,000 small files in 40 folders (with --quick 200), 1 in 20 damaged. For each the line of the report is predicted too; runs
+are killed and resumed, and reports cannot be created or written. FLAC names the program. Status 1 if an answer is not the one that
+is due.
 """
+import functools
+import json
 import math
 import os
+import random
 import shutil
+import signal
 import struct
 import subprocess
 import sys
 import tempfile
+import time
 
 import folders  # noqa: F401  (the path of the modules below)
 import model
@@ -23,6 +30,9 @@ from program import Wrong, expect, read
 SAMPLES = b"".join(struct.pack("<hh", int(8000 * math.sin(i / 20)), int(7000 * math.sin(i / 33))) for i in range(20000))
 FORMAT = ["--force-raw-format", "--endian=little", "--sign=signed", "--channels=2", "--bps=16", "--sample-rate=44100"]
 ENDINGS = (b".flac", b".fla", b".oga")
+
+
+answer_of = functools.lru_cache(maxsize=None)(model.answer)
 
 
 def encoded(folder, *words):
@@ -54,7 +64,7 @@ def line_of(path, data, subset, again=True):
     """The line of a file on standard output and on standard error."""
     if data is None:
         return b"", b"flac: " + path + b": cannot be opened\n"
-    narrow, wide = (model.answer(data, profile) for profile in (model.SUBSET, model.LAX))
+    narrow, wide = (answer_of(bytes(data), profile) for profile in (model.SUBSET, model.LAX))
     answer = narrow if subset else wide
     if not answer.startswith("frames"):
         return b"", b"flac: " + path + b": " + answer.encode() + b"\n"
@@ -62,6 +72,53 @@ def line_of(path, data, subset, again=True):
     if not subset and again and not narrow.startswith("frames"):
         words += b" outside-subset"
     return b"ok " + path + b": " + answer.encode() + words + b"\n", b""
+
+
+def escaped(path):
+    """The bytes of a path as a text of JSON: control characters, quotation marks and backslashes as \\u00 and two digits."""
+    return b"".join(b"\\u00%02x" % byte if byte < 32 or byte in b'"\\' else bytes([byte]) for byte in path)
+
+
+def members_of(path, data, subset, again):
+    """The members of the line of a file in the report, but its path: names and values in order."""
+    try:
+        found = os.stat(path)
+        stamp = [("bytes", found.st_size), ("modified", found.st_mtime_ns // 10**9), ("nanoseconds", found.st_mtime_ns % 10**9)]
+    except OSError:
+        stamp = []
+    if data is None:
+        return [("status", "unopened")]
+    if not os.path.isfile(path):
+        stamp = []
+    narrow, wide = (answer_of(bytes(data), profile) for profile in (model.SUBSET, model.LAX))
+    answer = narrow if subset else wide
+    if not answer.startswith("frames"):
+        place, reason = answer.rsplit(": ", 1)
+        kind, _, index = place.partition(" ")
+        number, name = reason.split(" ")
+        return [("status", "bad"), *stamp, ("place", kind), *([("index", int(index))] if index else []), ("error", int(number)), ("name", name)]
+    at = 8 if data[:4] == b"fLaC" else data.index(b"fLaC") + 8
+    bits = int.from_bytes(data[at + 10:at + 18], "big")
+    digest = data[at + 18:at + 34]
+    frames, samples = (int(word) for word in answer.split()[1::2])
+    rest = [("rate", bits >> 44), ("channels", (bits >> 41) % 8 + 1), ("depth", (bits >> 36) % 32 + 1), ("frames", frames), ("samples", samples)]
+    rest += [("md5", digest.hex())] if any(digest) else []
+    rest.append(("md5_checked", any(digest)))
+    if subset or again:
+        rest.append(("subset", narrow.startswith("frames")))
+    return [("status", "ok"), *stamp, *rest]
+
+
+def entry_of(path, data, subset=False, again=True):
+    """The line of a file in the report."""
+    members = b"".join(b"," + json.dumps(name).encode() + b":" + json.dumps(value).encode() for name, value in members_of(path, data, subset, again))
+    line = b'{"path":"' + escaped(path) + b'"' + members + b"}\n"
+    expect(json.loads(line)["path"].encode(), path)  # another reader of JSON reads it so
+    return line
+
+
+def report_of(files, subset=False):
+    return b"".join(entry_of(path, data, subset) for path, data in files)
 
 
 def is_chosen(name, data):
@@ -125,6 +182,142 @@ def compare(words, due):
     expect((found.returncode, found.stdout, found.stderr), due)
 
 
+def compare_report(folder, words, files, due, subset=False):
+    """The same with a report."""
+    report = os.path.join(folder, "report.jsonl")
+    compare(["--report", report, *words], due)
+    expect(read(report), report_of(files, subset))
+    os.remove(report)
+
+
+def make_many(folder, count, seed):
+    """A tree of many small files in 40 folders, 1 in 20 of them damaged."""
+    chance = random.Random(seed)
+    short = [encoded_short(folder, samples, words) for samples in (1, 700, 5000) for words in ([], ["--ogg"], ["-0"], ["--lax", "-b", "17000"])]
+    many = os.path.join(folder, "many")
+    odd = [" ", "\n", '"', "\\", "\x01", "\x7f", "\u00e9", "\u4e2d", "'", "$x", "\ue000", "\t", "%s", "-"]
+    places = []
+    for number in range(40):
+        name = f"{number:02d}{chance.choice(odd)}{'/deep' if number % 5 == 0 else ''}"
+        places.append(os.path.join(many, name))
+        os.makedirs(places[-1])
+    for number in range(count):
+        data = bytearray(chance.choice(short))
+        if number % 20 == 0:
+            at = chance.randrange(len(data))
+            data = data[:at] if chance.random() < 0.5 else data[:at] + bytes([data[at] ^ 1 << chance.randrange(8)]) + data[at + 1:]
+        name = f"{number:04d}{chance.choice(odd)}" + chance.choice([".flac", ".FLAC", ".fla", ".oga"])
+        with open(os.path.join(chance.choice(places), name), "wb") as file:
+            file.write(data)
+    for number, place in enumerate(places):
+        if number % 8 == 0:
+            os.symlink("nowhere", os.path.join(place, "zz nothing.flac"))
+        if number % 8 == 1:
+            os.symlink("..", os.path.join(place, "zz loop.flac"))
+        if number % 8 == 2:
+            os.mkfifo(os.path.join(place, "zz pipe.oga"))
+    return many.encode()
+
+
+def encoded_short(folder, samples, words):
+    """A stream of so few samples by the reference encoder."""
+    path = os.path.join(folder, "made")
+    run = ["flac", "-s", "-f", *FORMAT, *words, "-o", path, "-"]
+    subprocess.run(run, input=SAMPLES[:4 * samples], check=True, stderr=subprocess.DEVNULL)
+    data = read(path)
+    os.remove(path)
+    return data
+
+
+def check_many(folder, count):
+    many = make_many(folder, count, 5)
+    files = list(walk(many))
+    compare_report(folder, [many], files, due_of(files))
+    compare_report(folder, ["--subset", many], files, due_of(files, True), True)
+
+
+def check_resumed(folder, count):
+    """Runs that are killed after some lines, and resumed: the report has each file once, the good ones of before first."""
+    again = os.path.join(folder, "again")
+    os.makedirs(again)
+    many = make_many(again, count, 6)
+    files = list(walk(many))
+    lines = {path: entry_of(path, data) for path, data in files}
+    whole = report_of(files)
+    report = os.path.join(folder, "resumed.jsonl")
+    for part in (0, 1, count // 3, count // 2):
+        if os.path.exists(report):
+            os.remove(report)
+        run = subprocess.Popen([program.PROGRAM, "verify", "--report", report, many], stdout=subprocess.DEVNULL, stderr=subprocess.DEVNULL)
+        while run.poll() is None and (not os.path.exists(report) or read(report).count(b"\n") < part):
+            time.sleep(0.0005)
+        run.send_signal(signal.SIGKILL)
+        run.wait()
+        begun = read(report) if os.path.exists(report) else b""
+        expect(whole.startswith(begun), True)
+        cut = begun + whole[len(begun):len(begun) + 40]  # as if the last line was cut
+        with open(report, "wb") as file:
+            file.write(cut)
+        kept = [line for line in cut.splitlines(True) if line.endswith(b"\n") and b'","status":"ok",' in line]
+        rest = [(path, data) for path, data in files if lines[path] not in kept]
+        compare(["--resume", report, many], due_of(rest))
+        expect(read(report), b"".join(kept) + report_of(rest))
+        expect(sorted(read(report).splitlines(True)), sorted(whole.splitlines(True)))
+        bad = [(path, data) for path, data in files if b'","status":"ok",' not in lines[path]]
+        compare(["--resume", report, many], due_of(bad))
+
+
+def check_parallel(folder, count):
+    """Many files on four processors by GNU parallel, as in docs/using.md: the reports, joined, are that of all files."""
+    if not shutil.which("parallel"):
+        print("verify: no GNU parallel: not tried")
+        return
+    place = os.path.join(folder, "parts")
+    os.makedirs(place)
+    many = make_many(place, count, 7)
+    files = [(path, data) for path, data in walk(many) if os.path.isfile(path)]
+    names = b"".join(path + b"\0" for path, _ in files)
+    run = subprocess.run(["parallel", "-0", "-j", "4", "-n", "100", program.PROGRAM, "verify", "--report", "part{#}.jsonl", "{}"], input=names, cwd=place,
+                         stdout=subprocess.DEVNULL, stderr=subprocess.DEVNULL, timeout=3600, check=False)
+    lines = b"".join(read(os.path.join(place, name)) for name in os.listdir(place) if name.endswith(".jsonl")).splitlines(True)
+    expect(sorted(lines), sorted(report_of(files).splitlines(True)))
+    expect(run.returncode > 0, True)
+
+
+def check_failing_reports(folder, good):
+    """Reports that cannot be created or written, and files that are no report."""
+    files = [(good, read(good))]
+    status, out, err = due_of(files)
+    compare(["--report", "/dev/full", good], (1, out, err + b"flac: /dev/full: 39 Write\n"))
+    compare(["--report", "/dev/null", good], (status, out, err))
+    compare(["--resume", "/dev/full", good], (1, out, err + b"flac: /dev/full: 39 Write\n"))
+    nowhere = os.path.join(folder.encode(), b"nowhere", b"r.jsonl")
+    compare(["--report", nowhere, good], (1, b"", b"flac: " + nowhere + b": cannot be created\n"))
+    compare(["--resume", nowhere, good], (1, b"", b"flac: " + nowhere + b": cannot be resumed\n"))
+    compare(["--report", good, good], (1, b"", b"flac: " + good + b": cannot be created\n"))
+    for text in (read(good), b"notes\n", b"notes", b'{"path":"a","status":"ok"}\nnotes\n', b'{"path":"a"}\n', b"\n"):
+        notes = os.path.join(folder.encode(), b"notes")
+        with open(notes, "wb") as file:
+            file.write(text)
+        compare(["--report", notes, good], (1, b"", b"flac: " + notes + b": cannot be created\n"))
+        compare(["--resume", notes, good], (1, b"", b"flac: " + notes + b": cannot be resumed\n"))
+        expect(read(notes), text)
+    compare(["--report", notes, "--resume", notes, good], (2, b"", b"flac: command: --report with --resume\n"))
+    run = subprocess.run(["sh", "-c", '"$0" verify --report r.jsonl "$1" | true', program.PROGRAM, good], cwd=folder, stderr=subprocess.PIPE,
+                         check=False)
+    expect(run.stderr in (b"", b"flac: standard output: 39 Write\n"), True)
+    expect(read(os.path.join(folder, "r.jsonl")), report_of(files))
+
+
+def check_standard_input(folder, good):
+    data = read(good)
+    report = os.path.join(folder, "standard.jsonl")
+    found = subprocess.run([program.PROGRAM, "verify", "--report", report, "-"], input=data, capture_output=True, timeout=600, check=False)
+    line = line_of(b"-", data, False, False)
+    expect((found.returncode, found.stdout, found.stderr), (0, line[0] + b"verified 1 ok 1 bad 0\n", b""))
+    expect(read(report), entry_of(b"-", data, False, False))
+
+
 def rows(folder):
     music = make_tree(folder)
     one, good, lax = (os.path.join(music, name) for name in (b"one", b"one/01.flac", b"one/13.flac"))
@@ -148,17 +341,34 @@ def rows(folder):
     yield "a name that is no UTF-8", [odd], due_of([(odd, None), (os.path.join(odd, b"a.flac"), read(good))])
 
 
+def tries(folder, count):
+    """What is tried: a name and a call."""
+    for name, words, due in rows(folder):
+        yield name, lambda words=words, due=due: compare(words, due)
+    music = os.path.join(folder.encode(), b"music")
+    files = list(walk(music))
+    good = os.path.join(music, b"one/01.flac")
+    yield "the report of a tree", lambda: compare_report(folder, [music], files, due_of(files))
+    yield "the report of a tree, the subset alone", lambda: compare_report(folder, ["--subset", music], files, due_of(files, True), True)
+    yield "many files", lambda: check_many(folder, count)
+    yield "runs that are resumed", lambda: check_resumed(folder, count // 4)
+    yield "many files by GNU parallel", lambda: check_parallel(folder, 5 * count)
+    yield "reports that fail", lambda: check_failing_reports(folder, good)
+    yield "standard input", lambda: check_standard_input(folder, good)
+
+
 def main():
     wrong = count = 0
+    quick = "--quick" in sys.argv[1:]
     with tempfile.TemporaryDirectory() as folder:
-        for name, words, due in rows(folder):
+        for name, call in tries(folder, 200 if quick else 2000):
             count += 1
             try:
-                compare(words, due)
+                call()
             except Wrong as fault:
                 wrong += 1
                 print(f"verify: {name}: {fault}")
-    print(f"verify: {count} calls, {wrong} wrong")
+    print(f"verify: {count} rows, {wrong} wrong")
     return 1 if wrong else 0
 
 

@@ -1,0 +1,177 @@
+#!/usr/bin/env python3
+"""`--any` of `flac test`, `decode` and `list`, and `flac verify`: streams between the tags of other programs, by a model of the tags.
+
+usage: conformance/checks/any.py [--quick]
+
+The streams are those of the reference encoder, native and Ogg, whole, cut and changed. The tags are made by hand, by `mid3v2` of
+mutagen and by `ffmpeg`, if they are there. What has to hold: the answer is the model's for the bytes between; without `--any` it is
+the model's for all bytes; decoded samples are the same as without tags; `list` says how long the tags are; no file changes. FLAC
+names the program. Status 1 if an answer is not the one that is due.
+"""
+import math
+import os
+import shutil
+import struct
+import subprocess
+import sys
+import tempfile
+
+import folders  # noqa: F401  (the path of the modules below)
+import model
+import program
+from program import Wrong, call, expect, read
+
+SAMPLES = b"".join(struct.pack("<hh", int(8000 * math.sin(i / 20)), int(7000 * math.sin(i / 33))) for i in range(20000))
+FORMAT = ["--force-raw-format", "--endian=little", "--sign=signed", "--channels=2", "--bps=16", "--sample-rate=44100"]
+
+
+def encoded(folder, *words):
+    """A stream by the reference encoder."""
+    path = os.path.join(folder, "made")
+    subprocess.run(["flac", "-s", "-f", *FORMAT, *words, "-o", path, "-"], input=SAMPLES, check=True, stderr=subprocess.DEVNULL)
+    data = read(path)
+    os.remove(path)
+    return data
+
+
+# ---- the model: ID3v2.4.0, sections 3.1, 3.4 and 6.2, and ID3v1
+
+def front_of(data):
+    """The number of bytes of a tag before the stream, as its header says."""
+    if len(data) < 10 or data[:3] != b"ID3" or data[3] == 255 or data[4] == 255 or max(data[6:10]) > 127:
+        return 0
+    size = sum(byte << shift for byte, shift in zip(data[6:10], (21, 14, 7, 0)))
+    return 10 + size + (10 if data[3] == 4 and data[5] & 16 else 0)
+
+
+def between(data):
+    """The bytes between, and the numbers of those before and after."""
+    before = min(front_of(data), len(data))
+    rest = data[before:]
+    after = 128 if len(rest) >= 128 and rest[-128:-125] == b"TAG" else 0
+    return rest[:len(rest) - after], before, after
+
+
+# ---- tags
+
+def tag(size, version=3, flags=0, fill=b"\0", revision=0):
+    """A tag whose header says `size`, with as many bytes after it."""
+    number = bytes(size >> shift & 127 for shift in (21, 14, 7, 0))
+    footer = b"3DI" + bytes([version, revision, flags]) + number if version == 4 and flags & 16 else b""
+    return b"ID3" + bytes([version, revision, flags]) + number + (fill * size)[:size] + footer
+
+
+def old_tag():
+    return b"TAG" + b"A song".ljust(30, b"\0") + bytes(95)
+
+
+def by_mutagen(folder, stream):
+    """The stream after `mid3v2` put a tag before it, or nothing if that is not there."""
+    if not shutil.which("mid3v2"):
+        return
+    path = os.path.join(folder, "mutagen.flac")
+    for words in (["--song", "A song"], ["--song", "x" * 3000, "--artist", "B"]):
+        with open(path, "wb") as file:
+            file.write(stream)
+        if subprocess.run(["mid3v2", *words, path], stdout=subprocess.DEVNULL, stderr=subprocess.DEVNULL, check=False).returncode == 0:
+            yield " ".join(words)[:20], read(path)
+
+
+def by_ffmpeg(folder):
+    """An ID3v2 tag as ffmpeg writes one before raw audio of another kind, in versions 3 and 4."""
+    if not shutil.which("ffmpeg"):
+        return
+    for version in ("3", "4"):
+        path = os.path.join(folder, "tagged.mp3")
+        run = ["ffmpeg", "-v", "error", "-y", "-f", "s16le", "-ar", "44100", "-ac", "2", "-i", "-", "-metadata", "title=A song",
+               "-id3v2_version", version, "-write_id3v1", "1", path]
+        if subprocess.run(run, input=SAMPLES[:8000], check=False).returncode == 0:
+            data = read(path)
+            yield f"version {version}", data[:front_of(data)], data[-128:]
+
+
+def rows(folder, quick):
+    native, ogg, lax = encoded(folder), encoded(folder, "--ogg"), encoded(folder, "--lax", "-b", "20000")
+    fronts = {"none": b"", "empty": tag(0), "of 1024": tag(1024), "of 128 by seven bits": tag(128), "version 2": tag(50, 2),
+              "with a footer": tag(77, 4, 16), "version 3 with that flag": tag(77, 3, 16), "of text": tag(300, 4, 0, b"fLaC")}
+    backs = {"none": b"", "ID3v1": old_tag(), "short": old_tag()[:127], "long": old_tag() + b"\0", "two": old_tag() + old_tag()}
+    for stream_name, stream in (("native", native), ("Ogg", ogg), ("lax", lax)):
+        for front_name, front in fronts.items():
+            for back_name, back in backs.items():
+                if not quick or "none" in (front_name, back_name) or stream is native:
+                    yield f"{stream_name}, before {front_name}, after {back_name}", front + stream + back
+    odd = {"version FF": tag(5, 255), "revision FF": tag(5, 3, 0, b"\0", 255), "eight bits": b"ID3\3\0\0\0\0\x80\0" + bytes(5),
+           "nine bytes": b"ID3\3\0\0\0\0\0", "two tags": tag(5) + tag(6), "past the end": tag(1 << 20)[:10], "other letters": b"ID4" + tag(5)[3:]}
+    for name, front in odd.items():
+        for back in (b"", old_tag()):
+            yield f"before: {name}, {len(back)} after", front + native + back
+            yield f"before: {name}, alone, {len(back)} after", front + back
+    for length in (0, 1, 3, 4, 41, 127, 128, 129, 255, 256, 257, len(native) - 1):
+        for front in (b"", tag(40)):
+            for back in (b"", old_tag()):
+                yield f"{length} bytes, {len(front)} before, {len(back)} after", front + native[:length] + back
+    wrong = native[:-3] + bytes([native[-3] ^ 1]) + native[-2:]
+    yield "a wrong byte between tags", tag(9) + wrong + old_tag()
+    # A stream that ends in a block which the tag's letters are in.
+    letters = native[:4] + native[4:8] + native[8:42] + b"\x01\0\0\x80" + b"TAG" + bytes(125)
+    yield "blocks that end as a tag does", letters
+    for name, data in by_mutagen(folder, native):
+        yield f"mutagen: {name}", data
+    for name, front, back in by_ffmpeg(folder):
+        yield f"ffmpeg: {name}", front + native + back
+        yield f"ffmpeg: {name}, Ogg", front + ogg + back
+
+
+def answer(words, path):
+    """The line of `test`, or the fault."""
+    status, out, err = call("test", *words, path)
+    return out.decode().strip() if status == 0 and not err else program.fault_of(path, status, err)
+
+
+def judge(folder, data):
+    path, raw = os.path.join(folder, "a.flac"), os.path.join(folder, "a.raw")
+    with open(path, "wb") as file:
+        file.write(data)
+    middle, before, after = between(data)
+    due = model.answer(middle, model.LAX)
+    expect(answer(["--any"], path), due)
+    expect(answer(["--lax"], path), model.answer(data, model.LAX))
+    expect(answer([], path), model.answer(data, model.SUBSET))
+    whole = due.startswith("frames")
+    plain = os.path.join(folder, "b.flac")
+    with open(plain, "wb") as file:
+        file.write(middle)
+    # The same samples, or as many of them before the fault; the same lines, and then those of the tags.
+    found, wanted = call("decode", "--any", path, raw), call("decode", "--lax", plain, raw + "2")
+    expect((found[0], read(raw) if os.path.exists(raw) else None), (wanted[0], read(raw + "2") if os.path.exists(raw + "2") else None))
+    tags = (b"before ID3v2 %d\n" % before if before else b"") + (b"after ID3v1 %d\n" % after if after else b"")
+    found, wanted = call("list", "--any", path), call("list", "--lax", plain)
+    expect((found[0], found[1]), (wanted[0], wanted[1] + (tags if whole else b"")))
+    status, out, err = call("verify", path)
+    expect(status, 0 if whole else 1)
+    line = f"ok {path}: {due}" if whole else f"flac: {path}: {due}\n"
+    if not (out.decode().startswith(line) if whole else err.decode() == line):
+        raise Wrong(f"verify: {out!r} {err!r}, due is {line!r}")
+    expect(read(path), data)
+    for name in (raw, raw + "2"):
+        if os.path.exists(name):
+            os.remove(name)
+
+
+def main():
+    quick = "--quick" in sys.argv[1:]
+    good = bad = 0
+    with tempfile.TemporaryDirectory() as folder:
+        for name, data in rows(folder, quick):
+            try:
+                judge(folder, data)
+                good += 1
+            except Wrong as wrong:
+                bad += 1
+                print(f"any.py: {name}: {wrong}")
+    print(f"any.py: {good} inputs answered as is due, {bad} not")
+    return 1 if bad or not good else 0
+
+
+if __name__ == "__main__":
+    sys.exit(main())

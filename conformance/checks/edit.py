@@ -1,0 +1,355 @@
+#!/usr/bin/env python3
+"""Edits of metadata blocks by `flac edit`, and what `flac export` writes, against a model of the edits, metaflac and mutagen.
+
+usage: conformance/checks/edit.py [--quick] [--seed N]
+
+Layouts of blocks are those of tag.py. What has to hold of each edit: the file is the marker, the blocks of the model, and the
+frames byte for byte. Pictures by pnmtopng, pngquant and cjpeg have to give the block that metaflac --import-picture-from gives,
+and come back by metaflac --export-picture-to and `flac export`. A file that is refused stays as it was, and the next one is
+edited. FLAC names the program. Status 1 if anything is wrong.
+"""
+import argparse
+import os
+import random
+import resource
+import shutil
+import signal
+import stat
+import struct
+import subprocess
+import sys
+import tempfile
+
+import folders  # noqa: F401  (the path of the modules below)
+from program import PROGRAM, Wrong, expect, read
+from tag import COMMENTS, PADDING, blocks_of, content_of, layout, stream_of
+
+PICTURE, APPLICATION = 6, 2
+NAMES = {1: "padding", 2: "application", 3: "seektable", 4: "vorbis_comment", 5: "cuesheet", 6: "picture"}
+
+
+def run(*words, limit=None):
+    """The status, standard output and standard error; with a limit no file may grow above so many bytes."""
+    def limited():
+        signal.signal(signal.SIGXFSZ, signal.SIG_IGN)
+        resource.setrlimit(resource.RLIMIT_FSIZE, (limit, limit))
+    done = subprocess.run([PROGRAM, *words], stdout=subprocess.PIPE, stderr=subprocess.PIPE, timeout=120, check=False,
+                          preexec_fn=limited if limit is not None else None)
+    return done.returncode, done.stdout, done.stderr
+
+
+# ---- the model
+
+def picture_body(kind, media, sizes, data):
+    width, height, depth, colours = sizes
+    return struct.pack(">II", kind, len(media)) + media + struct.pack(">IIIII", 0, width, height, depth, colours) \
+        + struct.pack(">I", len(data)) + data
+
+
+def is_meant(removal, number, block):
+    kind, body = block
+    if isinstance(removal, int):
+        return number == removal
+    name, _, identifier = removal.partition(":")
+    if identifier:
+        due = bytes.fromhex(identifier[2:]) if identifier.startswith("0x") else identifier.encode()
+        return kind == APPLICATION and body[:4] == due
+    return name.lower() == NAMES.get(kind, f"type_{kind}")
+
+
+def edited(blocks, removals, pictures, padding):
+    kept = [b for i, b in enumerate(blocks) if i == 0 or not (any(is_meant(r, i, b) for r in removals)
+                                                               or padding is not None and b[0] == PADDING)]
+    at = next((i for i, b in enumerate(kept) if b[0] in (PADDING, COMMENTS)), len(kept))
+    kept = kept[:at] + [(PICTURE, body) for body in pictures] + kept[at:]
+    return kept + ([(PADDING, bytes(padding))] if padding else [])
+
+
+# ---- random layouts
+
+def one(rng, folder, info, frames, number):
+    path, cover = os.path.join(folder, f"{number}.flac"), os.path.join(folder, "any.bin")
+    old = stream_of(layout(rng, info), frames)
+    with open(path, "wb") as file:
+        file.write(old)
+    os.chmod(path, 0o600 if number % 2 else 0o644)
+    mode = stat.S_IMODE(os.stat(path).st_mode)
+    blocks, _ = blocks_of(old)
+    removals = []
+    for _ in range(rng.randrange(3)):
+        kind = rng.choice([1, 2, 3, 4, 5, 6, 9])
+        name = NAMES.get(kind, f"type_{kind}")
+        removals.append(rng.choice([name, name.upper(), "application:test", "application:0x74657374", "application:none"]))
+    if len(blocks) > 1 and rng.random() < 0.5:
+        removals.append(rng.randrange(1, len(blocks)))
+    data, sizes, kind = rng.randbytes(rng.choice([0, 7, 20000])), [rng.randrange(5000) for _ in range(4)], rng.choice([0, 3, 4, 20])
+    pictures = rng.choice([0, 0, 1, 2])
+    padding = rng.choice([None, None, 0, 1, 4096])
+    words = [w for r in removals for w in ("--remove-block", str(r))]
+    if padding is not None:
+        words += ["--padding", str(padding)]
+    if pictures:
+        with open(cover, "wb") as file:
+            file.write(data)
+        words += ["--picture", f"{kind}:image/x:{sizes[0]}x{sizes[1]}x{sizes[2]}/{sizes[3]}:{cover}"] * pictures
+    if not words:
+        words, padding = ["--padding", "77"], 77
+    due = stream_of(edited(blocks, removals, [picture_body(kind, b"image/x", sizes, data)] * pictures, padding), frames)
+    expect(run("edit", "-v", *words, path), (0, f"{path}: rewritten\n".encode(), b""))
+    expect(read(path), due)
+    expect(stat.S_IMODE(os.stat(path).st_mode), mode)
+    if number % 7 == 0 and all(k != 9 and not (k == 3 and not b) for k, b in blocks_of(due)[0]):
+        expect(subprocess.run(["flac", "-s", "-t", path], capture_output=True, check=False).returncode, 0)
+        listed = subprocess.run(["metaflac", "--list", path], capture_output=True, check=True).stdout
+        expect(listed.count(b"METADATA block #"), len(blocks_of(due)[0]))
+    os.remove(path)
+
+
+# ---- pictures of other programs
+
+def made_pictures(folder):
+    """Pictures of several kinds, and the words by which each is known."""
+    ppm = os.path.join(folder, "a.ppm")
+    with open(ppm, "wb") as file:
+        file.write(b"P6\n31 17\n255\n" + bytes((7 * i * i) % 251 for i in range(31 * 17 * 3)))
+    pgm = os.path.join(folder, "a.pgm")
+    with open(pgm, "wb") as file:
+        file.write(b"P5\n40 9\n255\n" + bytes(i % 256 for i in range(360)))
+    pgm16 = os.path.join(folder, "b.pgm")
+    with open(pgm16, "wb") as file:
+        file.write(b"P5\n4 3\n65535\n" + bytes(range(24)))
+    pbm = os.path.join(folder, "a.pbm")
+    with open(pbm, "wb") as file:
+        file.write(b"P4\n16 2\n" + bytes([1, 2, 3, 4]))
+    kinds = {
+        "colour.png": ["pnmtopng", ppm], "grey.png": ["pnmtopng", pgm], "deep.png": ["pnmtopng", pgm16], "bits.png": ["pnmtopng", pbm],
+        "alpha.png": ["pnmtopng", "-force", f"-alpha={pgm}", pgm], "laced.png": ["pnmtopng", "-interlace", ppm],
+        "colour.jpg": ["cjpeg", ppm], "grey.jpg": ["cjpeg", "-grayscale", ppm], "progressive.jpg": ["cjpeg", "-progressive", ppm],
+        "restart.jpg": ["cjpeg", "-restart", "1", ppm], "arithmetic.jpg": ["cjpeg", "-arithmetic", ppm],
+    }
+    found = []
+    for name, words in kinds.items():
+        if shutil.which(words[0]) is None:
+            continue
+        done = subprocess.run(words, capture_output=True, check=False)
+        if done.returncode == 0 and done.stdout:
+            path = os.path.join(folder, name)
+            with open(path, "wb") as file:
+                file.write(done.stdout)
+            found.append(path)
+    colour = os.path.join(folder, "colour.png")
+    if shutil.which("pngquant") and colour in found:
+        for n in (2, 5, 256):
+            path = os.path.join(folder, f"indexed{n}.png")
+            if subprocess.run(["pngquant", "--force", "--output", path, str(n), colour], capture_output=True, check=False).returncode == 0:
+                found.append(path)
+    return found
+
+
+def by_metaflac(folder, stream, kind, path):
+    """The content of the picture block that metaflac makes of a file."""
+    other = os.path.join(folder, "by_metaflac.flac")
+    with open(other, "wb") as file:
+        file.write(stream)
+    subprocess.run(["metaflac", f"--import-picture-from={kind}||||{path}", other], check=True)
+    return [body for k, body in blocks_of(read(other))[0] if k == PICTURE]
+
+
+def pictures(folder, stream):
+    """Each picture gives the block of metaflac, and comes back."""
+    files = made_pictures(folder)
+    if len(files) < 5:
+        print("edit: fewer than five pictures: install netpbm, pngquant and libjpeg-turbo-progs")
+    path, out = os.path.join(folder, "pictured.flac"), os.path.join(folder, "out.bin")
+    for i, picture in enumerate(files):
+        with open(path, "wb") as file:
+            file.write(stream)
+        kind = (0, 3, 4, 8, 20, 17)[i % 6]
+        word = picture if kind == 3 else f"{kind}:{picture}"
+        expect(run("edit", "--picture", word, path), (0, b"", b""))
+        found = [body for k, body in blocks_of(read(path))[0] if k == PICTURE]
+        expect(found, by_metaflac(folder, stream, kind, picture))
+        expect(blocks_of(read(path))[1], blocks_of(stream)[1])
+        if os.path.exists(out):
+            os.remove(out)
+        subprocess.run(["metaflac", f"--export-picture-to={out}", path], check=True)
+        expect(read(out), read(picture))
+        os.remove(out)
+        exported(path, picture, out)
+        by_mutagen(path, kind, picture)
+    return len(files)
+
+
+def exported(path, picture, out):
+    """`flac export` gives the picture, the comments as lines, and the content of each block."""
+    expect(run("export", path, "picture", out), (0, b"", b""))
+    expect(read(out), read(picture))
+    expect(run("export", path, "picture", "-"), (0, read(picture), b""))
+    for number, (kind, body) in enumerate(blocks_of(read(path))[0]):
+        expect(run("export", path, str(number), "-"), (0, body, b""))
+        if kind == COMMENTS:
+            expect(run("export", path, "tags", "-")[0], 0)
+    os.remove(out)
+
+
+def by_mutagen(path, kind, picture):
+    try:
+        from mutagen.flac import FLAC
+    except ImportError:
+        return
+    expect([(p.type, p.data) for p in FLAC(path).pictures], [(kind, read(picture))])
+
+
+# ---- words and files
+
+def fixed(folder, info, frames):
+    vendor = content_of(b"some vendor", [b"TITLE=a", b"RAW=\xff\\\n"])
+    stream = stream_of([(0, info), (APPLICATION, b"test1"), (COMMENTS, vendor), (PADDING, bytes(400))], frames)
+    blocks, _ = blocks_of(stream)
+
+    def put(name, data, mode=0o644):
+        path = os.path.join(folder, name)
+        if os.path.lexists(path):
+            os.remove(path)
+        with open(path, "wb") as file:
+            file.write(data)
+        os.chmod(path, mode)
+        return path
+
+    def refused(path, text, *words, limit=None):
+        before = read(path) if os.path.isfile(path) else None
+        expect(run("edit", *words, path, limit=limit), (1, b"", f"flac: {path}: {text}\n".encode()))
+        if before is not None:
+            expect(read(path), before)
+
+    path = put("song.flac", stream)
+    # words
+    name = b"flac: command: --remove-block takes a number from 1 on, or a type other than STREAMINFO\n"
+    for word in ("0", "streaminfo", "STREAMINFO", "", "pic", "application:", "application:abcde", "application:0x1234", "type_0",
+                 "type_6", "type_127", "picture:3", "-1", "4294967296"):
+        expect(run("edit", f"--remove-block={word}", path), (2, b"", name))
+    for word in ("21:cover.png", "4294967295:x"):
+        expect(run("edit", "--picture", word, path), (2, b"", b"flac: command: --picture takes [TYPE:]FILE, the type 0 to 20\n"))
+    expect(run("edit", path), (2, b"", b"flac: command: edit needs --padding, --remove-block or --picture\n"))
+    expect(run("edit", "--padding", "1")[0], 2)
+    expect(run("edit", "--padding", "x", path)[0], 2)
+    expect(read(path), stream)
+
+    # blocks that are not there, too long, or there twice
+    refused(path, "block 4: 57 NoBlock", "--remove-block", "4")
+    refused(path, "block 9: 57 NoBlock", "--remove-block", "1", "--remove-block", "9", "--padding", "3")
+    refused(path, "7 BlockLength", "--padding", "16777216")
+    icon = put("icon.bin", b"x" * 10)
+    for kind in (1, 2):
+        word = f"{kind}:image/png:32x32x24:{icon}"
+        refused(path, "58 SecondPicture", "--picture", word, "--picture", word)
+        twice = put("twice.flac", stream)
+        expect(run("edit", "--picture", word, twice), (0, b"", b""))
+        refused(twice, "58 SecondPicture", "--picture", word)
+        expect(run("edit", "--remove-block", "picture", "--picture", word, twice), (0, b"", b""))
+        expect([k for k, _ in blocks_of(read(twice))[0]], [0, 2, 6, 4, 1])
+    for bad, text in ((icon, f"flac: {icon}: cannot be added: it is no PNG or JPEG picture\n"),
+                      (os.path.join(folder, "absent.png"), f"flac: {folder}/absent.png: cannot be opened\n"),
+                      (folder, f"flac: {folder}: cannot be read\n")):
+        expect(run("edit", "--picture", bad, path), (1, b"", text.encode()))
+    long = put("long.bin", bytes(16777184))
+    expect(run("edit", "--picture", long, path), (1, b"", f"flac: {long}: cannot be added: a block has no room for it\n".encode()))
+    full = put("full.bin", bytes(16777183))
+    refused(path, "7 BlockLength", "--picture", f"3:image/x:1x1x1:{full}")
+    expect(read(path), stream)
+
+    # twice
+    for _ in range(2):
+        expect(run("edit", "--padding", "1000", path), (0, b"", b""))
+        expect(read(path), stream_of(edited(blocks, [], [], 1000), frames))
+        expect(run("edit", "--remove-block", "seektable", path), (0, b"", b""))
+        expect(read(path), stream_of(edited(blocks, [], [], 1000), frames))
+
+    # several files, and files that are refused
+    good, other = put("good.flac", stream), put("other.flac", stream)
+    wave, ogg, cut = put("song.wav", b"RIFF\x04\0\0\0WAVE"), put("song.oga", b"OggS" + bytes(60)), put("cut.flac", stream[:70])
+    absent = os.path.join(folder, "absent")
+    status, out, err = run("edit", "-v", "--remove-block", "padding", good, wave, ogg, cut, folder, absent, other)
+    expect((status, out), (1, f"{good}: rewritten\n{other}: rewritten\n".encode()))
+    lines = [f"flac: {wave}: marker: 4 BadMarker", f"flac: {ogg}: cannot be edited: it is an Ogg stream", f"flac: {cut}: block 2: 3 Truncated",
+             f"flac: {folder}: cannot be opened", f"flac: {absent}: cannot be opened"]
+    expect(err.decode().splitlines(), lines)
+    for path, data in ((wave, b"RIFF\x04\0\0\0WAVE"), (ogg, b"OggS" + bytes(60)), (cut, stream[:70])):
+        expect(read(path), data)
+    for path in (good, other):
+        expect(read(path), stream_of(edited(blocks, ["padding"], [], None), frames))
+    device = os.path.join(folder, "device")
+    os.symlink("/dev/null", device)
+    refused(device, "cannot be edited: it is no regular file", "--padding", "1")
+    if os.getuid() != 0:
+        locked = put("locked.flac", stream, 0o444)
+        refused(locked, "cannot be opened", "--padding", "1")
+
+    # a full disk: the file stays, and nothing is left beside it
+    disk = put("disk.flac", stream)
+    refused(disk, "39 Write", "--padding", "5000", limit=600)
+    # links
+    soft = os.path.join(folder, "soft.flac")
+    os.symlink(disk, soft)
+    expect(run("edit", "--padding", "5", soft), (0, b"", b""))
+    expect((os.path.islink(soft), read(disk)), (True, stream_of(edited(blocks, [], [], 5), frames)))
+    expect([n for n in os.listdir(folder) if ".part" in n], [])
+    exports(put, folder, stream, blocks)
+
+
+def exports(put, folder, stream, blocks):
+    """Words, files and errors of `flac export`."""
+    path, out = put("exported.flac", stream), os.path.join(folder, "exported.txt")
+    lines = b"TITLE=a\nRAW=\\xff\\x5c\\x0a\n"
+    expect(run("export", path, "tags", out), (0, b"", b""))
+    expect(read(out), lines)
+    expect(run("export", path, "tags", "-"), (0, lines, b""))
+    for number, (_, body) in enumerate(blocks):
+        expect(run("export", path, str(number), "-"), (0, body, b""))
+    expect(run("export", path, "4", "-"), (1, b"", f"flac: {path}: block 4: 57 NoBlock\n".encode()))
+    expect(run("export", path, "picture", "-"), (1, b"", f"flac: {path}: 59 NoPicture\n".encode()))
+    for word in ("", "pictures", "-1", "tag"):
+        expect(run("export", path, word, "-")[0], 2)
+    before = read(path)
+    expect(run("export", path, "tags", path), (1, b"", f"flac: {path}: cannot be created\n".encode()))
+    song = put("a_song.flac", stream)
+    expect(run("export", path, "tags", song), (1, b"", f"flac: {song}: cannot be created\n".encode()))
+    expect((read(path), read(song)), (before, stream))
+    expect(run("export", "--force", path, "tags", song), (0, b"", b""))
+    expect(read(song), lines)
+    wave = put("b.wav", b"RIFF\x04\0\0\0WAVE")
+    expect(run("export", wave, "tags", "-"), (1, b"", f"flac: {wave}: marker: 4 BadMarker\n".encode()))
+    expect(run("export", folder, "tags", "-"), (1, b"", f"flac: {folder}: marker: 1 Read\n".encode()))
+    expect(run("export", path, "tags", "/dev/full"), (1, b"", b"flac: /dev/full: 39 Write\n"))
+
+
+def main():
+    parser = argparse.ArgumentParser()
+    parser.add_argument("--quick", action="store_true")
+    parser.add_argument("--seed", type=int, default=1)
+    asked = parser.parse_args()
+    rng = random.Random(asked.seed)
+    rounds = 40 if asked.quick else 400
+    with tempfile.TemporaryDirectory() as folder:
+        raw, path = os.path.join(folder, "a.raw"), os.path.join(folder, "a.flac")
+        with open(raw, "wb") as file:
+            file.write(rng.randbytes(4000))
+        subprocess.run(["flac", "-s", "--force-raw-format", "--sign=signed", "--endian=little", "--channels=1", "--bps=16", "--sample-rate=44100",
+                        "--no-padding", "--no-seektable", "-o", path, raw], check=True)
+        blocks, frames = blocks_of(read(path))
+        fixed(folder, blocks[0][1], frames)
+        count = pictures(folder, read(path))
+        for number in range(rounds):
+            try:
+                one(rng, folder, blocks[0][1], frames, number)
+            except Wrong as wrong:
+                raise Wrong(f"layout {number}: {wrong}") from None
+    print(f"edit: {rounds} layouts, {count} pictures, words, files and exports are right")
+
+
+if __name__ == "__main__":
+    try:
+        main()
+    except Wrong as wrong:
+        print(f"edit: {wrong}")
+        sys.exit(1)
