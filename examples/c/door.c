@@ -4,6 +4,8 @@
  *                              are none; the number and the CRC-32 of its samples as bytes and as numbers, or why they are refused
  *        door subset FILE..    the same lines by the calls that take a profile, in the streamable subset; `door lax FILE..` of all streams
  *        door blocks FILE..    lines for each file: its path; of each metadata block where it is and what it is; or why there are none
+ *        door native FILE..    lines for each file: its path; the number and the CRC-32 of the bytes of the native stream in an Ogg stream, or
+ *                              why there is none; of one file its bytes are written to FILE.native
  *        door refuse FILE..    refuses the first allocation of each call, then the second, and so on
  *        door encode RAW OUT RATE CHANNELS BITS BLOCK SEEK OGG SERIAL VENDOR COMMENT..
  *                              encodes raw samples, each of whole bytes, the lowest first, and writes the stream; encode_subset,
@@ -283,21 +285,42 @@ static int is_start(const struct starts *starts, uint64_t offset) {
     return 0;
 }
 
+static uint32_t pass(struct file file, uint64_t count, uint64_t sample, struct flac_proved_cursor *cursor, struct flac_proved_fault *fault) {
+    return way == PLAIN ? flac_proved_pass(file.bytes, file.len, count, sample, cursor, fault)
+                        : flac_proved_pass_in(file.bytes, file.len, way == BY_LAX ? 7 : 0, count, sample, cursor, fault);
+}
+
+/* The frames of some numbers are where they begin, and the end comes after the last one. */
+static void numbered(struct file file, const struct flac_proved_cursor *first, const struct starts *starts) {
+    struct flac_proved_cursor cursor;
+    struct flac_proved_fault fault;
+    size_t i, frames = starts->len - 1;
+    for (i = 0; i <= frames + 1; i += 1 + frames / 4) {
+        cursor = *first;
+        must(pass(file, i, UINT64_MAX, &cursor, &fault) == 0 && fault.number == 0 && live == 0, 16);
+        must(cursor.offset == starts->offsets[i < frames ? i : frames] && cursor.frames == (i < frames ? i : frames), 16);
+    }
+}
+
 /* Seeks a sample: the frame that holds it is found, and is that of all samples. A seek table may be wrong, which is told. */
 static void sought(struct file file, uint64_t sample, const int32_t *all, size_t count, const struct starts *starts) {
-    struct flac_proved_cursor cursor;
+    struct flac_proved_cursor cursor, passed;
     struct flac_proved_fault fault;
     size_t len, channels;
     must(flac_proved_seek(file.bytes, file.len, sample, &cursor, &fault) == 0 && cursor.sample <= sample, 14);
+    passed = cursor;
     if (!is_start(starts, cursor.offset)) {
         printf(" no frame at the seek point before %lu\n", (unsigned long)sample);
         return;
     }
     channels = cursor.info.channels;
+    must(pass(file, UINT64_MAX, sample, &passed, &fault) == 0, 16);
     while (cursor.offset < file.len) {
         uint64_t first = cursor.sample;
+        int is_passed = is_there(&passed, &cursor);
         int32_t *samples = stepped(file, &cursor, &len, &fault);
         must(samples != NULL && cursor.sample == first + len / channels, 14);
+        must(is_passed == (sample < cursor.sample), 16);
         if (sample < cursor.sample) {
             must(memcmp(samples, all + first * channels, len * sizeof *samples) == 0, 14);
             __real_free(samples);
@@ -305,7 +328,7 @@ static void sought(struct file file, uint64_t sample, const int32_t *all, size_t
         }
         __real_free(samples);
     }
-    must(sample >= count / channels, 14);
+    must(sample >= count / channels && is_there(&passed, &cursor), 14);
 }
 
 /* The samples of a stream that is whole. */
@@ -320,7 +343,7 @@ static int32_t *all_samples(struct file file, size_t *count) {
 
 /* Reads a native stream frame by frame: what is given, and where and why it ends, is what the other calls say. */
 static void step_through(struct file file, const struct flac_proved_fault *due) {
-    struct flac_proved_cursor cursor;
+    struct flac_proved_cursor cursor, first;
     struct flac_proved_stream_info info;
     struct flac_proved_fault fault;
     struct starts starts = {NULL, 0, 0};
@@ -346,6 +369,7 @@ static void step_through(struct file file, const struct flac_proved_fault *due) 
         all = all_samples(file, &count);
     }
     add_start(&starts, cursor.offset);
+    first = cursor;
     while ((samples = stepped(file, &cursor, &len, &fault)) != NULL && len > 0) {
         if (due->number == 0) {
             must(len <= count - done && memcmp(samples, all + done, len * sizeof *samples) == 0, 13);
@@ -359,12 +383,14 @@ static void step_through(struct file file, const struct flac_proved_fault *due) 
     /* that a number or a size does not follow on is judged by the other calls alone */
     if (due->place == 3 && due->number != 18 && due->number != 19) {
         must(fault.number == due->number && fault.place == 3 && fault.index == due->index && cursor.frames == due->index, 13);
+        must(pass(file, UINT64_MAX, UINT64_MAX, &first, &fault) == due->number && fault.place == 3 && fault.index == due->index && first.frames == 0, 16);
     } else if (due->place != 3) {
         must(fault.number == 0 && cursor.offset == file.len, 13);
     }
     __real_free(samples);
     if (due->number == 0) {
         must(done == count, 13);
+        numbered(file, &first, &starts);
         for (i = 0; is_numbered && i < 5; i++) {
             sought(file, i * count / info.channels / 4, all, count, &starts);
         }
@@ -384,6 +410,39 @@ static void put_lines(const char *path) {
     put_samples(file, number);
     step_through(file, &fault);
     must(live == 0, 7);
+    __real_free(file.bytes);
+}
+
+/* ---- the native stream in an Ogg stream */
+
+static void put_native(const char *path, int is_kept) {
+    struct file file = read_file(path), native = {NULL, 0};
+    struct flac_proved_fault fault;
+    size_t len = 99, again = 98;
+    uint32_t number = flac_proved_native(file.bytes, file.len, nothing, 0, &len, &fault);
+    must(number == fault.number && live == 0 && (number == 0 || len == 99), 17);
+    printf("%s\n", path);
+    if (number != 0) {
+        printf(" refused ");
+        put_fault(&fault);
+    } else {
+        native.bytes = room_for(len + 1, 1);
+        native.len = len;
+        must(len < file.len && flac_proved_native(file.bytes, file.len, native.bytes, len / 2, &again, &fault) == 0 && again == len, 17);
+        must(native.bytes[len / 2] == 0xA5, 17);
+        must(flac_proved_native(file.bytes, file.len, native.bytes, len + 1, &again, &fault) == 0 && again == len && native.bytes[len] == 0xA5, 17);
+        printf(" native %llu %08x\n", (unsigned long long)len, crc(native.bytes, len));
+        if (is_kept) {
+            char name[4096];
+            FILE *out;
+            must(strlen(path) < 4000, 17);
+            sprintf(name, "%s.native", path);
+            out = fopen(name, "wb");
+            must(out != NULL && fwrite(native.bytes, 1, len, out) == len && fclose(out) == 0, 17);
+        }
+        __real_free(native.bytes);
+    }
+    must(live == 0, 17);
     __real_free(file.bytes);
 }
 
@@ -431,7 +490,8 @@ static void put_blocks(const char *path) {
 
 /* ---- refuse */
 
-static const char *const names[] = {"verify", "info", "comment", "vendor", "decode", "samples", "encode", "encode_ogg", "start", "seek", "next", "blocks"};
+static const char *const names[] = {"verify", "info", "comment", "vendor", "decode", "samples", "encode", "encode_ogg", "start", "seek", "next", "blocks",
+                                    "native", "pass"};
 
 /* What the calls fill in. */
 static struct {
@@ -469,6 +529,13 @@ static uint32_t call(size_t which, struct file file) {
     }
     if (which == 11) {
         return flac_proved_blocks(file.bytes, file.len, given.blocks, 8, &given.len, &fault);
+    }
+    if (which == 12) {
+        return flac_proved_native(file.bytes, file.len, given.text, sizeof given.text, &given.len, &fault);
+    }
+    if (which == 13) {
+        number = flac_proved_start(file.bytes, file.len, &given.cursor, &fault);
+        return number != 0 ? number : flac_proved_pass(file.bytes, file.len, 3, UINT64_MAX, &given.cursor, &fault);
     }
     for (i = 0; i < 200; i++) {
         samples[i] = i * i % 1000 - 17 * i;
@@ -627,6 +694,8 @@ int main(int count, char **words) {
     for (i = 2; i < count; i++) {
         if (strcmp(words[1], "refuse") == 0) {
             refuse_each(words[i]);
+        } else if (strcmp(words[1], "native") == 0) {
+            put_native(words[i], count == 3);
         } else if (strcmp(words[1], "blocks") == 0) {
             put_blocks(words[i]);
         } else {

@@ -97,7 +97,15 @@ uint32_t flac_proved_decode(const uint8_t *bytes, size_t size, uint32_t width, u
 uint32_t flac_proved_decode_in(const uint8_t *bytes, size_t size, uint32_t width, uint32_t profile, uint8_t *out, size_t room, size_t *len,
                                struct flac_proved_fault *fault);
 
-/* ---- The metadata blocks of a native stream. An Ogg stream is refused at the marker: a block may be cut into pages there. */
+/* ---- The native stream in an Ogg stream, for the calls that read native streams alone. */
+
+/* Copies the native stream that is in the packets of an Ogg stream to a buffer: the bytes of all packets from the marker in the mapping on
+ * (RFC 9639, section 10.1). It is shorter than the Ogg stream. Of a stream it is one of the same metadata blocks and frames; pages and the
+ * mapping are judged, and blocks and frames by the calls that read them.
+ * Returns 0, or the number of the fault of a page or of the mapping: 31 if the bytes are no Ogg stream. */
+uint32_t flac_proved_native(const uint8_t *bytes, size_t size, uint8_t *out, size_t room, size_t *len, struct flac_proved_fault *fault);
+
+/* ---- The metadata blocks of a native stream. An Ogg stream is refused at the marker: flac_proved_native gives the native stream in it. */
 
 /* Some bytes of a stream, which are not copied: `len` bytes from bytes + offset on. */
 struct flac_proved_span {
@@ -133,7 +141,7 @@ struct flac_proved_block {
 uint32_t flac_proved_blocks(const uint8_t *bytes, size_t size, struct flac_proved_block *out, size_t room, size_t *len,
                             struct flac_proved_fault *fault);
 
-/* ---- Reading a native stream frame by frame. An Ogg stream is refused at the marker: its frames are in packets that no offset names. */
+/* ---- Reading a native stream frame by frame. An Ogg stream is refused at the marker: flac_proved_native gives the native stream in it. */
 
 /* Where the next frame begins, and what frames are read by: plain numbers, which the caller may copy and keep. No memory belongs to it.
  * A cursor is made by flac_proved_start or flac_proved_seek, and is used with the same bytes. */
@@ -165,6 +173,16 @@ uint32_t flac_proved_next(const uint8_t *bytes, size_t size, struct flac_proved_
                           struct flac_proved_fault *fault);
 uint32_t flac_proved_next_in(const uint8_t *bytes, size_t size, uint32_t profile, struct flac_proved_cursor *cursor, int32_t *out, size_t room,
                              size_t *len, struct flac_proved_fault *fault);
+
+/* Passes frames from a cursor on, which goes to the frame after them: at most `count` of them, and none that ends after the sample of the
+ * number `sample`, which is counted in each channel. With UINT64_MAX for either the other one decides: after flac_proved_start the cursor
+ * goes to the frame of the number `count`, and after flac_proved_seek to the frame that holds `sample`; to the end, if there is none. If a
+ * seek table named a frame after the sample, the cursor stays there.
+ * Returns 0, or what flac_proved_next returns of the first frame that is refused; the cursor is then as it was. */
+uint32_t flac_proved_pass(const uint8_t *bytes, size_t size, uint64_t count, uint64_t sample, struct flac_proved_cursor *cursor,
+                          struct flac_proved_fault *fault);
+uint32_t flac_proved_pass_in(const uint8_t *bytes, size_t size, uint32_t profile, uint64_t count, uint64_t sample,
+                             struct flac_proved_cursor *cursor, struct flac_proved_fault *fault);
 
 /* ---- Writing a stream. */
 

@@ -21,6 +21,7 @@ from typing import Any, Dict, Iterable, Iterator, List, NamedTuple, Optional, Se
 
 PLACES = {1: "marker", 2: "block", 3: "frame", 4: "page", 5: "end"}
 SUBSET, LAX = 0, 1
+MOST = (1 << 64) - 1
 BYTES, INTS, SIZE, WORD, LONG = ctypes.POINTER(ctypes.c_uint8), ctypes.POINTER(ctypes.c_int32), ctypes.c_size_t, ctypes.c_uint32, ctypes.c_uint64
 
 
@@ -49,6 +50,10 @@ class Cursor(ctypes.Structure):
     """Where the next frame of a native stream begins, the number of its first sample, and what the stream says of itself."""
 
     _fields_ = [("offset", LONG), ("frames", LONG), ("sample", LONG), ("info", StreamInfo)]
+
+    def copy(self) -> Cursor:
+        """Another cursor at the same place."""
+        return Cursor.from_buffer_copy(self)
 
 
 class Span(ctypes.Structure):
@@ -183,6 +188,8 @@ class Library:
                 ("blocks", WORD, stream + [ctypes.POINTER(Block)] + buffer[1:] + fault),
                 ("decode_in", WORD, stream + [WORD, WORD] + buffer + fault),
                 ("samples_in", WORD, stream + [WORD, INTS] + buffer[1:] + fault),
+                ("native", WORD, stream + buffer + fault),
+                ("pass_in", WORD, stream + [WORD, LONG, LONG, ctypes.POINTER(Cursor)] + fault),
                 ("start", WORD, stream + [ctypes.POINTER(Cursor)] + fault),
                 ("seek", WORD, stream + [LONG, ctypes.POINTER(Cursor)] + fault),
                 ("next_in", WORD, stream + [WORD, ctypes.POINTER(Cursor), INTS] + buffer[1:] + fault),
@@ -240,9 +247,13 @@ class Library:
         return [bytes(self.filled("comment", stream, index, room=256)) for index in range(self.info(stream).comments)]
 
     def blocks(self, stream: bytes) -> List[Block]:
-        """The metadata blocks of a native stream."""
+        """The metadata blocks of a native stream, as `native` gives it of an Ogg stream."""
         found = self.filled("blocks", stream, room=16, unit=Block)
         return list((Block * (len(found) // ctypes.sizeof(Block))).from_buffer_copy(found)) if len(found) else []
+
+    def native(self, stream: bytes) -> bytes:
+        """The native stream in an Ogg stream: of the same metadata blocks and frames."""
+        return bytes(self.filled("native", stream, room=len(stream)))
 
     def decode(self, stream: bytes, width: int = 0, profile: int = SUBSET) -> bytes:
         """The samples of a stream as bytes, `width` each; if it is 0, those that `flac decode` writes."""
@@ -271,6 +282,10 @@ class Library:
         cursor = Cursor()
         self.asked("seek", stream, sample, ctypes.byref(cursor))
         return cursor
+
+    def skip(self, stream: bytes, cursor: Cursor, count: int = MOST, sample: int = MOST, profile: int = SUBSET) -> None:
+        """Passes frames: at most `count`, and none that ends after the sample of this number. The cursor is then at the next one, or at the end."""
+        self.asked("pass_in", stream, profile, count, sample, ctypes.byref(cursor))
 
     def views(self, stream: bytes, cursor: Cursor, profile: int = SUBSET) -> Iterator[Frame]:
         """The frames from a cursor on; the cursor goes with them."""
@@ -307,16 +322,24 @@ class Library:
 
 
 class Stream:
-    """A stream in memory, native or Ogg. Its frames are what it gives one after another: of a native stream each is decoded when it is asked for; an
-    Ogg stream is decoded as a whole at the first. Frames are judged one by one: verify() judges the whole stream."""
+    """A stream in memory, native or Ogg. Its frames are what it gives one after another, each decoded when it is asked for. Frames are judged one by
+    one: verify() judges the whole stream. `data` are its bytes, and `native` those of the native stream in it, in which blocks and frames are."""
 
     def __init__(self, data: bytes, lax: bool = False, library: Optional[Library] = None) -> None:
         self.data, self.profile, self.library = bytes(data), LAX if lax else SUBSET, library or default()
         self.info: StreamInfo = self.library.info(self.data)
+        self.made: Optional[bytes] = None
 
     @property
     def is_ogg(self) -> bool:
         return self.data[:1] == b"O"
+
+    @property
+    def native(self) -> bytes:
+        """The bytes of the native stream: `data`, or what the packets of an Ogg stream have. The pages of these are judged when it is first asked for."""
+        if self.made is None:
+            self.made = self.library.native(self.data) if self.is_ogg else self.data
+        return self.made
 
     def verify(self) -> None:
         """Raises Error if the bytes are no whole stream."""
@@ -343,25 +366,25 @@ class Stream:
 
     @property
     def blocks(self) -> List[Block]:
-        """The metadata blocks of a native stream."""
-        return self.library.blocks(self.data)
+        """The metadata blocks; their places are in `native`."""
+        return self.library.blocks(self.native)
 
     @property
     def pictures(self) -> List[Picture]:
-        """The pictures of a native stream."""
+        """The pictures; their data is a view of `native`."""
         found = []
         for it in (block.picture for block in self.blocks if block.kind == 6):
-            media, words = (bytes(span.of(self.data)).decode(errors="replace") for span in (it.media, it.description))
-            found.append(Picture(it.kind, media, words, it.width, it.height, it.depth, it.colours, it.data.of(self.data)))
+            media, words = (bytes(span.of(self.native)).decode(errors="replace") for span in (it.media, it.description))
+            found.append(Picture(it.kind, media, words, it.width, it.height, it.depth, it.colours, it.data.of(self.native)))
         return found
 
     @property
     def seek_points(self) -> List[SeekPoint]:
-        """The points of the seek table of a native stream, without those that are placeholders."""
+        """The points of the seek table, without those that are placeholders; their places are counted from the first frame in `native`."""
         found = []
         for block in self.blocks:
             if block.kind == 3:
-                content = block.content(self.data)
+                content = block.content(self.native)
                 for at in range(0, len(content), 18):
                     point = SeekPoint(*(int.from_bytes(content[at + a:at + b], "big") for a, b in ((0, 8), (8, 16), (16, 18))))
                     if point.sample != (1 << 64) - 1:
@@ -369,14 +392,38 @@ class Stream:
         return found
 
     def frames(self, sample: int = 0) -> Iterator[Frame]:
-        """The frames from the one on that the seek table names for a sample; from the first one on if there is none."""
-        if not self.is_ogg:
-            yield from self.library.views(self.data, self.library.seek(self.data, sample), self.profile)
-            return
-        size, samples = self.info.greatest_block, self.samples()
-        for first in range(0, len(samples), size):
-            part = samples.cast("B")[first * self.info.channels * 4:(first + size) * self.info.channels * 4]
-            yield Frame(first, rows(part, self.info.channels))
+        """The frames from the one on that holds the sample of this number."""
+        yield from self.library.views(self.native, self.cursor_at(sample), self.profile)
+
+    def cursor_at(self, sample: int) -> Cursor:
+        """A cursor at the frame that holds the sample of this number, or at the end: by the seek table, if a frame is where it says."""
+        cursor = self.library.seek(self.native, sample)
+        try:
+            self.library.skip(self.native, cursor, sample=sample, profile=self.profile)
+            first = next(self.library.views(self.native, cursor.copy(), self.profile), None)
+            if first is None or first.first <= sample:
+                return cursor
+        except Error:
+            pass
+        cursor = self.library.start(self.native)
+        self.library.skip(self.native, cursor, sample=sample, profile=self.profile)
+        return cursor
+
+    def frame(self, number: int) -> Frame:
+        """The frame of this number, counted from 0; IndexError if there are fewer frames."""
+        cursor = self.library.start(self.native)
+        self.library.skip(self.native, cursor, count=number, profile=self.profile)
+        return self.frame_after(cursor)
+
+    def frame_of(self, sample: int) -> Frame:
+        """The frame that holds the sample of this number, counted from 0; IndexError if there are fewer samples."""
+        return self.frame_after(self.cursor_at(sample))
+
+    def frame_after(self, cursor: Cursor) -> Frame:
+        """The frame at a cursor."""
+        for frame in self.library.views(self.native, cursor, self.profile):
+            return frame
+        raise IndexError("the stream has no such frame")
 
     def __iter__(self) -> Iterator[Frame]:
         return self.frames()

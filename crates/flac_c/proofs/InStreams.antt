@@ -85,7 +85,7 @@ parted p m (y ∷ ys) x more text told u (part, rest, split, spelled, fits, othe
       whole = r.whole;
     }
 
-one_place : (p : Progress) (m : Mark) (items : List Piece) (front left head rest : List Bool) → front ++ left ≡ head ++ rest → Joined grammar p m items front → Joined grammar p m items head → left ≡ rest
+pub one_place : (p : Progress) (m : Mark) (items : List Piece) (front left head rest : List Bool) → front ++ left ≡ head ++ rest → Joined grammar p m items front → Joined grammar p m items head → left ≡ rest
 one_place p m [] front left head rest e j k = ap (λ (t : List Bool). t ++ left) (sym j) ∙ e ∙ ap (λ (t : List Bool). t ++ rest) k
 one_place p m (x ∷ xs) front left head rest e j k =
     let h = heads p m x x xs xs front left head rest e j k in

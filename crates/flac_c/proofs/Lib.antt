@@ -15,6 +15,9 @@ pub mod Places
 pub mod FramesRead
 pub mod HandedOver
 pub mod InStreams
+pub mod Passing
+-- ---- an Ogg stream without its pages
+pub mod NativeInOgg
 -- ---- encoding: why samples are refused, and numbers of reasons
 pub mod Encodings
 pub mod Searched

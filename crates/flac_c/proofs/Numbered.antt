@@ -1,8 +1,9 @@
--- No reason has the number 0.
-use Rattle.std.proofs.Common.{◌≡◌, ◌≤◌, ℕ, arith}
+-- No reason has the number 0; and which reason is told.
+use Rattle.std.proofs.Common.{◌≡◌, ◌≢◌, ◌⊎◌, inl, inr, ◌≤◌, ℕ, Option, Some, refl, sym, ap, arith}
 use Rattle.flac_bits.specs.declared.why.Why.{Why}
 use Rattle.flac_bits.specs.declared.why.Why.TheVariants.{Read, Memory, Truncated, BadMarker, NotStreamInfoFirst, ForbiddenType, BlockLength, BadStreamInfo, RepeatedBlock, SeekOrder, CueSheet, BadSync, ReservedCode, NotSubset, BadNumber, HeaderCheck, HeaderMismatch, Sequence, BlockSize, BadSubframe, BadPredictor, BadPartition, ResidualRange, NonzeroPadding, FrameTooLong, FrameCheck, SampleRange, TotalMismatch, Md5Mismatch, Sink, BadPage, PageCheck, PageOrder, OtherStream, PacketLength, NoEndPage, BadMapping, Spent, Write}
 use Rattle.flac_bits.specs.Reasons.{number_of}
+use Rattle.flac_native.specs.declared.fault.Place.{Place}
 
 pub some_number : (w : Why) → 1 ≤ number_of w
 some_number Read = omega arith
@@ -47,3 +48,15 @@ some_number Write = omega arith
 
 pub no_number : (w : Why) (n : ℕ) → n ≡ number_of w → n ≡ 0 → ⊥
 no_number w n is none = let some = some_number w in omega (arith, some, is, none)
+
+-- ---- which reason is told
+
+pub memory_or_not : (w : Why) → (w ≡ Memory) ⊎ (w ≢ Memory)
+memory_or_not Memory = inl refl
+memory_or_not w = inr (λ e. absurd cc)
+
+abbrev told_as : Place → Why → Option (Place × Why)
+told_as at why = Some (at, why)
+
+pub same_why : (a b : Place) (v w : Why) → told_as a v ≡ told_as b w → w ≡ v
+same_why a b v w e = let p : (a, v) ≡ (b, w) = cc in sym (ap (λ (f : Place × Why). f.1) p)

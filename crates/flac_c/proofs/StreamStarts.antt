@@ -1,10 +1,9 @@
 -- The cursor that is made of a stream stands in it, at its first frame.
-use Rattle.std.proofs.Common.{◌≡◌, ◌≢◌, ◌⊎◌, inl, inr, ℕ, ◌+◌, ◌<◌, Bool, true, false, List, [], ◌∷◌, ◌++◌, length, length-append, take, drop, Option, Some, None, refl, sym, ap, subst, ◌∙◌, append-nil, arith}
+use Rattle.std.proofs.Common.{◌≡◌, inl, inr, ℕ, ◌+◌, ◌<◌, Bool, true, false, List, [], ◌∷◌, ◌++◌, length, length-append, take, drop, Option, Some, None, refl, sym, ap, subst, ◌∙◌, append-nil, arith}
 use Rattle.std.proofs.lemmas.List.{take-append-drop}
 use Rattle.flac_bits.specs.Bits.{bits_of}
 use Rattle.flac_bits.specs.State.{Mark, fresh}
 use Rattle.flac_bits.specs.Items.{Joined, Stream, state_after}
-use Rattle.flac_bits.specs.declared.why.Why.{Why}
 use Rattle.flac_bits.specs.declared.why.Why.TheVariants.{Truncated, Memory}
 use Rattle.flac_bits.proofs.Holding.{bits_of-append}
 use Rattle.flac_info.specs.Info.{Info}
@@ -12,13 +11,13 @@ use Rattle.flac_header.specs.declared.subset.Profile.{Profile}
 use Rattle.flac_native.specs.Decoding.{beginning}
 use Rattle.flac_native.specs.Item.{fault_pair}
 use Rattle.flac_native.specs.Stream.{Piece, marked, block, framed, Progress, grammar, opening, next, may_end_in}
-use Rattle.flac_native.specs.declared.fault.Place.{Place}
 use Rattle.flac_native.specs.declared.fault.Fault.{Fault}
 use Rattle.flac_native.specs.declared.track.Phase.{Phase}
 use Rattle.flac_native.specs.declared.track.Phase.TheVariants.{Frames}
 use Rattle.flac_native.proofs.Deciding.{one_answer, has_bits}
 use Rattle.flac_native.proofs.OneHead.{heads}
 use Rattle.flac_native.proofs.Onwards.{frame_there}
+use Rattle.flac_c.proofs.Numbered.{memory_or_not, same_why}
 use Rattle.flac_c.specs.Cursors.{StandsIn, StartsIn}
 use Rattle.flac_c.specs.Heads.{comments_from}
 use Rattle.flac_c.specs.Starts.{are_metadata, IsHead, first_frame, StandsFirst, RefusesHead}
@@ -102,16 +101,6 @@ module _ (profile : Profile) (bytes : List ℕ) (items : List Piece) (s : Stream
       later : (xs ys : List Piece) → may_end_in (state_after grammar (opening profile) (xs ++ ys)).stand.phase (state_after grammar (opening profile) (xs ++ ys)).stand.info ≡ true
           → may_end_in (state_after grammar (state_after grammar (opening profile) xs) ys).stand.phase (state_after grammar (state_after grammar (opening profile) xs) ys).stand.info ≡ true
       later xs ys e = later_from (opening profile) xs ys e
-
-  memory_or_not : (w : Why) → (w ≡ Memory) ⊎ (w ≢ Memory)
-  memory_or_not Memory = inl refl
-  memory_or_not w = inr (λ e. absurd cc)
-
-  abbrev told_as : Place → Why → Option (Place × Why)
-  told_as at why = Some (at, why)
-
-  same_why : (a b : Place) (v w : Why) → told_as a v ≡ told_as b w → w ≡ v
-  same_why a b v w e = let p : (a, v) ≡ (b, w) = cc in sym (ap (λ (f : Place × Why). f.1) p)
 
   -- but out of memory
   pub start_refused : (f : Fault) → RefusesHead profile bytes (Some (fault_pair f)) → f.why ≡ Memory

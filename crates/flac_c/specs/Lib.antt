@@ -4,9 +4,11 @@ pub mod Described
 pub mod Encoded
 pub mod Heads
 pub mod Interleaved
+pub mod Passing
 pub mod Profiles
 pub mod Sampled
 pub mod Starts
 pub mod Texts
+pub mod Unpacked
 pub mod Bound
 pub mod inner

@@ -3,3 +3,5 @@ pub mod Heads
 pub mod Sampled
 pub mod Blocks
 pub mod Described
+pub mod Unpacked
+pub mod Passing

@@ -17,6 +17,9 @@ mod cursor;
 mod decoding;
 mod encoding;
 mod fault;
+mod finding;
+#[cfg(test)]
+mod finding_tests;
 mod head;
 mod info;
 mod metadata;
@@ -29,4 +32,5 @@ mod tags;
 #[cfg(test)]
 mod tests;
 mod texts;
+mod unpacking;
 mod verifying;

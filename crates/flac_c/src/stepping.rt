@@ -18,7 +18,7 @@ use flac_native::{Fault, Place, Profile, bytes_from};
 use std::alloc::Global;
 
 /// Reads the frame with which these bytes begin, whatever its number is, and returns how many bytes it has.
-fn fill_frame(
+pub(crate) fn fill_frame(
     bytes: &[u8],
     info: &StreamInfo,
     profile: Profile,

@@ -43,7 +43,7 @@ const DIGEST: [u8; 16] = [
 ];
 
 /// A fault whose fields no call reports.
-fn unset() -> FlacProvedFault {
+pub(crate) fn unset() -> FlacProvedFault {
     FlacProvedFault {
         number: 99,
         place: 99,
@@ -283,7 +283,7 @@ fn channels_not_encoded(rt: HostRuntime) -> Result<(), Fail> {
 }
 
 /// A cursor that no call made.
-fn nowhere() -> FlacProvedCursor {
+pub(crate) fn nowhere() -> FlacProvedCursor {
     FlacProvedCursor {
         offset: 99,
         frames: 99,
