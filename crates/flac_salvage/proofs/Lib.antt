@@ -4,3 +4,4 @@ pub mod Founds
 pub mod Locals
 pub mod Syncs
 pub mod Finding
+pub mod Chains

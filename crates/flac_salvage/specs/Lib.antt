@@ -1,4 +1,5 @@
 pub mod Standing
 pub mod Found
 pub mod Kept
+pub mod Chain
 pub mod inner

@@ -1,6 +1,8 @@
 //! Whole frames among other bytes.
 
-use crate::{WholeFrame, frames_are_local, next_whole, whole_frames, whole_frames_are_found};
+use crate::{
+    WholeFrame, best_chain, frames_are_local, next_whole, whole_frames, whole_frames_are_found,
+};
 use flac_frame::FrameBuffers;
 use flac_header::Profile;
 use flac_info::StreamInfo;
@@ -63,5 +65,41 @@ fn all_found(rt: HostRuntime) -> Result<(), Fail> {
     };
     assert!(rt; found_of(rt.alloc(), 100000) == Some((2, Some(last), None)));
     assert!(rt; found_of(rt.alloc(), 0) == Some((0, None, Some(0))));
+    Ok(())
+}
+
+/// A frame of a hundred samples, which begin at this one.
+fn hundred(first: u64) -> WholeFrame {
+    WholeFrame {
+        at: 0,
+        bytes: 1,
+        first,
+        size: 100,
+    }
+}
+
+/// How many frames the best chain of three has, and the first sample of the first and of the last.
+fn chain_of(alloc: Global, firsts: [u64; 3], limit: u64) -> Option<(usize, u64, u64)> {
+    let [a, b, c] = firsts;
+    let frames = [hundred(a), hundred(b), hundred(c)];
+    match best_chain(alloc, &frames, limit) {
+        Ok(chosen) => {
+            let kept = chosen?;
+            let first = kept.first().copied()?;
+            let last = kept.last().copied()?;
+            Some((kept.len(), first.first, last.first))
+        }
+        Err(_) => None,
+    }
+}
+
+#[test]
+fn best_chains(rt: HostRuntime) -> Result<(), Fail> {
+    assert!(rt; chain_of(rt.alloc(), [0, 100, 200], 300) == Some((3, 0, 200)));
+    assert!(rt; chain_of(rt.alloc(), [900, 100, 200], 1000) == Some((2, 100, 200)));
+    assert!(rt; chain_of(rt.alloc(), [0, 900, 100], 1000) == Some((2, 0, 900)));
+    assert!(rt; chain_of(rt.alloc(), [0, 900, 100], 300) == Some((2, 0, 100)));
+    assert!(rt; chain_of(rt.alloc(), [250, 150, 50], 1000) == Some((1, 250, 250)));
+    assert!(rt; chain_of(rt.alloc(), [250, 150, 50], 100).is_none());
     Ok(())
 }

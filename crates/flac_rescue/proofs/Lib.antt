@@ -1,0 +1,5 @@
+pub mod Lists
+pub mod Within
+pub mod Heads
+pub mod Adding
+pub mod Told

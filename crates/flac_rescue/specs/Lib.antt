@@ -1,0 +1,4 @@
+pub mod Gaps
+pub mod Head
+pub mod Survey
+pub mod Report

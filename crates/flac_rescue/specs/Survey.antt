@@ -1,0 +1,33 @@
+-- What a survey of a damaged stream says (RFC 9639, sections 8 and 9).
+use Rattle.std.specs.Prelude.{◌≡◌, ℕ, List, ◌∷◌, length}
+use Rattle.flac_info.specs.Info.{Info}
+use Rattle.flac_meta.specs.declared.block.Block.{Block}
+use Rattle.flac_meta.specs.declared.block.Block.TheVariants.{StreamInfo}
+use Rattle.flac_header.specs.declared.subset.Profile.TheVariants.{Lax}
+use Rattle.flac_salvage.specs.Kept.{AreFound}
+use Rattle.flac_salvage.specs.Chain.{chain, IsBest}
+use Rattle.flac_rescue.specs.Gaps.{limit_of, gaps, others}
+use Rattle.flac_rescue.specs.Head.{IsHead}
+use Rattle.flac_rescue.specs.declared.survey.Survey.{Survey}
+
+-- the first block is STREAMINFO
+pub record BeginsWithInfo (info : Info) (blocks : List Block) : Type 0 where
+  pub more : List Block
+  pub is : blocks ≡ StreamInfo info ∷ more
+
+-- All whole frames from an offset on were found; the best chain of them is kept, with no sample past the total; and the
+-- gaps are what is missing between the kept ones, the others those that are not kept.
+pub record AreSurveyed (bytes : List ℕ) (front : ℕ) (info : Info) (s : Survey) : Type 0 where
+  pub at : s.front ≡ front
+  pub stream : s.info ≡ info
+  pub found : AreFound Lax info bytes front s.found.cut s.found.frames.items
+  pub kept : s.kept.items ≡ chain (limit_of info.total) 0 s.found.frames.items
+  pub best : IsBest (limit_of info.total) 0 s.found.frames.items s.kept.items
+  pub gaps : s.gaps.items ≡ gaps info.total (length bytes) front 0 s.kept.items
+  pub others : s.others.items ≡ others s.found.frames.items s.kept.items
+
+-- the same after the metadata blocks with which the bytes begin
+pub record IsSurvey (bytes : List ℕ) (s : Survey) : Type 0 where
+  pub head : IsHead bytes s.blocks.items s.front
+  pub info : BeginsWithInfo s.info s.blocks.items
+  pub frames : AreSurveyed bytes s.front s.info s

@@ -1,0 +1,22 @@
+//! What damage left of a native stream: which samples are missing, and where (RFC 9639, section 9).
+//!
+//! | To | Begin with |
+//! |---|---|
+//! | find the frames that stand whole, and choose those that belong together | [`survey_bytes`] |
+//! | know what is missing between them | [`gaps`] |
+//! | print it | [`report`], [`tell_missing`] |
+#![tactic(auto)]
+
+mod head;
+mod lines;
+mod missing;
+mod survey;
+mod tell;
+#[cfg(test)]
+mod tests;
+mod texts;
+
+pub use lines::report;
+pub use missing::{Gap, gaps, others};
+pub use survey::{Survey, SurveyFault, survey_bytes};
+pub use tell::tell_missing;

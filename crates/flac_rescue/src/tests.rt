@@ -1,0 +1,120 @@
+//! Surveys of small streams.
+
+use crate::{SurveyFault, report, survey_bytes, tell_missing};
+use flac_bits::Collected;
+use std::alloc::Global;
+use std::test::Fail;
+
+/// The marker and STREAMINFO: blocks of 16 samples, 44100 Hz, 1 channel, 8 bits, 64 samples.
+const HEAD: [u8; 42] = [
+    0x66, 0x4C, 0x61, 0x43, 0x80, 0x00, 0x00, 0x22, 0x00, 0x10, 0x00, 0x10, 0x00, 0x00, 0x00, 0x00,
+    0x00, 0x00, 0x0A, 0xC4, 0x40, 0x70, 0x00, 0x00, 0x00, 0x40, 0x00, 0x00, 0x00, 0x00, 0x00, 0x00,
+    0x00, 0x00, 0x00, 0x00, 0x00, 0x00, 0x00, 0x00, 0x00, 0x00,
+];
+
+/// Four frames of 16 samples, each of one value.
+const FRAMES: [[u8; 11]; 4] = [
+    [
+        0xFF, 0xF8, 0x69, 0x02, 0x00, 0x0F, 0xB7, 0x00, 0x01, 0x7A, 0x27,
+    ],
+    [
+        0xFF, 0xF8, 0x69, 0x02, 0x01, 0x0F, 0xA2, 0x00, 0x02, 0x7B, 0x51,
+    ],
+    [
+        0xFF, 0xF8, 0x69, 0x02, 0x02, 0x0F, 0x9D, 0x00, 0x03, 0xF8, 0xD0,
+    ],
+    [
+        0xFF, 0xF8, 0x69, 0x02, 0x03, 0x0F, 0x88, 0x00, 0x04, 0x79, 0xBD,
+    ],
+];
+
+/// The frames in this order, after the head; the second of them with a changed bit, and three bytes before the last.
+fn damaged(alloc: Global, order: &[usize]) -> Option<Vec<u8>> {
+    let mut bytes = Vec::new(alloc);
+    bytes.extend_from_slice(&HEAD).ok()?;
+    for (place, index) in order.iter().enumerate() {
+        let mut frame = FRAMES[*index % 4];
+        if place == 1 && order.len() > 4 {
+            frame[8] ^= 4;
+        }
+        if place == 4 {
+            bytes.extend_from_slice(b"xyz").ok()?;
+        }
+        bytes.extend_from_slice(&frame).ok()?;
+    }
+    Some(bytes)
+}
+
+/// Whether the lines about frames in this order are these.
+fn says(alloc: Global, order: &[usize], lines: &str) -> bool {
+    match damaged(alloc, order) {
+        Some(bytes) => match survey_bytes(alloc, &bytes) {
+            Ok(found) => match report(alloc, "a", &found) {
+                Ok(text) => text.as_slice() == lines.as_bytes(),
+                Err(_) => false,
+            },
+            Err(_) => false,
+        },
+        None => false,
+    }
+}
+
+#[test]
+fn reports(rt: HostRuntime) -> Result<(), Fail> {
+    assert!(rt; says(rt.alloc(), &[0, 1, 2, 3], ""));
+    assert!(rt;
+        says(
+            rt.alloc(),
+            &[0, 1, 3],
+            "flac: a: byte 64: samples 32 to 47 missing, 0:00.000 to 0:00.001\nflac: a: found 48 of 64 samples in 3 frames\n"
+        )
+    );
+    assert!(rt;
+        says(
+            rt.alloc(),
+            &[0, 1, 2, 1, 3],
+            "flac: a: bytes 53 to 63: samples 16 to 31 missing, 0:00.000 to 0:00.000\nflac: a: bytes 75 to 88: no frame, no sample is missing\nflac: a: frame at byte 75: out of order, 16 samples from 16\nflac: a: found 48 of 64 samples in 3 frames\n"
+        )
+    );
+    Ok(())
+}
+
+/// What is printed of frames in this order.
+fn is_told(alloc: Global, order: &[usize], lines: &str) -> bool {
+    let mut err = Collected::new(alloc);
+    match damaged(alloc, order) {
+        Some(bytes) => {
+            tell_missing(alloc, "b", &bytes, &mut err).is_ok() && err.bytes() == lines.as_bytes()
+        }
+        None => false,
+    }
+}
+
+#[test]
+fn lines_are_printed(rt: HostRuntime) -> Result<(), Fail> {
+    assert!(rt; is_told(rt.alloc(), &[0, 1, 2, 3], ""));
+    let due =
+        "flac: b: byte 42: samples 0 to 15 missing, 0:00.000 to 0:00.000\nflac: b: found 48 of 64 samples in 3 frames\n";
+    assert!(rt; is_told(rt.alloc(), &[1, 2, 3], due));
+    let due =
+        "flac: b: byte 42: samples 0 to 63 missing, 0:00.000 to 0:00.001\nflac: b: found 0 of 64 samples in 0 frames\n";
+    assert!(rt; is_told(rt.alloc(), &[], due));
+    Ok(())
+}
+
+/// Whether these bytes have no marker and blocks.
+fn is_refused(alloc: Global, bytes: &[u8]) -> bool {
+    match survey_bytes(alloc, bytes) {
+        Ok(_) => false,
+        Err(fault) => matches!(fault, SurveyFault::Head(_)),
+    }
+}
+
+#[test]
+fn heads_are_refused(rt: HostRuntime) -> Result<(), Fail> {
+    assert!(rt; is_refused(rt.alloc(), b""));
+    assert!(rt; is_refused(rt.alloc(), b"OggS"));
+    assert!(rt; is_refused(rt.alloc(), &HEAD[..41]));
+    assert!(rt; !is_refused(rt.alloc(), &HEAD));
+    Ok(())
+}
