@@ -1,11 +1,11 @@
 -- The parts of an input.
-use Rattle.std.proofs.Common.{◌≡◌, ◌≤◌, ◌+◌, ◌-◌, ◌++◌, ◌∷◌, [], ℕ, Bool, true, false, List, length, take, drop, refl, sym, ap, ◌∙◌, arith}
-use Rattle.std.specs.Prelude.{cond, nat_eq, ◌&&◌, eqb, codes}
+use Rattle.std.proofs.Common.{◌≡◌, ◌-◌, ◌++◌, [], ℕ, Bool, true, false, List, length, take, drop, ap, ◌∙◌, arith}
+use Rattle.std.specs.Prelude.{cond, nat_eq, eqb, codes}
 use Rattle.std.specs.List.{starts_with}
 use Rattle.std.proofs.lemmas.Bool.{and_parts}
 use Rattle.std.proofs.lemmas.List.{length-append, append-nil, take-append-drop}
 use Rattle.std.proofs.Math.Seq.{drop-append_seam, take-append_seam, drop-length}
-use Rattle.flac_around.specs.Around.{around, Parts, front_length, past_front, IsFront, is_back, last_128, all_but_128, without_back, back_length}
+use Rattle.flac_around.specs.Around.{around, Parts, front_length, past_front, IsFront, is_back, last_128, all_but_128, without_back}
 use Rattle.flac_around.proofs.Fronts.{front_same, front_whole}
 use Rattle.flac_around.proofs.Backs.{none_taken, none_dropped}
 

@@ -1,10 +1,10 @@
 -- Tags at the end of an input.
-use Rattle.std.proofs.Common.{◌≡◌, ◌≤◌, ◌<◌, ◌+◌, ◌-◌, ◌++◌, ◌∷◌, [], ℕ, Bool, true, false, List, length, take, drop, refl, sym, ap, ◌∙◌, arith}
+use Rattle.std.proofs.Common.{◌≡◌, ◌≤◌, ◌<◌, ◌+◌, ◌-◌, ◌++◌, ◌∷◌, [], ℕ, Bool, true, false, List, length, take, drop, refl, ap, ◌∙◌, arith}
 use Rattle.std.specs.Prelude.{cond, nat_eq, ◌&&◌, eqb, codes}
 use Rattle.std.specs.List.{starts_with}
-use Rattle.std.proofs.lemmas.List.{length-append, length-drop}
+use Rattle.std.proofs.lemmas.List.{length-append}
 use Rattle.std.proofs.Math.Seq.{drop-append-add, take-append-add}
-use Rattle.flac_around.specs.Around.{last_128, all_but_128, is_back, without_back, back_length}
+use Rattle.flac_around.specs.Around.{last_128, all_but_128, is_back, without_back}
 use Rattle.flac_around.specs.Coming.{given}
 
 pub none_dropped : (xs : List ℕ) → drop 0 xs ≡ xs

@@ -1,8 +1,8 @@
 -- What is still to come of the bytes between.
-use Rattle.std.proofs.Common.{◌≡◌, ◌≢◌, ◌≤◌, ◌<◌, ◌+◌, ◌-◌, ◌++◌, ◌∷◌, [], ℕ, Bool, true, false, List, length, take, drop, refl, sym, ap, ◌∙◌, arith, append_assoc}
+use Rattle.std.proofs.Common.{◌≡◌, ◌≢◌, ◌≤◌, ◌+◌, ◌-◌, ◌++◌, [], ℕ, Bool, true, false, List, length, take, drop, refl, sym, ap, ◌∙◌, arith, append_assoc}
 use Rattle.std.proofs.lemmas.List.{take_at, length-append, append-nil, drop-drop}
 use Rattle.std.proofs.Math.Seq.{take-add, take-length}
-use Rattle.flac_around.specs.Around.{without_back, is_back, last_128, all_but_128, back_length}
+use Rattle.flac_around.specs.Around.{without_back, is_back, all_but_128}
 use Rattle.flac_around.specs.Coming.{given, left_of}
 use Rattle.flac_around.specs.declared.between.Stage.{Stage}
 use Rattle.flac_around.specs.declared.between.Stage.TheVariants.{Unread, Going, Ended}

@@ -7,3 +7,9 @@ pub mod Lefts
 pub mod Shelves
 -- Calls of a source.
 pub mod Pulls
+-- Pages at the start of an input, and their lacing values.
+pub mod EmptyPages
+pub mod LeftOut
+pub mod PageChecks
+pub mod Sourced
+pub mod KeptValues

@@ -1,5 +1,5 @@
--- Files of a list that are read between tags.
-use Rattle.std.proofs.Common.{◌≡◌, ◌∷◌, [], ℕ, Bool, true, false, List, Option, Some, None, map, refl, ap, ◌∙◌}
+-- Files of a list that are read between tags, and without the empty packets at the end of an Ogg stream.
+use Rattle.std.proofs.Common.{◌≡◌, ◌∷◌, [], Bool, true, false, List, Option, Some, None, map, ap, ◌∙◌}
 use Rattle.std.specs.Prelude.{cond, is_some, IfSome}
 use Rattle.flac_bits.specs.State.{After}
 use Rattle.flac_bits.specs.declared.source.Source as source
@@ -8,6 +8,10 @@ use Rattle.flac_around.specs.Around.{middle_of}
 use Rattle.flac_around.specs.Coming.{inside, ghosts_of}
 use Rattle.flac_around.specs.Shelves.{between_contents, between_listed}
 use Rattle.flac_around.specs.declared.between.Between.{Between}
+use Rattle.flac_around.specs.declared.trimmed.Trimmed.{Trimmed}
+use Rattle.flac_around.specs.EmptyPackets.{trimmed}
+use Rattle.flac_around.specs.Trimming as trimming
+use Rattle.flac_around.specs.Trimming.{without_end}
 
 pub next_listed : (there : Bool) (files more : List Listed) (at : Listed) → files ≡ cond there (at ∷ more) [] → map between_listed files ≡ cond there (between_listed at ∷ map between_listed more) []
 next_listed true files more at is = ap (map between_listed) is
@@ -18,13 +22,21 @@ again_listed again None is = tt
 again_listed again (Some of) is = is
 
 module _ {S : Type 0} (g : source.Ghosts S) where
-  pub opens_between : (contents : Option Contents) (file : S) (b : Between S) → b.source ≡ file → (ghosts_of g).coming b ≡ inside g file → Opens g contents file → Opens (ghosts_of g) (between_contents contents) b
-  opens_between contents file b same bytes o = record {
-    of = record o.of { bytes = middle_of (is_some o.of.after.fails) o.of.bytes };
-    is = ap between_contents o.is;
-    known = ap g.known same ∙ o.known;
-    coming = bytes ∙ ap (λ (a : After). middle_of (is_some a.fails) (g.coming file)) o.after ∙ ap (middle_of (is_some o.of.after.fails)) o.coming;
-    after = ap g.after same ∙ o.after;
-    errors = ap g.errors same ∙ o.errors;
-    raised = ap g.raised same ∙ o.raised;
-  }
+  abbrev between_ghosts : source.Ghosts (Between S)
+  between_ghosts = ghosts_of g
+
+  pub opens_between : (contents : Option Contents) (file : S) (b : Between S) (t : Trimmed (Between S)) → b.source ≡ file → between_ghosts.coming b ≡ inside g file → t.source ≡ b → (trimming.ghosts_of between_ghosts).coming t ≡ without_end between_ghosts b → Opens g contents file
+      → Opens (trimming.ghosts_of between_ghosts) (between_contents contents) t
+  opens_between contents file b t same bytes around all o =
+      let fails = is_some o.of.after.fails in
+      let after : g.after b.source ≡ o.of.after = ap g.after same ∙ o.after in
+      record {
+        of = record o.of { bytes = trimmed fails (middle_of fails o.of.bytes) };
+        is = ap between_contents o.is;
+        known = ap between_ghosts.known around ∙ ap g.known same ∙ o.known;
+        coming = all ∙ ap (λ (a : After). trimmed (is_some a.fails) (between_ghosts.coming b)) after ∙ ap (trimmed fails)
+            (bytes ∙ ap (λ (a : After). middle_of (is_some a.fails) (g.coming file)) o.after ∙ ap (middle_of fails) o.coming);
+        after = ap between_ghosts.after around ∙ after;
+        errors = ap between_ghosts.errors around ∙ ap g.errors same ∙ o.errors;
+        raised = ap between_ghosts.raised around ∙ ap g.raised same ∙ o.raised;
+      }

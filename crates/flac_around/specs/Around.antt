@@ -1,5 +1,5 @@
 -- What other programs put around a stream, and where the stream is between.
-use Rattle.std.specs.Prelude.{◌≡◌, ◌≤◌, ℕ, ◌+◌, ◌*◌, ◌-◌, ◌/◌, ◌%◌, ◌&&◌, min, nat_eq, nat_lt, Bool, eqb, cond, List, [], ◌∷◌, ◌++◌, length, take, drop, codes}
+use Rattle.std.specs.Prelude.{◌≡◌, ◌≤◌, ℕ, ◌+◌, ◌*◌, ◌-◌, ◌/◌, ◌%◌, ◌&&◌, nat_eq, nat_lt, Bool, eqb, cond, List, ◌∷◌, length, take, drop, codes}
 use Rattle.std.specs.List.{starts_with}
 
 -- ---- an ID3v2 tag, before the stream (ID3v2.4.0, sections 3.1 and 6.2)

@@ -1,1 +1,2 @@
 pub mod Pulling
+pub mod Pages

@@ -1,11 +1,13 @@
-//! A list of files that are read between tags.
+//! A list of files that are read between tags, and without the empty packets at the end of an Ogg stream.
 
 ghost use Rattle.std.specs.Prelude.{◌≡◌, ◌<◌, map};
 
 use crate::between::Between;
-use flac_shelf::{Shelf, Stamp};
+use crate::trimmed::Trimmed;
+use flac_shelf::{Earlier, Shelf, Stamp};
 
-/// The files of another list, each of which is read between the tags that other programs put around a stream.
+/// The files of another list, each of which is read between the tags that other programs put around a stream, and
+/// without the empty packets at the end of an Ogg stream.
 #[derive(Drop)]
 pub struct BetweenShelf<S> {
     shelf: S,
@@ -29,7 +31,7 @@ impl<S: Shelf> BetweenShelf<S> {
 }
 
 impl<S: Shelf> Shelf for BetweenShelf<S> {
-    type File = Between<S::File>;
+    type File = Trimmed<Between<S::File>>;
 
     ghost use Rattle.flac_around.specs.Shelves.{between_listed};
 
@@ -56,19 +58,23 @@ impl<S: Shelf> Shelf for BetweenShelf<S> {
         self.shelf.stamp()
     }
 
+    fn earlier(&self) -> Earlier {
+        self.shelf.earlier()
+    }
+
     #[tactic(auto, using(crate::proofs::Shelves::again_listed))]
     fn reads_again(&self) -> bool {
         self.shelf.reads_again()
     }
 
-    fn open(&mut self) -> Option<Between<S::File>> {
+    fn open(&mut self) -> Option<Trimmed<Between<S::File>>> {
         match self.shelf.open() {
-            Some(file) => Some(Between::new(file)),
+            Some(file) => Some(Trimmed::new(Between::new(file))),
             None => None,
         }
     }
 
-    fn close(&mut self, file: Between<S::File>) {
-        self.shelf.close(file.into_source());
+    fn close(&mut self, file: Trimmed<Between<S::File>>) {
+        self.shelf.close(file.into_source().into_source());
     }
 }

@@ -8,8 +8,12 @@ mod between;
 mod between_shelf;
 mod filling;
 mod laws;
+mod page_parts;
+mod page_reading;
 mod tags;
+mod trimmed;
 
 pub use between::Between;
 pub use between_shelf::BetweenShelf;
 pub use laws::{parts_are_the_input, tags_come_off};
+pub use trimmed::Trimmed;

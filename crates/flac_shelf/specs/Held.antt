@@ -4,6 +4,7 @@ use Rattle.std.specs.Prelude.{List, ℕ, Bool, Option, Some, None}
 use Rattle.flac_bits.specs.State.{the_end}
 use Rattle.flac_shelf.specs.Listed.{Listed, Contents}
 use Rattle.flac_shelf.specs.declared.held_shelf.HeldFile.{HeldFile}
+use Rattle.flac_shelf.specs.declared.past.Earlier.TheVariants.{Unasked}
 
 -- its bytes, if it can be opened; after them comes the end
 abbrev pub contents_of : Option (Bor (List ℕ)) → (again : Bool) → Option Contents
@@ -11,4 +12,4 @@ contents_of None again = None
 contents_of (Some bytes) again = Some (record { bytes = bytes.now; after = the_end; again = again })
 
 abbrev pub listed_of : HeldFile → Listed
-listed_of f = record { path = f.path.now; stamp = f.stamp; contents = contents_of f.bytes f.again }
+listed_of f = record { path = f.path.now; stamp = f.stamp; earlier = Unasked; contents = contents_of f.bytes f.again }

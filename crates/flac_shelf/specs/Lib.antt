@@ -1,2 +1,4 @@
 pub mod Held
 pub mod Listed
+pub mod Past
+pub mod Records

@@ -2,6 +2,7 @@
 use Rattle.std.specs.Prelude.{◌≡◌, ℕ, Bool, true, List, Option, Some, None}
 use Rattle.flac_bits.specs.State.{After}
 use Rattle.flac_bits.specs.declared.source.Source as source
+use Rattle.flac_shelf.specs.declared.past.Earlier.{Earlier}
 use Rattle.flac_shelf.specs.declared.stamp.Stamp.{Stamp}
 
 -- The bytes of a file, and what comes after them, which is the end unless it is cut short. `again`: it can be read more
@@ -15,10 +16,11 @@ pub record Contents : Type 0 where
 abbrev pub no_stamp : Stamp
 no_stamp = record { bytes = None; modified = None; nanoseconds = None }
 
--- A file, by its path, with its size and time; none if it cannot be opened.
+-- A file, by its path, with its size and time, and with what an older report has of it; none if it cannot be opened.
 pub record Listed : Type 0 where
   pub path : List ℕ
   pub stamp : Stamp
+  pub earlier : Earlier
   pub contents : Option Contents
 
 -- a source that is about to give these bytes, and has not failed

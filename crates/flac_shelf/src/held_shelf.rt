@@ -3,6 +3,7 @@
 ghost use Rattle.std.specs.Prelude.{◌≡◌, ◌<◌, true, [], length, map};
 ghost use Rattle.flac_shelf.specs.Listed.{Listed};
 
+use crate::past::Earlier;
 use crate::shelf::Shelf;
 use crate::stamp::Stamp;
 use flac_bits::Memory;
@@ -73,6 +74,10 @@ impl<'a> Shelf for HeldShelf<'a> {
 
     fn stamp(&self) -> Stamp {
         self.at.stamp
+    }
+
+    fn earlier(&self) -> Earlier {
+        Earlier::Unasked
     }
 
     fn reads_again(&self) -> bool {

@@ -1,10 +1,23 @@
 //! Lists of files that are read one after another: [`Shelf`] is such a list, [`HeldShelf`] one of files in memory.
+//!
+//! [`ResumedShelf`] leaves out files that a report has as good, and [`ComparedShelf`] says of each file what an older
+//! report has of it.
 #![tactic(auto)]
 
+mod compared_shelf;
 mod held_shelf;
+mod older;
+mod past;
+mod record;
+mod resumed_shelf;
 mod shelf;
 mod stamp;
 
+pub use compared_shelf::ComparedShelf;
 pub use held_shelf::{HeldFile, HeldShelf};
+pub use older::Older;
+pub use past::{Audio, Earlier, Past};
+pub use record::Record;
+pub use resumed_shelf::ResumedShelf;
 pub use shelf::Shelf;
 pub use stamp::Stamp;

@@ -3,6 +3,7 @@
 ghost use Rattle.std.specs.Prelude.{◌≡◌, ◌≤◌, ◌<◌, ℕ, Bool, true, cond, List, [], ◌∷◌, None, MatchOption, IfSome};
 ghost use Rattle.flac_shelf.specs.Listed.{Listed, Opens};
 
+use crate::past::Earlier;
 use crate::stamp::Stamp;
 use flac_bits::Source;
 
@@ -44,6 +45,10 @@ pub trait Shelf {
     /// The size and the time of the file, as far as they are known.
     fn stamp(&self) -> Stamp
         ensures { known self.now ≡ true → result ≡ (current self.now).stamp };
+
+    /// What is known of the file from an older report.
+    fn earlier(&self) -> Earlier
+        ensures { known self.now ≡ true → result ≡ (current self.now).earlier };
 
     /// Whether the file can be read more than once.
     fn reads_again(&self) -> bool

@@ -42,7 +42,7 @@ fn digit(byte: u8) -> u8 {
 }
 
 /// Adds the bytes of hex digits.
-fn add_hex(bytes: &mut Vec<u8>, text: &str) -> Result<(), Fail> {
+pub(crate) fn add_hex(bytes: &mut Vec<u8>, text: &str) -> Result<(), Fail> {
     for pair in text.as_bytes().chunks_exact(2) {
         bytes.push(digit(pair[0]) << 4 | digit(pair[1]))?;
     }
@@ -69,7 +69,11 @@ fn add_back(bytes: &mut Vec<u8>, length: usize) -> Result<(), Fail> {
 }
 
 /// All bytes that a source gives for places of this number.
-fn given<S: Source>(alloc: Global, source: &mut S, room: usize) -> Result<Vec<u8>, Fail> {
+pub(crate) fn given<S: Source>(
+    alloc: Global,
+    source: &mut S,
+    room: usize,
+) -> Result<Vec<u8>, Fail> {
     let mut places = Vec::new(alloc);
     places.resize(room, 0)?;
     let mut all = Vec::new(alloc);

@@ -1,6 +1,5 @@
-use Rattle.std.proofs.Common.{◌≡◌, ◌≤◌, ◌<◌, ◌+◌, ◌∙◌, ◌++◌, ℕ, List, sym, ap, length, take, arith}
+use Rattle.std.proofs.Common.{◌≡◌, ◌≤◌, ◌<◌, ◌+◌, ◌++◌, ℕ, List, ap, length, take, arith}
 use Rattle.std.proofs.lemmas.List.{length-take, length-append}
-use Rattle.flac_around.specs.Around.{past_front}
 use Rattle.flac_around.proofs.Pulls.{fails_later}
 use Rattle.flac_around.proofs.between.begin.Goals as goal
 

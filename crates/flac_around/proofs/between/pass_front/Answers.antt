@@ -1,4 +1,4 @@
-use Rattle.std.proofs.Common.{◌≡◌, ◌≤◌, ◌<◌, ◌+◌, ◌∙◌, ◌-◌, ◌++◌, ◌∷◌, ℕ, List, [], rules, refl, ap, sym, length, min, take, drop, arith}
+use Rattle.std.proofs.Common.{◌≡◌, ◌≤◌, ◌∙◌, ◌++◌, ◌∷◌, ℕ, List, [], refl, ap, sym, length, take, arith}
 use Rattle.std.proofs.lemmas.List.{length-take}
 use Rattle.flac_around.proofs.Fronts.{tag_past}
 use Rattle.flac_around.proofs.between.pass_front.Goals as goal

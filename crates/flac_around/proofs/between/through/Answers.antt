@@ -1,4 +1,4 @@
-use Rattle.std.proofs.Common.{◌≡◌, ◌≤◌, ◌<◌, ◌+◌, ◌∙◌, ◌-◌, ◌++◌, ◌∷◌, ℕ, List, [], append_assoc, refl, ap, sym, length, take, drop, arith}
+use Rattle.std.proofs.Common.{◌≡◌, ◌≤◌, ◌+◌, ◌∙◌, ◌-◌, ◌++◌, ◌∷◌, ℕ, List, [], append_assoc, refl, ap, sym, length, take, drop, arith}
 use Rattle.std.proofs.lemmas.List.{length-take, length-append, take_at}
 use Rattle.std.proofs.Math.Seq.{take-add}
 use borrow.Rule.Slice.PartMut.{put_mid}

@@ -1,6 +1,4 @@
-use Rattle.std.proofs.Common.{◌≡◌, ◌≤◌, ◌<◌, ◌+◌, ◌∙◌, ◌-◌, ◌++◌, ℕ, List, [], append_assoc, rules, refl, ap, sym, length, min, take, drop, arith}
-use Rattle.std.proofs.lemmas.List.{length-take, length-drop}
-use borrow.Rule.Slice.PartMut.{put_mid}
+use Rattle.std.proofs.Common.{◌≤◌, ◌∙◌, ◌-◌, ◌++◌, append_assoc, rules, ap, sym, length, take, arith}
 use Rattle.flac_bits.proofs.Copied.{put_taken}
 use Rattle.flac_around.proofs.filling.fill.Goals as goal
 

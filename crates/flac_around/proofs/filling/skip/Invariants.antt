@@ -1,4 +1,4 @@
-use Rattle.std.proofs.Common.{◌≡◌, ◌≤◌, ◌+◌, ◌-◌, ◌++◌, true, drop, min, length}
+use Rattle.std.proofs.Common.{◌≡◌, ◌≤◌, ◌+◌, ◌-◌, true, drop, length}
 use Rattle.flac_around.specs.inner.Pulling.{Goes}
 use Rattle.flac_around.proofs.filling.skip.Given as goal
 

@@ -1,4 +1,4 @@
-use Rattle.std.proofs.Common.{◌≡◌, rules, sym, length}
+use Rattle.std.proofs.Common.{rules}
 use Rattle.flac_around.proofs.Lefts.{tag_taken, no_tag_taken}
 use Rattle.flac_around.proofs.between.Between.end.Goals as goal
 

@@ -1,4 +1,4 @@
-use Rattle.std.proofs.Common.{◌≡◌, ◌≤◌, ◌-◌, ◌++◌, rules, arith, length, take, drop, sym}
+use Rattle.std.proofs.Common.{◌≡◌, ◌-◌, ◌++◌, arith, length, take, drop}
 use Rattle.std.proofs.lemmas.List.{length-take}
 use Rattle.flac_around.proofs.Lefts.{given_last, ended_left}
 use Rattle.flac_around.proofs.between.Between.give_last.Goals as goal

@@ -1,0 +1,34 @@
+-- Files with what an older report has of them.
+use Rattle.std.proofs.Common.{◌≡◌, ◌∷◌, ℕ, Bool, true, false, List, [], cond, map, refl, ap, ◌∙◌, sym}
+use Rattle.std.proofs.lemmas.Map.Text.{is_eq-slice_cmp}
+use Rattle.std.specs.BTreeMap.{is_at}
+use Rattle.std.specs.Cmp.Lexicographic.{slice_cmp}
+use Rattle.std.specs.Ordering.{nat_cmp}
+use Rattle.std.specs.Set.{remove_key}
+use Rattle.std.specs.Str.{bytes_eq}
+use Rattle.std.specs.Prelude.{String}
+use Rattle.std.specs.String.{string_bytes}
+use Rattle.flac_shelf.specs.Listed.{Listed}
+use Rattle.flac_shelf.specs.Records.{without}
+
+-- two functions that are equal on each file
+same_map : (f h : Listed → Listed) → ((x : Listed) → h x ≡ f x) → (files : List Listed) → map f files ≡ map h files
+same_map f h same [] = refl
+same_map f h same (x ∷ xs) = ap (λ y. y ∷ map f xs) (sym (same x)) ∙ ap (λ ys. h x ∷ ys) (same_map f h same xs)
+
+pub compared_next : (f h : Listed → Listed) → ((x : Listed) → h x ≡ f x) → (there : Bool) (files more : List Listed) (at : Listed) → files ≡ cond there (at ∷ more) [] → map f files ≡ cond there (h at ∷ map h more) []
+compared_next f h same true files more at is = ap (map f) is ∙ same_map f h same (at ∷ more)
+compared_next f h same false files more at is = ap (map f) is
+
+module _ {Y : Type 0} (path : List ℕ) where
+  removed_step : (k : String Y) (ks : List (String Y)) (rest : List (List ℕ)) (kept : List (String Y)) → map string_bytes kept ≡ rest → (b : Bool)
+      → map string_bytes (cond b ks (k ∷ kept)) ≡ cond b (map string_bytes ks) (string_bytes k ∷ rest)
+  removed_step k ks rest kept is true = refl
+  removed_step k ks rest kept is false = ap (λ l. string_bytes k ∷ l) is
+
+  -- a path that is removed from a set
+  pub removed : (ks : List (String Y)) → map string_bytes (remove_key (is_at (λ k. slice_cmp nat_cmp path (string_bytes k))) ks) ≡ without path (map string_bytes ks)
+  removed [] = refl
+  removed (k ∷ ks) =
+      removed_step k ks (without path (map string_bytes ks)) _ (removed ks) (is_at (λ j. slice_cmp nat_cmp path (string_bytes j)) k)
+      ∙ ap (λ b. cond b (map string_bytes ks) (string_bytes k ∷ without path (map string_bytes ks))) (is_eq-slice_cmp path (string_bytes k))

@@ -1,0 +1,73 @@
+//! An older report, with which files are compared.
+
+ghost use Rattle.std.specs.Prelude.{◌≡◌, ◌∷◌, ℕ, List, [], Some, None, cond, OnOk, IfSome, MatchOption};
+ghost use Rattle.std.specs.Str.{bytes_eq};
+ghost use Rattle.std.specs.String.{string_bytes};
+ghost use Rattle.flac_shelf.specs.Past.{earlier_at};
+ghost use Rattle.flac_shelf.specs.Records.{report_of, left_in, without};
+
+use crate::past::{Earlier, Past};
+use crate::record::Record;
+use std::alloc::{AllocError, Global};
+use std::collections::BTreeSet;
+
+/// An older report, and the paths of its files that were not met so far. It is in memory: some 250 bytes for each file,
+/// and its path twice.
+#[derive(Drop)]
+pub struct Older {
+    pub(crate) record: Record,
+    left: BTreeSet<String>,
+}
+
+impl Older {
+    /// It has no file.
+    pub fn none(alloc: Global) -> Older
+        ensures record { (path : List ℕ) → report_of result.record path ≡ None }
+        ensures left { left_in result ≡ [] }
+    {
+        Older {
+            record: Record::none(alloc),
+            left: BTreeSet::new(alloc),
+        }
+    }
+
+    /// Adds a file, in place of one of the same path.
+    ///
+    /// # Errors
+    /// Memory ran out.
+    pub fn add(&mut self, path: String, past: Past) -> Result<(), AllocError>
+        ensures added { OnOk result ((other : List ℕ) → report_of self.new.record other
+            ≡ cond (bytes_eq (string_bytes path) other) (Some past) (report_of self.old.record other)) }
+    {
+        let copy = path.clone()?;
+        match self.left.insert(copy) {
+            Ok(_) => self.record.add(path, past),
+            Err(_) => Err(AllocError),
+        }
+    }
+
+    /// What it has at a path.
+    pub fn earlier(&self, path: &str) -> Earlier
+        ensures { result ≡ earlier_at (report_of self.now.record path.now) }
+    {
+        match self.record.get(path) {
+            Some(past) => Earlier::Was(past),
+            None => Earlier::New,
+        }
+    }
+
+    /// Meets the file of a path.
+    pub fn meet(&mut self, path: &str)
+        ensures record { self.new.record ≡ self.old.record }
+        ensures left { left_in self.new ≡ without path.now (left_in self.old) }
+    {
+        self.left.remove(path);
+    }
+
+    /// Takes out the first of the paths that were not met, in the order of their bytes.
+    pub fn take_gone(&mut self) -> Option<String>
+        ensures { MatchOption result (left_in self.old ≡ []) (λ path. left_in self.old ≡ string_bytes path ∷ left_in self.new) }
+    {
+        self.left.pop_first()
+    }
+}
