@@ -21,3 +21,6 @@ pub mod Settled
 pub mod SameComments
 pub mod TaggedFiles
 pub mod BlockContents
+pub mod LinesRead
+pub mod LinesWritten
+pub mod Alike

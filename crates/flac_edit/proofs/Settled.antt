@@ -40,6 +40,7 @@ set_twice name text (old ∷ texts) own = go (is_named name old) refl (set_twice
 pub edits_settle : EditsSettle
 edits_settle = record {
   cleared = λ edits c. refl;
+  replaced = λ list edits c. refl;
   removed = λ name c. ap (λ l. record { vendor = c.vendor; list = l }) (without_twice name.now c.list);
   set = λ name value c. ap (λ l. record { vendor = c.vendor; list = l }) (set_twice name.now (name.now ++ 61 ∷ value.now) c.list (own_name name.now value.now));
 }

@@ -32,6 +32,7 @@ with_one name text (old ∷ texts) = cond (is_named name old) (text ∷ without 
 
 abbrev pub edited_by : Edit → List (List ℕ) → List (List ℕ)
 edited_by edit.Clear texts = []
+edited_by (edit.Replace list) texts = list.now
 edited_by (edit.Remove name) texts = without name.now texts
 edited_by (edit.RemovePair name value) texts = without_pair name.now value.now texts
 edited_by (edit.Set name value) texts = with_one name.now (name.now ++ 61 ∷ value.now) texts
@@ -52,8 +53,10 @@ edited edits c = record { vendor = c.vendor; list = all_edited edits c.list }
 abbrev pub Settles : List Edit → Type 0
 Settles edits = (c : Comments) → edited edits (edited edits c) ≡ edited edits c
 
--- so do those that begin by taking all comments away, one that takes those of a name away, and one that sets a comment
+-- so do those that begin by taking all comments away or by putting others in their place, one that takes those of a name
+-- away, and one that sets a comment
 pub record EditsSettle : Type 0 where
   pub cleared : (edits : List Edit) → Settles (edit.Clear ∷ edits)
+  pub replaced : (list : _) (edits : List Edit) → Settles (edit.Replace list ∷ edits)
   pub removed : (name : _) → Settles (edit.Remove name ∷ [])
   pub set : (name value : _) → Settles (edit.Set name value ∷ [])

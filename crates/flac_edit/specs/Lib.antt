@@ -3,7 +3,9 @@ pub mod Calls
 pub mod Edited
 pub mod Tagged
 pub mod BlockEdits
+pub mod Changed
 pub mod Exported
+pub mod Lines
 pub mod Parts
 pub mod Rewritten
 pub mod Faults

@@ -12,6 +12,8 @@ use std::alloc::{AllocError, Global};
 pub enum Edit<'a> {
     /// Takes all comments away.
     Clear,
+    /// Puts these comments in the place of all.
+    Replace(&'a [Bytes]),
     /// Takes all comments of a name away.
     Remove(&'a [u8]),
     /// Takes all comments of this name and this value away; values are compared byte by byte.
@@ -122,6 +124,7 @@ fn edited_by(alloc: Global, edit: &Edit<'_>, texts: &[Bytes]) -> Result<Vec<Byte
 {
     match edit {
         Edit::Clear => Ok(Vec::new(alloc)),
+        Edit::Replace(list) => copied(alloc, list),
         Edit::Remove(name) => without(alloc, name, texts),
         Edit::RemovePair(name, value) => without_pair(alloc, name, value, texts),
         Edit::Set(name, value) => with_one(alloc, name, value, texts),

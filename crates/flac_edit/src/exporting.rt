@@ -80,7 +80,7 @@ pub fn first_picture(blocks: &[Block]) -> Option<&Picture>
 }
 
 /// The bytes of a block, which is not marked last.
-fn block_bytes(alloc: Global, block: &Block) -> Result<Vec<u8>, Why>
+pub(crate) fn block_bytes(alloc: Global, block: &Block) -> Result<Vec<u8>, Why>
     ensures spelled { IfOk result (λ v. bits_of v.items ≡ block_spelling false block.now) }
     ensures long { IfOk result (λ v. 4 ≤ length v.items) }
 {

@@ -2,6 +2,7 @@
 #![tactic(auto)]
 
 mod block_edits;
+mod changing;
 mod choosing;
 mod crash_file;
 mod device;
@@ -11,6 +12,7 @@ mod exporting_parts;
 mod flipping;
 mod in_place;
 mod laws;
+mod lines;
 mod memory;
 mod padding;
 mod planning;
@@ -21,13 +23,15 @@ mod store;
 mod tagging;
 
 pub use block_edits::{BlockEdits, BlockFault, Removal, edited_blocks};
+pub use changing::blocks_change;
 pub use crash_file::{Call, CrashFile};
 pub use device::{Device, DeviceError};
 pub use edits::{Edit, edited};
 pub use exporting::{comment_lines, content_of, first_picture};
 pub use exporting_parts::{Part, export_part};
 pub use in_place::edit_in_place;
-pub use laws::{edits_settle, streams_stay};
+pub use laws::{edits_settle, lines_are_read, streams_stay};
+pub use lines::{LinesFault, comments_of_lines};
 pub use memory::MemoryFile;
 pub use rewriting::rewrite;
 pub use rewriting_blocks::{EditFault, rewrite_blocks};

@@ -28,7 +28,7 @@ pub enum EditFault {
 ///
 /// # Errors
 /// The edits do not fit the blocks, or an allocation failed ([`Why::Memory`], without a place).
-fn changed_blocks(
+pub(crate) fn changed_blocks(
     alloc: Global,
     edits: &BlockEdits<'_>,
     blocks: &[Block],

@@ -2,8 +2,8 @@
 
 use flac_bits::{Collected, Memory, Why};
 use flac_edit::{
-    BlockEdits, BlockFault, EditFault, Part, Removal, comment_lines, content_of, edited_blocks,
-    export_part, first_picture, rewrite_blocks,
+    BlockEdits, BlockFault, EditFault, Part, Removal, blocks_change, comment_lines, content_of,
+    edited_blocks, export_part, first_picture, rewrite_blocks,
 };
 use flac_meta::{Block, Bytes, Picture};
 use flac_native::RetagFault;
@@ -182,5 +182,26 @@ fn comments_are_lines(rt: HostRuntime) -> Result<(), Fail> {
     ];
     let lines = comment_lines(rt.alloc(), &texts)?;
     assert!(rt; lines.as_slice() == b"A=1\n\\x5c\\x0a\\xff~\\x7f\n".as_slice());
+    Ok(())
+}
+
+/// Whether edits change the blocks of a stream; none if they are refused.
+fn changes(alloc: Global, old: &[u8], removals: &[Removal], padding: Option<u32>) -> Option<bool> {
+    let edits = BlockEdits {
+        removals,
+        pictures: &[],
+        padding,
+    };
+    blocks_change(alloc, &mut Memory::new(old), &edits).ok()
+}
+
+#[test]
+fn edits_that_change_nothing_are_told(rt: HostRuntime) -> Result<(), Fail> {
+    assert!(rt; changes(rt.alloc(), &OLD, &[Removal::Kind(3)], None) == Some(false));
+    assert!(rt; changes(rt.alloc(), &OLD, &[Removal::Kind(1)], None) == Some(true));
+    assert!(rt; changes(rt.alloc(), &OLD, &[], Some(4)) == Some(true));
+    assert!(rt; changes(rt.alloc(), &NEW, &[], Some(3)) == Some(false));
+    assert!(rt; changes(rt.alloc(), &NEW, &[], Some(4)) == Some(true));
+    assert!(rt; changes(rt.alloc(), &NEW, &[Removal::Number(9)], None).is_none());
     Ok(())
 }

@@ -8,6 +8,8 @@ mod crashes;
 #[cfg(test)]
 mod in_place;
 #[cfg(test)]
+mod lines;
+#[cfg(test)]
 mod rewriting;
 #[cfg(test)]
 mod tagging;
