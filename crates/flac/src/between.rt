@@ -1,13 +1,13 @@
-//! Jobs with `--any`: a stream is read between the tags of other programs.
+//! Jobs with `--any`: a stream is read between the tags of other programs, and without empty packets at its end.
 
-use flac_around::Between;
+use flac_around::{Between, Trimmed};
 use flac_bits::Counted;
 use flac_cli::{Job, Task, list_head, run};
 use flac_files::JobFiles;
 
 /// Lists the metadata of a stream, and reads no frame. Returns the status.
 pub(crate) fn list_front_between(rt: &HostRuntime, input: &str, files: JobFiles<'_>) -> u8 {
-    let mut source = Between::new(Counted::new(files.input));
+    let mut source = Trimmed::new(Between::new(Counted::new(files.input)));
     let mut out = Counted::new(rt.stdout());
     let mut err = Counted::new(rt.stderr());
     let status = list_head(rt.alloc(), input, &mut source, &mut out, &mut err);
@@ -15,7 +15,11 @@ pub(crate) fn list_front_between(rt: &HostRuntime, input: &str, files: JobFiles<
         return status;
     }
     // The end was not read, so only a tag before the stream is known.
-    told(rt, input, print_length(rt, "before ID3v2", source.before()))
+    told(
+        rt,
+        input,
+        print_length(rt, "before ID3v2", source.into_source().before()),
+    )
 }
 
 /// Does the job over its files. Returns the status.
@@ -36,7 +40,7 @@ fn run_between(rt: &HostRuntime, job: &Job<'_>, files: JobFiles<'_>) -> (u8, u64
         output,
         ending,
     } = files;
-    let mut source = Between::new(Counted::new(input));
+    let mut source = Trimmed::new(Between::new(Counted::new(input)));
     let mut target = Counted::new(output);
     let mut out = Counted::new(rt.stdout());
     let mut err = Counted::new(rt.stderr());
@@ -52,6 +56,7 @@ fn run_between(rt: &HostRuntime, job: &Job<'_>, files: JobFiles<'_>) -> (u8, u64
         &mut out,
         &mut err,
     );
+    let source = source.into_source();
     let (before, after) = (source.before(), source.after());
     match ending.end(rt, target.into_inner(), status) {
         Ok(()) => (status, before, after),

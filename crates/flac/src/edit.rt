@@ -1,7 +1,7 @@
 //! `flac edit`: edits the metadata blocks of files.
 
 use flac_bits::Counted;
-use flac_cli::{edit_file, picture_of, removals_of};
+use flac_cli::{edit_changes, edit_file, picture_of, removals_of};
 use flac_edit::{BlockEdits, Removal};
 use flac_files::{FileRefused, TagFile, read_picture};
 use flac_jobs::{Editing, PictureWord};
@@ -73,7 +73,7 @@ fn edit_each(
     };
     let mut status = 0;
     for path in &editing.inputs {
-        if edit_one(rt, path, &edits, editing.verbose) != 0 {
+        if edit_one(rt, editing, path, &edits) != 0 {
             status = 1;
         }
     }
@@ -81,35 +81,66 @@ fn edit_each(
 }
 
 /// Edits a file. Returns the status.
-fn edit_one(rt: &HostRuntime, path: &str, edits: &BlockEdits<'_>, verbose: bool) -> u8 {
-    match edit_opened(rt, path, edits) {
-        Ok(0) if verbose => print_done(rt, path),
-        Ok(status) => status,
+fn edit_one(rt: &HostRuntime, editing: &Editing<'_>, path: &str, edits: &BlockEdits<'_>) -> u8 {
+    let done = match TagFile::open_to_edit(rt, path) {
+        Ok(file) => edit_opened(rt, editing, path, &file, edits),
+        Err(refused) => Err(refused),
+    };
+    match done {
+        Ok(Some(word)) if editing.verbose => print_done(rt, path, word),
+        Ok(Some(_)) => 0,
+        Ok(None) => 1,
         Err(refused) => refused.tell(rt),
     }
 }
 
-/// Prints that a file was edited. Returns the status.
-fn print_done(rt: &HostRuntime, path: &str) -> u8 {
-    if println!(rt; "{path}: rewritten").is_err() {
+/// Prints what became of a file. Returns the status.
+fn print_done(rt: &HostRuntime, path: &str, word: &str) -> u8 {
+    if println!(rt; "{path}: {word}").is_err() {
         let _ = eprintln!(rt; "flac: {path}: 39 Write");
         return 1;
     }
     0
 }
 
-/// Writes a new file with edited blocks, which takes the place of the old one. Returns the status.
+/// Edits the blocks of a file that was opened, if the edits change them. Returns what became of it; `None` if it is refused,
+/// and its line was printed.
 fn edit_opened<'a>(
     rt: &HostRuntime,
-    path: &'a str,
+    editing: &Editing<'_>,
+    path: &str,
+    file: &TagFile<'a>,
     edits: &BlockEdits<'_>,
-) -> Result<u8, FileRefused<'a>> {
-    let file = TagFile::open_to_edit(rt, path)?;
+) -> Result<Option<&'static str>, FileRefused<'a>> {
+    let mut source = Counted::new(file.reader()?);
+    let mut err = Counted::new(rt.stderr());
+    match edit_changes(rt.alloc(), path, edits, &mut source, &mut err) {
+        Some(true) => rewrite_opened(rt, editing, path, file, edits),
+        Some(false) => Ok(Some("same")),
+        None => Ok(None),
+    }
+}
+
+/// Writes a new file with edited blocks, which takes the place of the old one.
+fn rewrite_opened<'a>(
+    rt: &HostRuntime,
+    editing: &Editing<'_>,
+    path: &str,
+    file: &TagFile<'a>,
+    edits: &BlockEdits<'_>,
+) -> Result<Option<&'static str>, FileRefused<'a>> {
     let mut source = Counted::new(file.reader()?);
     let (output, ending) = file.beside(rt)?;
     let mut target = Counted::new(output);
     let mut err = Counted::new(rt.stderr());
     let status = edit_file(rt.alloc(), path, edits, &mut source, &mut target, &mut err);
-    ending.end(rt, target.into_inner(), status)?;
-    Ok(status)
+    let output = target.into_inner();
+    let kept = if editing.keep_times {
+        file.keep_time_of(&output)
+    } else {
+        Ok(())
+    };
+    ending.end(rt, output, if kept.is_ok() { status } else { 1 })?;
+    kept?;
+    Ok((status == 0).then_some("rewritten"))
 }

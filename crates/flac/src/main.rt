@@ -4,19 +4,22 @@
 mod between;
 mod edit;
 mod export;
+mod recode;
 mod same;
 mod tag;
+mod verify;
 
 use crate::between::{do_between, list_front_between};
 use crate::edit::edit_files;
 use crate::export::export;
+use crate::recode::recode;
 use crate::same::same;
 use crate::tag::tag_files;
-use flac_around::BetweenShelf;
+use crate::verify::verify;
 use flac_bits::Counted;
-use flac_cli::{Task, list_head, run, verify_files};
-use flac_files::{FileShelf, JobFiles, ReportFile, end_report};
-use flac_jobs::{CommandLine, Job, Listing, Request, Verification};
+use flac_cli::{Task, list_head, run};
+use flac_files::JobFiles;
+use flac_jobs::{CommandLine, Job, Listing, Request};
 use flac_words::{given_words, request};
 use std::process::ExitCode;
 
@@ -34,6 +37,7 @@ fn main(rt: HostRuntime) -> ExitCode {
         Ok(Request::Export(exporting)) => export(&rt, &exporting),
         Ok(Request::Verify(verification)) => verify(&rt, &verification),
         Ok(Request::Same(comparison)) => same(&rt, &comparison),
+        Ok(Request::Recode(recoding)) => recode(&rt, &recoding),
         Err(fault) => fault.tell(&rt),
     })
 }
@@ -77,49 +81,6 @@ fn list_front(rt: &HostRuntime, input: &str, job: &Job<'_>, any: bool) -> u8 {
             let mut err = Counted::new(rt.stderr());
             list_head(rt.alloc(), input, &mut source, &mut out, &mut err)
         }
-        Err(refused) => refused.tell(rt),
-    }
-}
-
-/// Verifies files, and those of folders. Returns the status.
-fn verify(rt: &HostRuntime, verification: &Verification<'_>) -> u8 {
-    let Ok(shelf) = FileShelf::new(rt, verification.paths.as_slice()) else {
-        let _ = eprintln!(rt; "flac: command: 2 Memory");
-        return 1;
-    };
-    match ReportFile::open(rt, verification) {
-        Ok(report) => verify_into(rt, verification, shelf, report),
-        Err(refused) => refused.tell(rt),
-    }
-}
-
-/// Verifies the files of a list, with a report. Returns the status.
-fn verify_into(
-    rt: &HostRuntime,
-    verification: &Verification<'_>,
-    mut shelf: FileShelf,
-    mut report: ReportFile,
-) -> u8 {
-    shelf.leave_out(&mut report);
-    let mut shelf = BetweenShelf::new(shelf);
-    let mut out = Counted::new(rt.stdout());
-    let mut err = Counted::new(rt.stderr());
-    let mut lines = Counted::new(report.output);
-    let status = verify_files(
-        rt.alloc(),
-        &mut shelf,
-        verification.subset,
-        &mut out,
-        &mut err,
-        &mut lines,
-    );
-    if lines.last_error().is_some() {
-        let path = verification.report.or(verification.resume).unwrap_or("");
-        let _ = eprintln!(rt; "flac: {path}: 39 Write");
-        return 1;
-    }
-    match end_report(verification, lines.into_inner()) {
-        Ok(()) => status,
         Err(refused) => refused.tell(rt),
     }
 }

@@ -1,5 +1,6 @@
 //! `flac same`: the two files that are compared.
 
+use flac_around::{Between, Trimmed};
 use flac_bits::Counted;
 use flac_cli::compare_files;
 use flac_files::{FileRefused, Input, JobFiles};
@@ -25,7 +26,8 @@ pub(crate) fn same(rt: &HostRuntime, comparison: &Comparison<'_>) -> u8 {
         Ok(input) => input,
         Err(refused) => return refused.tell(rt),
     };
-    let (mut first, mut second) = (Counted::new(first), Counted::new(second));
+    let mut first = Trimmed::new(Between::new(Counted::new(first)));
+    let mut second = Trimmed::new(Between::new(Counted::new(second)));
     let mut out = Counted::new(rt.stdout());
     let mut err = Counted::new(rt.stderr());
     compare_files(

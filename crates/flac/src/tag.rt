@@ -1,14 +1,39 @@
 //! `flac tag`: edits the comments of files.
 
 use flac_bits::Counted;
-use flac_cli::{edits_of, refuse_room, rewrite_file, tag_file};
-use flac_edit::{Edit, Tagged};
-use flac_files::{FileRefused, TagFile};
+use flac_cli::{edits_of, refuse_lines, refuse_room, rewrite_file, tag_file};
+use flac_edit::{Edit, Tagged, comments_of_lines};
+use flac_files::{FileRefused, TagFile, read_comment_lines};
 use flac_jobs::{TagMode, Tagging};
+use flac_meta::Bytes;
 
 /// Edits the comments of each file. Returns the status: 1 if one is refused.
 pub(crate) fn tag_files(rt: &HostRuntime, tagging: &Tagging<'_>) -> u8 {
-    let Ok(edits) = edits_of(rt.alloc(), &tagging.edits) else {
+    match tagging.lines {
+        Some(path) => tag_by_lines(rt, tagging, path),
+        None => tag_each(rt, tagging, &[]),
+    }
+}
+
+/// Edits the comments of each file by those of a file of lines. Returns the status.
+fn tag_by_lines(rt: &HostRuntime, tagging: &Tagging<'_>, path: &str) -> u8 {
+    match read_comment_lines(rt, path) {
+        Ok(text) => tag_by_text(rt, tagging, path, &text),
+        Err(refused) => refused.tell(rt),
+    }
+}
+
+/// Edits the comments of each file by those of the lines of a file. Returns the status.
+fn tag_by_text(rt: &HostRuntime, tagging: &Tagging<'_>, path: &str, text: &[u8]) -> u8 {
+    match comments_of_lines(rt.alloc(), text) {
+        Ok(lines) => tag_each(rt, tagging, &lines),
+        Err(fault) => refuse_lines(&mut Counted::new(rt.stderr()), path, fault),
+    }
+}
+
+/// Edits the comments of each file; `lines` are those of the file of lines. Returns the status: 1 if one is refused.
+fn tag_each(rt: &HostRuntime, tagging: &Tagging<'_>, lines: &[Bytes]) -> u8 {
+    let Ok(edits) = edits_of(rt.alloc(), &tagging.edits, lines) else {
         let _ = eprintln!(rt; "flac: command: 2 Memory");
         return 1;
     };
@@ -55,16 +80,21 @@ fn tag_opened<'a>(
 ) -> Result<Option<&'static str>, FileRefused<'a>> {
     let mode = tagging.mode.unwrap_or(TagMode::Either);
     if mode == TagMode::Rewrite {
-        return rewrite_opened(rt, tagging.padding, path, file, edits);
+        return rewrite_opened(rt, tagging, path, file, edits);
     }
     match tag_in(rt, path, file, edits)? {
         Some(Tagged::Same) => Ok(Some("same")),
-        Some(Tagged::Flipped) => Ok(Some("flipped")),
+        Some(Tagged::Flipped) => {
+            if tagging.keep_times {
+                file.keep_time()?;
+            }
+            Ok(Some("flipped"))
+        }
         Some(Tagged::NoRoom) if mode == TagMode::InPlace => {
             let _status = refuse_room(&mut Counted::new(rt.stderr()), path);
             Ok(None)
         }
-        Some(Tagged::NoRoom) => rewrite_opened(rt, tagging.padding, path, file, edits),
+        Some(Tagged::NoRoom) => rewrite_opened(rt, tagging, path, file, edits),
         None => Ok(None),
     }
 }
@@ -85,7 +115,7 @@ fn tag_in<'a>(
 /// Writes a new file with edited comments, which takes the place of the old one.
 fn rewrite_opened<'a>(
     rt: &HostRuntime,
-    padding: u32,
+    tagging: &Tagging<'_>,
     path: &str,
     file: &TagFile<'a>,
     edits: &[Edit<'_>],
@@ -98,11 +128,18 @@ fn rewrite_opened<'a>(
         rt.alloc(),
         path,
         edits,
-        padding,
+        tagging.padding,
         &mut source,
         &mut target,
         &mut err,
     );
-    ending.end(rt, target.into_inner(), status)?;
+    let output = target.into_inner();
+    let kept = if tagging.keep_times {
+        file.keep_time_of(&output)
+    } else {
+        Ok(())
+    };
+    ending.end(rt, output, if kept.is_ok() { status } else { 1 })?;
+    kept?;
     Ok((status == 0).then_some("rewritten"))
 }

@@ -9,11 +9,13 @@ pub mod Entries
 -- Streams that are read, and what is reported of them.
 pub mod BlocksFirst
 pub mod Heading
+pub mod Holding
 pub mod Counting
 pub mod Outcomes
 pub mod Reported
 pub mod Jobs
 pub mod Told
+pub mod Gone
 pub mod Underway
 pub mod Verifying
 -- Raw samples.
@@ -25,6 +27,7 @@ pub mod Back
 pub mod Failed
 pub mod Listed
 pub mod Planning
+pub mod Recoding
 pub mod Refused
 pub mod Searched
 -- WAV files: those that a stream keeps, writing them, and why one is refused.

@@ -3,10 +3,11 @@ use Rattle.std.proofs.Common.{◌≡◌, ◌≤◌, ◌<◌, ◌⊎◌, ◌+◌,
 use Rattle.flac_bits.specs.declared.target.Target as target
 use Rattle.flac_shelf.specs.Listed.{Contents, Listed}
 use Rattle.flac_shelf.specs.declared.stamp.Stamp.{Stamp}
+use Rattle.flac_cli.specs.Changes.{change_in, is_kept}
 use Rattle.flac_cli.specs.Counted.{printed}
 use Rattle.flac_cli.specs.Outcomes.{Fits}
 use Rattle.flac_cli.specs.Reports.{Serves}
-use Rattle.flac_cli.specs.Verified.{IsFinding, HasNoMemory, AreFound, AreWhole, IsWhole, ok_part, bad_part, ok_lines, bad_lines, printed_lines, last_line, good_count, bad_count}
+use Rattle.flac_cli.specs.Verified.{IsFinding, HasNoMemory, AreFound, AreWhole, IsWhole, ok_of, bad_of, all_kept, ok_lines, bad_lines, printed_lines, last_line, good_count, bad_count}
 use Rattle.flac_cli.specs.Reported.{entry_line, is_sought_in, report_line, report_lines}
 use Rattle.flac_cli.specs.Verifies.{Verifies}
 use Rattle.flac_cli.specs.inner.Verifying.{IsSent, IsTold, IsEntered, IsCounted, IsEnded, SoFar, Underway, good_after, bad_after}
@@ -19,6 +20,14 @@ both_true : (a b : Bool) → (a && b) ≡ true → (a ≡ true) × (b ≡ true)
 both_true true true is = (refl, refl)
 both_true true false is = absurd cc
 both_true false b is = absurd cc
+
+and_assoc : (a b c : Bool) → ((a && b) && c) ≡ (a && (b && c))
+and_assoc true b c = refl
+and_assoc false b c = refl
+
+and_true : (a : Bool) → (a && true) ≡ a
+and_true true = refl
+and_true false = refl
 
 one_false : (a b : Bool) → (a && b) ≡ false → (a ≡ false) ⊎ ((a ≡ true) × (b ≡ false))
 one_false true true is = absurd cc
@@ -98,8 +107,8 @@ line_is subset again sought file path stamp finding look paths stamps seen fits 
 
 module _ {O E P : Type 0} (o : target.Ghosts O) (e : target.Ghosts E) (p : target.Ghosts P) (subset : Bool) (files : List Listed) (first : O) (began : E) (blank : P) where
   -- before the first file
-  pub begins : (tally : Tally) → tally.files ≡ 0 → tally.good ≡ 0 → tally.bad ≡ 0 → tally.is_written ≡ true → tally.is_reported ≡ true → Underway o e p subset files files first first began began blank blank tally
-  begins tally no_files no_good no_bad written reported = record {
+  pub begins : (tally : Tally) → tally.files ≡ 0 → tally.good ≡ 0 → tally.bad ≡ 0 → tally.is_written ≡ true → tally.is_reported ≡ true → tally.is_kept ≡ true → Underway o e p subset files files first first began began blank blank tally
+  begins tally no_files no_good no_bad written reported kept = record {
     kept = omega arith;
     known = λ w k. k;
     lost = λ fails. absurd (let both : true ≡ false = sym written ∙ fails in cc);
@@ -120,14 +129,15 @@ module _ {O E P : Type 0} (o : target.Ghosts O) (e : target.Ghosts E) (p : targe
       files_are = omega (arith, no_files);
       good_are = omega (arith, no_good);
       bad_are = omega (arith, no_bad);
+      kept_are = ap (λ b. b && all_kept files left) kept;
     };
   }
 
   -- a file more
   pub read_more : {rest more : List Listed} {out sent : O} {err told : E} {report reported : P} {tally counted : Tally} (file : Listed) (finding : Finding) (done entered : Bool)
       → Underway o e p subset files rest first out began err blank report tally → rest ≡ file ∷ more
-      → Fits HasNoMemory (IsFinding subset file.contents) finding → IsSent o (ok_part file.path finding) out sent done → IsTold e (bad_part file.path finding) err told
-      → IsEntered p tally.is_reported (report_line subset file finding) report reported entered → IsCounted finding done entered tally counted
+      → Fits HasNoMemory (IsFinding subset file.contents) finding → IsSent o (ok_of file finding) out sent done → IsTold e (bad_of file finding) err told
+      → IsEntered p tally.is_reported (report_line subset file finding) report reported entered → IsCounted finding (change_in file finding) done entered tally counted
       → Underway o e p subset files more first sent began told blank reported counted
   read_more {rest = rest} {more = more} {out = out} {sent = sent} {err = err} {told = told} {report = report} {reported = reported} {tally = tally} {counted = counted} file finding done entered u is fits s t n c = record {
     kept = omega (arith, u.kept, s.kept);
@@ -148,11 +158,11 @@ module _ {O E P : Type 0} (o : target.Ghosts O) (e : target.Ghosts E) (p : targe
           found = f.found;
           sent_is = λ w k.
               let b = were w in
-              ap (λ l. l ++ ok_lines more left) (s.sent b.1 (u.known b.0 k)).1 ∙ append_assoc (o.sent out) (ok_part file.path finding) (ok_lines more left)
+              ap (λ l. l ++ ok_lines more left) (s.sent b.1 (u.known b.0 k)).1 ∙ append_assoc (o.sent out) (ok_of file finding) (ok_lines more left)
               ∙ ap (λ fs. o.sent out ++ ok_lines fs (finding ∷ left)) (sym is) ∙ f.sent_is b.0 k;
           told_is = λ k same.
               let calm = calm_before same in
-              ap (λ l. l ++ bad_lines more left) (t.told (u.told_known k calm.0) calm.1).1 ∙ append_assoc (e.sent err) (bad_part file.path finding) (bad_lines more left)
+              ap (λ l. l ++ bad_lines more left) (t.told (u.told_known k calm.0) calm.1).1 ∙ append_assoc (e.sent err) (bad_of file finding) (bad_lines more left)
               ∙ ap (λ fs. e.sent err ++ bad_lines fs (finding ∷ left)) (sym is) ∙ f.told_is k calm.0;
           reported_is = λ w k.
               let d = was_entered w in
@@ -161,6 +171,9 @@ module _ {O E P : Type 0} (o : target.Ghosts O) (e : target.Ghosts E) (p : targe
           files_are = files_more tally.files counted.files (length f.all) finding left c.files f.files_are;
           good_are = good_more tally.good counted.good (good_count f.all) finding left c.good f.good_are;
           bad_are = bad_more tally.bad counted.bad (bad_count f.all) finding left c.bad f.bad_are;
+          kept_are =
+              ap (λ b. b && all_kept more left) c.kept ∙ and_assoc tally.is_kept (is_kept (change_in file finding)) (all_kept more left)
+              ∙ ap (λ fs. tally.is_kept && all_kept fs (finding ∷ left)) (sym is) ∙ f.kept_are;
         };
   }
     where
@@ -185,7 +198,8 @@ module _ {O E P : Type 0} (o : target.Ghosts O) (e : target.Ghosts E) (p : targe
 
   -- all files were read
   module _ {rest : List Listed} {out ended : O} {err told : E} {report : P} {tally : Tally} (done : Bool) (status : ℕ) (u : Underway o e p subset files rest first out began err blank report tally) (none : rest ≡ [])
-      (over : IsEnded o e tally out ended err told done) (zero : status ≡ 0 → (done ≡ true) × (tally.is_reported ≡ true) × (tally.bad ≡ 0)) (one : done ≡ true → tally.is_reported ≡ true → tally.bad ≡ 0 → status ≡ 0) where
+      (over : IsEnded o e tally out ended err told done) (zero : status ≡ 0 → (done ≡ true) × (tally.is_reported ≡ true) × (tally.is_kept ≡ true) × (tally.bad ≡ 0))
+      (one : done ≡ true → tally.is_reported ≡ true → tally.is_kept ≡ true → tally.bad ≡ 0 → status ≡ 0) where
     last : SoFar o e p subset files rest first out began err blank report tally []
     last = u.so_far [] (subst (λ fs. AreFound subset fs []) (sym none) tt)
 
@@ -197,6 +211,9 @@ module _ {O E P : Type 0} (o : target.Ghosts O) (e : target.Ghosts E) (p : targe
 
     bad_are : tally.bad ≡ printed (bad_count last.all)
     bad_are = all_counted tally.bad (bad_count last.all) u.bad_fits last.bad_are
+
+    kept_are : tally.is_kept ≡ all_kept files last.all
+    kept_are = sym (and_true tally.is_kept) ∙ ap (λ fs. tally.is_kept && all_kept fs []) (sym none) ∙ last.kept_are
 
     was_written : (b : Bool) → tally.is_written ≡ b → done ≡ true → tally.is_written ≡ true
     was_written true is holds = is
@@ -236,10 +253,12 @@ module _ {O E P : Type 0} (o : target.Ghosts O) (e : target.Ghosts E) (p : targe
     all_read = record {
       findings = last.all;
       found = last.found;
-      good = λ ok. is_zero tally.bad (bad_count last.all) bad_are (zero ok).2;
+      kept = λ ok. sym kept_are ∙ (zero ok).2;
+      good = λ ok. is_zero tally.bad (bad_count last.all) bad_are (zero ok).3;
       written = λ ok. ended_line (zero ok).0;
       entered = λ ok. report_is (zero ok).1;
-      done = λ served stored none. one (was_done tally.is_written done refl refl served) (was_reported tally.is_reported refl stored) (zero_is tally.bad (bad_count last.all) bad_are none);
+      done = λ served stored none kept.
+          one (was_done tally.is_written done refl refl served) (was_reported tally.is_reported refl stored) (kept_are ∙ kept) (zero_is tally.bad (bad_count last.all) bad_are none);
       printed_is = λ served. ended_line (was_done tally.is_written done refl refl served) served.0;
       entered_is = λ stored. report_is (was_reported tally.is_reported refl stored) stored.0;
       told_is = λ served heard. err_lines done refl (was_done tally.is_written done refl refl served) heard;
@@ -247,4 +266,4 @@ module _ {O E P : Type 0} (o : target.Ghosts O) (e : target.Ghosts E) (p : targe
 
     -- after status 0 each file is a stream
     pub all_whole : status ≡ 0 → AreWhole subset files
-    all_whole ok = are_whole subset files last.all last.found (is_zero tally.bad (bad_count last.all) bad_are (zero ok).2)
+    all_whole ok = are_whole subset files last.all last.found (is_zero tally.bad (bad_count last.all) bad_are (zero ok).3)

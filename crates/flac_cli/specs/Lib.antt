@@ -1,5 +1,6 @@
 pub mod Asked
 pub mod Calls
+pub mod Changes
 pub mod Counted
 pub mod Editing
 pub mod Encoded
@@ -10,6 +11,8 @@ pub mod Objects
 pub mod Outcomes
 pub mod Predictors
 pub mod Raw
+pub mod RecodeRefusals
+pub mod Recoded
 pub mod Refusals
 pub mod Reported
 pub mod Reports
@@ -18,6 +21,7 @@ pub mod Same
 pub mod Samples
 pub mod Speakers
 pub mod Streams
+pub mod TagLines
 pub mod Verified
 pub mod Verifies
 pub mod WaveRefusals

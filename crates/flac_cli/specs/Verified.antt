@@ -1,5 +1,5 @@
 -- What `flac verify` finds of files, and what it prints.
-use Rattle.std.specs.Prelude.{◌≡◌, ◌↔◌, ℕ, ◌+◌, Bool, true, false, cond, nat_eq, List, [], ◌∷◌, ◌++◌, length, codes, decimal, Option, Some, None}
+use Rattle.std.specs.Prelude.{◌≡◌, ◌↔◌, ℕ, ◌+◌, ◌&&◌, Bool, true, false, cond, nat_eq, List, [], ◌∷◌, ◌++◌, length, codes, decimal, Option, Some, None}
 use Rattle.flac_bits.specs.declared.target.Target as target
 use Rattle.flac_bits.specs.declared.why.Why.TheVariants as why
 use Rattle.flac_info.specs.Info.{Info}
@@ -8,9 +8,11 @@ use Rattle.flac_header.specs.declared.subset.Profile.TheVariants.{Subset, Lax}
 use Rattle.flac_native.specs.Places.{fault_text}
 use Rattle.flac_native.specs.Stream.{Piece, marked, block, framed, info_after, is_unknown}
 use Rattle.flac_shelf.specs.Listed.{Contents, Listed}
+use Rattle.flac_cli.specs.Changes.{change_in, is_kept, word_of}
 use Rattle.flac_cli.specs.Counted.{frames_in, samples_in_all, printed}
 use Rattle.flac_cli.specs.Outcomes.{Fits, Reads, input_reading}
 use Rattle.flac_cli.specs.Reports.{fault_line, Serves}
+use Rattle.flac_cli.specs.declared.verify_change.Change.{Change}
 use Rattle.flac_cli.specs.declared.verify_facts.Facts.{Facts}
 use Rattle.flac_cli.specs.declared.verify.Finding.{Finding}
 use Rattle.flac_cli.specs.declared.verify.Finding.TheVariants.{Good, Bad, Unopened}
@@ -88,36 +90,58 @@ lacks_total (Some info) = nat_eq info.total 0
 abbrev pub word_if : Bool → (word : List ℕ) → List ℕ
 word_if holds word = cond holds word []
 
--- the words after the counts of a stream
-abbrev pub words_of : Facts → List ℕ
-words_of facts = word_if (lacks_digest facts.info) (codes " no-md5") ++ (word_if (lacks_total facts.info) (codes " no-total") ++ word_if facts.outside (codes " outside-subset"))
+-- the words after the counts of a stream, the last of which is that of a change
+abbrev pub words_of : Change → Facts → List ℕ
+words_of change facts =
+    word_if (lacks_digest facts.info) (codes " no-md5") ++ (word_if (lacks_total facts.info) (codes " no-total") ++ (word_if facts.outside (codes " outside-subset")
+    ++ word_of change))
 
--- the line of a stream: `ok PATH: frames 2 samples 8192 no-md5`
-abbrev pub ok_line : (path : List ℕ) → Facts → List ℕ
-ok_line path facts =
-    codes "ok " ++ (path ++ (codes ": frames " ++ (decimal facts.counts.frames ++ (codes " samples " ++ (decimal facts.counts.samples ++ (words_of facts ++ codes "\n"))))))
+-- the line of a stream: `ok PATH: frames 2 samples 8192 no-md5 same`
+abbrev pub ok_line : (path : List ℕ) → Change → Facts → List ℕ
+ok_line path change facts =
+    codes "ok " ++ (path ++ (codes ": frames " ++ (decimal facts.counts.frames ++ (codes " samples " ++ (decimal facts.counts.samples ++ (words_of change facts ++ codes "\n"))))))
 
 -- what a file adds to standard output
-abbrev pub ok_part : (path : List ℕ) → Finding → List ℕ
-ok_part path (Good facts) = ok_line path facts
-ok_part path other = []
+abbrev pub ok_part : (path : List ℕ) → Change → Finding → List ℕ
+ok_part path change (Good facts) = ok_line path change facts
+ok_part path change other = []
 
--- what a file adds to standard error: the line of its fault
-abbrev pub bad_part : (path : List ℕ) → Finding → List ℕ
-bad_part path (Good facts) = []
-bad_part path (Bad fault) = fault_line path (fault_text fault)
-bad_part path Unopened = fault_line path (codes "cannot be opened")
+-- what a file adds to standard error: the line of its fault, and the word of a change
+abbrev pub bad_part : (path : List ℕ) → Change → Finding → List ℕ
+bad_part path change (Good facts) = []
+bad_part path change (Bad fault) = fault_line path (fault_text fault ++ word_of change)
+bad_part path change Unopened = fault_line path (codes "cannot be opened" ++ word_of change)
+
+abbrev pub ok_of : Listed → Finding → List ℕ
+ok_of file finding = ok_part file.path (change_in file finding) finding
+
+abbrev pub bad_of : Listed → Finding → List ℕ
+bad_of file finding = bad_part file.path (change_in file finding) finding
 
 -- the same of all files in order
 abbrev pub ok_lines : List Listed → List Finding → List ℕ
 ok_lines [] findings = []
 ok_lines files [] = []
-ok_lines (file ∷ files) (finding ∷ findings) = ok_part file.path finding ++ ok_lines files findings
+ok_lines (file ∷ files) (finding ∷ findings) = ok_of file finding ++ ok_lines files findings
 
 abbrev pub bad_lines : List Listed → List Finding → List ℕ
 bad_lines [] findings = []
 bad_lines files [] = []
-bad_lines (file ∷ files) (finding ∷ findings) = bad_part file.path finding ++ bad_lines files findings
+bad_lines (file ∷ files) (finding ∷ findings) = bad_of file finding ++ bad_lines files findings
+
+-- each file is as good as it was in the older report, with the same audio
+abbrev pub all_kept : List Listed → List Finding → Bool
+all_kept [] findings = true
+all_kept files [] = true
+all_kept (file ∷ files) (finding ∷ findings) = is_kept (change_in file finding) && all_kept files findings
+
+-- the lines of the files of an older report that were not met
+abbrev pub gone_line : (path : List ℕ) → List ℕ
+gone_line path = codes "gone " ++ (path ++ codes "\n")
+
+abbrev pub gone_lines : List (List ℕ) → List ℕ
+gone_lines [] = []
+gone_lines (path ∷ paths) = gone_line path ++ gone_lines paths
 
 -- how many files are streams, and how many are not
 abbrev pub good_count : List Finding → ℕ

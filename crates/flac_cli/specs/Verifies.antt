@@ -4,7 +4,7 @@ use Rattle.flac_bits.specs.declared.target.Target as target
 use Rattle.flac_shelf.specs.Listed.{Listed}
 use Rattle.flac_cli.specs.Reported.{report_lines}
 use Rattle.flac_cli.specs.Reports.{Serves}
-use Rattle.flac_cli.specs.Verified.{AreFound, printed_lines, bad_lines, bad_count}
+use Rattle.flac_cli.specs.Verified.{AreFound, printed_lines, bad_lines, bad_count, all_kept}
 use Rattle.flac_cli.specs.declared.verify.Finding.{Finding}
 
 -- What was done for these files: what was found of each, the status, and what was sent to standard output, to standard
@@ -12,12 +12,13 @@ use Rattle.flac_cli.specs.declared.verify.Finding.{Finding}
 pub record Verifies {O E P : Type 0} (o : target.Ghosts O) (e : target.Ghosts E) (p : target.Ghosts P) (subset : Bool) (files : List Listed) (status : ℕ) (out printed_to : O) (err told : E) (report reported : P) : Type 0 where
   pub findings : List Finding
   pub found : AreFound subset files findings
-  -- the status is 0 only if all are streams and every line was written
+  -- the status is 0 only if all are streams, each is as it was in the older report, and every line was written
   pub good : status ≡ 0 → bad_count findings ≡ 0
+  pub kept : status ≡ 0 → all_kept files findings ≡ true
   pub written : status ≡ 0 → o.known out ≡ true → o.sent printed_to ≡ o.sent out ++ printed_lines files findings
   pub entered : status ≡ 0 → p.known report ≡ true → p.sent reported ≡ p.sent report ++ report_lines subset files findings
   -- and if standard output and the report did not fail, it is 0 if all are
-  pub done : Serves o out printed_to → Serves p report reported → bad_count findings ≡ 0 → status ≡ 0
+  pub done : Serves o out printed_to → Serves p report reported → bad_count findings ≡ 0 → all_kept files findings ≡ true → status ≡ 0
   pub printed_is : Serves o out printed_to → o.sent printed_to ≡ o.sent out ++ printed_lines files findings
   pub entered_is : Serves p report reported → p.sent reported ≡ p.sent report ++ report_lines subset files findings
   pub told_is : Serves o out printed_to → Serves e err told → e.sent told ≡ e.sent err ++ bad_lines files findings

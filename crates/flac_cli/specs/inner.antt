@@ -1,5 +1,6 @@
 -- What private contracts and proofs need, and no contract of an exported function.
 pub mod Heading
+pub mod Holding
 pub mod Lined
 pub mod Objects
 pub mod Lines

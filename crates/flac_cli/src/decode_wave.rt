@@ -29,13 +29,17 @@ use std::alloc::Global;
 use std::snapshot::Snapshot;
 
 /// How many bytes are sent at once, at most.
-const ROOM: usize = 32768;
+const ROOM: usize = 131072;
 
-/// How many inter-channel samples are sent at once, at most. Each has at most 8 samples of 4 bytes.
-const ROWS: usize = 1024;
+/// How many inter-channel samples are sent at once, at most. Each has at most 8 samples of 4 bytes. The header before
+/// them puts them across the pages of the file, so few large writes are quicker.
+const ROWS: usize = 4096;
 
 /// The same of samples that have other bytes in the file than in the stream, up to four times as many.
 const RAISED_ROWS: usize = 256;
+
+/// How many bytes these have in the file, at most.
+const RAISED_ROOM: usize = 32768;
 
 /// Sends pieces, one after another.
 fn send_pieces<W: Target>(pieces: &[Vec<u8>], target: &mut W) -> Result<(), Why>
@@ -68,7 +72,7 @@ pub(crate) fn turn(wide: usize, bytes: &mut [u8])
 fn most_rows(depth: u8, wide: usize) -> usize
     requires { wide ≤ 4 }
     ensures some { 0 < result }
-    ensures few { result ≤ 1024 }
+    ensures few { result ≤ 4096 }
     ensures raised { depth ≡ 8 * wide ⊎ (result ≤ 256) }
 {
     if usize::from(depth) == 8 * wide {
@@ -116,22 +120,24 @@ fn send_as_file<W: Target>(
         return send_turned(wide, bytes, target);
     }
     let width = sample_width(u32::from(depth));
-    let mut high = [0u8; ROOM];
+    let mut high = [0u8; RAISED_ROOM];
     let end = raise(width, wide, shift, bytes, &mut high);
     send_turned(wide, &mut high[..end], target)
 }
 
-/// Sends the samples of a frame as those of a WAV file, of `wide` bytes each. Returns whether the number of the file's bytes
-/// with those before is odd.
+/// Sends the samples of a frame as those of a WAV file, of `wide` bytes each, by way of `bytes`. Returns whether the number
+/// of the file's bytes with those before is odd.
 fn send_samples<W: Target>(
     frame: &FrameView<'_>,
     depth: u8,
     wide: usize,
     odd: usize,
+    bytes: &mut [u8],
     target: &mut W,
 ) -> Result<usize, Why>
     requires holds { Holds wide depth }
     requires odd { odd < 2 }
+    requires room { length bytes.old ≡ 131072 }
     ensures known { OnOk result (W.known target.old ≡ true → W.known target.new ≡ true) }
     ensures sent { HasSent W.Target target.old target.new
         (file_samples wide depth (frame_bytes 0 depth (frame_of frame.now))) result }
@@ -142,13 +148,12 @@ fn send_samples<W: Target>(
     ensures rises { OnErr result (W.known target.old ≡ true → W.errors target.old < W.errors target.new) }
 {
     let width = sample_width(u32::from(depth));
-    let mut bytes = [0u8; ROOM];
     let mut start = 0;
     let mut odd = odd;
     let most = most_rows(depth, wide);
     while start < frame.len() {
         let count = (frame.len() - start).min(most);
-        let end = put_rows(frame, width, start, count, &mut bytes);
+        let end = put_rows(frame, width, start, count, bytes);
         let sent = send_as_file(depth, wide, &mut bytes[..end], target)?;
         odd = (odd + sent % 2) % 2;
         start += count;
@@ -161,8 +166,10 @@ fn send_samples<W: Target>(
 fn send_frame<W: Target>(
     held: &mut HeldWave,
     frame: &FrameView<'_>,
+    bytes: &mut [u8],
     target: &mut W,
 ) -> Result<(), Why>
+    requires room { length bytes.old ≡ 131072 }
     ensures held { OnOk result (held.new ≡ held_after held.old (frame_item (frame_of frame.now))) }
     ensures known { OnOk result (W.known target.old ≡ true → W.known target.new ≡ true) }
     ensures sent { HasSent W.Target target.old target.new (adds held.old (frame_item (frame_of frame.now))) result }
@@ -175,7 +182,7 @@ fn send_frame<W: Target>(
         return Ok(());
     }
     send_front(held, target)?;
-    let odd = send_samples(frame, held.depth(), held.wide(), held.odd(), target)?;
+    let odd = send_samples(frame, held.depth(), held.wide(), held.odd(), bytes, target)?;
     held.count(odd);
     Ok(())
 }
@@ -238,6 +245,8 @@ fn send_ending<W: Target>(held: &HeldWave, target: &mut W) -> Result<(), Why>
 pub(crate) struct WaveWriter<W: Target> {
     target: W,
     held: HeldWave,
+    /// The samples of a frame on their way to the target.
+    bytes: [u8; ROOM],
     alloc: Global,
     /// Whether an allocation failed.
     short: bool,
@@ -261,6 +270,7 @@ impl<W: Target> WaveWriter<W> {
         WaveWriter {
             target,
             held: HeldWave::new(alloc),
+            bytes: [0; ROOM],
             alloc,
             short: false,
             failures: Failures::new(),
@@ -316,6 +326,7 @@ impl<W: Target> WaveWriter<W> {
         let WaveWriter {
             target,
             held: _,
+            bytes: _,
             alloc: _,
             short: _,
             failures: _,
@@ -353,7 +364,7 @@ impl<W: Target> Sink for WaveWriter<W> {
     }
 
     fn frame(&mut self, frame: &FrameView<'_>) -> Result<(), SinkFault> {
-        match send_frame(&mut self.held, frame, &mut self.target) {
+        match send_frame(&mut self.held, frame, &mut self.bytes, &mut self.target) {
             Ok(()) => Ok(()),
             Err(_) => self.failures.fail(),
         }

@@ -1,8 +1,9 @@
 //! `flac edit`: metadata blocks of a native file, in a new file.
 
-ghost use Rattle.std.specs.Prelude.{◌≡◌, ◌≤◌, ◌++◌, true, map, option_map, IfOk};
+ghost use Rattle.std.specs.Prelude.{◌≡◌, ◌≤◌, ◌++◌, true, false, map, option_map, Some, IfOk, IfSome};
 ghost use Rattle.flac_bits.specs.Bits.{bits_of};
 ghost use Rattle.flac_native.specs.Decoding.{source_start};
+ghost use Rattle.flac_edit.specs.Changed.{KeepsBlocksAt};
 ghost use Rattle.flac_edit.specs.Rewritten.{RewritesBlocksAt};
 ghost use Rattle.flac_cli.specs.Calls.{IfServed};
 ghost use Rattle.flac_cli.specs.Lined.{text_at};
@@ -12,7 +13,7 @@ ghost use Rattle.flac_cli.specs.Editing.{removal_of, form_given, form_of, pictur
 use crate::lines::{At, write_line};
 use crate::report::refuse;
 use flac_bits::{Source, Target};
-use flac_edit::{BlockEdits, BlockFault, EditFault, Removal, rewrite_blocks};
+use flac_edit::{BlockEdits, BlockFault, EditFault, Removal, blocks_change, rewrite_blocks};
 use flac_image::image_of;
 use flac_jobs::{BlockName, PictureForm, PictureWord};
 use flac_meta::{Bytes, Picture};
@@ -124,6 +125,34 @@ pub(crate) fn refuse_edits<E: Target>(err: &mut E, path: &str, fault: BlockFault
     // If it cannot be written, there is no one left to report it to.
     let _ = write_line(err, path, at, name);
     1
+}
+
+/// Whether edits change the metadata blocks of a native file, as [`blocks_change`] says; `None` if it is refused: then the
+/// line of the error was written to `err`, if that could be written.
+pub fn edit_changes<R: Source, E: Target>(
+    alloc: Global,
+    path: &str,
+    edits: &BlockEdits<'_>,
+    source: &mut R,
+    err: &mut E,
+) -> Option<bool>
+    // `false`: the edited blocks are written as the old ones are.
+    ensures kept { result ≡ Some false → R.known source.old ≡ true
+        → KeepsBlocksAt (source_start R.Source source.old) edits.now }
+    // Nothing was written to standard error unless it is refused.
+    ensures silent { IfSome result (λ _. err.new ≡ err.old) }
+{
+    match blocks_change(alloc, source, edits) {
+        Ok(changes) => Some(changes),
+        Err(EditFault::Stream(fault)) => {
+            let _status = refuse(err, path, fault.at, fault.why);
+            None
+        }
+        Err(EditFault::Blocks(fault)) => {
+            let _status = refuse_edits(err, path, fault);
+            None
+        }
+    }
 }
 
 /// Writes a native stream with edited metadata blocks, as [`rewrite_blocks`] does. Returns the status: 1 if it failed,

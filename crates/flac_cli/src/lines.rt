@@ -189,7 +189,7 @@ impl<W: Target> Lines<W> {
     ///
     /// # Errors
     /// [`Why::Write`] if the target fails.
-    fn put_reason(&mut self, at: At, text: &str) -> Result<(), Why>
+    pub(crate) fn put_reason(&mut self, at: At, text: &str) -> Result<(), Why>
         ensures { AddsTo W.Target (text_at at text.now) self.old self.new result }
     {
         match at {

@@ -13,18 +13,23 @@ use crate::report::refuse;
 use flac_bits::{Source, Target, Why};
 use flac_edit::{Device, DeviceError, Edit, TagFault, Tagged, rewrite, tag_in_place};
 use flac_jobs::TagEdit;
+use flac_meta::Bytes;
 use std::alloc::{AllocError, Global};
 
-/// The edits that the command line gives.
+/// The edits that the command line gives; `lines` are the comments of its file of lines.
 ///
 /// # Errors
 /// `AllocError` if an allocation fails.
-pub fn edits_of<'a>(alloc: Global, words: &[TagEdit<'a>]) -> Result<Vec<Edit<'a>>, AllocError>
+pub fn edits_of<'a>(
+    alloc: Global,
+    words: &[TagEdit<'a>],
+    lines: &'a [Bytes],
+) -> Result<Vec<Edit<'a>>, AllocError>
     ensures { IfOk result (λ edits. length edits.items ≡ length words.now) }
 {
     let mut edits = Vec::with_capacity(alloc, words.len())?;
     for word in words {
-        edits.push(edit_of(word))?;
+        edits.push(edit_of(word, lines))?;
     }
     Ok(edits)
 }
@@ -38,9 +43,10 @@ fn parts_of(comment: &str) -> (&str, &str) {
 }
 
 /// The edit that a word gives.
-fn edit_of<'a>(word: &TagEdit<'a>) -> Edit<'a> {
+fn edit_of<'a>(word: &TagEdit<'a>, lines: &'a [Bytes]) -> Edit<'a> {
     match word {
         TagEdit::Clear => Edit::Clear,
+        TagEdit::Lines => Edit::Replace(lines),
         TagEdit::Remove(name) => Edit::Remove(name.as_bytes()),
         TagEdit::Set(comment) => {
             let (name, value) = parts_of(comment);

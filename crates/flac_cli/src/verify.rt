@@ -6,6 +6,7 @@ ghost use Rattle.flac_cli.specs.Verified.{IsFinding, HasNoMemory, AreWhole};
 ghost use Rattle.flac_cli.specs.Verifies.{Verifies};
 ghost use Rattle.flac_cli.specs.inner.Verifying.{IsReading, IsReadingOutside, IsCounted, Stays};
 
+use crate::verify_change::{Change, compare};
 use crate::verify_facts::{Facts, read_facts};
 use crate::verify_lines::{report, report_end};
 use crate::verify_report::{Entry, enter};
@@ -37,13 +38,16 @@ pub(crate) struct Tally {
     pub(crate) is_written: bool,
     /// Whether the report did.
     pub(crate) is_reported: bool,
+    /// Whether each file is as good as it was in the older report, with the same audio.
+    pub(crate) is_kept: bool,
 }
 
 impl Tally {
     /// Counts a file, whose line standard output took or not; `is_entered`: the report took its line and those before.
-    fn add(&mut self, finding: &Finding, is_sent: bool, is_entered: bool)
-        ensures { IsCounted finding.now is_sent is_entered self.old self.new }
+    fn add(&mut self, finding: &Finding, change: Change, is_sent: bool, is_entered: bool)
+        ensures { IsCounted finding.now change is_sent is_entered self.old self.new }
     {
+        self.is_kept = self.is_kept && change.is_kept();
         self.is_written = self.is_written && is_sent;
         self.is_reported = is_entered;
         self.files = self.files.saturating_add(1);
@@ -142,13 +146,15 @@ fn is_sought(subset: bool, again: bool) -> bool
     subset || again
 }
 
-/// The status: 0 if every line was written and no file was bad.
-fn status_of(is_written: bool, is_reported: bool, bad: u64) -> u8
-    ensures zero { result ≡ 0 → (is_written ≡ true) × (is_reported ≡ true) × (bad ≡ 0) }
-    ensures one { is_written ≡ true → is_reported ≡ true → bad ≡ 0 → result ≡ 0 }
+/// The status: 0 if every line was written, no file was bad, and each is as it was in the older report.
+fn status_of(is_written: bool, tally: &Tally) -> u8
+    ensures zero { result ≡ 0 →
+        (is_written ≡ true) × (tally.now.is_reported ≡ true) × (tally.now.is_kept ≡ true) × (tally.now.bad ≡ 0) }
+    ensures one { is_written ≡ true → tally.now.is_reported ≡ true → tally.now.is_kept ≡ true → tally.now.bad ≡ 0 →
+        result ≡ 0 }
     ensures most { result ≤ 1 }
 {
-    if is_written && is_reported && bad == 0 {
+    if is_written && tally.is_reported && tally.is_kept && tally.bad == 0 {
         0
     } else {
         1
@@ -164,6 +170,9 @@ fn status_of(is_written: bool, is_reported: bool, bad: u64) -> u8
 /// of the samples or their number (section 8.2), and ` outside-subset`, if the file can be read again and is not in the
 /// streamable subset. The line of another file is written to `err`: `flac: PATH: PLACE: NUMBER NAME`, or
 /// `flac: PATH: cannot be opened`. After all files `out` gets the line `verified N ok N bad N`.
+///
+/// If there is an older report, a word of [`Change`] ends the line of each file. The status is 1 too if a file has other
+/// audio than in that report.
 ///
 /// `report_to` gets a line of JSON (RFC 8259) for each file, as it is done: an object of the path, the status `ok`,
 /// `bad` or `unopened`, and what else is known. After a line that it does not take it gets no other.
@@ -193,19 +202,22 @@ pub fn verify_files<S: Shelf, O: Target, E: Target, P: Target>(
         bad: 0,
         is_written: true,
         is_reported: true,
+        is_kept: true,
     };
     'files: while shelf.next() {
         let finding = find(alloc, shelf, subset);
-        let is_sent = report(&finding, shelf.path(), out, err);
+        let stamp = shelf.stamp();
+        let change = compare(&shelf.earlier(), &stamp, &finding);
+        let is_sent = report(&finding, change, shelf.path(), out, err);
         let again = shelf.reads_again();
         let entry = Entry {
             path: shelf.path(),
-            stamp: shelf.stamp(),
+            stamp,
             is_sought: is_sought(subset, again),
         };
         let is_entered = enter(report_to, &entry, &finding, tally.is_reported);
-        tally.add(&finding, is_sent, is_entered);
+        tally.add(&finding, change, is_sent, is_entered);
     }
     let is_written = report_end(&tally, out, err);
-    status_of(is_written, tally.is_reported, tally.bad)
+    status_of(is_written, &tally)
 }

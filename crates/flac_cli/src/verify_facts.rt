@@ -39,7 +39,7 @@ fn info_after(info: Option<StreamInfo>, block: &Block) -> Option<StreamInfo>
 }
 
 /// Whether a digest of STREAMINFO is unknown: all its bytes are 0.
-fn is_unknown(digest: &[u8]) -> bool
+pub(crate) fn is_unknown(digest: &[u8]) -> bool
     ensures { result ≡ is_unknown digest.now }
 {
     digest.iter().all(|byte| *byte == 0)

@@ -1,6 +1,7 @@
 //! The lines that `flac verify` prints.
 
 ghost use Rattle.std.specs.Prelude.{◌≡◌, ◌≤◌, ◌<◌, ◌+◌, ◌++◌, true, [], take, OnOk, OnErr};
+ghost use Rattle.flac_cli.specs.Changes.{word_of};
 ghost use Rattle.flac_cli.specs.Lined.{text_at};
 ghost use Rattle.flac_cli.specs.Reports.{fault_line};
 ghost use Rattle.flac_cli.specs.Verified.{ok_line, ok_part, bad_part, words_of, word_if, last_line};
@@ -9,6 +10,7 @@ ghost use Rattle.flac_cli.specs.inner.Verifying.{IsEnded, IsSent, IsTold};
 
 use crate::lines::{At, Lines, write_line};
 use crate::verify::{Finding, Tally};
+use crate::verify_change::Change;
 use crate::verify_facts::Facts;
 use flac_bits::{Target, Why};
 
@@ -20,40 +22,51 @@ fn word_if(holds: bool, word: &'static str) -> &'static str
 }
 
 /// Adds the words after the counts of a stream.
-fn put_words<O: Target>(lines: &mut Lines<O>, facts: &Facts) -> Result<(), Why>
-    ensures { Adds O.Target (words_of facts.now) lines.old.target lines.new.target
+fn put_words<O: Target>(lines: &mut Lines<O>, change: Change, facts: &Facts) -> Result<(), Why>
+    ensures { Adds O.Target (words_of change facts.now) lines.old.target lines.new.target
         (take lines.old.held lines.old.bytes) (take lines.new.held lines.new.bytes) result }
 {
     lines.put(word_if(facts.lacks_digest(), " no-md5"))?;
     lines.put(word_if(facts.lacks_total(), " no-total"))?;
-    lines.put(word_if(facts.outside, " outside-subset"))
+    lines.put(word_if(facts.outside, " outside-subset"))?;
+    lines.put(change.word())
 }
 
 /// Sends the line of a stream through a buffer.
-fn put_ok<O: Target>(lines: &mut Lines<O>, path: &str, facts: &Facts) -> Result<(), Why>
+fn put_ok<O: Target>(
+    lines: &mut Lines<O>,
+    path: &str,
+    change: Change,
+    facts: &Facts,
+) -> Result<(), Why>
     requires { lines.old.held ≡ 0 }
-    ensures { Adds O.Target (ok_line path.now facts.now) lines.old.target lines.new.target [] [] result }
+    ensures { Adds O.Target (ok_line path.now change facts.now) lines.old.target lines.new.target [] [] result }
 {
     lines.put_both("ok ", path)?;
     lines.put_counted(": frames ", facts.counts.frames)?;
     lines.put_counted(" samples ", facts.counts.samples)?;
-    put_words(lines, facts)?;
+    put_words(lines, change, facts)?;
     lines.put("\n")?;
     lines.send()
 }
 
-/// Sends the line of a stream: `ok PATH: frames N samples N`, and what it lacks.
+/// Sends the line of a stream: `ok PATH: frames N samples N`, what it lacks, and the word of a change.
 ///
 /// # Errors
 /// [`Why::Write`] if the target fails.
-pub(crate) fn write_ok<O: Target>(out: &mut O, path: &str, facts: &Facts) -> Result<(), Why>
+pub(crate) fn write_ok<O: Target>(
+    out: &mut O,
+    path: &str,
+    change: Change,
+    facts: &Facts,
+) -> Result<(), Why>
     ensures kept { O.errors out.old ≤ O.errors out.new }
     ensures known { OnOk result (O.known out.old ≡ true → O.known out.new ≡ true) }
-    ensures sent { OnOk result (O.known out.old ≡ true → O.sent out.new ≡ O.sent out.old ++ ok_line path.now facts.now) }
+    ensures sent { OnOk result (O.known out.old ≡ true → O.sent out.new ≡ O.sent out.old ++ ok_line path.now change facts.now) }
     ensures failed { OnErr result (O.known out.old ≡ true → O.errors out.old < O.errors out.new) }
 {
     let mut lines = Lines::new(out);
-    put_ok(&mut lines, path, facts)
+    put_ok(&mut lines, path, change, facts)
 }
 
 /// Sends the last line through a buffer.
@@ -92,24 +105,80 @@ fn tell<E: Target>(err: &mut E, path: &str, at: At, text: &str)
     let _ = write_line(err, path, at, text);
 }
 
+/// Sends the line of a fault, with a word at its end, through a buffer.
+fn put_fault<E: Target>(
+    lines: &mut Lines<E>,
+    path: &str,
+    at: At,
+    text: &str,
+    word: &str,
+) -> Result<(), Why>
+    requires { lines.old.held ≡ 0 }
+    ensures { Adds E.Target (fault_line path.now (text_at at text.now ++ word.now))
+        lines.old.target lines.new.target [] [] result }
+{
+    lines.put_both("flac: ", path)?;
+    lines.put(": ")?;
+    lines.put_reason(at, text)?;
+    lines.put(word)?;
+    lines.put("\n")?;
+    lines.send()
+}
+
+/// Sends the line of a fault, with a word at its end.
+///
+/// # Errors
+/// [`Why::Write`] if the target fails.
+fn write_fault<E: Target>(
+    err: &mut E,
+    path: &str,
+    at: At,
+    text: &str,
+    word: &str,
+) -> Result<(), Why>
+    ensures kept { E.errors err.old ≤ E.errors err.new }
+    ensures known { OnOk result (E.known err.old ≡ true → E.known err.new ≡ true) }
+    ensures sent { OnOk result (E.known err.old ≡ true →
+        E.sent err.new ≡ E.sent err.old ++ fault_line path.now (text_at at text.now ++ word.now)) }
+    ensures failed { OnErr result (E.known err.old ≡ true → E.errors err.old < E.errors err.new) }
+{
+    let mut lines = Lines::new(err);
+    put_fault(&mut lines, path, at, text, word)
+}
+
+/// Sends the line of a file that is bad.
+fn tell_bad<E: Target>(err: &mut E, path: &str, at: At, text: &str, word: &str)
+    ensures { IsTold E.Target (fault_line path.now (text_at at text.now ++ word.now)) err.old err.new }
+{
+    // If it cannot be written, there is no one left to report it to.
+    let _ = write_fault(err, path, at, text, word);
+}
+
 /// Prints the line of a file. Returns false if standard output fails.
 pub(crate) fn report<O: Target, E: Target>(
     finding: &Finding,
+    change: Change,
     path: &str,
     out: &mut O,
     err: &mut E,
 ) -> bool
-    ensures out { IsSent O.Target (ok_part path.now finding.now) out.old out.new result }
-    ensures err { IsTold E.Target (bad_part path.now finding.now) err.old err.new }
+    ensures out { IsSent O.Target (ok_part path.now change finding.now) out.old out.new result }
+    ensures err { IsTold E.Target (bad_part path.now change finding.now) err.old err.new }
 {
     match finding {
-        Finding::Good(facts) => write_ok(out, path, facts).is_ok(),
+        Finding::Good(facts) => write_ok(out, path, change, facts).is_ok(),
         Finding::Bad(fault) => {
-            tell(err, path, At::Place(fault.at), fault.why.as_str());
+            tell_bad(
+                err,
+                path,
+                At::Place(fault.at),
+                fault.why.as_str(),
+                change.word(),
+            );
             true
         }
         Finding::Unopened => {
-            tell(err, path, At::Whole, "cannot be opened");
+            tell_bad(err, path, At::Whole, "cannot be opened", change.word());
             true
         }
     }

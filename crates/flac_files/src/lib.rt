@@ -1,13 +1,15 @@
 //! The files of a job of the program `flac`: what it reads, and what it writes to.
 //!
-//! What a system does with files cannot be claimed. So but for [`List::of`], [`may_replace`] and [`read_picture`] the calls of this
-//! library have few clauses: they are proved to be safe and to return. What the program does with the bytes is stated
+//! What a system does with files cannot be claimed. So but for [`List::of`], [`may_replace`], [`read_picture`] and [`read_comment_lines`] the
+//! calls of this library have few clauses: they are proved to be safe and to return. What the program does with the bytes is stated
 //! by `flac_cli`.
 #![tactic(auto)]
 
+mod comment_lines;
 mod files;
 mod job_files;
 mod list;
+mod older;
 mod pictures;
 mod progress;
 mod recorded;
@@ -17,9 +19,11 @@ mod shelf;
 mod tag_files;
 mod walk;
 
+pub use comment_lines::read_comment_lines;
 pub use files::{Input, Known, Output};
 pub use job_files::{Ending, FileRefused, JobFiles};
 pub use list::List;
+pub use older::{OlderRefused, read_older};
 pub use pictures::read_picture;
 pub use replacing::may_replace;
 pub use report::{ReportFile, end_report};

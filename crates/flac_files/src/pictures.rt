@@ -1,6 +1,6 @@
 //! The files of pictures.
 
-ghost use Rattle.std.specs.Prelude.{◌≡◌, ◌≤◌, length, IfOk, IfErr};
+ghost use Rattle.std.specs.Prelude.{◌≡◌, ◌≤◌, ◌<◌, ◌^◌, length, IfOk, IfErr};
 
 use crate::job_files::FileRefused;
 use std::fs::File;
@@ -24,7 +24,7 @@ pub fn read_picture<'a>(rt: &HostRuntime, path: &'a str) -> Result<Vec<u8>, File
             what: "opened",
         });
     };
-    match read_all(rt, file) {
+    match read_all(rt, file, MOST) {
         Ok(bytes) => Ok(bytes),
         Err(error) if error.kind() == ErrorKind::FileTooLarge => Err(FileRefused {
             path,
@@ -34,16 +34,17 @@ pub fn read_picture<'a>(rt: &HostRuntime, path: &'a str) -> Result<Vec<u8>, File
     }
 }
 
-/// Reads a file.
+/// Reads a file of at most `most` bytes.
 ///
 /// # Errors
-/// That of the system; `FileTooLarge` if it is longer than a picture can be.
-fn read_all(rt: &HostRuntime, file: File) -> io::Result<Vec<u8>>
-    ensures few { IfOk result (λ bytes. length bytes.items ≤ 16777183) }
+/// That of the system; `FileTooLarge` if it is longer.
+pub(crate) fn read_all<R: Read + Drop>(rt: &HostRuntime, file: R, most: u64) -> io::Result<Vec<u8>>
+    requires { most < 2 ^ 32 }
+    ensures few { IfOk result (λ bytes. length bytes.items ≤ most) }
 {
     let mut bytes = Vec::new(rt.alloc());
-    file.take(MOST + 1).read_to_end(&mut bytes)?;
-    if bytes.len() as u64 > MOST {
+    file.take(most + 1).read_to_end(&mut bytes)?;
+    if bytes.len() as u64 > most {
         return Err(io::Error::from(ErrorKind::FileTooLarge));
     }
     Ok(bytes)

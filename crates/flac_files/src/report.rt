@@ -2,23 +2,21 @@
 
 use crate::files::{Output, create_beside};
 use crate::job_files::FileRefused;
-use crate::recorded::{Record, path_in};
+use crate::recorded::{Recorded, is_line, recorded_of};
 use flac_jobs::Verification;
-use std::alloc::Global;
+use flac_shelf::Record;
+use std::alloc::{AllocError, Global};
 use std::fs::{File, Metadata, OpenOptions};
 use std::io;
 use std::io::{ErrorKind, Read, Write};
-
-/// What each line of a report begins with.
-const BEGINNING: &[u8] = b"{\"path\":\"";
 
 /// The report of a verification, opened.
 #[derive(Drop)]
 pub struct ReportFile {
     /// What its lines are written to; [`Output::None`] if there is no report.
     pub output: Output,
-    /// The files that it has as good.
-    pub(crate) good: Record,
+    /// The files that it has as good, of a path those that come last in it.
+    pub good: Record,
 }
 
 impl ReportFile {
@@ -150,25 +148,24 @@ fn good_lines(alloc: Global, text: &[u8]) -> io::Result<(Record, Vec<u8>)> {
         if !is_line(line) {
             return Err(io::Error::from(ErrorKind::InvalidData));
         }
-        if line.ends_with(b"\n") && good.add(alloc, line)? {
+        if line.ends_with(b"\n") && add_good(alloc, &mut good, line)? {
             kept.extend_from_slice(line)?;
         }
     }
     Ok((good, kept))
 }
 
-/// Whether these bytes may be a line of a report, or a part of one that was cut off.
-fn is_line(line: &[u8]) -> bool {
-    match line.strip_prefix(BEGINNING) {
-        Some(rest) => !line.ends_with(b"\n") || has_status(rest),
-        None => BEGINNING.starts_with(line),
+/// Adds the file of a line, if the line has it as good. Returns whether it has.
+///
+/// # Errors
+/// Memory ran out.
+fn add_good(alloc: Global, good: &mut Record, line: &[u8]) -> Result<bool, AllocError> {
+    let Some(Recorded { path, past }) = recorded_of(alloc, line)? else {
+        return Ok(false);
+    };
+    if past.audio.is_none() {
+        return Ok(false);
     }
-}
-
-/// Whether a status comes after the path, which these bytes begin with.
-fn has_status(rest: &[u8]) -> bool {
-    match path_in(rest) {
-        Some((_, after)) => after.starts_with(b"\",\"status\":\""),
-        None => false,
-    }
+    good.add(path, past)?;
+    Ok(true)
 }

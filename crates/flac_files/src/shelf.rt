@@ -5,12 +5,10 @@ ghost use Rattle.std.specs.Prelude.{◌≡◌, ◌≤◌, false, [], None};
 use crate::files::Input;
 use crate::job_files::StandIns;
 use crate::progress::Progress;
-use crate::recorded::Record;
-use crate::report::ReportFile;
 use crate::walk::{Look, Names, look_at_found, look_at_named};
 use flac_bits::Counted;
-use flac_shelf::{Shelf, Stamp};
-use std::{io, mem};
+use flac_shelf::{Earlier, Shelf, Stamp};
+use std::io;
 
 /// A path that is still to be looked at.
 #[derive(Drop)]
@@ -37,9 +35,9 @@ pub struct FileShelf {
     look: Look,
     /// How many paths may still be looked at.
     room: u64,
-    /// Files that are left out.
-    good: Record,
     progress: Progress,
+    /// Whether the progress was shown at this file.
+    is_shown: bool,
     standard: StandIns,
 }
 
@@ -62,22 +60,20 @@ impl FileShelf {
             path: String::new(rt.alloc()),
             look: Look::Pass,
             room: u64::MAX,
-            good: Record::none(rt.alloc()),
             progress: Progress::new(rt),
+            is_shown: false,
             standard: StandIns::new(rt),
         })
     }
 
-    /// Leaves out the files that this report has as good.
-    pub fn leave_out(&mut self, report: &mut ReportFile) {
-        mem::swap(&mut self.good, &mut report.good);
-    }
-
-    /// Whether the file that it is at is left out.
-    fn is_left_out(&self) -> bool {
-        match self.look {
-            Look::Read { stamp, .. } => self.good.has(self.path.as_str(), stamp),
-            _ => false,
+    /// Shows that the file that it is at begins, once.
+    fn show(&mut self)
+        ensures { self.new.room ≡ self.old.room }
+    {
+        if !self.is_shown {
+            self.is_shown = true;
+            let stamp = self.stamp();
+            self.progress.show(&self.rt, stamp.bytes);
         }
     }
 
@@ -149,10 +145,11 @@ impl Shelf for FileShelf {
 
     ghost use Rattle.std.specs.Prelude.{false, [], None};
     ghost use Rattle.flac_shelf.specs.Listed.{no_stamp};
+    ghost use Rattle.flac_shelf.specs.declared.past.Earlier.TheVariants.{Unasked};
 
     ghost known = { λ _. false };
 
-    ghost current = { λ _. record { path = []; stamp = no_stamp; contents = None } };
+    ghost current = { λ _. record { path = []; stamp = no_stamp; earlier = Unasked; contents = None } };
 
     ghost files = { λ _. [] };
 
@@ -166,9 +163,8 @@ impl Shelf for FileShelf {
             let Some(pending) = self.pending.pop() else {
                 return false;
             };
-            if self.look_at(pending) && !self.is_left_out() {
-                let stamp = self.stamp();
-                self.progress.show(&self.rt, stamp.bytes);
+            if self.look_at(pending) {
+                self.is_shown = false;
                 return true;
             }
         }
@@ -186,11 +182,16 @@ impl Shelf for FileShelf {
         }
     }
 
+    fn earlier(&self) -> Earlier {
+        Earlier::Unasked
+    }
+
     fn reads_again(&self) -> bool {
         matches!(self.look, Look::Read { again: true, .. })
     }
 
     fn open(&mut self) -> Option<Counted<Input>> {
+        self.show();
         match self.look {
             Look::Read { .. } => match Input::open(&self.rt, self.path.as_str()) {
                 Ok(file) => Some(Counted::new(file)),

@@ -153,6 +153,39 @@ impl<'a> TagFile<'a> {
         }
     }
 
+    /// Gives the file the time back at which it was changed before it was opened.
+    ///
+    /// # Errors
+    /// That of the system.
+    pub fn keep_time(&self) -> Result<(), FileRefused<'a>> {
+        self.give_time(&self.file)
+    }
+
+    /// Gives a new file that is to take its place the time at which it was changed. What is no regular file stays as it is.
+    ///
+    /// # Errors
+    /// That of the system.
+    pub fn keep_time_of(&self, output: &Output) -> Result<(), FileRefused<'a>> {
+        match output {
+            Output::File(file) => self.give_time(file),
+            _ => Ok(()),
+        }
+    }
+
+    /// Gives a file the time at which this one was changed.
+    ///
+    /// # Errors
+    /// That of the system.
+    fn give_time(&self, file: &File) -> Result<(), FileRefused<'a>> {
+        match given_time(file, &self.found) {
+            Ok(()) => Ok(()),
+            Err(_) => Err(FileRefused {
+                path: self.path,
+                what: "given its time back",
+            }),
+        }
+    }
+
     /// A new file beside it that is to take its place, with its permissions, and with its owner if the system lets it; and
     /// what is left to do when it is written.
     ///
@@ -211,6 +244,14 @@ fn regular(file: &File) -> io::Result<Metadata> {
         return Err(io::Error::from(ErrorKind::InvalidInput));
     }
     Ok(found)
+}
+
+/// Gives a file the time at which another was changed.
+///
+/// # Errors
+/// That of the system.
+fn given_time(file: &File, found: &Metadata) -> io::Result<()> {
+    file.set_modified(found.modified()?)
 }
 
 /// Whether a file begins as an Ogg stream (RFC 3533, section 6). False if it cannot be read.

@@ -49,7 +49,7 @@ unfoldable pub frame_in : (n : ℕ) → List ℕ → Option Image
 frame_in zero bytes = None
 frame_in (suc n) bytes = elim (at_marker bytes) [ Ok len ↦ frame_in n (drop len bytes) | Err found ↦ found ]
 
--- a picture begins with the marker of its start, 216 (D8)
+-- a picture begins with the marker of its start, whose code is 216
 unfoldable pub jpeg_of : List ℕ → Option Image
 jpeg_of bytes =
     cond (nat_lt (length bytes) 2 || (not (nat_eq (get_or bytes 0 0) 255) || not (nat_eq (get_or bytes 1 0) 216))) None

@@ -48,6 +48,8 @@ pub struct Editing<'a> {
     pub pictures: Option<Vec<PictureWord<'a>>>,
     /// How many bytes of padding come in place of the old padding, 0 for none; `None` if it stays.
     pub padding: Option<u32>,
+    /// Whether each file keeps the time at which it was changed.
+    pub keep_times: bool,
     /// Whether what became of each file is printed.
     pub verbose: bool,
 }

@@ -1,5 +1,6 @@
 //! Why a command line gives no job.
 
+ghost use Rattle.std.specs.Cow.{cow_str_bytes};
 ghost use Rattle.std.specs.Prelude.{◌≡◌, ◌≢◌, ◌≤◌, ◌⊎◌};
 
 use std::alloc::{AllocError, Global};
@@ -29,100 +30,14 @@ impl LineFault {
         }
     }
 
-    /// A comment has no `=`: status 2.
-    pub fn no_equals() -> LineFault
-        ensures { result.status ≡ 2 }
+    /// The command line is refused for a reason that this line tells: status 2. `text` begins with `flac: command: ` and
+    /// ends with a line end.
+    pub fn refused(text: &'static str) -> LineFault
+        ensures text { cow_str_bytes result.text ≡ text.now }
+        ensures status { result.status ≡ 2 }
     {
         LineFault {
-            text: CowStr::Borrowed("flac: command: comment without =\n"),
-            status: 2,
-        }
-    }
-
-    /// The name of a comment is empty, or has a byte outside 20 to 7E (hexadecimal): status 2.
-    pub fn field_name() -> LineFault
-        ensures { result.status ≡ 2 }
-    {
-        LineFault {
-            text: CowStr::Borrowed("flac: command: 55 FieldName\n"),
-            status: 2,
-        }
-    }
-
-    /// Files cannot be edited in place alone, and as new files alone: status 2.
-    pub fn both_modes() -> LineFault
-        ensures { result.status ≡ 2 }
-    {
-        LineFault {
-            text: CowStr::Borrowed("flac: command: --in-place with --rewrite\n"),
-            status: 2,
-        }
-    }
-
-    /// A new report is asked for, and one that is resumed: status 2.
-    pub fn both_reports() -> LineFault
-        ensures { result.status ≡ 2 }
-    {
-        LineFault {
-            text: CowStr::Borrowed("flac: command: --report with --resume\n"),
-            status: 2,
-        }
-    }
-
-    /// A word names no metadata blocks that can be removed: status 2.
-    pub fn block_name() -> LineFault
-        ensures { result.status ≡ 2 }
-    {
-        LineFault {
-            text: CowStr::Borrowed(
-                "flac: command: --remove-block takes a number from 1 on, or a type other than STREAMINFO\n",
-            ),
-            status: 2,
-        }
-    }
-
-    /// A word is no picture: status 2.
-    pub fn picture_word() -> LineFault
-        ensures { result.status ≡ 2 }
-    {
-        LineFault {
-            text: CowStr::Borrowed(
-                "flac: command: --picture takes [TYPE:]FILE, the type 0 to 20\n",
-            ),
-            status: 2,
-        }
-    }
-
-    /// Nothing is to be edited: status 2.
-    pub fn no_edit() -> LineFault
-        ensures { result.status ≡ 2 }
-    {
-        LineFault {
-            text: CowStr::Borrowed(
-                "flac: command: edit needs --padding, --remove-block or --picture\n",
-            ),
-            status: 2,
-        }
-    }
-
-    /// A word is no part of the metadata: status 2.
-    pub fn no_part() -> LineFault
-        ensures { result.status ≡ 2 }
-    {
-        LineFault {
-            text: CowStr::Borrowed(
-                "flac: command: export takes tags, picture or the number of a block\n",
-            ),
-            status: 2,
-        }
-    }
-
-    /// The command line asks for something else than a job: status 2.
-    pub fn no_job() -> LineFault
-        ensures { result.status ≡ 2 }
-    {
-        LineFault {
-            text: CowStr::Borrowed("flac: command: no job\n"),
+            text: CowStr::Borrowed(text),
             status: 2,
         }
     }
@@ -140,16 +55,6 @@ impl LineFault {
                 status: 2,
             },
             Err(_) => LineFault::no_memory(),
-        }
-    }
-
-    /// A seek table is asked for in an Ogg stream, where its offsets have no meaning: status 2.
-    pub fn table_in_ogg() -> LineFault
-        ensures { result.status ≡ 2 }
-    {
-        LineFault {
-            text: CowStr::Borrowed("flac: command: --ogg with --seek-every\n"),
-            status: 2,
         }
     }
 

@@ -5,6 +5,7 @@ use crate::editings::Editing;
 use crate::exportings::Exporting;
 use crate::jobs::CommandLine;
 use crate::listings::Listing;
+use crate::recodings::Recoding;
 use crate::taggings::Tagging;
 use crate::verifications::Verification;
 
@@ -25,4 +26,6 @@ pub enum Request<'a> {
     Verify(Verification<'a>),
     /// Two streams are compared.
     Same(Comparison<'a>),
+    /// A stream is encoded anew.
+    Recode(Recoding<'a>),
 }

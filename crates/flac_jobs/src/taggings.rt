@@ -6,6 +6,8 @@
 pub enum TagEdit<'a> {
     /// Takes all comments away.
     Clear,
+    /// Puts the comments of the file of lines in the place of all.
+    Lines,
     /// Takes all comments of this name away.
     Remove(&'a str),
     /// Puts this comment in the place of all of its name.
@@ -32,10 +34,14 @@ pub struct Tagging<'a> {
     pub inputs: Vec<&'a str>,
     /// The edits, one after another.
     pub edits: Vec<TagEdit<'a>>,
+    /// The path of the file of lines, `-` for standard input; `None` if there is no edit [`TagEdit::Lines`].
+    pub lines: Option<&'a str>,
     /// How a file may be edited; `None` if the command line asks for both modes.
     pub mode: Option<TagMode>,
     /// How many bytes of padding a new file has after the comments; 0 for none.
     pub padding: u32,
+    /// Whether each file keeps the time at which it was changed.
+    pub keep_times: bool,
     /// Whether what became of each file is printed.
     pub verbose: bool,
 }

@@ -12,4 +12,6 @@ pub struct Verification<'a> {
     /// The path of a report that may have lines: files that it has as good, at the same size and time, are left out. Not
     /// with `report`.
     pub resume: Option<&'a str>,
+    /// The path of an older report with which the files are compared. Not with `resume`.
+    pub against: Option<&'a str>,
 }

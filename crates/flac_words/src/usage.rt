@@ -5,6 +5,7 @@ pub(crate) mod edit;
 pub(crate) mod encode;
 pub(crate) mod export;
 pub(crate) mod list;
+pub(crate) mod recode;
 pub(crate) mod retag;
 pub(crate) mod same;
 pub(crate) mod tag;
@@ -18,6 +19,7 @@ use edit::EDIT;
 use encode::ENCODE;
 use export::EXPORT;
 use list::LIST;
+use recode::RECODE;
 use retag::RETAG;
 use same::SAME;
 use std::alloc::{AllocError, Global};
@@ -163,7 +165,7 @@ pub(crate) fn command<'a>(alloc: Global) -> Result<Command<'a>, AllocError> {
 fn commands<'a>(alloc: Global) -> Result<Vec<Command<'a>>, AllocError> {
     let mut commands = Vec::new(alloc);
     for usage in [
-        &TEST, &DECODE, &LIST, &ENCODE, &RETAG, &TAG, &EDIT, &EXPORT, &VERIFY, &SAME,
+        &TEST, &DECODE, &LIST, &ENCODE, &RETAG, &TAG, &EDIT, &EXPORT, &VERIFY, &SAME, &RECODE,
     ] {
         add_command(&mut commands, alloc, usage)?;
     }

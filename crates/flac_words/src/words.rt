@@ -8,8 +8,9 @@ use crate::usage::edit::{edit_request, fault_of_editing};
 use crate::usage::encode::encode_job;
 use crate::usage::export::{export_request, fault_of_exporting};
 use crate::usage::list::list_request;
+use crate::usage::recode::{fault_of_recoding, recode_request};
 use crate::usage::retag::retag_job;
-use crate::usage::same::same_request;
+use crate::usage::same::{fault_of_comparison, same_request};
 use crate::usage::tag::{fault_of_tagging, tag_request};
 use crate::usage::test::test_job;
 use crate::usage::verify::{fault_of_verification, verify_request};
@@ -74,7 +75,7 @@ pub fn command_line<'a>(alloc: Global, words: &'a [String]) -> Result<CommandLin
 {
     match request(alloc, words) {
         Ok(Request::Job(line)) => Ok(line),
-        Ok(_) => Err(LineFault::no_job()),
+        Ok(_) => Err(LineFault::refused("flac: command: no job\n")),
         Err(fault) => Err(fault),
     }
 }
@@ -188,6 +189,9 @@ fn request_of<'a>(
     if name == "same" {
         return Ok(same_request(given));
     }
+    if name == "recode" {
+        return Ok(recode_request(given));
+    }
     let force = given.get_flag("force");
     let any = given.get_flag("any");
     match job_of(alloc, name, given)? {
@@ -224,6 +228,8 @@ fn fault_of(alloc: Global, request: &Request<'_>) -> Option<LineFault>
         Request::Verify(verification) => fault_of_verification(verification),
         Request::Edit(editing) => fault_of_editing(editing),
         Request::Export(exporting) => fault_of_exporting(exporting),
+        Request::Same(comparison) => fault_of_comparison(comparison),
+        Request::Recode(recoding) => fault_of_recoding(recoding),
         _ => None,
     }
 }
@@ -233,10 +239,10 @@ fn fault_of_job(alloc: Global, job: &Job<'_>) -> Option<LineFault>
     ensures { IfSome result (λ fault. fault.status ≤ 2) }
 {
     if lacks_equals(job) {
-        return Some(LineFault::no_equals());
+        return Some(LineFault::refused("flac: command: comment without =\n"));
     }
     if has_table_in_ogg(job) {
-        return Some(LineFault::table_in_ogg());
+        return Some(LineFault::refused("flac: command: --ogg with --seek-every\n"));
     }
     match job {
         Job::Encode { output, .. } | Job::EncodeWave { output, .. } | Job::Retag { output, .. }

@@ -9,6 +9,8 @@ mod hostile;
 #[cfg(test)]
 mod program;
 #[cfg(test)]
+mod recoding;
+#[cfg(test)]
 mod same;
 #[cfg(test)]
 mod strange;

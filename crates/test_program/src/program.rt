@@ -781,7 +781,7 @@ fn faults_are_told(rt: HostRuntime) {
     };
     assert!(rt; help.tell(&rt) == 0);
     assert!(rt; LineFault::no_memory().tell(&rt) == 1);
-    assert!(rt; LineFault::no_equals().tell(&rt) == 2);
+    assert!(rt; LineFault::refused("flac: command: comment without =\n").tell(&rt) == 2);
 }
 
 /// The command line of a test begins with the name of its program.

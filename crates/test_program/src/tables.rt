@@ -600,6 +600,12 @@ flac decode a.flac a.wav --any | any DecodeWave { input: "a.flac", output: "a.wa
 flac list --any a.flac | any List { input: "a.flac", lax: true }
 flac list --any --head a.flac | ListFiles(Listing { inputs: ["a.flac"], lax: true, any: true, head: true })
 flac list --head a.flac | ListFiles(Listing { inputs: ["a.flac"], lax: false, any: false, head: true })
+flac recode a.flac b.flac | Recode(Recoding { input: "a.flac", output: "b.flac", block: 4096, seek_every: 0, container: Native, lax: false, predictors: None, effort: Quick, force: false })
+flac recode a.flac b.oga --ogg --serial 7 --lax --force --block 16 --predictors a.txt --search full | Recode(Recoding { input: "a.flac", output: "b.oga", block: 16, seek_every: 0, container: Ogg { serial: 7 }, lax: true, predictors: Some("a.txt"), effort: Full, force: true })
+flac recode - - --seek-every 5 | Recode(Recoding { input: "-", output: "-", block: 4096, seek_every: 5, container: Native, lax: false, predictors: None, effort: Quick, force: false })
+flac recode a.flac b.oga --ogg --seek-every 5 | 2 flac: command: --ogg with --seek-every;
+flac recode a.flac b.flac A=b | 2 error: unexpected argument 'A=b' found*
+flac recode a.flac | 2 error: the following required arguments were not provided:*
 flac retag a.flac b.flac A=b | Retag { input: "a.flac", output: "b.flac", comments: ["A=b"] }
 flac retag --force a.flac b.flac A=b | force Retag { input: "a.flac", output: "b.flac", comments: ["A=b"] }
 flac retag a.flac ./TITLE=New | Retag { input: "a.flac", output: "./TITLE=New", comments: [] }
@@ -643,7 +649,7 @@ flac encode a.raw a.flac --raw | 2 flac: command: raw samples need --rate, --cha
 flac encode a.raw a.flac --rate 44100 --channels 2 --bits 16 none | 2 flac: command: comment without =;
 flac encode a.raw a.flac --rate 44100 --channels 2 --bits 16 --ogg --seek-every 5 | 2 flac: command: --ogg with --seek-every;
 flac encode a.raw a.flac --rate 44100 --channels 2 --bits 16 --ogg --seek-every 5 none | 2 flac: command: comment without =;
-flac | 2 error: 'flac' requires a subcommand but one was not provided;  [subcommands: test, decode, list, encode, retag, tag, edit, export, verify, same, help];;Usage: flac <COMMAND>;;For more information, try '--help'.;
+flac | 2 error: 'flac' requires a subcommand but one was not provided;  [subcommands: test, decode, list, encode, retag, tag, edit, export, verify, same, recode, help];;Usage: flac <COMMAND>;;For more information, try '--help'.;
 flac test | 2 error: the following required arguments were not provided:;  <IN>;;Usage: flac test <IN>;;For more information, try '--help'.;
 flac list | 2 error: the following required arguments were not provided:;  <IN>...;;Usage: flac list <IN>...;;For more information, try '--help'.;
 flac retag a.flac b.flac --lax | 2 error: unexpected argument '--lax' found*
@@ -655,6 +661,9 @@ flac --test | 2 flac: command: to test a stream: flac test IN;
 flac -d a.flac | 2 flac: command: to decode a stream: flac decode IN OUT;
 flac --decode a.flac a.raw | 2 flac: command: to decode a stream: flac decode IN OUT;
 flac --version | 0 flac (proved) 1.0.0;
+flac tag a.flac --set TITLE | 2 flac: command: comment without =;
+flac tag a.flac --from a.txt --add =x | 2 flac: command: 55 FieldName;
+flac tag a.flac --from a.txt --from b.txt | 2 error: the argument '--from <LINES>' cannot be used multiple times*
 flac edit a.flac | 2 flac: command: edit needs --padding, --remove-block or --picture;
 flac edit a.flac --remove-block 0 | 2 flac: command: --remove-block takes a number from 1 on, or a type other than STREAMINFO;
 flac edit a.flac --picture 21:b.png | 2 flac: command: --picture takes [TYPE:]FILE, the type 0 to 20;
@@ -665,4 +674,6 @@ flac test --help | 0 Decodes a stream, and prints how many frames*
 flac decode --help | 0 Decodes a stream to a WAV file, or to raw samples*
 flac list --help | 0 Decodes a stream, and lists its metadata blocks;*
 flac encode --help | 0 Encodes a WAV file, or raw samples*
+flac tag --help | 0 Edits the comments of streams*
+flac edit --help | 0 Removes metadata blocks of streams*
 flac retag --help | 0 Writes a stream with other comments;*"#;

@@ -1,9 +1,11 @@
 //! `flac verify` over files in memory.
 
 use flac_bits::{Collected, Counted, Target};
-use flac_cli::verify_files;
-use flac_shelf::{HeldFile, HeldShelf, Stamp};
-use std::alloc::Global;
+use flac_cli::{report_gone, verify_files};
+use flac_shelf::{
+    Audio, ComparedShelf, HeldFile, HeldShelf, Older, Past, Record, ResumedShelf, Stamp,
+};
+use std::alloc::{AllocError, Global};
 use std::io;
 use std::io::{ErrorKind, Write};
 use std::process::Abort;
@@ -117,6 +119,7 @@ fn each_file_is_in_the_report(rt: HostRuntime) -> Result<(), Fail> {
     let alloc = rt.alloc();
     let example = bytes_of(alloc, EXAMPLE)?;
     let outside = bytes_of(alloc, OUTSIDE)?;
+    let pages = bytes_of(alloc, OUTSIDE_PAGES)?;
     let files = [
         stamped("a \"b\"/\\1\u{1f}\u{7f}\u{e9}.flac", &example, 1700000000),
         stamped("2.flac", &outside, 0),
@@ -124,18 +127,25 @@ fn each_file_is_in_the_report(rt: HostRuntime) -> Result<(), Fail> {
         pipe("4.flac", b"fLa"),
         file("5.flac", &example[..56usize.min(example.len())]),
         unopened("6"),
+        pipe("7.flac", b""),
+        pipe("8.oga", &pages),
     ];
     let due = "{\"path\":\"a \\u0022b\\u0022/\\u005c1\\u001f\u{7f}\u{e9}.flac\",\"status\":\"ok\",\
-        \"bytes\":57,\"modified\":1700000000,\"nanoseconds\":5,\"rate\":44100,\"channels\":2,\"depth\":16,\
-        \"frames\":1,\"samples\":1,\"md5_checked\":false,\"subset\":true}\n\
-        {\"path\":\"2.flac\",\"status\":\"ok\",\"bytes\":53,\"modified\":0,\"nanoseconds\":5,\"rate\":65537,\
-        \"channels\":1,\"depth\":5,\"frames\":1,\"samples\":16,\"md5\":\"4ae71336e44bf9bf79d2752e234818a5\",\
-        \"md5_checked\":true,\"subset\":false}\n\
-        {\"path\":\"3.flac\",\"status\":\"ok\",\"rate\":65537,\"channels\":1,\"depth\":5,\"frames\":1,\
-        \"samples\":16,\"md5\":\"4ae71336e44bf9bf79d2752e234818a5\",\"md5_checked\":true}\n\
-        {\"path\":\"4.flac\",\"status\":\"bad\",\"place\":\"marker\",\"error\":3,\"name\":\"Truncated\"}\n\
-        {\"path\":\"5.flac\",\"status\":\"bad\",\"place\":\"frame\",\"index\":0,\"error\":3,\"name\":\"Truncated\"}\n\
-        {\"path\":\"6\",\"status\":\"unopened\"}\n";
+        \"bytes\":57,\"modified\":1700000000,\"nanoseconds\":5,\"rate\":44100,\
+        \"channels\":2,\"depth\":16,\"frames\":1,\"samples\":1,\"md5_checked\":false,\"subset\":true}\n\
+        {\"path\":\"2.flac\",\"status\":\"ok\",\"bytes\":53,\"modified\":0,\"nanoseconds\":5,\
+        \"rate\":65537,\"channels\":1,\"depth\":5,\"frames\":1,\"samples\":16,\
+        \"md5\":\"4ae71336e44bf9bf79d2752e234818a5\",\"md5_checked\":true,\"subset\":false}\n\
+        {\"path\":\"3.flac\",\"status\":\"ok\",\"rate\":65537,\"channels\":1,\"depth\":5,\
+        \"frames\":1,\"samples\":16,\"md5\":\"4ae71336e44bf9bf79d2752e234818a5\",\"md5_checked\":true}\n\
+        {\"path\":\"4.flac\",\"status\":\"bad\",\"place\":\"marker\",\"error\":3,\
+        \"name\":\"Truncated\"}\n\
+        {\"path\":\"5.flac\",\"status\":\"bad\",\"place\":\"frame\",\"index\":0,\"error\":3,\
+        \"name\":\"Truncated\"}\n\
+        {\"path\":\"6\",\"status\":\"unopened\"}\n\
+        {\"path\":\"7.flac\",\"status\":\"bad\",\"place\":\"marker\",\"error\":3,\"name\":\"Truncated\"}\n\
+        {\"path\":\"8.oga\",\"status\":\"ok\",\"rate\":65537,\"channels\":1,\"depth\":5,\
+        \"frames\":1,\"samples\":16,\"md5\":\"4ae71336e44bf9bf79d2752e234818a5\",\"md5_checked\":true}\n";
     assert!(rt; is_reported(alloc, &files, due));
     Ok(())
 }
@@ -201,5 +211,192 @@ fn a_line_that_is_not_written(rt: HostRuntime) -> Result<(), Fail> {
     let status = verify_on(alloc, &files, false, &mut Counted::new(Full), &mut err);
     assert!(rt; status == 1);
     assert!(rt; err.bytes() == b"flac: standard output: 39 Write\n".as_slice());
+    Ok(())
+}
+
+/// A size, and a time.
+fn stamp_of(bytes: u64, modified: u64) -> Stamp {
+    Stamp {
+        bytes: Some(bytes),
+        modified: Some(modified),
+        nanoseconds: Some(5),
+    }
+}
+
+/// The audio of the example, by its STREAMINFO, with this digest and this number of samples.
+fn audio_of(digest: Option<[u8; 16]>, samples: u64) -> Audio {
+    Audio {
+        digest,
+        samples,
+        rate: Some(44100),
+        channels: Some(2),
+        depth: Some(16),
+    }
+}
+
+/// Adds a file of this size and time to an older report; a bad one without audio.
+fn add(
+    alloc: Global,
+    older: &mut Older,
+    path: &str,
+    stamp: Stamp,
+    audio: Option<Audio>,
+) -> Result<(), AllocError> {
+    older.add(String::from_str(alloc, path)?, Past { stamp, audio })
+}
+
+/// An older report of the files of the test.
+fn older_of(alloc: Global) -> Result<Older, AllocError> {
+    let mut older = Older::none(alloc);
+    let audio = audio_of(None, 1);
+    add(alloc, &mut older, "same", stamp_of(57, 9), Some(audio))?;
+    add(alloc, &mut older, "later", stamp_of(57, 8), Some(audio))?;
+    add(alloc, &mut older, "longer", stamp_of(58, 9), Some(audio))?;
+    add(
+        alloc,
+        &mut older,
+        "cut",
+        stamp_of(57, 9),
+        Some(audio_of(None, 2)),
+    )?;
+    add(
+        alloc,
+        &mut older,
+        "digest",
+        stamp_of(57, 9),
+        Some(audio_of(Some([1; 16]), 1)),
+    )?;
+    add(alloc, &mut older, "mended", stamp_of(9, 9), None)?;
+    add(alloc, &mut older, "still bad", stamp_of(9, 9), None)?;
+    add(alloc, &mut older, "now bad", stamp_of(57, 9), Some(audio))?;
+    add(alloc, &mut older, "not there", stamp_of(57, 9), Some(audio))?;
+    add(alloc, &mut older, "gone 2", stamp_of(57, 9), Some(audio))?;
+    add(alloc, &mut older, "gone 1", stamp_of(9, 9), None)?;
+    Ok(older)
+}
+
+/// Verifies files against the older report. Returns the status, and whether files are gone.
+fn verify_against(
+    alloc: Global,
+    files: &[HeldFile<'_>],
+    out: &mut Collected,
+    err: &mut Collected,
+) -> Result<(u8, bool), AllocError> {
+    let older = older_of(alloc)?;
+    let mut shelf = ComparedShelf::new(HeldShelf::new(files), Some(older));
+    let mut report = Collected::new(alloc);
+    let status = verify_files(alloc, &mut shelf, false, out, err, &mut report);
+    let is_gone = match shelf.into_older() {
+        Some(mut older) => report_gone(&mut older, err),
+        None => false,
+    };
+    Ok((status, is_gone))
+}
+
+#[test]
+fn each_change_has_its_word(rt: HostRuntime) -> Result<(), Fail> {
+    let alloc = rt.alloc();
+    let example = bytes_of(alloc, EXAMPLE)?;
+    let files = [
+        stamped("same", &example, 9),
+        stamped("later", &example, 9),
+        stamped("longer", &example, 9),
+        stamped("cut", &example, 9),
+        stamped("digest", &example, 9),
+        stamped("mended", &example, 9),
+        stamped("still bad", b"fLa", 9),
+        stamped("now bad", b"fLa", 9),
+        unopened("not there"),
+        stamped("another", &example, 9),
+        stamped("and bad", b"fLa", 9),
+    ];
+    let mut out = Collected::new(alloc);
+    let mut err = Collected::new(alloc);
+    let (status, is_gone) = verify_against(alloc, &files, &mut out, &mut err)?;
+    let due_out = "ok same: frames 1 samples 1 no-md5 same\n\
+        ok later: frames 1 samples 1 no-md5 tags\n\
+        ok longer: frames 1 samples 1 no-md5 tags\n\
+        ok cut: frames 1 samples 1 no-md5 audio\n\
+        ok digest: frames 1 samples 1 no-md5 audio\n\
+        ok mended: frames 1 samples 1 no-md5 better\n\
+        ok another: frames 1 samples 1 no-md5 new\n\
+        verified 11 ok 7 bad 4\n";
+    let due_err = "flac: still bad: marker: 3 Truncated same\n\
+        flac: now bad: marker: 3 Truncated worse\n\
+        flac: not there: cannot be opened worse\n\
+        flac: and bad: marker: 3 Truncated new\n\
+        gone gone 1\ngone gone 2\n";
+    assert!(rt; status == 1 && is_gone);
+    assert!(rt; out.bytes() == due_out.as_bytes());
+    assert!(rt; err.bytes() == due_err.as_bytes());
+    Ok(())
+}
+
+/// The status of the verification of one file of 57 bytes that was modified at 9 s, against the older report.
+fn status_against(alloc: Global, path: &str, bytes: &[u8]) -> Result<u8, AllocError> {
+    let mut out = Collected::new(alloc);
+    let mut err = Collected::new(alloc);
+    let files = [stamped(path, bytes, 9)];
+    let (status, is_gone) = verify_against(alloc, &files, &mut out, &mut err)?;
+    Ok(if is_gone { status } else { 9 })
+}
+
+#[test]
+fn other_audio_has_status_1(rt: HostRuntime) -> Result<(), Fail> {
+    let alloc = rt.alloc();
+    let example = bytes_of(alloc, EXAMPLE)?;
+    assert!(rt; status_against(alloc, "same", &example)? == 0);
+    assert!(rt; status_against(alloc, "later", &example)? == 0);
+    assert!(rt; status_against(alloc, "mended", &example)? == 0);
+    assert!(rt; status_against(alloc, "another", &example)? == 0);
+    assert!(rt; status_against(alloc, "cut", &example)? == 1);
+    assert!(rt; status_against(alloc, "digest", &example)? == 1);
+    Ok(())
+}
+
+#[test]
+fn good_files_are_left_out(rt: HostRuntime) -> Result<(), Fail> {
+    let alloc = rt.alloc();
+    let example = bytes_of(alloc, EXAMPLE)?;
+    let audio = Some(audio_of(None, 1));
+    let mut good = Record::none(alloc);
+    let stamp = stamp_of(57, 9);
+    good.add(String::from_str(alloc, "1")?, Past { stamp, audio })?;
+    good.add(String::from_str(alloc, "2")?, Past { stamp, audio: None })?;
+    let earlier = stamp_of(57, 8);
+    good.add(
+        String::from_str(alloc, "3")?,
+        Past {
+            stamp: earlier,
+            audio,
+        },
+    )?;
+    let unknown = Stamp::unknown();
+    good.add(
+        String::from_str(alloc, "4")?,
+        Past {
+            stamp: unknown,
+            audio,
+        },
+    )?;
+    let files = [
+        stamped("1", &example, 9),
+        stamped("2", &example, 9),
+        stamped("3", &example, 9),
+        file("4", &example),
+        stamped("5", &example, 9),
+    ];
+    let mut shelf = ResumedShelf::new(HeldShelf::new(&files), good);
+    let mut out = Collected::new(alloc);
+    let mut err = Collected::new(alloc);
+    let mut report = Collected::new(alloc);
+    let status = verify_files(alloc, &mut shelf, false, &mut out, &mut err, &mut report);
+    let due = "ok 2: frames 1 samples 1 no-md5\n\
+        ok 3: frames 1 samples 1 no-md5\n\
+        ok 4: frames 1 samples 1 no-md5\n\
+        ok 5: frames 1 samples 1 no-md5\n\
+        verified 4 ok 4 bad 0\n";
+    assert!(rt; status == 0);
+    assert!(rt; out.bytes() == due.as_bytes());
     Ok(())
 }

@@ -4,13 +4,15 @@ use Rattle.flac_bits.specs.declared.target.Target as target
 use Rattle.flac_header.specs.declared.subset.Profile.{Profile}
 use Rattle.flac_header.specs.declared.subset.Profile.TheVariants.{Lax}
 use Rattle.flac_shelf.specs.Listed.{Contents, Listed}
+use Rattle.flac_cli.specs.Changes.{is_kept}
 use Rattle.flac_cli.specs.Counted.{printed}
 use Rattle.flac_cli.specs.Outcomes.{Fits, Reads, IsOutOfMemory}
 use Rattle.flac_cli.specs.Reported.{report_lines}
-use Rattle.flac_cli.specs.Verified.{IsStreamOf, AreFound, ok_lines, bad_lines, last_line, good_count, bad_count}
+use Rattle.flac_cli.specs.Verified.{IsStreamOf, AreFound, ok_lines, bad_lines, last_line, good_count, bad_count, all_kept}
 use Rattle.flac_cli.specs.declared.verify.Finding.{Finding}
 use Rattle.flac_cli.specs.declared.verify.Finding.TheVariants.{Good, Bad, Unopened}
 use Rattle.flac_cli.specs.declared.verify.Tally.{Tally}
+use Rattle.flac_cli.specs.declared.verify_change.Change.{Change}
 
 -- A call that was to send this text: it was sent, or the target returned an error.
 pub record IsSent {T : Type 0} (g : target.Ghosts T) (text : List ℕ) (old new : T) (done : Bool) : Type 0 where
@@ -62,12 +64,13 @@ bad_after n (Good facts) = n
 bad_after n other = printed (n + 1)
 
 -- a file more was counted, whose lines standard output and the report took or not
-pub record IsCounted (finding : Finding) (sent entered : Bool) (old new : Tally) : Type 0 where
+pub record IsCounted (finding : Finding) (change : Change) (sent entered : Bool) (old new : Tally) : Type 0 where
   pub files : new.files ≡ printed (old.files + 1)
   pub good : new.good ≡ good_after old.good finding
   pub bad : new.bad ≡ bad_after old.bad finding
   pub written : new.is_written ≡ (old.is_written && sent)
   pub reported : new.is_reported ≡ entered
+  pub kept : new.is_kept ≡ (old.is_kept && is_kept change)
 
 -- The last line was sent, if those before were.
 pub record IsEnded {O E : Type 0} (o : target.Ghosts O) (e : target.Ghosts E) (tally : Tally) (out ended : O) (err told : E) (done : Bool) : Type 0 where
@@ -89,6 +92,7 @@ pub record SoFar {O E P : Type 0} (o : target.Ghosts O) (e : target.Ghosts E) (p
   pub files_are : printed (tally.files + length left) ≡ printed (length all)
   pub good_are : printed (tally.good + good_count left) ≡ printed (good_count all)
   pub bad_are : printed (tally.bad + bad_count left) ≡ printed (bad_count all)
+  pub kept_are : (tally.is_kept && all_kept rest left) ≡ all_kept files all
 
 pub record Underway {O E P : Type 0} (o : target.Ghosts O) (e : target.Ghosts E) (p : target.Ghosts P) (subset : Bool) (files rest : List Listed) (first out : O) (began err : E) (blank report : P) (tally : Tally) : Type 0 where
   pub kept : o.errors first ≤ o.errors out

@@ -20,9 +20,10 @@ TYPE:MEDIA:WIDTHxHEIGHTxDEPTH:FILE or TYPE:MEDIA:WIDTHxHEIGHTxDEPTH/COLOURS:FILE
 to 20: 3 is the front cover, 4 the back cover, 8 the artist; without it, it is 3. Of types
 1 and 2 there is one picture at most. Pictures are put before comments and padding.
 
-With --padding all old padding is replaced by one block at the end. A new file takes the
-place of each; frames are copied as they are and not verified. A file that is refused stays
-as it was, and a line says why; the exit status is then 1. Ogg streams are refused.";
+With --padding all old padding is replaced by one block at the end. A file whose blocks are
+so already is not written; a new file takes the place of any other. Frames are copied as
+they are and not verified. A file that is refused stays as it was, and a line says why; the
+exit status is then 1. Ogg streams are refused.";
 
 pub(crate) static EDIT: Usage = Usage {
     name: "edit",
@@ -32,7 +33,7 @@ pub(crate) static EDIT: Usage = Usage {
 };
 
 /// The arguments of `edit`.
-const EDIT_WORDS: [Word; 5] = [
+const EDIT_WORDS: [Word; 6] = [
     Word {
         name: "FILE",
         kind: WordKind::Files,
@@ -54,9 +55,14 @@ const EDIT_WORDS: [Word; 5] = [
         help: "Bytes of padding in place of the old; 0: none",
     },
     Word {
+        name: "keep-times",
+        kind: WordKind::Flag,
+        help: "Keeps the time at which each file was changed",
+    },
+    Word {
         name: "verbose",
         kind: WordKind::ShortFlag('v'),
-        help: "Prints a line for each file that was edited",
+        help: "Prints what became of each file: same or rewritten",
     },
 ];
 
@@ -75,6 +81,7 @@ pub(crate) fn edit_request<'a>(
         removals: removals_of(alloc, given.get_strs("remove-block").unwrap_or(&[]))?,
         pictures: pictures_of(alloc, given.get_strs("picture").unwrap_or(&[]))?,
         padding: given.get_one("padding"),
+        keep_times: given.get_flag("keep-times"),
         verbose: given.get_flag("verbose"),
     })))
 }
@@ -215,13 +222,19 @@ pub(crate) fn fault_of_editing(editing: &Editing<'_>) -> Option<LineFault>
     ensures { IfSome result (λ fault. fault.status ≤ 2) }
 {
     let Some(removals) = &editing.removals else {
-        return Some(LineFault::block_name());
+        return Some(LineFault::refused(
+            "flac: command: --remove-block takes a number from 1 on, or a type other than STREAMINFO\n",
+        ));
     };
     let Some(pictures) = &editing.pictures else {
-        return Some(LineFault::picture_word());
+        return Some(LineFault::refused(
+            "flac: command: --picture takes [TYPE:]FILE, the type 0 to 20\n",
+        ));
     };
     if removals.is_empty() && pictures.is_empty() && editing.padding.is_none() {
-        return Some(LineFault::no_edit());
+        return Some(LineFault::refused(
+            "flac: command: edit needs --padding, --remove-block or --picture\n",
+        ));
     }
     None
 }

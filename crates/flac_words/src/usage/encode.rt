@@ -193,7 +193,7 @@ fn format_of(given: &ArgMatches<'_>) -> Option<RawFormat> {
 }
 
 /// How far linear predictors are sought: as far as `--search` says, else as far as is usual for the input.
-fn effort_of(given: &ArgMatches<'_>, usual: SearchEffort) -> SearchEffort {
+pub(crate) fn effort_of(given: &ArgMatches<'_>, usual: SearchEffort) -> SearchEffort {
     let Some(word) = given.get_str("search") else {
         return usual;
     };
@@ -217,7 +217,7 @@ fn has_part_of_format(given: &ArgMatches<'_>) -> bool {
 }
 
 /// The container that the options give.
-fn container_of(given: &ArgMatches<'_>) -> Option<ContainerKind> {
+pub(crate) fn container_of(given: &ArgMatches<'_>) -> Option<ContainerKind> {
     if !given.get_flag("ogg") {
         return Some(ContainerKind::Native);
     }

@@ -72,7 +72,9 @@ pub(crate) fn fault_of_exporting(exporting: &Exporting<'_>) -> Option<LineFault>
     ensures { IfSome result (λ fault. fault.status ≤ 2) }
 {
     if exporting.part.is_none() {
-        return Some(LineFault::no_part());
+        return Some(LineFault::refused(
+            "flac: command: export takes tags, picture or the number of a block\n",
+        ));
     }
     None
 }

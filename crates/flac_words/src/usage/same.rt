@@ -1,8 +1,10 @@
 //! `flac same`.
 
+ghost use Rattle.std.specs.Prelude.{◌≤◌, IfSome};
+
 use super::{Usage, Word, WordKind};
 use clap::ArgMatches;
-use flac_jobs::{Comparison, Request};
+use flac_jobs::{Comparison, LineFault, Request};
 
 const SAME_EXAMPLE: &str = "Example:
   $ flac same song.flac other.oga
@@ -26,7 +28,7 @@ const SAME_WORDS: [Word; 2] = [
     Word {
         name: "FIRST",
         kind: WordKind::File,
-        help: "A stream; - for standard input",
+        help: "A stream; - for standard input, for one of the two",
     },
     Word {
         name: "SECOND",
@@ -41,4 +43,14 @@ pub(crate) fn same_request<'a>(given: &ArgMatches<'a>) -> Option<Request<'a>> {
         first: given.get_str("FIRST")?,
         second: given.get_str("SECOND")?,
     }))
+}
+
+/// Why a comparison is refused; `None` if it is not.
+pub(crate) fn fault_of_comparison(comparison: &Comparison<'_>) -> Option<LineFault>
+    ensures { IfSome result (λ fault. fault.status ≤ 2) }
+{
+    if comparison.first == "-" && comparison.second == "-" {
+        return Some(LineFault::refused("flac: command: same reads standard input only once\n"));
+    }
+    None
 }

@@ -7,12 +7,18 @@ use clap::ArgMatches;
 use flac_jobs::{LineFault, Request, TagEdit, TagMode, Tagging};
 use std::alloc::{AllocError, Global};
 
-const TAG_EXAMPLE: &str = "Example:
+const TAG_EXAMPLE: &str = "Examples:
   $ flac tag --set TITLE=Air --remove COMMENT --add ARTIST=Someone song.flac
+  $ flac export song.flac tags song.txt; flac tag --from song.txt song.flac
 
-The edits are made in this order, whatever that of the words: --clear, --remove, --set,
---add. Names are compared but for the case of ASCII letters. A second --set of a name
-adds its value. All other comments stay byte for byte, and so does the vendor.
+The edits are made in this order, whatever that of the words: --clear, --from, --remove,
+--set, --add. Names are compared but for the case of ASCII letters. A second --set of a
+name adds its value. All other comments stay byte for byte, and so does the vendor.
+
+--from takes all comments away and adds those of LINES, one a line: NAME=VALUE, as export
+writes them. A backslash, x and two hexadecimal digits are a byte; the backslash itself,
+control characters and ends of lines are written so. Other text is itself, also UTF-8. If a
+line is no comment, no file is changed.
 
 If padding beside the comments has room, some hundred bytes are written in place: at
 every moment of a crash the file has the old comments or the new ones, and no byte of
@@ -32,7 +38,7 @@ pub(crate) static TAG: Usage = Usage {
 };
 
 /// The arguments of `tag`.
-const TAG_WORDS: [Word; 9] = [
+const TAG_WORDS: [Word; 11] = [
     Word {
         name: "FILE",
         kind: WordKind::Files,
@@ -42,6 +48,11 @@ const TAG_WORDS: [Word; 9] = [
         name: "clear",
         kind: WordKind::Flag,
         help: "Takes all comments away",
+    },
+    Word {
+        name: "from",
+        kind: WordKind::Text("LINES"),
+        help: "Puts the comments of this file in the place of all; - for standard input",
     },
     Word {
         name: "remove",
@@ -74,6 +85,11 @@ const TAG_WORDS: [Word; 9] = [
         help: "Bytes of padding of a new file; 0: none",
     },
     Word {
+        name: "keep-times",
+        kind: WordKind::Flag,
+        help: "Keeps the time at which each file was changed",
+    },
+    Word {
         name: "verbose",
         kind: WordKind::ShortFlag('v'),
         help: "Prints what became of each file: same, flipped or rewritten",
@@ -93,8 +109,10 @@ pub(crate) fn tag_request<'a>(
     Ok(Some(Request::Tag(Tagging {
         inputs,
         edits: edits_of(alloc, given)?,
+        lines: given.get_str("from"),
         mode: mode_of(given.get_flag("in-place"), given.get_flag("rewrite")),
         padding,
+        keep_times: given.get_flag("keep-times"),
         verbose: given.get_flag("verbose"),
     })))
 }
@@ -114,6 +132,9 @@ fn edits_of<'a>(alloc: Global, given: &ArgMatches<'a>) -> Result<Vec<TagEdit<'a>
     let mut edits = Vec::new(alloc);
     if given.get_flag("clear") {
         edits.push(TagEdit::Clear)?;
+    }
+    if given.get_str("from").is_some() {
+        edits.push(TagEdit::Lines)?;
     }
     if let Some(names) = given.get_strs("remove") {
         add_removals(&mut edits, names)?;
@@ -181,14 +202,14 @@ pub(crate) fn fault_of_tagging(tagging: &Tagging<'_>) -> Option<LineFault>
     ensures { IfSome result (λ fault. fault.status ≤ 2) }
 {
     if tagging.mode.is_none() {
-        return Some(LineFault::both_modes());
+        return Some(LineFault::refused("flac: command: --in-place with --rewrite\n"));
     }
     for edit in &tagging.edits {
         if lacks_equals(edit) {
-            return Some(LineFault::no_equals());
+            return Some(LineFault::refused("flac: command: comment without =\n"));
         }
         if has_bad_name(edit) {
-            return Some(LineFault::field_name());
+            return Some(LineFault::refused("flac: command: 55 FieldName\n"));
         }
     }
     None
@@ -198,7 +219,7 @@ pub(crate) fn fault_of_tagging(tagging: &Tagging<'_>) -> Option<LineFault>
 fn lacks_equals(edit: &TagEdit<'_>) -> bool {
     match edit {
         TagEdit::Set(comment) | TagEdit::Add(comment) => !comment.contains('='),
-        TagEdit::Clear | TagEdit::Remove(_) => false,
+        TagEdit::Clear | TagEdit::Lines | TagEdit::Remove(_) => false,
     }
 }
 
@@ -207,7 +228,7 @@ fn has_bad_name(edit: &TagEdit<'_>) -> bool {
     match edit {
         TagEdit::Set(comment) | TagEdit::Add(comment) => !is_name(name_of(comment)),
         TagEdit::Remove(name) => !is_name(name),
-        TagEdit::Clear => false,
+        TagEdit::Clear | TagEdit::Lines => false,
     }
 }
 

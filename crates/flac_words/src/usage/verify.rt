@@ -21,6 +21,14 @@ word says what a stream does not state: its MD5 digest (no-md5), the number of i
 --report writes a line of JSON for each file, as it is done: its path, size and time, and
 what was found. --resume goes on with such a report after a run that was cut off.
 
+--against compares with an older report. A word ends the line of each file: same (audio,
+size and time), tags (the same audio, at another size or time), audio (another digest,
+number of samples or format), new (not in OLD), worse (it was good, and is bad), better
+(it was bad, and is good). A file that was bad and still is is the same. After all files,
+gone PATH on standard error says that OLD has a file that was not met now. The exit status
+is 1 if there is an audio, worse or gone. Where neither has an MD5 digest, the same audio
+means as many samples in the same format, and no more.
+
 In a folder, and in the folders in it, files are read whose names end in .flac, .fla or
 .oga, and in .ogg if they are FLAC. Links to folders are not followed. The exit status is 0
 if all files are good.";
@@ -33,7 +41,7 @@ pub(crate) static VERIFY: Usage = Usage {
 };
 
 /// The arguments of `verify`.
-const VERIFY_WORDS: [Word; 4] = [
+const VERIFY_WORDS: [Word; 5] = [
     Word {
         name: "PATH",
         kind: WordKind::Files,
@@ -54,6 +62,11 @@ const VERIFY_WORDS: [Word; 4] = [
         kind: WordKind::Text("OUT"),
         help: "Adds to this report, and leaves out files that it has as good",
     },
+    Word {
+        name: "against",
+        kind: WordKind::Text("OLD"),
+        help: "Compares each file with this older report",
+    },
 ];
 
 /// What `verify` asks for.
@@ -70,6 +83,7 @@ pub(crate) fn verify_request<'a>(
         subset: given.get_flag("subset"),
         report: given.get_str("report"),
         resume: given.get_str("resume"),
+        against: given.get_str("against"),
     })))
 }
 
@@ -78,7 +92,10 @@ pub(crate) fn fault_of_verification(verification: &Verification<'_>) -> Option<L
     ensures { IfSome result (λ fault. fault.status ≤ 2) }
 {
     if verification.report.is_some() && verification.resume.is_some() {
-        return Some(LineFault::both_reports());
+        return Some(LineFault::refused("flac: command: --report with --resume\n"));
+    }
+    if verification.against.is_some() && verification.resume.is_some() {
+        return Some(LineFault::refused("flac: command: --against with --resume\n"));
     }
     None
 }

@@ -9,7 +9,7 @@ use Rattle.flac_cli.specs.inner.Waving.{Holds}
 use Rattle.flac_cli.proofs.Waved.{kept_more, rises_later, file_none, rows_more, rows_whole, whole_rest, odd_none, odd_more}
 use Rattle.flac_cli.proofs.decode_wave.send_samples.Goals as goal
 
-fits_out : (end count left most room : ℕ) → end ≤ 32 * count → count ≡ min left most → most ≤ 1024 → room ≡ 32768 → end ≤ room
+fits_out : (end count left most room : ℕ) → end ≤ 32 * count → count ≡ min left most → most ≤ 4096 → room ≡ 131072 → end ≤ room
 fits_out end count left most room few is small all = omega (arith, few, is, small, all)
 
 few_raised : (end count left most : ℕ) → end ≤ 32 * count → count ≡ min left most → most ≤ 256 → end ≤ 8192
@@ -21,7 +21,7 @@ deep_by wide depth h = let few = h.few in let room = h.room in omega (arith, few
 narrow : (width depth : ℕ) → width ≡ sample_width depth → depth ≤ 32 → width ≤ 4
 narrow width depth is deep = omega (arith, is, deep)
 
-kept_room : (xs out : List ℕ) (end : ℕ) → length xs ≡ end → end ≤ length out → length out ≡ 32768 → length (xs ++ drop end out) ≡ 32768
+kept_room : (xs out : List ℕ) (end : ℕ) → length xs ≡ end → end ≤ length out → length out ≡ 131072 → length (xs ++ drop end out) ≡ 131072
 kept_room xs out end long within all = length-append xs (drop end out) ∙ omega (arith, long, within, all, length-drop end out)
 
 pub loop-start-init : goal.loop-start-init
@@ -29,7 +29,7 @@ loop-start-init g c =
     let none = rows_none (sample_width c.args.depth) (frame_of c.args.frame.now).channels 0 in
     record {
       within = omega arith;
-      room = refl;
+      room = c.requires.room;
       few = c.requires.odd;
       known = λ k. k;
       sent = λ k. sym (ap (λ l. g.W.Target.sent c.args.target.now ++ l) (file_none c.args.wide c.args.depth _ c.requires.holds none) ∙ append-nil (g.W.Target.sent c.args.target.now));
@@ -45,7 +45,7 @@ pub send_as_file-requires-clause-room : goal.send_as_file-requires-clause-room
 send_as_file-requires-clause-room g c =
     let out = c.put_rows-end.new.out in
     let end = c.put_rows-end.result in
-    let long_out : length out ≡ 32768 = c.put_rows-end.auto.out ∙ c.loop-start.invariant.room in
+    let long_out : length out ≡ 131072 = c.put_rows-end.auto.out ∙ c.loop-start.invariant.room in
     let long : length (take end out) ≡ end = length-take-le end out (fits_out end c.min-count.result _ _ (length out) c.put_rows-end.ensures.end c.min-count.ensures c.most_rows-most.ensures.few long_out) in
     elim c.most_rows-most.ensures.raised [
       | inl all ↦ inl all
@@ -67,7 +67,7 @@ loop-start-preserved g c =
     let frame = frame_of c.args.frame.now in
     let out = c.put_rows-end.new.out in
     let end = c.put_rows-end.result in
-    let long_out : length out ≡ 32768 = c.put_rows-end.auto.out ∙ inv.room in
+    let long_out : length out ≡ 131072 = c.put_rows-end.auto.out ∙ inv.room in
     let w : c.sample_width-width.result ≡ sample_width c.args.depth = c.sample_width-width.ensures ∙ ap sample_width c.from.ensures in
     let put : take end out ≡ rows_bytes (sample_width c.args.depth) frame.channels c.min-count.result c.loop-start.start = c.put_rows-end.ensures.bytes ∙ ap (λ k. rows_bytes k frame.channels c.min-count.result c.loop-start.start) w in
     let small = c.most_rows-most.ensures.few in

@@ -7,7 +7,7 @@ use Rattle.flac_cli.proofs.decode_wave.send_samples.Given as goal
 abbrev pub invariant-loop-start : goal.invariant-loop-start
 invariant-loop-start g l = record {
   within : l.start ≤ (frame_of l.frame).size;
-  room : length l.bytes ≡ 32768;
+  room : length l.bytes ≡ 131072;
   few : l.odd < 2;
   known : g.W.Target.known l.fn.target ≡ true → g.W.Target.known l.target ≡ true;
   sent : g.W.Target.known l.fn.target ≡ true → g.W.Target.sent l.target ≡ g.W.Target.sent l.fn.target ++ file_samples l.wide l.depth (rows_bytes (sample_width l.depth) (frame_of l.frame).channels l.start 0);

@@ -1,6 +1,8 @@
 use Rattle.std.proofs.Common.{◌≡◌, ◌≤◌, ◌∙◌, ◌||◌, ℕ, IfSome, ap, refl, sym, arith, subst}
+use Rattle.flac_cli.specs.Changes.{change_of}
 use Rattle.flac_cli.specs.Reported.{entry_line}
 use Rattle.flac_cli.specs.Verified.{ok_part, bad_part}
+use Rattle.flac_cli.specs.inner.Verifying.{IsCounted}
 use Rattle.flac_cli.proofs.Told.{sent_same, told_same, entered_same}
 use Rattle.flac_cli.proofs.Underway.{begins, read_more, all_read, all_whole, first_of, none_of, calm_so_far, line_is}
 use Rattle.flac_cli.proofs.verify.verify_files.Goals as goal
@@ -8,7 +10,7 @@ use Rattle.flac_cli.proofs.verify.verify_files.Goals as goal
 pub files-init : goal.files-init
 files-init g c = record {
   kept = omega arith;
-  under = λ known same. (known, begins g.O.Target g.E.Target g.P.Target _ _ _ _ _ _ refl refl refl refl refl);
+  under = λ known same. (known, begins g.O.Target g.E.Target g.P.Target _ _ _ _ _ _ refl refl refl refl refl refl);
 }
 
 pub files-preserved : goal.files-preserved
@@ -24,12 +26,19 @@ files-preserved g c =
           let after = found.stays.knows here calm.1 in
           let file = found.stays.here in
           let path = c.path.ensures after ∙ ap (λ k. k.path) file in
-          let out = sent_same g.O.Target c.report-is_sent.ensures.out (ap (λ p. ok_part p c.find-finding.result) path) in
-          let err = told_same g.E.Target c.report-is_sent.ensures.err (ap (λ p. bad_part p c.find-finding.result) path) in
-          let line = line_is _ c.reads_again-again.result c.is_sought.result _ _ _ c.find-finding.result c.is_sought.ensures (c.path-in-files.ensures after ∙ ap (λ k. k.path) file) (c.stamp.ensures after ∙ ap (λ k. k.stamp) file)
+          let stamp = c.stamp-stamp.ensures after ∙ ap (λ k. k.stamp) file in
+          let earlier = c.earlier.ensures after ∙ ap (λ k. k.earlier) file in
+          let change = c.compare-change.ensures ∙ ap (λ e. change_of e c.stamp-stamp.result c.find-finding.result) earlier
+          ∙ ap (λ s. change_of (g.S.Shelf.current c.next.new.self).earlier s c.find-finding.result) stamp in
+          let out = sent_same g.O.Target c.report-is_sent.ensures.out (ap (λ p. ok_part p c.compare-change.result c.find-finding.result) path
+          ∙ ap (λ d. ok_part (g.S.Shelf.current c.next.new.self).path d c.find-finding.result) change) in
+          let err = told_same g.E.Target c.report-is_sent.ensures.err (ap (λ p. bad_part p c.compare-change.result c.find-finding.result) path
+          ∙ ap (λ d. bad_part (g.S.Shelf.current c.next.new.self).path d c.find-finding.result) change) in
+          let counted = subst (λ d. IsCounted c.find-finding.result d c.report-is_sent.result c.enter-is_entered.result c.files.tally c.add.new.self) change c.add.ensures in
+          let line = line_is _ c.reads_again-again.result c.is_sought.result (g.S.Shelf.current c.next.new.self) _ _ c.find-finding.result c.is_sought.ensures (c.path-in-files.ensures after ∙ ap (λ k. k.path) file) stamp
           (subst (λ k. IfSome k.contents (λ of. c.reads_again-again.result ≡ of.again)) file (c.reads_again-again.ensures after)) (found.found here calm.1) in
           let entered = entered_same g.P.Target c.enter-is_entered.ensures line in
-          (after, read_more g.O.Target g.E.Target g.P.Target _ _ _ _ _ _ _ _ _ u.1 (first_of _ c.files-test.true (c.next.ensures.files u.0) found.stays.rest) (found.found here calm.1) out err entered c.add.ensures);
+          (after, read_more g.O.Target g.E.Target g.P.Target _ _ _ _ _ (g.S.Shelf.current c.next.new.self) _ _ _ u.1 (first_of _ c.files-test.true (c.next.ensures.files u.0) found.stays.rest) (found.found here calm.1) out err entered counted);
     }
 
 pub returns-clause-verified : goal.returns-clause-verified

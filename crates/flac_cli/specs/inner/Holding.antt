@@ -1,0 +1,67 @@
+-- For proofs of encoding a stream anew: what is held of it while it is read, and what is made of that.
+use Rattle.std.specs.Prelude.{◌≡◌, ℕ, ℤ, List, [], ◌∷◌, ◌++◌, map, replicate, option_map, Option, Some, None}
+use Rattle.flac_bits.specs.State.{After}
+use Rattle.flac_info.specs.Info.{Info}
+use Rattle.flac_meta.specs.declared.block.Block.{Block}
+use Rattle.flac_meta.specs.declared.block.Block.TheVariants as block_of
+use Rattle.flac_header.specs.declared.subset.Profile.TheVariants.{Lax}
+use Rattle.flac_frame.specs.Audio.{Sound}
+use Rattle.flac_frame.specs.Frame.{Frame}
+use Rattle.flac_native.specs.Given.{Cut, plan_fault}
+use Rattle.flac_native.specs.Item.{Item, metadata, frame}
+use Rattle.flac_native.specs.Stream.{Piece}
+use Rattle.flac_native.specs.declared.fault.Fault.{Fault}
+use Rattle.flac_subframe.specs.declared.format.linear.LinearPredictor.{LinearPredictor}
+use Rattle.flac_cli.specs.Asked.{Asked}
+use Rattle.flac_cli.specs.Encoded.{cut_as}
+use Rattle.flac_cli.specs.Outcomes.{input_reading}
+use Rattle.flac_cli.specs.Recoded.{extended, extended_by, carried, blocks_in, sound_in}
+use Rattle.flac_cli.specs.RecodeRefusals.{recoding_refusal}
+use Rattle.flac_cli.specs.Refusals.{stream_fault}
+use Rattle.flac_cli.specs.declared.encode.Refusal.TheVariants.{Output}
+use Rattle.flac_cli.specs.declared.held_stream.HeldStream.{HeldStream}
+
+-- STREAMINFO, once it came, the blocks that are kept, and the samples of each channel
+pub record Held : Type 0 where
+  pub info : Option Info
+  pub blocks : List Block
+  pub channels : List (List ℤ)
+
+abbrev pub view_of : HeldStream → Held
+view_of h = record { info = h.info; blocks = h.blocks.items; channels = map (λ c. c.items) h.channels.items }
+
+-- nothing came
+abbrev pub nothing : Held
+nothing = record { info = None; blocks = []; channels = [] }
+
+-- the first STREAMINFO counts
+abbrev pub with_info : Held → Option Info → Info → Held
+with_info h None i = record h { info = Some i; channels = replicate i.channels [] }
+with_info h (Some other) i = h
+
+abbrev pub with_block : Held → Block → Held
+with_block h (block_of.StreamInfo i) = with_info h h.info i
+with_block h other = record h { blocks = h.blocks ++ carried (other ∷ []) }
+
+abbrev pub held_after : Held → Item → Held
+held_after h (metadata b) = with_block h b
+held_after h (frame f) = record h { channels = extended h.channels f.channels }
+
+-- This is held of a stream with this STREAMINFO, these blocks after it, and these frames.
+pub record IsHeld (h : Held) (info : Info) (list : List Block) (frames : List Frame) : Type 0 where
+  pub stated : h.info ≡ Some info
+  pub kept : h.blocks ≡ carried list
+  pub heard : h.channels ≡ extended_by (replicate info.channels []) frames
+
+-- These are its samples, how they are divided into frames, and the blocks of the new stream. Only the container can be
+-- a reason to refuse them.
+pub record IsReady (asked : Asked) (ps : List LinearPredictor) (info : Info) (list : List Block) (frames : List Frame) (plan : Cut) (blocks : List Block) (audio : Sound) : Type 0 where
+  pub sound : audio ≡ sound_in asked.profile info frames
+  pub cut : plan ≡ cut_as asked audio ps
+  pub listed : blocks ≡ blocks_in asked.container list
+  pub good : plan_fault plan ≡ None
+  pub refusal : recoding_refusal asked ps info list frames ≡ option_map Output (stream_fault asked.container plan blocks)
+
+-- the bytes are refused at the place of this fault, for its reason
+abbrev pub IsFaultOf : (bytes : List ℕ) → After → Fault → Type 0
+IsFaultOf bytes follows fault = (items : List Piece) × (input_reading Lax bytes follows).refused items fault.at fault.why

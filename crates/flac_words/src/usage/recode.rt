@@ -1,0 +1,106 @@
+//! `flac recode`.
+
+ghost use Rattle.std.specs.Prelude.{◌≤◌, IfSome};
+
+use super::encode::{container_of, effort_of};
+use super::{FORCE, STREAM, STREAM_OUT, Usage, Word, WordKind};
+use clap::ArgMatches;
+use flac_jobs::{ContainerKind, LineFault, Recoding, Request, SearchEffort};
+
+const RECODE_EXAMPLE: &str = "Example, smaller, and as an Ogg stream:
+  $ flac recode song.flac smaller.flac --search full
+  $ flac recode song.flac song.oga --ogg
+
+IN is a native stream or one in Ogg, also outside the streamable subset, and also between an
+ID3v2 tag before it and an ID3v1 tag after it, which are left out. OUT has exactly its
+samples, sample rate, channels and bits per sample, and its metadata blocks in their order:
+comments and their vendor, pictures, cue sheets and applications byte for byte, and padding
+of the same length. STREAMINFO is written anew. A seek table is left out, since its offsets
+are those of the old frames; --seek-every writes a new one.
+
+In an Ogg stream the comments come first; a stream without comments gets an empty block.
+
+A stream with an error is refused, and a line says where and why. Without --lax a stream
+with a rate or a depth outside the streamable subset is refused (40, 41).
+
+OUT has to be another file than IN and LIST. If it is a file with bytes, it stays as it is
+until all is done, and what was written before an error is in OUT.part beside it. It may
+replace a stream, but no other file of sound: none that begins with RIFF, RF64, BW64, FORM
+or ID3. With --force any file is replaced.";
+
+pub(crate) static RECODE: Usage = Usage {
+    name: "recode",
+    about: "Encodes a stream anew: the same samples and metadata, native or Ogg",
+    words: &RECODE_WORDS,
+    example: RECODE_EXAMPLE,
+};
+
+/// The words of `--search`.
+const EFFORTS: [&str; 3] = ["none", "quick", "full"];
+
+/// The arguments of `recode`.
+const RECODE_WORDS: [Word; 10] = [
+    STREAM,
+    STREAM_OUT,
+    Word {
+        name: "block",
+        kind: WordKind::Number("4096"),
+        help: "Samples of a block, 16 to 16384; to 4608 at rates up to 48000; with --lax to 65535",
+    },
+    Word {
+        name: "seek-every",
+        kind: WordKind::Number("0"),
+        help: "Samples from one point of a seek table to the next; 0: no table",
+    },
+    Word {
+        name: "search",
+        kind: WordKind::OneOf("EFFORT", &EFFORTS),
+        help: "How far linear predictors are sought; if not given, quick",
+    },
+    Word {
+        name: "ogg",
+        kind: WordKind::Flag,
+        help: "Writes an Ogg stream, which has no seek table",
+    },
+    Word {
+        name: "serial",
+        kind: WordKind::Number("1"),
+        help: "The number of the Ogg stream",
+    },
+    Word {
+        name: "predictors",
+        kind: WordKind::Text("LIST"),
+        help: "The file of linear predictors that the encoder tries too",
+    },
+    Word {
+        name: "lax",
+        kind: WordKind::Flag,
+        help: "Writes streams outside the streamable subset too, which other players may refuse",
+    },
+    FORCE,
+];
+
+/// What `recode` asks for; `None` if a path is missing.
+pub(crate) fn recode_request<'a>(given: &ArgMatches<'a>) -> Option<Request<'a>> {
+    Some(Request::Recode(Recoding {
+        input: given.get_str("IN")?,
+        output: given.get_str("OUT")?,
+        block: given.get_one("block")?,
+        seek_every: given.get_one("seek-every")?,
+        container: container_of(given)?,
+        lax: given.get_flag("lax"),
+        predictors: given.get_str("predictors"),
+        effort: effort_of(given, SearchEffort::Quick),
+        force: given.get_flag("force"),
+    }))
+}
+
+/// Why a recoding is refused; `None` if it is not.
+pub(crate) fn fault_of_recoding(recoding: &Recoding<'_>) -> Option<LineFault>
+    ensures { IfSome result (λ fault. fault.status ≤ 2) }
+{
+    if recoding.seek_every != 0 && recoding.container != ContainerKind::Native {
+        return Some(LineFault::refused("flac: command: --ogg with --seek-every\n"));
+    }
+    None
+}
