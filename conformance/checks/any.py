@@ -1,5 +1,6 @@
 #!/usr/bin/env python3
-"""`--any` of `flac test`, `decode` and `list`, and `flac verify`: streams between the tags of other programs, by a model of the tags.
+"""`--any` of `flac test`, `decode` and `list`, and `flac verify`: streams between the tags of other programs, and with empty packets
+at the end of an Ogg stream, by a model of both.
 
 usage: conformance/checks/any.py [--quick]
 
@@ -18,6 +19,7 @@ import tempfile
 
 import folders  # noqa: F401  (the path of the modules below)
 import model
+import model_bits
 import program
 from program import Wrong, call, expect, read
 
@@ -50,6 +52,45 @@ def between(data):
     rest = data[before:]
     after = 128 if len(rest) >= 128 and rest[-128:-125] == b"TAG" else 0
     return rest[:len(rest) - after], before, after
+
+
+# ---- the model: empty packets at the end of an Ogg stream (RFC 3533, sections 5 and 6)
+
+def page(head, lacing, body):
+    """A page of these fields, the 22 bytes before its checksum, with the checksum that it has to have."""
+    rest = bytes([len(lacing)]) + bytes(lacing) + body
+    return head + struct.pack("<I", model_bits.crc(32, head + bytes(4) + rest)) + rest
+
+
+def pages_of(data):
+    """The good pages up to the one marked last, each by its fields, lacing values and segments, and the bytes after them."""
+    pages, at = [], 0
+    while data[at:at + 5] == b"OggS\0" and len(data) >= at + 27:
+        head, lacing = data[at:at + 22], list(data[at + 27:at + 27 + data[at + 26]])
+        start = at + 27 + data[at + 26]
+        body = data[start:start + sum(lacing)]
+        if len(lacing) < data[at + 26] or len(body) < sum(lacing) or page(head, lacing, body) != data[at:start + sum(lacing)]:
+            break
+        pages.append((head, lacing, body))
+        at = start + sum(lacing)
+        if head[5] & 4:
+            break
+    return pages, data[at:]
+
+
+def without_empty(data):
+    """The stream without the empty packets after its last other packet."""
+    pages, rest = pages_of(data)
+    ends, goes_on = 0, False
+    for number, value in enumerate(value for _, lacing, _ in pages for value in lacing):
+        if value or goes_on:
+            ends = number + 1
+        goes_on = value == 255
+    kept, made = ends, b""
+    for head, lacing, body in pages:
+        made += page(head, lacing[:max(kept, 0)], body)
+        kept -= len(lacing)
+    return made + rest
 
 
 # ---- tags
@@ -90,6 +131,44 @@ def by_ffmpeg(folder):
             yield f"version {version}", data[:front_of(data)], data[-128:]
 
 
+def oga_by_ffmpeg(folder):
+    """Ogg streams as ffmpeg writes them, with an empty packet on the page marked last."""
+    if not shutil.which("ffmpeg"):
+        return
+    for name, seconds in (("short.oga", "0.1"), ("long.ogg", "5")):
+        path = os.path.join(folder, name)
+        run = ["ffmpeg", "-v", "error", "-y", "-f", "s16le", "-ar", "44100", "-ac", "1", "-t", seconds, "-i", "-", "-c:a", "flac", path]
+        if subprocess.run(run, input=SAMPLES * 6, check=False).returncode == 0:
+            yield name, read(path)
+
+
+def with_empty(ogg):
+    """A stream whose pages are changed: by name, with empty packets at its end, between its frames, and after the page marked last."""
+    pages, _ = pages_of(ogg)
+    front = b"".join(page(*each) for each in pages[:-1])
+    head, lacing, body = pages[-1]
+
+    def marked(flags, more, packets=(), segments=b""):
+        number = struct.unpack("<I", head[18:22])[0] + more
+        return page(head[:5] + bytes([flags]) + head[6:18] + struct.pack("<I", number), list(packets), segments)
+
+    for count in (1, 2, 3):
+        if len(lacing) + count < 256:
+            yield f"{count} at the end", front + page(head, lacing + [0] * count, body)
+        flags = head[5] & ~4
+        own = front + page(head[:5] + bytes([flags]) + head[6:], lacing, body)
+        yield f"{count} on one page", own + marked(4, 1, [0] * count)
+        yield f"{count} on pages", own + b"".join(marked(4 if n == count else 0, n, [0]) for n in range(1, count + 1))
+        yield f"{count} on pages, none of them last", own + b"".join(marked(0, n, [0]) for n in range(1, count + 1))
+        yield f"{count} after the page marked last", front + page(*pages[-1]) + marked(4, 1, [0] * count)
+    yield "one before the last page's packets", front + page(head, [0] + lacing[:254], body[:sum(lacing[:254])])
+    middle = pages[len(pages) // 2]
+    ends = len(middle[1]) < 255 and middle[1][-1] < 255
+    if ends and not middle[0][5] & 4:
+        changed = page(middle[0], middle[1] + [0], middle[2])
+        yield "one between frames", b"".join(page(*each) if each is not middle else changed for each in pages)
+
+
 def rows(folder, quick):
     native, ogg, lax = encoded(folder), encoded(folder, "--ogg"), encoded(folder, "--lax", "-b", "20000")
     fronts = {"none": b"", "empty": tag(0), "of 1024": tag(1024), "of 128 by seven bits": tag(128), "version 2": tag(50, 2),
@@ -117,6 +196,15 @@ def rows(folder, quick):
     yield "blocks that end as a tag does", letters
     for name, data in by_mutagen(folder, native):
         yield f"mutagen: {name}", data
+    for name, data in oga_by_ffmpeg(folder):
+        yield f"ffmpeg: {name}", data
+        yield f"ffmpeg: {name}, between tags", tag(100) + data + old_tag()
+        for changed, made in with_empty(without_empty(data)):
+            yield f"{changed}, {name}", made
+    for changed, made in with_empty(ogg):
+        yield f"{changed}, the reference encoder", made
+        yield f"{changed}, cut", made[:-1]
+        yield f"{changed}, a wrong byte", made[:-1] + bytes([made[-1] ^ 1])
     for name, front, back in by_ffmpeg(folder):
         yield f"ffmpeg: {name}", front + native + back
         yield f"ffmpeg: {name}, Ogg", front + ogg + back
@@ -133,6 +221,7 @@ def judge(folder, data):
     with open(path, "wb") as file:
         file.write(data)
     middle, before, after = between(data)
+    middle = without_empty(middle)
     due = model.answer(middle, model.LAX)
     expect(answer(["--any"], path), due)
     expect(answer(["--lax"], path), model.answer(data, model.LAX))

@@ -27,6 +27,8 @@ import folders  # noqa: F401  (the path of the modules below)
 import corpus
 import damage
 import model
+import model_bits
+import model_pages
 import program
 import vectors
 import vectors_lax
@@ -157,6 +159,42 @@ def blocks(door, paths):
         else:
             due = ["refused " + answer] if answer.startswith(("marker", "block")) else [*due_blocks(data)]
         door.expect("blocks of " + os.path.basename(path), told, due)
+
+
+def native_of(data):
+    """The native stream in an Ogg stream (RFC 3533, section 6; RFC 9639, section 10.1): all bytes of packets from the marker on, or why there is
+    none."""
+    pages, packed = model_pages.Pages(data), b""
+    try:
+        while not pages.last:
+            pages.load()
+            packed, pages.parts = packed + b"".join(part for part, _ in pages.parts), []
+        pages.finish()
+    except model_bits.Fault as fault:
+        return str(fault)
+    return packed[9:] if packed[:7] == b"\x7fFLAC\1\0" and packed[9:13] == b"fLaC" else "marker: 37 BadMapping"
+
+
+def natives(door, paths):
+    """The native stream in each Ogg stream is what a model reads of the pages; of a stream it is one, with the same samples."""
+    raw, other = (os.path.join(door.folder, name) for name in ("ogg.raw", "native.raw"))
+    count = 0
+    for path, told in zip(paths, door.lines(paths, "native")):
+        data, name = program.read(path), os.path.basename(path)
+        due = native_of(data)
+        door.expect(f"native stream of {name}", told, [f"refused {due}" if isinstance(due, str) else f"native {len(due)} {zlib.crc32(due):08x}"])
+        if data[:1] == b"O" and not isinstance(due, str):
+            door.quiet(f"native {name}", door.checked, "native", path)
+            count += 1
+            door.expect(f"native bytes of {name}", program.read(path + ".native") == due, True)
+            answer, native = program.answer(path, model.LAX), program.answer(path + ".native", model.LAX)
+            if answer.startswith("frames "):
+                door.expect(f"native, test of {name}", native, answer)
+                for one, out in ((path, raw), (path + ".native", other)):
+                    program.succeeds("decode", "--lax", "--force", one, out)
+                door.expect(f"native, samples of {name}", program.read(raw) == program.read(other), True)
+            os.remove(path + ".native")
+    print(f"{count} native streams in Ogg streams", flush=True)
 
 
 def profiles(door, paths, folder):
@@ -408,15 +446,27 @@ def streams_of(door, flac_proved, library):
     door.expect("stream, samples", (found.samples().shape, found.samples().tobytes()), ((20001, 2), sound.tobytes()))
     later = next(found.frames(12000))
     door.expect("stream, from a sample on", (later.first <= 12000, later.first % 1152, later.samples.tobytes()[:8]), (True, 0, sound[later.first * 2:later.first * 2 + 2].tobytes()))
-    ogg = flac_proved.Stream(flac_proved.encode(sound, rate=44100, channels=2, serial=7))
+    for number, sample in ((0, 0), (0, 1151), (1, 1152), (9, 9 * 1152 + 7), (17, 20000)):
+        for what, frame in (("number", found.frame(number)), ("sample", found.frame_of(sample))):
+            door.expect(f"stream, frame by {what} {number}", (frame.first, frame.samples.tobytes()), (number * 1152, sound[number * 2304:number * 2304 + 2304].tobytes()))
+    # a table that names a frame of other samples for its second point
+    table = [block for block in found.blocks if block.kind == 3][0].offset + 4
+    wrong = bytearray(stream)
+    wrong[table + 18 + 8:table + 18 + 16] = bytes(8)
+    wrong = flac_proved.Stream(bytes(wrong))
+    door.expect("stream, a wrong table", (wrong.frame_of(5100).first, wrong.frame_of(100).first), (4608, 0))
+    ogg = flac_proved.Stream(flac_proved.encode(sound, rate=44100, channels=2, serial=7, comments=["TITLE=a"]))
     door.expect("stream, Ogg", (ogg.is_ogg, b"".join(frame.samples.tobytes() for frame in ogg)), (True, sound.tobytes()))
+    door.expect("stream, blocks of Ogg", ([block.kind for block in ogg.blocks], ogg.tags), ([0, 4], {"TITLE": ["a"]}))
+    door.expect("stream, frames of Ogg", (ogg.frame(2).first, ogg.frame_of(20000).samples.tobytes()[-8:], ogg.native[:4]), (8192, sound[-2:].tobytes(), b"fLaC"))
     narrow = flac_proved.encode([1, -2, 3], rate=65537, bits=5, channels=1, lax=True)
     door.expect("stream, lax", flac_proved.Stream(narrow, lax=True).samples().tolist(), [[1], [-2], [3]])
     for what, call, due in (("subset", lambda: flac_proved.Stream(narrow).samples(), (14, "NotSubset", "frame", 0)),
                             ("cut", lambda: list(flac_proved.Stream(stream[:-1])), (3, "Truncated", "frame", 17)),
                             ("bad", lambda: flac_proved.Stream(b"RIFF"), (4, "BadMarker", "marker", 0)),
                             ("depth", lambda: flac_proved.encode(sound, rate=44100, channels=2, bits=17), (41, "BadDepth", None, 0)),
-                            ("blocks", lambda: ogg.blocks, (4, "BadMarker", "marker", 0))):
+                            ("native", lambda: library.native(stream), (31, "BadPage", "page", 0)),
+                            ("blocks", lambda: library.blocks(ogg.data), (4, "BadMarker", "marker", 0))):
         try:
             call()
             said = None
@@ -466,6 +516,7 @@ def main():
             door.expect(name, told, [*due_lines(path, folder), *no_frames(name.partition("-")[2])])
         made_lax = profiles(door, paths[::8], folder)
         blocks(door, made_lax)
+        natives(door, paths)
         few = [path for path in paths if os.path.getsize(path) < 20000]
         few = few[::max(1, len(few) // 12)]
         checked_runs(door, few, not given.no_valgrind)

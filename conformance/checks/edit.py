@@ -95,8 +95,14 @@ def one(rng, folder, info, frames, number):
     if not words:
         words, padding = ["--padding", "77"], 77
     due = stream_of(edited(blocks, removals, [picture_body(kind, b"image/x", sizes, data)] * pictures, padding), frames)
-    expect(run("edit", "-v", *words, path), (0, f"{path}: rewritten\n".encode(), b""))
+    times, before = rng.choice([[], ["--keep-times"]]), os.stat(path)
+    what = "same" if due == old else "rewritten"
+    expect(run("edit", "-v", *times, *words, path), (0, f"{path}: {what}\n".encode(), b""))
     expect(read(path), due)
+    if due == old:
+        expect((os.stat(path).st_ino, os.stat(path).st_mtime_ns), (before.st_ino, before.st_mtime_ns))
+    if times:
+        expect(os.stat(path).st_mtime_ns, before.st_mtime_ns)
     expect(stat.S_IMODE(os.stat(path).st_mode), mode)
     if number % 7 == 0 and all(k != 9 and not (k == 3 and not b) for k, b in blocks_of(due)[0]):
         expect(subprocess.run(["flac", "-s", "-t", path], capture_output=True, check=False).returncode, 0)

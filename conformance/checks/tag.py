@@ -82,8 +82,9 @@ def is_named(name, comment):
 
 
 def edited(comments, words):
-    """The comments after --clear, --remove, --set, --add, in this order."""
+    """The comments after --clear, --from, --remove, --set, --add, in this order."""
     comments = [] if words["clear"] else list(comments)
+    comments = comments if words.get("from") is None else list(words["from"])
     for name in words["remove"]:
         comments = [c for c in comments if not is_named(name, c)]
     done = []
@@ -167,7 +168,9 @@ def layout(rng, info):
 
 
 def words_of(rng):
-    words = {"clear": rng.random() < 0.15, "remove": [], "set": [], "add": []}
+    words = {"clear": rng.random() < 0.15, "from": None, "remove": [], "set": [], "add": []}
+    if rng.random() < 0.2:
+        words["from"] = [comment(rng) for _ in range(rng.randrange(4))]
     for _ in range(rng.randrange(1, 4)):
         kind = rng.choice(["remove", "set", "set", "add"])
         name = rng.choice(NAMES)
@@ -176,8 +179,18 @@ def words_of(rng):
     return words
 
 
-def given(words):
+def escaped(text):
+    """A comment as a line: bytes outside 20 to 7E (hexadecimal) and the backslash are escaped."""
+    return "".join(chr(b) if 32 <= b < 127 and b != 92 else f"\\x{b:02x}" for b in text).encode()
+
+
+def given(words, lines=None):
+    """The words of a command line; the lines of --from are written to the file `lines`."""
     found = ["--clear"] if words["clear"] else []
+    if words["from"] is not None:
+        with open(lines, "wb") as file:
+            file.write(b"".join(escaped(text) + b"\n" for text in words["from"]))
+        found += ["--from", lines]
     for kind in ("add", "set", "remove"):
         for word in words[kind]:
             found += [f"--{kind}", word.decode()]
@@ -225,8 +238,12 @@ def one(rng, folder, info, frames, number):
         blocks, _frames = blocks_of(old)
         vendor, comments = next((comments_in(b) for k, b in blocks if k == COMMENTS), (b"", []))
         due = edited(comments, words)
-        status, out, err = run("tag", "-v", *given(words), path)
+        lines, times = os.path.join(folder, "lines.txt"), rng.choice([[], ["--keep-times"]])
+        before = os.stat(path).st_mtime_ns
+        status, out, err = run("tag", "-v", *times, *given(words, lines), path)
         new = read(path)
+        if times or new == old:
+            expect(os.stat(path).st_mtime_ns, before)
         expect((status, err), (0, b""))
         flip = is_flip(blocks, len(content_of(vendor, due)))
         what = "same" if due == comments else "flipped" if flip else "rewritten"
@@ -240,7 +257,7 @@ def one(rng, folder, info, frames, number):
         node = os.stat(path).st_ino
         if not words["add"] and not (set(n.upper() for n in words["remove"]) & set(s.partition(b"=")[0].upper() for s in words["set"])) \
                 and len(words["set"]) == len(set(s.partition(b"=")[0].upper() for s in words["set"])):
-            expect(run("tag", "-v", *given(words), path), (0, f"{path}: same\n".encode(), b""))
+            expect(run("tag", "-v", *given(words, lines), path), (0, f"{path}: same\n".encode(), b""))
             expect(read(path), new)
         old = new
     expect(os.listdir(folder).count(f"{number}.flac.part"), 0)
@@ -271,7 +288,7 @@ def fixed(folder, info, frames):
     body = content_of(vendor, [b"TITLE=a", b"x=\xff"])
     roomy = stream_of([(0, info), (COMMENTS, body), (PADDING, bytes(400))], frames)
     tight = stream_of([(0, info), (COMMENTS, body), (6, picture(random.Random(1)))], frames)
-    none = {"clear": False, "remove": [], "set": [], "add": []}
+    none = {"clear": False, "from": None, "remove": [], "set": [], "add": []}
 
     def put(name, data, mode=0o644):
         path = os.path.join(folder, name)
@@ -309,6 +326,29 @@ def fixed(folder, info, frames):
         expect(run("tag", *words, path), (2, b"", b"flac: command: comment without =\n"))
     expect(read(path), roomy)
     expect(run("tag", "-v", path), (0, f"{path}: same\n".encode(), b""))
+
+    # lines
+    back, lines = put("back.flac", roomy), os.path.join(folder, "back.txt")
+    expect(run("export", back, "tags", lines), (0, b"", b""))
+    expect(read(lines), b"TITLE=a\nx=\\xff\n")
+    expect(run("tag", "-v", "--from", lines, back), (0, f"{back}: same\n".encode(), b""))
+    for text, due in ((b"", []), (b"A=\xc3\xa9\nB=\\x5C\\x0a", [b"A=\xc3\xa9", b"B=\\\n"]), (b"A=1\nA=2\n", [b"A=1", b"A=2"])):
+        back = put("back.flac", roomy)
+        put("back.txt", text)
+        expect(run("tag", "--from", lines, back), (0, b"", b""))
+        judge(roomy, read(back), {**none, "from": due}, True)
+        back = put("back.flac", roomy)
+        done = subprocess.run([PROGRAM, "tag", "--clear", "--from", "-", "--add", "C=3", back], input=text, capture_output=True, check=False)
+        expect((done.returncode, done.stdout, done.stderr), (0, b"", b""))
+        judge(roomy, read(back), {**none, "from": due, "add": [b"C=3"]}, True)
+    for text, number in ((b"A", 1), (b"\n", 1), (b"A=1\n\nB=2\n", 2), (b"A=1\n=2\n", 2), (b"A=1\r\n", 1), (b"A=\\", 1), (b"A=\\x4", 1), (b"A=1\nB=\\xg0", 2),
+                         (b"\xc3\xa9=1", 1), (b"A=\t", 1), (b"A=1\nB=\0", 2)):
+        put("back.txt", text)
+        expect(run("tag", "--from", lines, path, path), (1, b"", f"flac: {lines}: line {number}: 49 CommentLine\n".encode()))
+        expect(read(path), roomy)
+    for wrong in (folder, os.path.join(folder, "absent")):
+        expect(run("tag", "--from", wrong, path)[0], 1)
+        expect(read(path), roomy)
 
     # several files, and files that are refused
     good, other = put("good.flac", roomy), put("other.flac", roomy)

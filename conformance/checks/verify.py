@@ -6,8 +6,9 @@ usage: conformance/checks/verify.py [--quick]
 The tree has streams of the reference encoder, some of them damaged, some without a digest or a number of samples or outside the
 streamable subset, in both containers; names of all kinds; files that are no streams; links to files and folders; a pipe. A second
 tree has 2,000 small files in 40 folders (with --quick 200), 1 in 20 damaged. For each the line of the report is predicted too; runs
-are killed and resumed, and reports cannot be created or written. FLAC names the program. Status 1 if an answer is not the one that
-is due.
+are killed and resumed, and reports cannot be created or written. Trees are changed and compared with an older report of them: the
+word of each file and the files that are gone are predicted. FLAC names the program. Status 1 if an answer is not the one that is
+due.
 """
 import functools
 import json
@@ -267,6 +268,114 @@ def check_resumed(folder, count):
         compare(["--resume", report, many], due_of(bad))
 
 
+def word_of_change(old, path, data):
+    """The word of a file after its line: `old` is what the line of an older report says of it, None if there is no line."""
+    now = dict(members_of(path, data, False, True))
+    if old is None:
+        return b" new"
+    was, still = old["status"] == "ok", now["status"] == "ok"
+    if was != still:
+        return b" worse" if was else b" better"
+    if not was:
+        return b" same"
+    if any(old.get(name) != now.get(name) for name in ("md5", "samples", "rate", "channels", "depth")):
+        return b" audio"
+    return b" same" if all(old.get(name) == now.get(name) for name in ("bytes", "modified", "nanoseconds")) else b" tags"
+
+
+def due_against(files, report):
+    """The status and the texts that are due for these files, compared with a report."""
+    lines = [json.loads(line) for line in report.splitlines()]
+    older = {line["path"].encode(): line for line in lines}
+    status, out, err = 0, b"", b""
+    for path, data in files:
+        word = word_of_change(older.get(path), path, data)
+        good, bad = line_of(path, data, False)
+        out += good and good[:-1] + word + b"\n"
+        err += bad and bad[:-1] + word + b"\n"
+        status |= not good or word in (b" audio", b" worse")
+    count = sum(bool(line_of(path, data, False)[0]) for path, data in files)
+    out += b"verified %d ok %d bad %d\n" % (len(files), count, len(files) - count)
+    gone = sorted(older.keys() - {path for path, _ in files})
+    return int(status or bool(gone)), out, err + b"".join(b"gone " + path + b"\n" for path in gone)
+
+
+def change_tree(folder, many, chance):
+    """Changes some of the files of a tree: tags, time, container, audio, damage; some go and some come."""
+    short = [encoded_short(folder, samples, words) for samples in (1, 700, 5000) for words in ([], ["--ogg"], ["-0"])]
+    files = [path for path, data in walk(many) if data is not None and not os.path.islink(path)]
+    for path in files:
+        deed = chance.randrange(12)
+        data = read(path)
+        if deed == 0:
+            os.remove(path)
+        elif deed == 1:
+            with open(path, "wb") as file:
+                file.write(chance.choice(short))
+        elif deed == 2:
+            os.utime(path, ns=(10**18, chance.randrange(2 * 10**18)))
+        elif deed == 3 and data[:4] == b"fLaC":
+            subprocess.run(["metaflac", "--set-tag=TITLE=new", os.path.join(b".", path)], check=False, stderr=subprocess.DEVNULL)
+        elif deed == 4 and len(data) > 60:
+            at = chance.randrange(len(data))
+            with open(path, "wb") as file:
+                file.write(data[:at] + bytes([data[at] ^ 1 << chance.randrange(8)]) + data[at + 1:])
+        elif deed == 5 and data[:4] == b"fLaC":
+            with open(path, "wb") as file:
+                file.write(changed(data, 26, bytes(16)))
+        elif deed == 6:
+            with open(path + b" new.flac", "wb") as file:
+                file.write(chance.choice(short))
+
+
+def check_against(folder, count):
+    """A tree is compared with a report of it, changed, and compared again; then with a report of what it became."""
+    place = os.path.join(folder, "changes")
+    os.makedirs(place)
+    many = make_many(place, count, 8)
+    chance = random.Random(9)
+    old, new = (os.path.join(place, name) for name in ("old.jsonl", "new.jsonl"))
+    files = list(walk(many))
+    compare(["--report", old, many], due_of(files))
+    compare(["--against", old, many], due_against(files, read(old)))
+    change_tree(folder, many, chance)
+    files = list(walk(many))
+    due = due_against(files, read(old))
+    expect(all(word in due[1] + due[2] for word in (b" same\n", b" tags\n", b" audio\n", b" new\n", b" better\n", b" worse\n", b"\ngone ")), True)
+    compare(["--against", old, "--report", new, many], due)
+    expect(read(new), report_of(files))
+    # (who names a pipe waits for its other end)
+    part = [it for it in files if it[1] is not None][: count // 2]
+    compare(["--against", new, *(path for path, _ in part)], due_against(part, read(new)))
+    compare(["--against", os.devnull, *(path for path, _ in part)], due_against(part, b""))
+    # lines of a path that come again: the last one counts
+    with open(new, "ab") as file:
+        file.write(read(old))
+    compare(["--against", new, many], due_against(files, read(new)))
+
+
+def check_bad_against(folder, good):
+    """Older reports that are none: nothing is verified, and no report is begun."""
+    nowhere = os.path.join(folder.encode(), b"nowhere.jsonl")
+    report = os.path.join(folder.encode(), b"never.jsonl")
+    compare(["--against", nowhere, "--report", report, good], (1, b"", b"flac: " + nowhere + b": cannot be opened\n"))
+    compare(["--against", folder, good], (1, b"", b"flac: " + folder.encode() + b": cannot be opened\n"))
+    compare(["--against", good, good], (1, b"", b"flac: " + good + b": line 1: cannot be read\n"))
+    compare(["--against", "/dev/zero", good], (1, b"", b"flac: /dev/zero: line 1: cannot be read\n"))
+    line = entry_of(good, read(good))
+    texts = [(b"notes\n", 1), (b"\n", 1), (line + b"notes\n", 2), (line + b"\n", 2), (line + line[:-1], 2), (line + line[:30], 2), (b'{"path":"a"}\n', 1),
+             (b'{"path":"a","status":"fine"}\n', 1), (b'{"path":"a","status":"ok"}\n', 1), (b'{"path":"\\q","status":"bad"}\n', 1)]
+    for text, number in texts:
+        old = os.path.join(folder.encode(), b"bad.jsonl")
+        with open(old, "wb") as file:
+            file.write(text)
+        compare(["--against", old, "--report", report, good], (1, b"", b"flac: " + old + b": line %d: cannot be read\n" % number))
+        expect(read(old), text)
+    expect(os.path.exists(report), False)
+    compare(["--against", old, "--resume", report, good], (2, b"", b"flac: command: --against with --resume\n"))
+    expect(os.path.exists(report), False)
+
+
 def check_parallel(folder, count):
     """Many files on four processors by GNU parallel, as in docs/using.md: the reports, joined, are that of all files."""
     if not shutil.which("parallel"):
@@ -352,6 +461,8 @@ def tries(folder, count):
     yield "the report of a tree, the subset alone", lambda: compare_report(folder, ["--subset", music], files, due_of(files, True), True)
     yield "many files", lambda: check_many(folder, count)
     yield "runs that are resumed", lambda: check_resumed(folder, count // 4)
+    yield "files against an older report", lambda: check_against(folder, count)
+    yield "older reports that are none", lambda: check_bad_against(folder, good)
     yield "many files by GNU parallel", lambda: check_parallel(folder, 5 * count)
     yield "reports that fail", lambda: check_failing_reports(folder, good)
     yield "standard input", lambda: check_standard_input(folder, good)
