@@ -16,7 +16,7 @@ use Rattle.flac_native.specs.declared.fault.Fault.{Fault}
 use Rattle.flac_native.proofs.Onwards.{Told, nothing_told, step_of}
 use Rattle.flac_c.specs.Starts.{IsHead, RefusesHead}
 use Rattle.flac_c.specs.inner.Blocks.{HeadRead, IsRefusedAt}
-use Rattle.flac_c.proofs.FramesRead.{at_bytes}
+use Rattle.flac_native.proofs.FramesRead.{at_bytes}
 use Rattle.flac_header.specs.declared.subset.Profile.{Profile}
 
 fresh_bytes : (m : Mark) → (fresh m).bytes ≡ m.bytes

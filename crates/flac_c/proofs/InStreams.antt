@@ -26,9 +26,10 @@ use Rattle.flac_native.specs.declared.track.Phase.TheVariants.{Opening, Blocks, 
 use Rattle.flac_native.proofs.Blocks.{block_there, marker_there}
 use Rattle.flac_native.proofs.OneHead.{heads}
 use Rattle.flac_native.proofs.Onwards.{Told, nothing_told, step_of, frame_there, same_info, without_totals_rules, after_profile}
-use Rattle.flac_c.specs.Cursors.{info_from_c, passed, IsFrameAt, HandsOver, StandsIn, GoesOn}
+use Rattle.flac_c.specs.Cursors.{info_from_c, passed, HandsOver, StandsIn, GoesOn}
+use Rattle.flac_native.specs.FrameAt.{IsFrameAt}
 use Rattle.flac_c.specs.declared.cursor.FlacProvedCursor.{FlacProvedCursor}
-use Rattle.flac_c.proofs.FramesRead.{frame_whole, left_after}
+use Rattle.flac_native.proofs.FramesRead.{frame_whole, left_after}
 
 -- ---- a frame, read as the first
 

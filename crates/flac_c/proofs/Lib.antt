@@ -8,11 +8,9 @@ pub mod Heading
 pub mod HeadBytes
 pub mod StreamStarts
 -- ---- metadata blocks that are listed
-pub mod BlockLengths
 pub mod Listing
 pub mod Places
 -- ---- frames
-pub mod FramesRead
 pub mod HandedOver
 pub mod InStreams
 pub mod Passing

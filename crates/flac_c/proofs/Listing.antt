@@ -21,7 +21,7 @@ use Rattle.flac_c.specs.Starts.{are_metadata}
 use Rattle.flac_c.specs.inner.Blocks.{PartsRead}
 use Rattle.flac_c.specs.inner.Described.{Listed, ListOf, bytes_in}
 use Rattle.flac_c.specs.declared.blocks.FlacProvedBlock.{FlacProvedBlock}
-use Rattle.flac_c.proofs.BlockLengths.{block_long}
+use Rattle.flac_native.proofs.BlockLengths.{block_long}
 use Rattle.flac_c.proofs.HeadBytes.{count_after_parts}
 use Rattle.flac_c.proofs.StreamStarts.{fewer_metadata}
 

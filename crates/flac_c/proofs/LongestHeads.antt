@@ -3,10 +3,8 @@ use Rattle.std.proofs.Common.{◌≡◌, ◌∙◌, refl, sym, ap, subst, ℕ, z
 use Rattle.std.proofs.lemmas.Bool.{cases_lt}
 use Rattle.std.proofs.lemmas.Bool.Decides.{nat_tests}
 use Rattle.std.proofs.lemmas.Nat.{le-div, div_below}
-use Rattle.flac_bits.specs.Bits.{bits_of, bit_value}
-use Rattle.flac_bits.specs.LittleEndian.{little_bits}
+use Rattle.flac_bits.specs.Bits.{bit_value}
 use Rattle.flac_bits.specs.declared.why.Why.{Why}
-use Rattle.flac_bits.proofs.Holding.{length-bits_of}
 use Rattle.flac_meta.specs.Listed.{block_fault, or_else, list_fault, info_seen}
 use Rattle.flac_meta.specs.Spelling as s
 use Rattle.flac_meta.specs.declared.comments.Comments.{Comments}
@@ -17,6 +15,7 @@ use Rattle.flac_native.specs.Given.{Cut, blocks_in, size_of, has_point, points_b
 use Rattle.flac_native.specs.Seeking.{points_of, table_of}
 use Rattle.flac_native.specs.Writing.{blocks_spelling}
 use Rattle.flac_native.proofs.Tables.{counted, no_points}
+use Rattle.flac_native.proofs.BlockLengths.{comments_long}
 use Rattle.flac_native.proofs.WholeBytes.{length-joined, header_long}
 use Rattle.flac_c.specs.Bound.{text_bytes, texts_bytes, most_parts, table_bytes}
 use Rattle.flac_c.specs.Encoded.{texts_of, comments_of, blocks_of}
@@ -24,29 +23,6 @@ use Rattle.flac_c.specs.declared.tags.FlacProvedText.{FlacProvedText}
 use Rattle.flac_c.specs.declared.tags.FlacProvedTags.{FlacProvedTags}
 
 -- ---- comments
-
-little_long : (v : ℕ) → length (little_bits v) ≡ 32
-unfolding little_bits
-little_long v = refl
-
-sized_long : (text : List ℕ) → length (s.little_sized text) ≡ 32 + 8 * length text
-unfolding s.little_sized
-sized_long text = omega (arith, length-joined (little_bits (length text) ∷ bits_of text ∷ []), little_long (length text), length-bits_of text)
-
-texts_long : (texts : List (List ℕ)) → length (s.each_spelled s.little_sized texts) ≡ 8 * s.texts_length texts
-unfolding s.each_spelled
-texts_long [] = refl
-texts_long (text ∷ texts) = omega (arith, length-append (s.little_sized text) (s.each_spelled s.little_sized texts), sized_long text, texts_long texts)
-
-pub comments_long : (c : Comments) → length (s.comments_spelling c) ≡ 8 * s.comments_length c
-unfolding s.comments_spelling
-comments_long c = omega (
-  arith,
-  length-joined (s.little_sized c.vendor ∷ little_bits (length c.list) ∷ s.each_spelled s.little_sized c.list ∷ []),
-  sized_long c.vendor,
-  little_long (length c.list),
-  texts_long c.list,
-)
 
 pub comment_long : (last : Bool) (c : Comments) → length (s.block_spelling last (VorbisComment c)) ≡ 32 + 8 * s.comments_length c
 unfolding s.block_spelling s.content_spelling

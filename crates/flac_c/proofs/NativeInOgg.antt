@@ -40,7 +40,7 @@ use Rattle.flac_ogg.proofs.MeaningPackets.{bytes_in, bytes_of}
 use Rattle.flac_ogg.proofs.NativeItems.{after_mapping, ogg_streams_are_streams}
 use Rattle.flac_c.specs.Unpacked.{HasPages, IsPacked, BadPages, HasMapping, RefusesPages}
 use Rattle.flac_c.specs.inner.Unpacked.{after_or_last, PageAdded, in_front, Unpacking, IsUnpacked, StopsAt}
-use Rattle.flac_c.proofs.FramesRead.{at_bytes}
+use Rattle.flac_native.proofs.FramesRead.{at_bytes}
 use Rattle.flac_c.proofs.Numbered.{memory_or_not, same_why}
 
 -- ---- one page

@@ -1,9 +1,7 @@
 -- Reading a native stream frame by frame (RFC 9639, sections 8.2, 8.5 and 9).
-use Rattle.std.specs.Prelude.{◌≡◌, ◌⊎◌, ℕ, ◌+◌, ◌<◌, ◌≤◌, min, Bool, true, ℤ, List, [], ◌∷◌, ◌++◌, length, take, drop, replicate, Option, Some, None}
+use Rattle.std.specs.Prelude.{◌≡◌, ◌⊎◌, ℕ, ◌+◌, ◌<◌, ◌≤◌, min, true, ℤ, List, [], ◌∷◌, ◌++◌, length, take, drop, replicate, Option, Some}
 use Rattle.flac_bits.specs.Bits.{bits_of}
 use Rattle.flac_bits.specs.Items.{Joined, Stream, state_after}
-use Rattle.flac_bits.specs.Meaning.{Spells}
-use Rattle.flac_bits.specs.Fence.{InRoom, StopsIn}
 use Rattle.flac_bits.specs.declared.why.Why.{Why}
 use Rattle.flac_bits.specs.declared.why.Why.TheVariants.{Memory, Truncated, BadStreamInfo}
 use Rattle.flac_info.specs.Info.{Info, KeepsRules, without_totals}
@@ -11,6 +9,7 @@ use Rattle.flac_header.specs.declared.subset.Profile.{Profile}
 use Rattle.flac_frame.specs.Frame.{Frame, frame, first_sample}
 use Rattle.flac_frame.specs.Interleaved.{interleaved}
 use Rattle.flac_native.specs.Decoding.{beginning}
+use Rattle.flac_native.specs.FrameAt.{IsFrameAt, NoFrameAt}
 use Rattle.flac_native.specs.Stream.{Piece, framed, grammar, opening}
 use Rattle.flac_native.specs.declared.fault.Place.{Place}
 use Rattle.flac_native.specs.declared.fault.Place.TheVariants as place
@@ -45,18 +44,6 @@ passed c f end = record {
 }
 
 -- ---- a frame
-
--- The first n of these bytes spell the frame, whatever its number is, and are no more than a frame may have.
-pub record IsFrameAt (profile : Profile) (i : Info) (bytes : List ℕ) (f : Frame) (n : ℕ) : Type 0 where
-  pub text : List Bool
-  pub split : bits_of bytes ≡ text ++ bits_of (drop n bytes)
-  pub within : n ≤ length bytes
-  pub spelled : Spells (frame profile i None) (beginning Truncated) text f
-  pub room : InRoom (Some 16777215) (beginning Truncated) text
-
--- there is no frame of these bytes, for this reason
-abbrev pub NoFrameAt : Profile → Info → List ℕ → Why → Type 0
-NoFrameAt profile i bytes why = StopsIn (Some 16777215) (frame profile i None) (beginning Truncated) (bits_of bytes) why
 
 -- `len` is the number of its samples. If there is room for all of them, they are at the front of the buffer, and the
 -- cursor is after the frame, which ends at this offset; otherwise both are unchanged.

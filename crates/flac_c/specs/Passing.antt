@@ -6,7 +6,8 @@ use Rattle.flac_header.specs.declared.subset.Profile.{Profile}
 use Rattle.flac_frame.specs.Frame.{Frame}
 use Rattle.flac_native.specs.Stream.{Piece, framed}
 use Rattle.flac_native.specs.declared.fault.Place.{Place}
-use Rattle.flac_c.specs.Cursors.{info_from_c, passed, IsFrameAt, RefusesNext, StandsIn}
+use Rattle.flac_c.specs.Cursors.{info_from_c, passed, RefusesNext, StandsIn}
+use Rattle.flac_native.specs.FrameAt.{IsFrameAt}
 use Rattle.flac_c.specs.declared.cursor.FlacProvedCursor.{FlacProvedCursor}
 
 -- a frame is at a cursor, and this is the cursor after it

@@ -5,7 +5,8 @@ ghost use Rattle.flac_info.specs.Info.{KeepsRules};
 ghost use Rattle.flac_frame.specs.Frame.{Frame};
 ghost use Rattle.flac_frame.specs.Viewed.{frame_of};
 ghost use Rattle.flac_c.specs.Answers.{IsAnswered, in_c};
-ghost use Rattle.flac_c.specs.Cursors.{info_from_c, IsFrameAt, NoFrameAt, NoFrame, OfFrame, HandsOver, HandsNext, HandsFrame, GivesNext, RefusesNext, OfNextFrame, GoesOn};
+ghost use Rattle.flac_c.specs.Cursors.{info_from_c, NoFrame, OfFrame, HandsOver, HandsNext, HandsFrame, GivesNext, RefusesNext, OfNextFrame, GoesOn};
+ghost use Rattle.flac_native.specs.FrameAt.{IsFrameAt, NoFrameAt};
 ghost use Rattle.flac_c.specs.Profiles.{profile_of};
 
 use crate::cursor::{FlacProvedCursor, info_from_c, passed};

@@ -25,7 +25,7 @@ use Rattle.flac_native.proofs.BlockOrder.{closed, are_ordered, are_read}
 use Rattle.flac_native.proofs.OneHead.{closing_ends}
 use Rattle.flac_native.proofs.Streams.{marker_here}
 use Rattle.flac_edit.specs.inner.Reads.{AreBlocks, AreMarked, Reads}
-use Rattle.flac_edit.proofs.BlockLengths.{block_long}
+use Rattle.flac_native.proofs.BlockLengths.{block_long}
 use Rattle.flac_edit.proofs.Spelled.{front_bytes}
 
 -- ---- the marker in bits

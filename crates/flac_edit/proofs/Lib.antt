@@ -3,7 +3,6 @@ pub mod Writes
 pub mod ThreeWrites
 pub mod Spelled
 pub mod Lengths
-pub mod BlockLengths
 pub mod BeforeComments
 pub mod AfterComments
 pub mod Collecting

@@ -30,6 +30,7 @@ pub mod Planned
 pub mod BlocksWritten
 pub mod Heads
 pub mod WholeBytes
+pub mod BlockLengths
 pub mod EachFrame
 pub mod Gathered
 pub mod WrittenFrames
@@ -47,6 +48,8 @@ pub mod Tables
 pub mod Sought
 pub mod FrameCuts
 pub mod Resumed
+-- ---- frames of bytes in memory
+pub mod FramesRead
 -- ---- retagging: the input
 pub mod Metadata
 pub mod Blocks

@@ -17,6 +17,7 @@ pub mod Numbers
 pub mod Retag
 pub mod Rewriting
 pub mod Resuming
+pub mod FrameAt
 pub mod ReadBack
 pub mod Whole
 pub mod BlockOrder

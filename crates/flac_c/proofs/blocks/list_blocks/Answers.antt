@@ -7,7 +7,7 @@ use Rattle.flac_bits.proofs.Holding.{length-bits_of, bits_of-append}
 use Rattle.flac_native.specs.Decoding.{beginning}
 use Rattle.flac_native.specs.Stream.{opening}
 use Rattle.flac_c.specs.inner.Described.{ListOf}
-use Rattle.flac_c.proofs.FramesRead.{at_bytes}
+use Rattle.flac_native.proofs.FramesRead.{at_bytes}
 use Rattle.flac_c.proofs.HeadBytes.{head_is, refused_is}
 use Rattle.flac_c.proofs.Places.{pictures_there}
 use Rattle.flac_c.proofs.blocks.list_blocks.Goals as goal

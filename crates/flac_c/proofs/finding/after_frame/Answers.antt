@@ -1,7 +1,8 @@
 use Rattle.std.proofs.Common.{ℕ, ◌+◌, List, drop, inr, sym, ap, subst, ◌∙◌}
 use Rattle.flac_info.specs.Info.{Info}
 use Rattle.flac_frame.specs.Frame.{Frame}
-use Rattle.flac_c.specs.Cursors.{IsFrameAt, passed}
+use Rattle.flac_c.specs.Cursors.{passed}
+use Rattle.flac_native.specs.FrameAt.{IsFrameAt}
 use Rattle.flac_c.proofs.Passing.{answered}
 use Rattle.flac_c.proofs.finding.after_frame.Goals as goal
 

@@ -2,7 +2,7 @@ use Rattle.std.proofs.Common.{ℕ, List, ap, subst, sym, ◌∙◌, arith}
 use Rattle.flac_bits.specs.State.{State}
 use Rattle.flac_c.specs.Starts.{IsHead}
 use Rattle.flac_c.specs.inner.Blocks.{FoundOf}
-use Rattle.flac_c.proofs.FramesRead.{at_bytes}
+use Rattle.flac_native.proofs.FramesRead.{at_bytes}
 use Rattle.flac_c.proofs.HeadBytes.{head_is, refused_is}
 use Rattle.flac_c.proofs.starting.read_front.Goals as goal
 

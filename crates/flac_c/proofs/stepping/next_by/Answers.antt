@@ -1,17 +1,17 @@
-use Rattle.std.proofs.Common.{◌≡◌, inl, inr, length, refl, ap, ◌∙◌, arith}
+use Rattle.std.proofs.Common.{◌≡◌, ◌≤◌, inl, inr, length, refl, ap, ◌∙◌, arith}
 use Rattle.flac_bits.specs.Reasons.{number_of}
 use Rattle.flac_bits.specs.declared.why.Why.{Why}
 use Rattle.flac_bits.specs.declared.why.Why.TheVariants.{Memory}
 use Rattle.flac_c.specs.declared.fault.FlacProvedFault.{FlacProvedFault}
 use Rattle.flac_c.specs.Cursors.{info_from_c}
-use Rattle.flac_c.proofs.FramesRead.{none_at_end}
+use Rattle.flac_native.proofs.FramesRead.{none_past}
 use Rattle.flac_c.proofs.InStreams.{goes_on}
 use Rattle.flac_c.proofs.stepping.next_by.Goals as goal
 
 pub returns-then-cursor-bytes-clause-frames : goal.returns-then-cursor-bytes-clause-frames
 returns-then-cursor-bytes-clause-frames c = λ rules f n there.
-    let end : c.args.cursor.now.offset ≡ length c.args.bytes.now = omega arith in
-    absurd (none_at_end c.args.profile (info_from_c c.args.cursor.now.info) c.args.bytes.now c.args.cursor.now.offset f n end there)
+    let end : length c.args.bytes.now ≤ c.args.cursor.now.offset = omega arith in
+    absurd (none_past c.args.profile (info_from_c c.args.cursor.now.info) c.args.bytes.now c.args.cursor.now.offset end f n there)
 
 pub returns-then-cursor-bytes-clause-streams : goal.returns-then-cursor-bytes-clause-streams
 returns-then-cursor-bytes-clause-streams c = goes_on c.args.profile c.args.bytes.now c.args.cursor.now c.args.cursor.now c.args.out.now c.args.out.now 0 0 (returns-then-cursor-bytes-clause-frames c)

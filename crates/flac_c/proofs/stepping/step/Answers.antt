@@ -1,6 +1,7 @@
 use Rattle.std.proofs.Common.{ℕ, ◌+◌, List, sym, subst, ◌∙◌}
 use Rattle.flac_frame.specs.Frame.{Frame}
-use Rattle.flac_c.specs.Cursors.{IsFrameAt, HandsOver}
+use Rattle.flac_c.specs.Cursors.{HandsOver}
+use Rattle.flac_native.specs.FrameAt.{IsFrameAt}
 use Rattle.flac_c.proofs.stepping.step.Goals as goal
 
 pub returns-in-Err-clause-only : goal.returns-in-Err-clause-only

@@ -1,5 +1,5 @@
 use Rattle.std.proofs.Common.{List, ℕ, sym, ap, ◌∙◌}
-use Rattle.flac_c.proofs.FramesRead.{at_bytes}
+use Rattle.flac_native.proofs.FramesRead.{at_bytes}
 use Rattle.flac_c.proofs.NativeInOgg.{mapping_read, mapping_missing}
 use Rattle.flac_c.proofs.unpacking.has_mapping.Goals as goal
 

@@ -4,7 +4,7 @@ use Rattle.flac_bits.specs.declared.why.Why.TheVariants.{BadMapping}
 use Rattle.flac_native.specs.declared.fault.Place.{Place}
 use Rattle.flac_native.specs.declared.fault.Place.TheVariants.{Marker}
 use Rattle.flac_c.specs.Unpacked.{HasMapping, BadPages}
-use Rattle.flac_c.proofs.FramesRead.{at_bytes}
+use Rattle.flac_native.proofs.FramesRead.{at_bytes}
 use Rattle.flac_c.proofs.NativeInOgg.{packed_is, pages_bad}
 use Rattle.flac_c.proofs.unpacking.packed_of.Goals as goal
 

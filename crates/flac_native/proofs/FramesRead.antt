@@ -1,5 +1,5 @@
 -- A frame that is read from bytes in memory.
-use Rattle.std.proofs.Common.{◌≡◌, ℕ, ◌+◌, ◌-◌, ◌*◌, ◌/◌, ◌%◌, ◌^◌, ◌<◌, min, Bool, true, List, [], ◌∷◌, ◌++◌, length, drop, Option, Some, None, Result, Ok, Err, IfOk, IfErr, IsOkAnd, refl, sym, ap, subst, ◌∙◌, append-nil, length-append, arith}
+use Rattle.std.proofs.Common.{◌≡◌, ℕ, ◌+◌, ◌-◌, ◌*◌, ◌/◌, ◌%◌, ◌^◌, ◌<◌, ◌≤◌, zero, suc, min, Bool, true, List, [], ◌∷◌, ◌++◌, length, drop, Option, Some, None, Result, Ok, Err, IfOk, IfErr, IsOkAnd, refl, sym, ap, subst, ◌∙◌, append-nil, length-append, arith}
 use Rattle.std.specs.Bool.{⊤}
 use Rattle.std.proofs.Math.Seq.{drop-append_seam}
 use Rattle.std.proofs.lemmas.List.{length-drop}
@@ -31,7 +31,7 @@ use Rattle.flac_native.proofs.Deciding.{needs_bits}
 use Rattle.flac_native.proofs.Onwards.{as_part}
 use Rattle.flac_bits.proofs.Items.{spelled_some}
 use Rattle.flac_frame.specs.declared.before.Before.{Before}
-use Rattle.flac_c.specs.Cursors.{IsFrameAt, NoFrameAt}
+use Rattle.flac_native.specs.FrameAt.{IsFrameAt, NoFrameAt}
 
 -- a reader at the first of these bytes
 abbrev pub at_bytes : List ℕ → State
@@ -146,15 +146,17 @@ module _ {profile : Profile} {i : Info} {bytes : List ℕ} {held : Frame} {n : �
 pub frame_some : (profile : Profile) (i : Info) (m : Mark) (text : List Bool) (f : Frame) → Spells (frame profile i None) m text f → 0 < length text
 frame_some profile i m text f h = spelled_some (layout (at_frames profile i).stand) m text (framed f) (as_part (at_frames profile i).stand i m text f refl refl h) (needs_bits (at_frames profile i) m refl)
 
-drop_all : (bytes : List ℕ) → drop (length bytes) bytes ≡ []
-drop_all [] = refl
-drop_all (x ∷ xs) = drop_all xs
+drop_past : (bytes : List ℕ) (k : ℕ) → length bytes ≤ k → drop k bytes ≡ []
+drop_past [] zero h = refl
+drop_past [] (suc k) h = refl
+drop_past (x ∷ xs) zero h = absurd (omega (arith, h))
+drop_past (x ∷ xs) (suc k) h = drop_past xs k (omega (arith, h))
 
--- so none is at the end
-pub none_at_end : (profile : Profile) (i : Info) (bytes : List ℕ) (offset : ℕ) (f : Frame) (n : ℕ) → offset ≡ length bytes → IsFrameAt profile i (drop offset bytes) f n → ⊥
-none_at_end profile i bytes offset f n end at =
-    let none : drop offset bytes ≡ [] = ap (λ k. drop k bytes) end ∙ drop_all bytes in
-    let long : length (bits_of (drop offset bytes)) ≡ length at.text + length (bits_of (drop n (drop offset bytes))) = ap (λ (l : List Bool). length l) at.split ∙ length-append at.text (bits_of (drop n (drop offset bytes))) in
-    let short : length (bits_of (drop offset bytes)) ≡ 0 = ap (λ (l : List ℕ). length (bits_of l)) none in
+-- so none is at the end, or after it
+pub none_past : (profile : Profile) (i : Info) (bytes : List ℕ) (k : ℕ) → length bytes ≤ k → (f : Frame) (n : ℕ) → IsFrameAt profile i (drop k bytes) f n → ⊥
+none_past profile i bytes k past = λ f n at.
+    let none : drop k bytes ≡ [] = drop_past bytes k past in
+    let long : length (bits_of (drop k bytes)) ≡ length at.text + length (bits_of (drop n (drop k bytes))) = ap (λ (l : List Bool). length l) at.split ∙ length-append at.text (bits_of (drop n (drop k bytes))) in
+    let short : length (bits_of (drop k bytes)) ≡ 0 = ap (λ (l : List ℕ). length (bits_of l)) none in
     let some = frame_some profile i (beginning Truncated) at.text f at.spelled in
     absurd (omega (arith, long, short, some))

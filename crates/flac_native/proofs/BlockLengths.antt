@@ -2,11 +2,13 @@
 use Rattle.std.proofs.Common.{◌≡◌, ℕ, ◌+◌, ◌*◌, Bool, false, not, List, [], ◌∷◌, length, length-append, refl, ap, ◌∙◌, arith}
 use Rattle.std.proofs.lemmas.List.{length-replicate}
 use Rattle.flac_bits.specs.Bits.{unsigned, bits_of, bit_value}
+use Rattle.flac_bits.specs.LittleEndian.{little_bits}
 use Rattle.flac_bits.proofs.Words.{length-unsigned}
 use Rattle.flac_bits.proofs.Holding.{length-bits_of}
 use Rattle.flac_meta.specs.Spelling as s
 use Rattle.flac_meta.specs.Valid.{AllAre, IsTrack, IsSheet, FitsFields, ContentSpelled, BlockSpelled}
 use Rattle.flac_meta.specs.declared.seek_table.SeekPoint.{SeekPoint}
+use Rattle.flac_meta.specs.declared.comments.Comments.{Comments}
 use Rattle.flac_meta.specs.declared.cue_sheet.CueIndex.{CueIndex}
 use Rattle.flac_meta.specs.declared.cue_sheet.CueTrack.{CueTrack}
 use Rattle.flac_meta.specs.declared.cue_sheet.CueSheet.{CueSheet}
@@ -14,7 +16,29 @@ use Rattle.flac_meta.specs.declared.picture.Picture.{Picture}
 use Rattle.flac_meta.specs.declared.block.Block.{Block}
 use Rattle.flac_meta.specs.declared.block.Block.TheVariants as block_of
 use Rattle.flac_native.proofs.WholeBytes.{length-joined, header_long, info_long}
-use Rattle.flac_c.proofs.LongestHeads.{comments_long}
+
+little_long : (v : ℕ) → length (little_bits v) ≡ 32
+unfolding little_bits
+little_long v = refl
+
+little_sized_long : (text : List ℕ) → length (s.little_sized text) ≡ 32 + 8 * length text
+unfolding s.little_sized
+little_sized_long text = omega (arith, length-joined (little_bits (length text) ∷ bits_of text ∷ []), little_long (length text), length-bits_of text)
+
+texts_long : (texts : List (List ℕ)) → length (s.each_spelled s.little_sized texts) ≡ 8 * s.texts_length texts
+unfolding s.each_spelled
+texts_long [] = refl
+texts_long (text ∷ texts) = omega (arith, length-append (s.little_sized text) (s.each_spelled s.little_sized texts), little_sized_long text, texts_long texts)
+
+pub comments_long : (c : Comments) → length (s.comments_spelling c) ≡ 8 * s.comments_length c
+unfolding s.comments_spelling
+comments_long c = omega (
+  arith,
+  length-joined (s.little_sized c.vendor ∷ little_bits (length c.list) ∷ s.each_spelled s.little_sized c.list ∷ []),
+  little_sized_long c.vendor,
+  little_long (length c.list),
+  texts_long c.list,
+)
 
 point_long : (p : SeekPoint) → length (s.point_spelling p) ≡ 144
 unfolding s.point_spelling
