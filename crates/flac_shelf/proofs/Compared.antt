@@ -2,14 +2,17 @@
 use Rattle.std.proofs.Common.{◌≡◌, ◌∷◌, ℕ, Bool, true, false, List, [], cond, map, refl, ap, ◌∙◌, sym}
 use Rattle.std.proofs.lemmas.Map.Text.{is_eq-slice_cmp}
 use Rattle.std.specs.BTreeMap.{is_at}
+use Rattle.std.specs.BTreeSet.{insert_key}
 use Rattle.std.specs.Cmp.Lexicographic.{slice_cmp}
-use Rattle.std.specs.Ordering.{nat_cmp}
+use Rattle.std.specs.Ordering.{match_ordering, nat_cmp}
+use Rattle.std.specs.declared.cmp.Ordering.{Ordering}
+use Rattle.std.specs.declared.cmp.Ordering.TheVariants.{Less, Equal, Greater}
 use Rattle.std.specs.Set.{remove_key}
 use Rattle.std.specs.Str.{bytes_eq}
 use Rattle.std.specs.Prelude.{String}
-use Rattle.std.specs.String.{string_bytes}
+use Rattle.std.specs.String.{string_bytes, string_cmp}
 use Rattle.flac_shelf.specs.Listed.{Listed}
-use Rattle.flac_shelf.specs.Records.{without}
+use Rattle.flac_shelf.specs.Records.{with_path, without}
 
 -- two functions that are equal on each file
 same_map : (f h : Listed → Listed) → ((x : Listed) → h x ≡ f x) → (files : List Listed) → map f files ≡ map h files
@@ -32,3 +35,16 @@ module _ {Y : Type 0} (path : List ℕ) where
   removed (k ∷ ks) =
       removed_step k ks (without path (map string_bytes ks)) _ (removed ks) (is_at (λ j. slice_cmp nat_cmp path (string_bytes j)) k)
       ∙ ap (λ b. cond b (map string_bytes ks) (string_bytes k ∷ without path (map string_bytes ks))) (is_eq-slice_cmp path (string_bytes k))
+
+module _ {Y : Type 0} (k : String Y) where
+  added_step : (x : String Y) (xs more : List (String Y)) (rest : List (List ℕ)) → map string_bytes more ≡ rest → (o : Ordering)
+      → map string_bytes (match_ordering o (k ∷ x ∷ xs) (x ∷ xs) (x ∷ more))
+      ≡ match_ordering o (string_bytes k ∷ string_bytes x ∷ map string_bytes xs) (string_bytes x ∷ map string_bytes xs) (string_bytes x ∷ rest)
+  added_step x xs more rest is Less = refl
+  added_step x xs more rest is Equal = refl
+  added_step x xs more rest is Greater = ap (λ l. string_bytes x ∷ l) is
+
+  -- a path that is added to a set
+  pub added : (xs : List (String Y)) → map string_bytes (insert_key string_cmp xs k) ≡ with_path (string_bytes k) (map string_bytes xs)
+  added [] = refl
+  added (x ∷ xs) = added_step x xs _ _ (added xs) (string_cmp k x)

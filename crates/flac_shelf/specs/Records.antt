@@ -1,6 +1,8 @@
 -- Reports as a program holds them.
 use Rattle.std.specs.Prelude.{ℕ, List, [], ◌∷◌, cond, Option, Some, None, map}
 use Rattle.std.specs.BTreeMap.{get_by_text}
+use Rattle.std.specs.Cmp.Lexicographic.{slice_cmp}
+use Rattle.std.specs.Ordering.{match_ordering, nat_cmp}
 use Rattle.std.specs.Str.{bytes_eq}
 use Rattle.std.specs.String.{string_bytes}
 use Rattle.flac_shelf.specs.Listed.{Listed}
@@ -29,3 +31,8 @@ left_of (Some older) = left_in older
 abbrev pub without : (path : List ℕ) → List (List ℕ) → List (List ℕ)
 without path [] = []
 without path (p ∷ ps) = cond (bytes_eq path p) ps (p ∷ without path ps)
+
+-- paths in the order of their bytes with this one, which is there once
+abbrev pub with_path : (path : List ℕ) → List (List ℕ) → List (List ℕ)
+with_path path [] = path ∷ []
+with_path path (p ∷ ps) = match_ordering (slice_cmp nat_cmp path p) (path ∷ p ∷ ps) (p ∷ ps) (p ∷ with_path path ps)
