@@ -1,15 +1,17 @@
 -- Metadata blocks that are read from bytes in memory.
-use Rattle.std.proofs.Common.{◌≡◌, ℕ, ◌+◌, ◌-◌, ◌*◌, ◌^◌, ◌<◌, ◌≤◌, Bool, true, List, [], ◌∷◌, length, drop, get_or, min, refl, sym, ap, subst, ◌∙◌, append-nil, arith}
+use Rattle.std.proofs.Common.{◌≡◌, ◌≢◌, ◌⊎◌, inl, inr, ℕ, ◌+◌, ◌-◌, ◌*◌, ◌^◌, ◌<◌, ◌≤◌, Bool, true, List, [], ◌∷◌, length, drop, get_or, min, refl, sym, ap, subst, ◌∙◌, append-nil, arith}
 use Rattle.flac_bits.specs.Bits.{bits_of}
 use Rattle.flac_bits.specs.State.{State, Cursor}
 use Rattle.flac_bits.specs.Fencing.{lifted}
-use Rattle.flac_bits.specs.declared.why.Why.TheVariants.{Truncated}
+use Rattle.flac_bits.specs.declared.why.Why.{Why}
+use Rattle.flac_bits.specs.declared.why.Why.TheVariants.{Truncated, Memory}
 use Rattle.flac_bits.proofs.Readings.{at_}
 use Rattle.flac_meta.specs.Spelling.{length_of}
 use Rattle.flac_meta.specs.declared.block.Block.{Block}
 use Rattle.flac_native.specs.Decoding.{beginning}
-use Rattle.flac_native.specs.Retag.{AreRead, AreReadFrom}
-use Rattle.flac_salvage.proofs.FramesRead.{at_bytes}
+use Rattle.flac_native.specs.Retag.{AreRead, AreReadFrom, IsRefused, IsRefusedAt, RefusalIsDue}
+use Rattle.flac_native.specs.declared.fault.Fault.{Fault}
+use Rattle.flac_native.proofs.FramesRead.{at_bytes}
 use Rattle.flac_rescue.specs.Head.{IsHead, and_block, and_blocks, head_bytes}
 use Rattle.flac_rescue.proofs.Lists.{drop_past, item_at}
 
@@ -22,6 +24,19 @@ head_is bytes src old new blocks front same is read long =
     let there : AreReadFrom (at_bytes bytes) blocks new = subst (λ (s : State). AreReadFrom s blocks new) start read in
     let r : AreRead (at_ (bits_of bytes) (beginning Truncated)) blocks new.cursor.left = subst (λ (c : Cursor). AreRead c blocks new.cursor.left) (here bytes) (there refl) in
     record { info = r.info; list = r.others; rest = new.cursor.left; begins = r.begins; are = r.are; long = long }
+
+memory_or_not : (w : Why) → (w ≡ Memory) ⊎ (w ≢ Memory)
+memory_or_not Memory = inl refl
+memory_or_not w = inr (λ e. absurd cc)
+
+pub head_refused : (bytes src : List ℕ) (old new : State) (f : Fault) → src ≡ bytes → old ≡ at_bytes src → 0 ≡ new.errors → RefusalIsDue old new f.at f.why → (f.why ≡ Memory) ⊎ IsRefused (beginning Truncated) (bits_of bytes) f.at f.why
+head_refused bytes src old new f same is quiet due = elim (memory_or_not f.why) [
+  | inl m ↦ inl m
+  | inr other ↦
+      let start : old ≡ at_bytes bytes = is ∙ ap (λ (l : List ℕ). at_bytes l) same in
+      let there : RefusalIsDue (at_bytes bytes) new f.at f.why = subst (λ (s : State). RefusalIsDue s new f.at f.why) start due in
+      inr (subst (λ (c : Cursor). IsRefusedAt c f.at f.why) (here bytes) (there refl (sym quiet) other))
+]
 
 pub bytes_end : (i n whole : ℕ) (blocks : List Block) → length blocks ≤ i → and_blocks n (drop i blocks) ≡ whole → n ≡ whole
 unfolding and_blocks

@@ -3,3 +3,5 @@ pub mod Within
 pub mod Heads
 pub mod Adding
 pub mod Told
+pub mod Extending
+pub mod Salvaging

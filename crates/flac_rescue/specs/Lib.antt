@@ -2,3 +2,5 @@ pub mod Gaps
 pub mod Head
 pub mod Survey
 pub mod Report
+pub mod Channels
+pub mod Salvaged

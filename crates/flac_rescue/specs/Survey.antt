@@ -1,14 +1,22 @@
 -- What a survey of a damaged stream says (RFC 9639, sections 8 and 9).
-use Rattle.std.specs.Prelude.{◌≡◌, ℕ, List, ◌∷◌, length}
+use Rattle.std.specs.Prelude.{◌≡◌, ◌⊎◌, ℕ, ◌<◌, List, ◌∷◌, length, Option, ⊤}
+use Rattle.flac_bits.specs.Bits.{bits_of}
+use Rattle.flac_bits.specs.declared.why.Why.TheVariants as why
 use Rattle.flac_info.specs.Info.{Info}
 use Rattle.flac_meta.specs.declared.block.Block.{Block}
 use Rattle.flac_meta.specs.declared.block.Block.TheVariants.{StreamInfo}
 use Rattle.flac_header.specs.declared.subset.Profile.TheVariants.{Lax}
+use Rattle.flac_native.specs.Decoding.{beginning}
+use Rattle.flac_native.specs.Retag.{IsRefused}
+use Rattle.flac_native.specs.declared.fault.Fault.{Fault}
 use Rattle.flac_salvage.specs.Kept.{AreFound}
 use Rattle.flac_salvage.specs.Chain.{chain, IsBest}
 use Rattle.flac_rescue.specs.Gaps.{limit_of, gaps, others}
 use Rattle.flac_rescue.specs.Head.{IsHead}
+use Rattle.flac_salvage.specs.declared.find.WholeFrame.{WholeFrame}
 use Rattle.flac_rescue.specs.declared.survey.Survey.{Survey}
+use Rattle.flac_rescue.specs.declared.survey.SurveyFault.{SurveyFault}
+use Rattle.flac_rescue.specs.declared.survey.SurveyFault.TheVariants.{Head, Memory, Unordered}
 
 -- the first block is STREAMINFO
 pub record BeginsWithInfo (info : Info) (blocks : List Block) : Type 0 where
@@ -31,3 +39,33 @@ pub record IsSurvey (bytes : List ℕ) (s : Survey) : Type 0 where
   pub head : IsHead bytes s.blocks.items s.front
   pub info : BeginsWithInfo s.info s.blocks.items
   pub frames : AreSurveyed bytes s.front s.info s
+
+-- ---- why bytes are not surveyed
+
+-- the metadata blocks with which they begin have more bytes than there are
+pub record IsLongHead (bytes : List ℕ) : Type 0 where
+  pub blocks : List Block
+  pub front : ℕ
+  pub head : IsHead bytes blocks front
+  pub past : length bytes < front
+
+-- The marker or a block is refused at the place of this fault for its reason, as decoding refuses it; or memory ran out.
+abbrev pub IsHeadFault : (bytes : List ℕ) → Fault → Type 0
+IsHeadFault bytes fault = (fault.why ≡ why.Memory) ⊎ (IsRefused (beginning why.Truncated) (bits_of bytes) fault.at fault.why ⊎ IsLongHead bytes)
+
+-- after the metadata blocks there are more whole frames than a chain is sought among
+pub record AreUnordered (bytes : List ℕ) : Type 0 where
+  pub blocks : List Block
+  pub front : ℕ
+  pub head : IsHead bytes blocks front
+  pub info : Info
+  pub begins : BeginsWithInfo info blocks
+  pub cut : Option ℕ
+  pub frames : List WholeFrame
+  pub found : AreFound Lax info bytes front cut frames
+  pub many : 524288 < length frames
+
+abbrev pub IsSurveyFault : (bytes : List ℕ) → SurveyFault → Type 0
+IsSurveyFault bytes (Head fault) = IsHeadFault bytes fault
+IsSurveyFault bytes Memory = ⊤
+IsSurveyFault bytes Unordered = AreUnordered bytes

@@ -1,9 +1,12 @@
 //! The metadata blocks before the frames.
 
-ghost use Rattle.std.specs.Prelude.{◌≡◌, ◌+◌, ◌*◌, ◌≤◌, ◌<◌, ◌^◌, IfOk, length};
+ghost use Rattle.std.specs.Prelude.{◌≡◌, ◌⊎◌, ◌+◌, ◌*◌, ◌≤◌, ◌<◌, ◌^◌, IfOk, IfErr, length};
+ghost use Rattle.flac_bits.specs.Bits.{bits_of};
+ghost use Rattle.flac_native.specs.Decoding.{beginning};
+ghost use Rattle.flac_native.specs.Retag.{IsRefused};
 ghost use Rattle.flac_rescue.specs.Head.{IsHead, head_bytes};
 
-use flac_bits::{BitReader, Memory};
+use flac_bits::{BitReader, Memory, Why};
 use flac_meta::Block;
 use flac_native::{Fault, read_blocks};
 use std::alloc::Global;
@@ -31,10 +34,15 @@ pub(crate) struct Head {
 /// # Errors
 /// Those of [`read_blocks`].
 pub(crate) fn read_head(alloc: Global, bytes: &[u8]) -> Result<Head, Fault>
-    ensures { IfOk result (λ h. IsHead bytes.now h.blocks.items h.front) }
+    ensures head { IfOk result (λ h. IsHead bytes.now h.blocks.items h.front) }
+    ensures fault { IfErr result (λ f. (f.why ≡ Why.Memory) ⊎
+        IsRefused (beginning Why.Truncated) (bits_of bytes.now) f.at f.why) }
 {
     let mut reader = BitReader::new(Memory::new(bytes));
-    match read_blocks(alloc, &mut reader) {
+    let outcome = read_blocks(alloc, &mut reader);
+    // Given back only for the proof, which then knows that a source in memory returns no error.
+    let _source = reader.into_source();
+    match outcome {
         Ok(blocks) => {
             let front = bytes_of(&blocks);
             Ok(Head { blocks, front })

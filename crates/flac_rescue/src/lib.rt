@@ -5,18 +5,23 @@
 //! | find the frames that stand whole, and choose those that belong together | [`survey_bytes`] |
 //! | know what is missing between them | [`gaps`] |
 //! | print it | [`report`], [`tell_missing`] |
+//! | make samples of what is left | [`salvage_samples`] |
 #![tactic(auto)]
 
+mod channels;
 mod head;
 mod lines;
 mod missing;
+mod salvage;
 mod survey;
 mod tell;
 #[cfg(test)]
 mod tests;
 mod texts;
 
+pub use channels::{empty_channels, extend_channels};
 pub use lines::report;
 pub use missing::{Gap, gaps, others};
+pub use salvage::{MOST_SILENCE, SalvageFault, salvage_samples};
 pub use survey::{Survey, SurveyFault, survey_bytes};
 pub use tell::tell_missing;

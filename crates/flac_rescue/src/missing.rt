@@ -21,7 +21,7 @@ pub struct Gap {
 }
 
 /// The sample at which the last gap ends: the total, or the end of the last frame if none is stated.
-fn last_of(total: u64, first: u64) -> u64
+pub(crate) fn last_of(total: u64, first: u64) -> u64
     ensures { result ≡ last_of total first }
 {
     if total == 0 { first } else { total }

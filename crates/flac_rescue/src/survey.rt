@@ -1,9 +1,12 @@
 //! Surveys of damaged streams.
 
-ghost use Rattle.std.specs.Prelude.{◌≡◌, ◌≤◌, ◌⊎◌, length, IfOk, IfErr, IfSome};
+ghost use Rattle.std.specs.Prelude.{◌≡◌, ◌≤◌, ◌<◌, ◌⊎◌, ◌∷◌, List, length, Some, IfOk, IfErr, IfSome};
+ghost use Rattle.flac_info.specs.Info.{Info};
+ghost use Rattle.flac_meta.specs.declared.block.Block.{Block as TheBlock};
+ghost use Rattle.flac_meta.specs.declared.block.Block.TheVariants as block_of;
 ghost use Rattle.flac_salvage.specs.Kept.{AreFound};
 ghost use Rattle.flac_salvage.specs.Chain.{chain, IsBest};
-ghost use Rattle.flac_rescue.specs.Survey.{BeginsWithInfo, IsSurvey};
+ghost use Rattle.flac_rescue.specs.Survey.{BeginsWithInfo, IsSurvey, IsSurveyFault};
 ghost use Rattle.flac_rescue.specs.Head.{IsHead};
 ghost use Rattle.flac_rescue.specs.Gaps.{limit_of, AreWithin};
 
@@ -70,7 +73,8 @@ fn limit_of(total: u64) -> u64
 
 /// STREAMINFO, if it is the first of these blocks.
 fn info_of(blocks: &[Block]) -> Option<StreamInfo>
-    ensures { IfSome result (λ info. BeginsWithInfo info blocks.now) }
+    ensures some { IfSome result (λ info. BeginsWithInfo info blocks.now) }
+    ensures first { (info : Info) → (list : List TheBlock) → blocks.now ≡ block_of.StreamInfo info ∷ list → result ≡ Some info }
 {
     match blocks.first() {
         Some(Block::StreamInfo(info)) => Some(*info),
@@ -85,7 +89,8 @@ fn info_of(blocks: &[Block]) -> Option<StreamInfo>
 fn choose(alloc: Global, found: &[WholeFrame], total: u64) -> Result<Vec<WholeFrame>, SurveyFault>
     ensures kept { IfOk result (λ kept. kept.items ≡ chain (limit_of total) 0 found.now) }
     ensures best { IfOk result (λ kept. IsBest (limit_of total) 0 found.now kept.items) }
-    ensures fault { IfErr result (λ e. (e ≡ SurveyFault.Memory) ⊎ (e ≡ SurveyFault.Unordered)) }
+    ensures fault { IfErr result (λ e. (e ≡ SurveyFault.Memory) ⊎
+        ((e ≡ SurveyFault.Unordered) × (524288 < length found.now))) }
 {
     match best_chain(alloc, found, limit_of(total))? {
         Some(kept) => Ok(kept),
@@ -130,7 +135,7 @@ fn survey_frames(
     requires head { IsHead bytes.now blocks.items front }
     requires info { BeginsWithInfo info blocks.items }
     ensures survey { IfOk result (λ s. IsSurvey bytes.now s) }
-    ensures fault { IfErr result (λ e. (e ≡ SurveyFault.Memory) ⊎ (e ≡ SurveyFault.Unordered)) }
+    ensures fault { IfErr result (λ e. IsSurveyFault bytes.now e) }
 {
     let found = find(alloc, bytes, front, &info)?;
     let stated = info.total();
@@ -148,27 +153,34 @@ fn survey_frames(
     })
 }
 
+/// The fault of metadata blocks that are longer than the input.
+const CUT: Fault = Fault {
+    at: Place::Block(0),
+    why: Why::Truncated,
+};
+
 /// Surveys a native stream: reads its metadata blocks, finds all frames that stand whole after them, chooses those that
 /// belong together, and says what is missing between these.
 ///
 /// The search looks at 64 bytes for each byte at most, and 16777215 more; undamaged streams take 2.
 ///
 /// # Errors
-/// [`SurveyFault::Head`] where the marker or a metadata block is refused; else [`SurveyFault::Memory`] and
-/// [`SurveyFault::Unordered`].
+/// [`SurveyFault::Head`] with the fault of the marker or of a metadata block, as [`flac_native::decode`] tells it, or of an
+/// allocation that failed there; else [`SurveyFault::Memory`] if one failed later, or [`SurveyFault::Unordered`].
 pub fn survey_bytes(alloc: Global, bytes: &[u8]) -> Result<Survey, SurveyFault>
-    ensures { IfOk result (λ s. IsSurvey bytes.now s) }
+    ensures survey { IfOk result (λ s. IsSurvey bytes.now s) }
+    ensures fault { IfErr result (λ e. IsSurveyFault bytes.now e) }
 {
     let Head { blocks, front } = match read_head(alloc, bytes) {
         Ok(head) => head,
         Err(fault) => return Err(SurveyFault::Head(fault)),
     };
     let front = front as usize;
-    match info_of(&blocks) {
-        Some(info) if front <= bytes.len() => survey_frames(alloc, bytes, blocks, front, info),
-        _ => Err(SurveyFault::Head(Fault {
-            at: Place::Block(0),
-            why: Why::Truncated,
-        })),
+    let Some(info) = info_of(&blocks) else {
+        return Err(SurveyFault::Head(CUT));
+    };
+    if front > bytes.len() {
+        return Err(SurveyFault::Head(CUT));
     }
+    survey_frames(alloc, bytes, blocks, front, info)
 }

@@ -1,6 +1,8 @@
 //! Surveys of small streams.
 
-use crate::{SurveyFault, report, survey_bytes, tell_missing};
+use crate::{
+    MOST_SILENCE, SalvageFault, SurveyFault, report, salvage_samples, survey_bytes, tell_missing,
+};
 use flac_bits::Collected;
 use std::alloc::Global;
 use std::test::Fail;
@@ -116,5 +118,64 @@ fn heads_are_refused(rt: HostRuntime) -> Result<(), Fail> {
     assert!(rt; is_refused(rt.alloc(), b"OggS"));
     assert!(rt; is_refused(rt.alloc(), &HEAD[..41]));
     assert!(rt; !is_refused(rt.alloc(), &HEAD));
+    Ok(())
+}
+
+/// Whether samples are runs of 16 of these values.
+fn are_runs(samples: &[i32], values: &[i32]) -> bool {
+    for (place, sample) in samples.iter().enumerate() {
+        match values.get(place / 16) {
+            Some(value) if value == sample => {}
+            _ => return false,
+        }
+    }
+    samples.len() / 16 == values.len()
+}
+
+/// Whether the one channel that is made of frames in this order has runs of 16 of these values.
+fn is_salvaged(alloc: Global, order: &[usize], silence: bool, values: &[i32]) -> bool {
+    let Some(bytes) = damaged(alloc, order) else {
+        return false;
+    };
+    match survey_bytes(alloc, &bytes) {
+        Ok(survey) => match salvage_samples(alloc, &bytes, &survey, silence) {
+            Ok(channels) => channels.len() == 1 && are_runs(&channels[0], values),
+            Err(_) => false,
+        },
+        Err(_) => false,
+    }
+}
+
+#[test]
+fn samples_are_salvaged(rt: HostRuntime) -> Result<(), Fail> {
+    assert!(rt; is_salvaged(rt.alloc(), &[0, 1, 2, 3], true, &[1, 2, 3, 4]));
+    assert!(rt; is_salvaged(rt.alloc(), &[0, 1, 3], true, &[1, 2, 0, 4]));
+    assert!(rt; is_salvaged(rt.alloc(), &[0, 1, 3], false, &[1, 2, 4]));
+    assert!(rt; is_salvaged(rt.alloc(), &[0, 1, 2, 1, 3], true, &[1, 0, 3, 4]));
+    assert!(rt; is_salvaged(rt.alloc(), &[1], true, &[0, 2, 0, 0]));
+    assert!(rt; is_salvaged(rt.alloc(), &[], true, &[0, 0, 0, 0]));
+    assert!(rt; is_salvaged(rt.alloc(), &[], false, &[]));
+    Ok(())
+}
+
+/// Whether there is too much silence before the end of a stream that states this byte of its total.
+fn is_too_long(alloc: Global, silence: bool, byte: u8) -> bool {
+    let mut head = HEAD;
+    head[22] = byte;
+    match survey_bytes(alloc, &head) {
+        Ok(survey) => match salvage_samples(alloc, &head, &survey, silence) {
+            Ok(_) => false,
+            Err(fault) => fault == SalvageFault::TooLong,
+        },
+        Err(_) => false,
+    }
+}
+
+#[test]
+fn silence_is_bounded(rt: HostRuntime) -> Result<(), Fail> {
+    assert!(rt; MOST_SILENCE == 1_073_741_824);
+    assert!(rt; is_too_long(rt.alloc(), true, 0x40));
+    assert!(rt; !is_too_long(rt.alloc(), false, 0x40));
+    assert!(rt; !is_too_long(rt.alloc(), true, 0));
     Ok(())
 }

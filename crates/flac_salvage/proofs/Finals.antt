@@ -15,7 +15,8 @@ use Rattle.flac_info.specs.Info.{Info}
 use Rattle.flac_header.specs.declared.subset.Profile.{Profile}
 use Rattle.flac_frame.specs.Frame.{Frame, frame}
 use Rattle.flac_native.specs.Decoding.{beginning}
-use Rattle.flac_salvage.specs.Standing.{IsFrameAt, RefusalsAreFinal}
+use Rattle.flac_salvage.specs.Standing.{RefusalsAreFinal}
+use Rattle.flac_native.specs.FrameAt.{IsFrameAt}
 
 module _ (profile : Profile) (i : Info) (why : Why) (other : why ≡ Truncated → ⊥) where
   stops_more : (left more : List Bool) → StopsIn (Some 16777215) (frame profile i None) (beginning Truncated) left why → StopsIn (Some 16777215) (frame profile i None) (beginning Truncated) (left ++ more) why

@@ -7,7 +7,8 @@ use Rattle.flac_salvage.specs.Standing.{Stands, NoneBetween, NoneStands, IsNextW
 use Rattle.flac_salvage.specs.Found.{Spot, Found}
 use Rattle.flac_salvage.specs.Kept.{FoundUpTo, AreFound, kept_of}
 use Rattle.flac_salvage.specs.declared.find.WholeFrame.{WholeFrame}
-use Rattle.flac_salvage.proofs.FramesRead.{lt_or_not, none_past, frame_some}
+use Rattle.flac_salvage.proofs.NoneBetween.{lt_or_not}
+use Rattle.flac_native.proofs.FramesRead.{none_past, frame_some}
 use Rattle.flac_bits.specs.Bits.{bits_of}
 use Rattle.flac_native.specs.Decoding.{beginning}
 use Rattle.flac_bits.specs.declared.why.Why.TheVariants.{Truncated}

@@ -5,7 +5,7 @@ use Rattle.flac_header.specs.declared.subset.Profile.{Profile}
 use Rattle.flac_frame.specs.Frame.{Frame}
 use Rattle.flac_salvage.specs.Standing.{Stands, IsNextWhole}
 use Rattle.flac_salvage.specs.Found.{Spot, Found, Covers, SomeOf, IsIn, missing, IsMet, NoneIsMissed, EachIsTold, NoneIsBoth, FoundOnce}
-use Rattle.flac_salvage.proofs.FramesRead.{lt_or_not}
+use Rattle.flac_salvage.proofs.NoneBetween.{lt_or_not}
 
 -- ---- none is missed
 

@@ -1,4 +1,4 @@
-pub mod FramesRead
+pub mod NoneBetween
 pub mod Finals
 pub mod Founds
 pub mod Locals

@@ -7,7 +7,7 @@ use Rattle.flac_bits.proofs.Holding.{length-bits_of, bits_of-append}
 use Rattle.flac_info.specs.Info.{Info}
 use Rattle.flac_header.specs.declared.subset.Profile.{Profile}
 use Rattle.flac_frame.specs.Frame.{Frame}
-use Rattle.flac_salvage.specs.Standing.{IsFrameAt}
+use Rattle.flac_native.specs.FrameAt.{IsFrameAt}
 use Rattle.flac_salvage.specs.Found.{FramesAreLocal}
 
 module _ (profile : Profile) (i : Info) (xs ys : List ℕ) (f : Frame) (n : ℕ) where

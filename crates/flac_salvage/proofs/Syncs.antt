@@ -21,7 +21,8 @@ use Rattle.flac_frame.specs.Frame.{Frame}
 use Rattle.flac_frame.specs.Spelling.{FrameForm, frame_spelling, subframes_spelling, filled}
 use Rattle.flac_frame.proofs.FrameTie.{frames_spelled}
 use Rattle.flac_native.specs.Decoding.{beginning}
-use Rattle.flac_salvage.specs.Standing.{IsFrameAt, Stands, NoneAt}
+use Rattle.flac_salvage.specs.Standing.{Stands, NoneAt}
+use Rattle.flac_native.specs.FrameAt.{IsFrameAt}
 use Rattle.flac_salvage.specs.inner.Syncs.{IsSync}
 
 -- the first bits of a header

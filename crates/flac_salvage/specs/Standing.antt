@@ -1,22 +1,11 @@
 -- Where whole frames stand in bytes, whatever is around them (RFC 9639, section 9).
-use Rattle.std.specs.Prelude.{◌≡◌, ℕ, ◌<◌, ◌≤◌, Bool, List, ◌++◌, length, drop, Some, None}
-use Rattle.flac_bits.specs.Bits.{bits_of}
-use Rattle.flac_bits.specs.Meaning.{Spells}
-use Rattle.flac_bits.specs.Fence.{InRoom, StopsIn}
+use Rattle.std.specs.Prelude.{◌≡◌, ℕ, ◌<◌, ◌≤◌, List, ◌++◌, length, drop}
 use Rattle.flac_bits.specs.declared.why.Why.{Why}
 use Rattle.flac_bits.specs.declared.why.Why.TheVariants.{Truncated}
 use Rattle.flac_info.specs.Info.{Info}
 use Rattle.flac_header.specs.declared.subset.Profile.{Profile}
-use Rattle.flac_frame.specs.Frame.{Frame, frame}
-use Rattle.flac_native.specs.Decoding.{beginning}
-
--- The first n of these bytes spell the frame, whatever its number is, and are no more than a frame may have.
-pub record IsFrameAt (profile : Profile) (i : Info) (bytes : List ℕ) (f : Frame) (n : ℕ) : Type 0 where
-  pub text : List Bool
-  pub split : bits_of bytes ≡ text ++ bits_of (drop n bytes)
-  pub within : n ≤ length bytes
-  pub spelled : Spells (frame profile i None) (beginning Truncated) text f
-  pub room : InRoom (Some 16777215) (beginning Truncated) text
+use Rattle.flac_frame.specs.Frame.{Frame}
+use Rattle.flac_native.specs.FrameAt.{IsFrameAt, NoFrameAt}
 
 -- the frame stands whole at an offset, in n bytes
 abbrev pub Stands : Profile → Info → List ℕ → (at : ℕ) → Frame → (n : ℕ) → Type 0
@@ -43,7 +32,7 @@ pub record IsNextWhole (profile : Profile) (i : Info) (bytes : List ℕ) (from a
 
 -- there is no frame at an offset, for this reason
 abbrev pub IsRefusedAt : Profile → Info → List ℕ → (at : ℕ) → Why → Type 0
-IsRefusedAt profile i bytes at why = StopsIn (Some 16777215) (frame profile i None) (beginning Truncated) (bits_of (drop at bytes)) why
+IsRefusedAt profile i bytes at why = NoFrameAt profile i (drop at bytes) why
 
 -- If the reason is not that the bytes end, there is none whatever follows.
 abbrev pub RefusalsAreFinal : Type 0

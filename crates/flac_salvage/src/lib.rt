@@ -11,4 +11,4 @@ mod tests;
 pub use chain::{MOST_UNORDERED, best_chain};
 pub use find::{WholeFrame, WholeFrames, whole_frames};
 pub use laws::{frames_are_local, whole_frames_are_found};
-pub use next::next_whole;
+pub use next::{next_whole, whole_at};

@@ -1,10 +1,11 @@
 //! The next whole frame in bytes.
 
-ghost use Rattle.std.specs.Prelude.{◌≡◌, ◌≤◌, ◌<◌, ℕ, IfOk, IfErr, OnErr, IsOkAnd, IfSome, Ok, None, drop, ◌+◌, length, get_or, false};
+ghost use Rattle.std.specs.Prelude.{◌≡◌, ◌≤◌, ◌<◌, ℕ, IfOk, IfErr, OnErr, IsOkAnd, IfSome, Ok, Some, None, drop, ◌+◌, length, get_or, false};
 ghost use Rattle.flac_info.specs.Info.{KeepsRules};
 ghost use Rattle.flac_frame.specs.Frame.{Frame};
 ghost use Rattle.flac_salvage.specs.inner.Syncs.{IsSync};
-ghost use Rattle.flac_salvage.specs.Standing.{IsFrameAt, Stands, IsNextWhole, NoneStands, NoneBetween};
+ghost use Rattle.flac_salvage.specs.Standing.{Stands, IsNextWhole, NoneStands, NoneBetween};
+ghost use Rattle.flac_native.specs.FrameAt.{IsFrameAt};
 
 use flac_bits::{BitReader, Memory, Why};
 use flac_frame::FrameBuffers;
@@ -91,6 +92,36 @@ fn fill_at(
         return Err(Why::BadSync);
     }
     fill_frame(bytes_from(bytes, at as u64), info, profile, buffers, budget)
+}
+
+/// Reads the frame that stands whole at an offset and fits STREAMINFO, whatever its number is, and returns how many bytes
+/// it has. The frame is in the buffers. `None` if none stands there.
+pub fn whole_at(
+    bytes: &[u8],
+    at: usize,
+    info: &StreamInfo,
+    profile: Profile,
+    buffers: &mut FrameBuffers,
+) -> Option<u64>
+    requires channels { info.now.channels ≤ buffers.old.channels }
+    requires block { info.now.greatest_block ≤ buffers.old.max_block }
+    requires first { buffers.old.before ≡ None }
+    ensures room { (buffers.new.channels ≡ buffers.old.channels) × (buffers.new.max_block ≡ buffers.old.max_block) }
+    ensures found { IfSome result (λ n. Stands profile info.now bytes.now at buffers.new.held n) }
+    ensures only { (f : Frame) → (n : ℕ) → Stands profile info.now bytes.now at f n
+        → (buffers.new.held ≡ f) × (result ≡ Some n) }
+{
+    // Asked only for the proof, which then knows that STREAMINFO keeps its rules.
+    let _channels = info.channels();
+    if at >= bytes.len() {
+        return None;
+    }
+    // One frame is read, whatever it costs.
+    let mut budget = u64::MAX;
+    match fill_at(bytes, at, info, profile, buffers, &mut budget) {
+        Ok(taken) => Some(taken),
+        Err(_) => None,
+    }
 }
 
 /// The least offset from `from` on at which a whole frame stands that fits STREAMINFO, whatever its number is, and how

@@ -1,7 +1,8 @@
 //! Whole frames among other bytes.
 
 use crate::{
-    WholeFrame, best_chain, frames_are_local, next_whole, whole_frames, whole_frames_are_found,
+    WholeFrame, best_chain, frames_are_local, next_whole, whole_at, whole_frames,
+    whole_frames_are_found,
 };
 use flac_frame::FrameBuffers;
 use flac_header::Profile;
@@ -42,6 +43,28 @@ fn found(rt: HostRuntime) -> Result<(), Fail> {
     assert!(rt; look(rt.alloc(), 25, 100000) == Ok(None));
     assert!(rt; look(rt.alloc(), 3, 0) == Err(3));
     assert!(rt; look(rt.alloc(), 3, 1) == Err(14));
+    Ok(())
+}
+
+/// How many bytes the frame at an offset has, and its first sample.
+fn at_offset(alloc: Global, at: usize) -> Option<(u64, i32)> {
+    let info = StreamInfo::of_format(16, 44100, 1, 8);
+    let mut buffers = FrameBuffers::new(alloc, 1, 16).ok()?;
+    let taken = whole_at(&BYTES, at, &info, Profile::Subset, &mut buffers)?;
+    let view = buffers.view();
+    if view.is_empty() || view.channels() == 0 {
+        return None;
+    }
+    Some((taken, view.sample(0, 0)))
+}
+
+#[test]
+fn found_at_offsets(rt: HostRuntime) -> Result<(), Fail> {
+    assert!(rt; at_offset(rt.alloc(), 2) == Some((11, 5)));
+    assert!(rt; at_offset(rt.alloc(), 3).is_none());
+    assert!(rt; at_offset(rt.alloc(), 13).is_none());
+    assert!(rt; at_offset(rt.alloc(), 24) == Some((11, 5)));
+    assert!(rt; at_offset(rt.alloc(), 35).is_none());
     Ok(())
 }
 

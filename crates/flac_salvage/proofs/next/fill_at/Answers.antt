@@ -1,5 +1,5 @@
 use Rattle.std.proofs.Common.{ℕ, List, sym, subst}
-use Rattle.flac_salvage.specs.Standing.{IsFrameAt}
+use Rattle.flac_native.specs.FrameAt.{IsFrameAt}
 use Rattle.flac_salvage.proofs.Syncs.{no_sync}
 use Rattle.flac_salvage.proofs.next.fill_at.Goals as goal
 

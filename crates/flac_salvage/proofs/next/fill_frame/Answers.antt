@@ -1,5 +1,5 @@
 use Rattle.std.proofs.Common.{arith}
-use Rattle.flac_salvage.proofs.FramesRead.{filled, found_ok, only_ok, only_err}
+use Rattle.flac_native.proofs.FramesRead.{filled, found_ok, only_ok, only_err}
 use Rattle.flac_salvage.proofs.next.fill_frame.Goals as goal
 
 pub returns-in-Ok-clause-found : goal.returns-in-Ok-clause-found

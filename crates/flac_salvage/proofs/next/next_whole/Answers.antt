@@ -1,5 +1,5 @@
 use Rattle.std.proofs.Common.{arith, ◌∙◌}
-use Rattle.flac_salvage.proofs.FramesRead.{none_more, none_all}
+use Rattle.flac_salvage.proofs.NoneBetween.{none_more, none_all}
 use Rattle.flac_salvage.proofs.next.next_whole.Goals as goal
 
 pub returns-in-Ok-clause-found : goal.returns-in-Ok-clause-found
