@@ -1,2 +1,3 @@
+pub mod JobFiles
 pub mod Replacing
 pub mod Unknown

@@ -119,37 +119,58 @@ impl Write for Output {
     }
 }
 
-/// A new file beside one that has bytes. It takes the place of the old one when the job is done. Until then, and if the
-/// job fails, the old file stays as it was.
+/// What is at a path that a job writes to.
+#[derive(Clone, Copy)]
+pub(crate) enum Before {
+    /// A file that may be replaced.
+    Replaceable,
+    /// A file that may not be replaced.
+    Kept,
+    /// No file.
+    Nothing,
+}
+
+/// A new file beside the path that a job writes to, which it gets when the job is done. Until then, and if the job
+/// fails, what is at that path stays as it was.
 #[derive(Drop)]
 pub(crate) struct Replacement {
     part: String,
     path: PathBuf,
-    /// Whether it may take that place.
-    is_allowed: bool,
+    before: Before,
+    /// Whether the new file is of no use if the job fails.
+    is_whole: bool,
 }
 
 impl Replacement {
-    /// Ends the job. If its status is 0, the new file is stored and takes the place of the old one. Otherwise it keeps
-    /// what was written; it is removed if that is nothing.
+    /// What cannot be done if the job is done and this fails: `replaced`, or `stored` if there was no file.
+    pub(crate) fn refusal(&self) -> &'static str {
+        match self.before {
+            Before::Nothing => "stored",
+            _ => "replaced",
+        }
+    }
+
+    /// Ends the job. If its status is 0, the new file is stored and gets the path. Otherwise it keeps what was written;
+    /// it is removed if that is nothing, or is of use only as a whole.
     ///
     /// # Errors
-    /// The new file cannot be stored, or cannot or may not take the place of the old one: it stays beside it. After a
-    /// job that failed: an empty new file cannot be removed.
+    /// The new file cannot be stored, or cannot or may not get the path: it stays beside it. After a job that failed: it
+    /// cannot be removed.
     pub(crate) fn end(self, rt: &HostRuntime, output: Output, status: u8) -> io::Result<()> {
         let Replacement {
             part,
             path,
-            is_allowed,
+            before,
+            is_whole,
         } = self;
         if status == 0 {
             output.store()?;
-            if !is_allowed {
+            if !is_free(rt, path.as_str(), before) {
                 return Err(io::Error::from(ErrorKind::AlreadyExists));
             }
             return std::fs::rename(rt, part.as_str(), path.as_str());
         }
-        if std::fs::metadata(rt, part.as_str())?.len() == 0 {
+        if is_whole || std::fs::metadata(rt, part.as_str())?.len() == 0 {
             std::fs::remove_file(rt, part.as_str())?;
         }
         Ok(())
@@ -159,6 +180,23 @@ impl Replacement {
     pub(crate) fn remove(self, rt: &HostRuntime) {
         // If it cannot be removed, it stays beside the old one.
         let _ = std::fs::remove_file(rt, self.part.as_str());
+    }
+}
+
+/// Whether a new file may get this path now, at which this was. A file that was made there meanwhile is not replaced.
+fn is_free(rt: &HostRuntime, path: &str, before: Before) -> bool {
+    match before {
+        Before::Replaceable => true,
+        Before::Kept => false,
+        Before::Nothing => is_vacant(rt, path),
+    }
+}
+
+/// Whether there is nothing at this path, not even a link that leads nowhere.
+fn is_vacant(rt: &HostRuntime, path: &str) -> bool {
+    match std::fs::symlink_metadata(rt, path) {
+        Ok(_) => false,
+        Err(error) => error.kind() == ErrorKind::NotFound,
     }
 }
 
@@ -213,9 +251,23 @@ pub(crate) struct Rule<'a> {
     pub(crate) input: &'a Input,
     /// Whether it may replace any file.
     pub(crate) force: bool,
+    /// Whether what it writes is of use only as a whole.
+    pub(crate) is_whole: bool,
 }
 
 impl Rule<'_> {
+    /// What the file of this path is, which has bytes.
+    ///
+    /// # Errors
+    /// Those of [`Rule::allows`].
+    fn before_at(&self, rt: &HostRuntime, path: &str) -> io::Result<Before> {
+        Ok(if self.allows(rt, path)? {
+            Before::Replaceable
+        } else {
+            Before::Kept
+        })
+    }
+
     /// Whether the job may replace the file of this path, which has bytes ([`may_replace`]). False if a retagging
     /// reads no native stream, which the job reports: nothing is replaced then.
     ///
@@ -287,7 +339,8 @@ fn read_front(file: &File, places: &mut [u8]) -> io::Result<usize>
 }
 
 /// Opens what a job writes to. A file that has bytes is not touched: a new one is opened beside it, if the rule lets
-/// the job replace it.
+/// the job replace it. If there is no file and the output is of use only as a whole, a new one is opened beside that
+/// path too, which it gets when the job is done.
 ///
 /// The files that the job reads are refused. First the paths are compared, with `.`, `..` and symbolic links resolved.
 /// Then the file is opened, and its device and inode are compared with those of each, so that a hard link is seen too.
@@ -316,6 +369,24 @@ pub(crate) fn create(
         differ_from_all(&std::fs::metadata(rt, path)?, input, list)?;
         return Ok((Output::Standard(rt.stdout()), None));
     }
+    if rule.is_whole && is_vacant(rt, path) {
+        let (file, replacement) = create_for(rt, path)?;
+        return Ok((Output::File(file), Some(replacement)));
+    }
+    create_over(rt, path, input, list, rule)
+}
+
+/// Opens what a job writes to, a path that may have a file already.
+///
+/// # Errors
+/// Those of [`create`].
+fn create_over(
+    rt: &HostRuntime,
+    path: &str,
+    input: &Known<'_>,
+    list: Option<&Known<'_>>,
+    rule: Rule<'_>,
+) -> io::Result<(Output, Option<Replacement>)> {
     let file = OpenOptions::new().write(true).create(true).open(rt, path)?;
     let found = file.metadata()?;
     differ_from_all(&found, input, list)?;
@@ -325,14 +396,29 @@ pub(crate) fn create(
     if found.len() == 0 {
         return Ok((Output::File(file), None));
     }
-    let is_allowed = rule.allows(rt, path)?;
-    let (file, replacement) = create_beside(rt, path, &found, is_allowed)?;
+    let before = rule.before_at(rt, path)?;
+    let (file, mut replacement) = create_beside(rt, path, &found)?;
+    replacement.before = before;
+    replacement.is_whole = rule.is_whole;
     Ok((Output::File(file), Some(replacement)))
 }
 
-/// Creates a new file beside another, with the same permissions; at no time has it more. Its path is that of the other
-/// followed by `.part`, or by `.part2` to `.part99` if that is taken. If its name would be too long, the end of the
-/// other's is left out.
+/// Creates a new file for a path at which there is none, beside that path.
+///
+/// # Errors
+/// The file cannot be created.
+fn create_for(rt: &HostRuntime, path: &str) -> io::Result<(File, Replacement)> {
+    let (file, part) = create_part(rt, path, 0o666)?;
+    let replacement = Replacement {
+        part,
+        path: PathBuf::from_str(rt.alloc(), path)?,
+        before: Before::Nothing,
+        is_whole: true,
+    };
+    Ok((file, replacement))
+}
+
+/// Creates a new file beside another, whose place it may take, with the same permissions; at no time has it more.
 ///
 /// # Errors
 /// The file cannot be created.
@@ -340,27 +426,36 @@ pub(crate) fn create_beside(
     rt: &HostRuntime,
     path: &str,
     found: &Metadata,
-    is_allowed: bool,
 ) -> io::Result<(File, Replacement)> {
     let path = std::fs::canonicalize(rt, path)?;
+    let (file, part) = create_part(rt, path.as_str(), found.mode() & 0o777)?;
+    // The system took some of them away. Not every file system has permissions.
+    let _ = file.set_permissions(found.permissions());
+    let replacement = Replacement {
+        part,
+        path,
+        before: Before::Replaceable,
+        is_whole: false,
+    };
+    Ok((file, replacement))
+}
+
+/// Creates a new file beside a path, with these permissions, or fewer if the system takes some away, and returns its
+/// path: the other followed by `.part`, or by `.part2` to `.part99` if that is taken. If its name would be too long, the
+/// end of the other's is left out.
+///
+/// # Errors
+/// The file cannot be created.
+fn create_part(rt: &HostRuntime, path: &str, mode: u32) -> io::Result<(File, String)> {
     for n in 1..100u32 {
-        let part = part_name(rt, path.as_str(), n)?;
+        let part = part_name(rt, path, n)?;
         let created = OpenOptions::new()
             .write(true)
             .create_new(true)
-            .mode(found.mode() & 0o777)
+            .mode(mode)
             .open(rt, part.as_str());
         match created {
-            Ok(file) => {
-                // The system took some of them away. Not every file system has permissions.
-                let _ = file.set_permissions(found.permissions());
-                let replacement = Replacement {
-                    part,
-                    path,
-                    is_allowed,
-                };
-                return Ok((file, replacement));
-            }
+            Ok(file) => return Ok((file, part)),
             Err(error) if error.kind() == ErrorKind::AlreadyExists => {}
             Err(error) => return Err(error),
         }

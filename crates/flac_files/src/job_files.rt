@@ -1,7 +1,8 @@
 //! All files of a job.
 
-ghost use Rattle.std.specs.Prelude.{◌≡◌, ◌≤◌, ◌⊎◌, [], Some, None, length, IfOk, IfErr, OnErr};
-ghost use Rattle.flac_jobs.specs.Asks.{input_of, list_of, output_of};
+ghost use Rattle.std.specs.Prelude.{◌≡◌, ◌≤◌, [], Some, None, length, IfOk, IfErr, OnErr};
+ghost use Rattle.flac_jobs.specs.Asks.{list_of, output_of};
+ghost use Rattle.flac_files.specs.JobFiles.{IsFileOf};
 
 use crate::files::{Input, Known, Output, Replacement, Rule, create};
 use crate::list::List;
@@ -35,8 +36,41 @@ impl<'a> JobFiles<'a> {
     ) -> Result<JobFiles<'a>, FileRefused<'a>>
         ensures few { IfOk result (λ files. length files.list.text.items ≤ 1048576) }
         ensures none { list_of job.now ≡ None → IfOk result (λ files. files.list.text.items ≡ []) }
-        ensures refused { IfErr result (λ refused. (refused.path.now ≡ input_of job.now)
-            ⊎ ((list_of job.now ≡ Some refused.path.now) ⊎ (output_of job.now ≡ Some refused.path.now))) }
+        ensures refused { IfErr result (λ refused. IsFileOf job.now refused.path.now) }
+    {
+        JobFiles::opened(rt, job, force, false)
+    }
+
+    /// Opens the files of a job as [`JobFiles::open`] does, whose output is of use only as a whole: if the job fails, a new
+    /// file is removed. A path that has no file gets one when the job is done, and none if the job fails.
+    ///
+    /// # Errors
+    /// Those of [`JobFiles::open`].
+    pub fn open_whole(
+        rt: &HostRuntime,
+        job: &Job<'a>,
+        force: bool,
+    ) -> Result<JobFiles<'a>, FileRefused<'a>>
+        ensures few { IfOk result (λ files. length files.list.text.items ≤ 1048576) }
+        ensures none { list_of job.now ≡ None → IfOk result (λ files. files.list.text.items ≡ []) }
+        ensures refused { IfErr result (λ refused. IsFileOf job.now refused.path.now) }
+    {
+        JobFiles::opened(rt, job, force, true)
+    }
+
+    /// Opens the files of a job. `is_whole`: what it writes is of use only as a whole.
+    ///
+    /// # Errors
+    /// Those of [`JobFiles::open`].
+    fn opened(
+        rt: &HostRuntime,
+        job: &Job<'a>,
+        force: bool,
+        is_whole: bool,
+    ) -> Result<JobFiles<'a>, FileRefused<'a>>
+        ensures few { IfOk result (λ files. length files.list.text.items ≤ 1048576) }
+        ensures none { list_of job.now ≡ None → IfOk result (λ files. files.list.text.items ≡ []) }
+        ensures refused { IfErr result (λ refused. IsFileOf job.now refused.path.now) }
     {
         let standard = StandIns::new(rt);
         let path = job.input();
@@ -51,6 +85,7 @@ impl<'a> JobFiles<'a> {
             job: &*job,
             input: &input,
             force,
+            is_whole,
         };
         let (output, replacement) = created(rt, job, &list, rule)?;
         let ending = Ending {
@@ -106,10 +141,10 @@ pub struct Ending<'a> {
 impl<'a> Ending<'a> {
     /// Ends a job of this status, which wrote to `output`. If that is a regular file and the status is 0, it is
     /// stored. A new file beside one that has bytes then takes the place of the old one. If the job failed, the new
-    /// file keeps what was written, and the old one stays as it was.
+    /// file keeps what was written, and the old one stays as it was; a new file that is of use only as a whole is removed.
     ///
     /// # Errors
-    /// The job is done, but the file cannot be stored, or cannot take the place of the old one.
+    /// The job is done, but the file cannot be stored, or cannot take the place of the old one, or get its path.
     pub fn end(self, rt: &HostRuntime, output: Output, status: u8) -> Result<(), FileRefused<'a>>
         ensures { OnErr result (status ≡ 0) }
     {
@@ -122,7 +157,10 @@ impl<'a> Ending<'a> {
             return Ok(());
         };
         let (ended, what) = match replacement {
-            Some(replacement) => (replacement.end(rt, output, status), "replaced"),
+            Some(replacement) => {
+                let what = replacement.refusal();
+                (replacement.end(rt, output, status), what)
+            }
             None => (output.end(status), "stored"),
         };
         match ended {

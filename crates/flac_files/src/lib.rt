@@ -1,8 +1,8 @@
 //! The files of a job of the program `flac`: what it reads, and what it writes to.
 //!
-//! What a system does with files cannot be claimed. So but for [`List::of`], [`may_replace`], [`read_picture`] and [`read_comment_lines`] the
-//! calls of this library have few clauses: they are proved to be safe and to return. What the program does with the bytes is stated
-//! by `flac_cli`.
+//! What a system does with files cannot be claimed. So but for [`List::of`], [`may_replace`], [`read_picture`] and
+//! [`read_comment_lines`] the calls of this library have few clauses: they are proved to be safe and to return. What the
+//! program does with the bytes is stated by `flac_cli`.
 #![tactic(auto)]
 
 mod comment_lines;

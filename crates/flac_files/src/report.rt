@@ -126,7 +126,7 @@ fn resumed(rt: &HostRuntime, path: &str) -> io::Result<ReportFile> {
 /// # Errors
 /// That of the system. The report stays as it was until its place is taken.
 fn replaced(rt: &HostRuntime, path: &str, found: &Metadata, lines: &[u8]) -> io::Result<File> {
-    let (mut file, replacement) = create_beside(rt, path, found, true)?;
+    let (mut file, replacement) = create_beside(rt, path, found)?;
     match file.write_all(lines) {
         Ok(()) => replacement.end(rt, Output::File(file), 0)?,
         Err(error) => {

@@ -193,7 +193,7 @@ impl<'a> TagFile<'a> {
     /// The new file cannot be created.
     pub fn beside(&self, rt: &HostRuntime) -> Result<(Output, NewFile<'a>), FileRefused<'a>> {
         let path = self.path;
-        let Ok((file, replacement)) = create_beside(rt, path, &self.found, true) else {
+        let Ok((file, replacement)) = create_beside(rt, path, &self.found) else {
             return Err(FileRefused {
                 path,
                 what: "replaced",

@@ -1,11 +1,11 @@
 //! Editings: what `flac edit` is asked for.
 
-/// Metadata blocks that are removed, by a word of the command line.
+/// Metadata blocks that are removed or listed, by a word of the command line. STREAMINFO cannot be removed.
 #[derive(Clone, Copy, Debug, PartialEq, Eq)]
 pub enum BlockName {
-    /// The block of this number, 1 or more: block 0 is STREAMINFO.
+    /// The block of this number; STREAMINFO is block 0.
     Number(u32),
-    /// All blocks of this type, 1 to 126 (RFC 9639, section 8.1).
+    /// All blocks of this type, 0 to 126 (RFC 9639, section 8.1).
     Kind(u8),
     /// All application blocks of this identifier (section 8.4).
     Application([u8; 4]),

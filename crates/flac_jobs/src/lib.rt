@@ -4,6 +4,7 @@
 
 mod comparisons;
 mod editings;
+mod excerpts;
 mod exportings;
 mod formats;
 mod jobs;
@@ -12,12 +13,14 @@ mod line_faults;
 mod listings;
 mod recodings;
 mod requests;
+mod salvages;
 mod search_effort;
 mod taggings;
 mod verifications;
 
 pub use comparisons::Comparison;
 pub use editings::{BlockName, Editing, PictureForm, PictureWord};
+pub use excerpts::{Excerpt, Moment};
 pub use exportings::{ExportPart, Exporting};
 pub use formats::{ContainerKind, RawFormat};
 pub use jobs::{CommandLine, Job};
@@ -26,6 +29,7 @@ pub use line_faults::LineFault;
 pub use listings::Listing;
 pub use recodings::Recoding;
 pub use requests::Request;
+pub use salvages::{Filling, Salvage};
 pub use search_effort::SearchEffort;
 pub use taggings::{TagEdit, TagMode, Tagging};
 pub use verifications::Verification;

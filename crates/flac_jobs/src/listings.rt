@@ -1,5 +1,7 @@
 //! Listings: what `flac list` is asked for beside one stream.
 
+use crate::editings::BlockName;
+
 /// The streams whose metadata is listed, one after another; each after a line with its path if there are several.
 #[derive(Debug, Drop)]
 pub struct Listing<'a> {
@@ -11,4 +13,8 @@ pub struct Listing<'a> {
     pub any: bool,
     /// Whether the blocks alone are read, and no frame is verified.
     pub head: bool,
+    /// Whether the metadata is printed as JSON.
+    pub json: bool,
+    /// The blocks that are listed, no name for all; `None` if a word names no blocks.
+    pub blocks: Option<Vec<BlockName>>,
 }

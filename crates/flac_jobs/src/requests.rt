@@ -2,10 +2,12 @@
 
 use crate::comparisons::Comparison;
 use crate::editings::Editing;
+use crate::excerpts::Excerpt;
 use crate::exportings::Exporting;
 use crate::jobs::CommandLine;
 use crate::listings::Listing;
 use crate::recodings::Recoding;
+use crate::salvages::Salvage;
 use crate::taggings::Tagging;
 use crate::verifications::Verification;
 
@@ -28,4 +30,8 @@ pub enum Request<'a> {
     Same(Comparison<'a>),
     /// A stream is encoded anew.
     Recode(Recoding<'a>),
+    /// A part of the samples of a stream is decoded.
+    Excerpt(Excerpt<'a>),
+    /// The whole frames of a damaged stream are encoded anew.
+    Salvage(Salvage<'a>),
 }

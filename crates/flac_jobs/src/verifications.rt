@@ -14,4 +14,6 @@ pub struct Verification<'a> {
     pub resume: Option<&'a str>,
     /// The path of an older report with which the files are compared. Not with `resume`.
     pub against: Option<&'a str>,
+    /// Whether each damaged frame of a bad file is reported, and not the first alone.
+    pub all: bool,
 }

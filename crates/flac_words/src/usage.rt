@@ -1,12 +1,15 @@
 //! The commands of the program as `clap` is given them: their arguments and their help.
 
+pub(crate) mod block_names;
 pub(crate) mod decode;
 pub(crate) mod edit;
 pub(crate) mod encode;
 pub(crate) mod export;
 pub(crate) mod list;
+pub(crate) mod moments;
 pub(crate) mod recode;
 pub(crate) mod retag;
+pub(crate) mod salvage;
 pub(crate) mod same;
 pub(crate) mod tag;
 pub(crate) mod test;
@@ -21,6 +24,7 @@ use export::EXPORT;
 use list::LIST;
 use recode::RECODE;
 use retag::RETAG;
+use salvage::SALVAGE;
 use same::SAME;
 use std::alloc::{AllocError, Global};
 use tag::TAG;
@@ -166,6 +170,7 @@ fn commands<'a>(alloc: Global) -> Result<Vec<Command<'a>>, AllocError> {
     let mut commands = Vec::new(alloc);
     for usage in [
         &TEST, &DECODE, &LIST, &ENCODE, &RETAG, &TAG, &EDIT, &EXPORT, &VERIFY, &SAME, &RECODE,
+        &SALVAGE,
     ] {
         add_command(&mut commands, alloc, usage)?;
     }

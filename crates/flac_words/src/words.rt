@@ -3,13 +3,14 @@
 ghost use Rattle.std.specs.Prelude.{◌≤◌, IfErr, IfSome};
 
 use crate::usage::command;
-use crate::usage::decode::decode_job;
+use crate::usage::decode::{asks_excerpt, decode_job, excerpt_request, fault_of_excerpt};
 use crate::usage::edit::{edit_request, fault_of_editing};
 use crate::usage::encode::encode_job;
 use crate::usage::export::{export_request, fault_of_exporting};
-use crate::usage::list::list_request;
+use crate::usage::list::{fault_of_listing, list_request};
 use crate::usage::recode::{fault_of_recoding, recode_request};
 use crate::usage::retag::retag_job;
+use crate::usage::salvage::salvage_request;
 use crate::usage::same::{fault_of_comparison, same_request};
 use crate::usage::tag::{fault_of_tagging, tag_request};
 use crate::usage::test::test_job;
@@ -17,13 +18,43 @@ use crate::usage::verify::{fault_of_verification, verify_request};
 use clap::ArgMatches;
 use clap::error::ErrorKind;
 use flac_jobs::{CommandLine, ContainerKind, Job, LineFault, Request};
-use std::alloc::Global;
+use std::alloc::{AllocError, Global};
 use std::borrow::CowStr;
 use std::env::Env;
 use std::io;
 
 /// The most bytes of a word that Linux passes to a program.
 const MOST_OF_WORD: usize = 131072;
+
+/// The line that is printed if an option of raw samples is missing.
+const NO_FORMAT: &str = "flac: command: raw samples need --rate, --channels and --bits\n";
+
+/// Why the words ask for nothing.
+#[derive(Drop)]
+enum NoRequest {
+    /// `clap` refuses them, or has help to print, or an allocation fails.
+    Words(clap::Error),
+    /// For a reason that this line tells.
+    Line(&'static str),
+}
+
+impl From<clap::Error> for NoRequest {
+    fn from(error: clap::Error) -> NoRequest {
+        NoRequest::Words(error)
+    }
+}
+
+impl From<AllocError> for NoRequest {
+    fn from(error: AllocError) -> NoRequest {
+        NoRequest::Words(clap::Error::from(error))
+    }
+}
+
+impl From<&'static str> for NoRequest {
+    fn from(line: &'static str) -> NoRequest {
+        NoRequest::Line(line)
+    }
+}
 
 /// Reads the command line. `words` are its words, the program's name first.
 ///
@@ -37,17 +68,12 @@ pub fn request<'a>(alloc: Global, words: &'a [String]) -> Result<Request<'a>, Li
         return Err(tip);
     }
     match parsed(alloc, words) {
-        Ok(Some(request)) => match fault_of(alloc, &request) {
+        Ok(request) => match fault_of(alloc, &request) {
             Some(fault) => Err(fault),
             None => Ok(request),
         },
-        Ok(None) => Err(LineFault {
-            text: CowStr::Borrowed(
-                "flac: command: raw samples need --rate, --channels and --bits\n",
-            ),
-            status: 2,
-        }),
-        Err(error) => Err(refused(alloc, &error)),
+        Err(NoRequest::Line(line)) => Err(LineFault::refused(line)),
+        Err(NoRequest::Words(error)) => Err(refused(alloc, &error)),
     }
 }
 
@@ -156,12 +182,33 @@ fn refused(alloc: Global, error: &clap::Error) -> LineFault
     LineFault::no_memory()
 }
 
-/// What the command line asks for, or `None` if an option of raw samples is missing.
-fn parsed<'a>(alloc: Global, words: &'a [String]) -> Result<Option<Request<'a>>, clap::Error> {
+/// What the command line asks for.
+///
+/// # Errors
+/// Why it asks for nothing.
+fn parsed<'a>(alloc: Global, words: &'a [String]) -> Result<Request<'a>, NoRequest> {
     let matches = command(alloc)?.try_get_matches_from(words)?;
     match matches.subcommand() {
-        Some((name, given)) => request_of(alloc, name, given),
-        None => Ok(None),
+        Some((name, given)) => asked(alloc, name, given),
+        None => Err(NoRequest::Line(NO_FORMAT)),
+    }
+}
+
+/// What a command asks for with its arguments.
+///
+/// # Errors
+/// Why it asks for nothing.
+fn asked<'a>(alloc: Global, name: &str, given: &ArgMatches<'a>) -> Result<Request<'a>, NoRequest> {
+    let request = if name == "decode" && asks_excerpt(given) {
+        excerpt_request(given)?
+    } else if name == "salvage" {
+        salvage_request(given)?
+    } else {
+        request_of(alloc, name, given)?
+    };
+    match request {
+        Some(request) => Ok(request),
+        None => Err(NoRequest::Line(NO_FORMAT)),
     }
 }
 
@@ -224,13 +271,15 @@ fn fault_of(alloc: Global, request: &Request<'_>) -> Option<LineFault>
 {
     match request {
         Request::Job(line) => fault_of_job(alloc, &line.job),
+        Request::ListFiles(listing) => fault_of_listing(listing),
         Request::Tag(tagging) => fault_of_tagging(tagging),
         Request::Verify(verification) => fault_of_verification(verification),
         Request::Edit(editing) => fault_of_editing(editing),
         Request::Export(exporting) => fault_of_exporting(exporting),
         Request::Same(comparison) => fault_of_comparison(comparison),
         Request::Recode(recoding) => fault_of_recoding(recoding),
-        _ => None,
+        Request::Excerpt(excerpt) => fault_of_excerpt(excerpt),
+        Request::Salvage(_) => None,
     }
 }
 

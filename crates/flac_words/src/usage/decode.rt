@@ -1,8 +1,11 @@
 //! `flac decode`.
 
+ghost use Rattle.std.specs.Prelude.{◌≤◌, IfSome};
+
+use super::moments::moment_of;
 use super::{ANY, FORCE, LAX, STREAM, Usage, Word, WordKind, asks_lax};
 use clap::ArgMatches;
-use flac_jobs::Job;
+use flac_jobs::{Excerpt, Job, LineFault, Moment, Request};
 
 const DECODE_EXAMPLE: &str = "Example, a WAV file, the same byte for byte if the stream keeps one:
   $ flac decode song.flac song.wav
@@ -10,6 +13,14 @@ const DECODE_EXAMPLE: &str = "Example, a WAV file, the same byte for byte if the
 Example, raw samples, of a stream of 44100 Hz with two channels of 16 bits:
   $ flac decode song.flac song.raw
   $ sox -t raw -r 44100 -c 2 -b 16 -e signed -L song.raw song.wav
+
+Example, the part between two times, and the first 44100 samples:
+  $ flac decode song.flac part.wav --from 1:30 --to 1:45.5
+  $ flac decode song.flac part.wav --to 44100
+
+--from and --to take the number of a sample, counted per channel from 0 on, or a time m:ss
+or h:mm:ss, also with a fraction of a second of up to nine digits. The sample at --to is
+not in the part. A part is written as a plain WAV file or as raw samples.
 
 OUT has to be another file than IN: else it cannot be created, and IN stays as it is. If
 decoding fails, the samples written before stay in OUT. But if OUT was a file with
@@ -27,7 +38,7 @@ pub(crate) static DECODE: Usage = Usage {
 };
 
 /// The arguments of `decode`.
-const DECODE_WORDS: [Word; 6] = [
+const DECODE_WORDS: [Word; 8] = [
     STREAM,
     Word {
         name: "OUT",
@@ -39,6 +50,16 @@ const DECODE_WORDS: [Word; 6] = [
         kind: WordKind::Flag,
         help: "Writes a WAV file: the one that the stream was encoded of, or else a plain one",
     },
+    Word {
+        name: "from",
+        kind: WordKind::Text("MOMENT"),
+        help: "Writes the samples from this one or this time on",
+    },
+    Word {
+        name: "to",
+        kind: WordKind::Text("MOMENT"),
+        help: "Writes the samples before this one or this time",
+    },
     LAX,
     ANY,
     FORCE,
@@ -49,10 +70,84 @@ pub(crate) fn decode_job<'a>(given: &ArgMatches<'a>) -> Option<Job<'a>> {
     let input = given.get_str("IN")?;
     let output = given.get_str("OUT")?;
     let lax = asks_lax(given);
-    if given.get_flag("wav") || names_wave(output) {
+    if asks_wave(given, output) {
         return Some(Job::DecodeWave { input, output, lax });
     }
     Some(Job::Decode { input, output, lax })
+}
+
+/// Whether a part of the samples is asked for.
+pub(crate) fn asks_excerpt(given: &ArgMatches<'_>) -> bool {
+    given.get_str("from").is_some() || given.get_str("to").is_some()
+}
+
+/// The part of the samples that is asked for; `None` if a path is missing.
+///
+/// # Errors
+/// A word is no moment: the line that says so.
+pub(crate) fn excerpt_request<'a>(
+    given: &ArgMatches<'a>,
+) -> Result<Option<Request<'a>>, &'static str> {
+    let from = moment_in(given, "from")?;
+    let to = moment_in(given, "to")?;
+    Ok(excerpt_of(given, from.unwrap_or(Moment::Sample(0)), to))
+}
+
+/// The moment that an option gives.
+///
+/// # Errors
+/// Its word is no moment: the line that says so.
+fn moment_in(given: &ArgMatches<'_>, name: &str) -> Result<Option<Moment>, &'static str> {
+    let Some(word) = given.get_str(name) else {
+        return Ok(None);
+    };
+    match moment_of(word) {
+        Some(moment) => Ok(Some(moment)),
+        None => Err(
+            "flac: command: --from and --to take a number of samples, or a time m:ss, m:ss.fraction or h:mm:ss\n",
+        ),
+    }
+}
+
+/// The part of the samples between two moments; `None` if a path is missing.
+fn excerpt_of<'a>(given: &ArgMatches<'a>, from: Moment, to: Option<Moment>) -> Option<Request<'a>> {
+    let input = given.get_str("IN")?;
+    let output = given.get_str("OUT")?;
+    Some(Request::Excerpt(Excerpt {
+        input,
+        output,
+        from,
+        to,
+        wave: asks_wave(given, output),
+        lax: asks_lax(given),
+        any: given.get_flag("any"),
+        force: given.get_flag("force"),
+    }))
+}
+
+/// Why a part is refused whose words were all read; `None` if it is not.
+pub(crate) fn fault_of_excerpt(excerpt: &Excerpt<'_>) -> Option<LineFault>
+    ensures { IfSome result (λ fault. fault.status ≤ 2) }
+{
+    let to = excerpt.to?;
+    if is_before(to, excerpt.from) {
+        return Some(LineFault::refused("flac: command: --to is before --from\n"));
+    }
+    None
+}
+
+/// Whether a moment is before another of the same kind.
+fn is_before(one: Moment, other: Moment) -> bool {
+    match (one, other) {
+        (Moment::Sample(one), Moment::Sample(other)) => one < other,
+        (Moment::Time(one), Moment::Time(other)) => one < other,
+        _ => false,
+    }
+}
+
+/// Whether a WAV file is written to this path.
+fn asks_wave(given: &ArgMatches<'_>, output: &str) -> bool {
+    given.get_flag("wav") || names_wave(output)
 }
 
 /// Whether a path ends in `.wav`, in any case.

@@ -2,6 +2,7 @@
 
 ghost use Rattle.std.specs.Prelude.{◌≤◌, IfSome};
 
+use super::block_names::{block_names, names_stream_info};
 use super::{Usage, Word, WordKind};
 use clap::ArgMatches;
 use flac_jobs::{BlockName, Editing, LineFault, PictureForm, PictureWord, Request};
@@ -86,73 +87,16 @@ pub(crate) fn edit_request<'a>(
     })))
 }
 
-/// Which blocks the words name; `None` if one names none that can be removed.
+/// Which blocks are removed by the words; `None` if one names no blocks, or STREAMINFO.
 fn removals_of(alloc: Global, words: &[&str]) -> Result<Option<Vec<BlockName>>, AllocError> {
-    let mut removals = Vec::with_capacity(alloc, words.len())?;
-    for word in words {
-        match block_name(word) {
-            Some(name) => removals.push(name)?,
-            None => return Ok(None),
-        }
-    }
-    Ok(Some(removals))
-}
-
-/// Which blocks a word names.
-fn block_name(word: &str) -> Option<BlockName> {
-    if let Some((kind, id)) = word.split_once(':') {
-        if kind.eq_ignore_ascii_case("application") {
-            return Some(BlockName::Application(application_id(id)?));
-        }
-        return None;
-    }
-    if let Ok(number) = word.parse::<u32>() {
-        return if number == 0 {
-            None
-        } else {
-            Some(BlockName::Number(number))
-        };
-    }
-    Some(BlockName::Kind(kind_of(word)?))
-}
-
-/// The names of the types of blocks from 1 on, as `list` has them.
-const KINDS: [&str; 6] = [
-    "PADDING",
-    "APPLICATION",
-    "SEEKTABLE",
-    "VORBIS_COMMENT",
-    "CUESHEET",
-    "PICTURE",
-];
-
-/// The type of a name, 1 to 126, whatever the case of its letters.
-fn kind_of(name: &str) -> Option<u8> {
-    for (i, known) in KINDS.iter().enumerate() {
-        if name.eq_ignore_ascii_case(known) {
-            return Some(i as u8 + 1);
-        }
-    }
-    let (front, number) = name.split_once('_')?;
-    let kind = number.parse::<u8>().ok()?;
-    if front.eq_ignore_ascii_case("TYPE") && kind > 6 && kind < 127 {
-        return Some(kind);
-    }
-    None
-}
-
-/// The identifier of an application: four ASCII characters, or `0x` and eight hexadecimal digits.
-fn application_id(text: &str) -> Option<[u8; 4]> {
-    if let Some(digits) = text.strip_prefix("0x") {
-        if digits.len() == 8 {
-            return Some(u32::from_str_radix(digits, 16).ok()?.to_be_bytes());
-        }
-        return None;
-    }
-    match text.as_bytes() {
-        [a, b, c, d] if text.is_ascii() => Some([*a, *b, *c, *d]),
-        _ => None,
-    }
+    let Some(names) = block_names(alloc, words)? else {
+        return Ok(None);
+    };
+    Ok(if names_stream_info(&names) {
+        None
+    } else {
+        Some(names)
+    })
 }
 
 /// The pictures that the words name; `None` if one is no picture.

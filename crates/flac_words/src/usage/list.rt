@@ -1,8 +1,11 @@
 //! `flac list`.
 
+ghost use Rattle.std.specs.Prelude.{◌≤◌, IfSome};
+
+use super::block_names::block_names;
 use super::{ANY, LAX, STREAMS, Usage, Word, WordKind, asks_lax};
 use clap::ArgMatches;
-use flac_jobs::{CommandLine, Job, Listing, Request};
+use flac_jobs::{CommandLine, Job, LineFault, Listing, Request};
 use std::alloc::Global;
 
 const LIST_EXAMPLE: &str = "Example:
@@ -22,6 +25,11 @@ With --any lines at the end say how long the tags of other programs are, in byte
   before ID3v2 1034
   after ID3v1 128
 
+With --json each stream is a line of JSON. With --block only some blocks are listed. A block
+is named by its number, 0 for STREAMINFO, or by its type: streaminfo, padding, application,
+application:ID, seektable, vorbis_comment, cuesheet, picture, or type_7 to type_126. ID is
+four characters, or 0x and eight hexadecimal digits.
+
 Bytes of a text outside 20 to 7E (hexadecimal), and the backslash, are shown as \\x and
 two digits.";
 
@@ -33,18 +41,28 @@ pub(crate) static LIST: Usage = Usage {
 };
 
 /// The arguments of `list`.
-const LIST_WORDS: [Word; 4] = [
+const LIST_WORDS: [Word; 6] = [
     STREAMS,
     Word {
         name: "head",
         kind: WordKind::Flag,
         help: "Reads the metadata blocks alone: no frame is verified",
     },
+    Word {
+        name: "json",
+        kind: WordKind::Flag,
+        help: "Prints a line of JSON for each stream",
+    },
+    Word {
+        name: "block",
+        kind: WordKind::Texts("N|TYPE[:ID]"),
+        help: "Lists the block of this number, or all of this type",
+    },
     LAX,
     ANY,
 ];
 
-/// What `list` asks for: a job for one stream without options, a listing for several, or for the blocks alone.
+/// What `list` asks for: a job for one stream of which all is listed as text, else a listing.
 pub(crate) fn list_request<'a>(
     alloc: Global,
     given: &ArgMatches<'a>,
@@ -55,8 +73,10 @@ pub(crate) fn list_request<'a>(
     let lax = asks_lax(given);
     let any = given.get_flag("any");
     let head = given.get_flag("head");
+    let json = given.get_flag("json");
+    let words = given.get_strs("block").unwrap_or(&[]);
     if let [input] = inputs {
-        if !head {
+        if !head && !json && words.is_empty() {
             let job = Job::List { input, lax };
             return Ok(Some(Request::Job(CommandLine {
                 job,
@@ -72,5 +92,19 @@ pub(crate) fn list_request<'a>(
         lax,
         any,
         head,
+        json,
+        blocks: block_names(alloc, words)?,
     })))
+}
+
+/// Why a listing is refused whose words were all read; `None` if it is not.
+pub(crate) fn fault_of_listing(listing: &Listing<'_>) -> Option<LineFault>
+    ensures { IfSome result (λ fault. fault.status ≤ 2) }
+{
+    if listing.blocks.is_none() {
+        return Some(LineFault::refused(
+            "flac: command: --block takes the number of a block, or a type\n",
+        ));
+    }
+    None
 }

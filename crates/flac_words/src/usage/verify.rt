@@ -29,6 +29,9 @@ gone PATH on standard error says that OLD has a file that was not met now. The e
 is 1 if there is an audio, worse or gone. Where neither has an MD5 digest, the same audio
 means as many samples in the same format, and no more.
 
+With --all a bad file is read to its end, and lines after its own say what is lost: for
+each damaged part its samples, their time and their bytes, and then how much it is in all.
+
 In a folder, and in the folders in it, files are read whose names end in .flac, .fla or
 .oga, and in .ogg if they are FLAC. Links to folders are not followed. The exit status is 0
 if all files are good.";
@@ -41,7 +44,7 @@ pub(crate) static VERIFY: Usage = Usage {
 };
 
 /// The arguments of `verify`.
-const VERIFY_WORDS: [Word; 5] = [
+const VERIFY_WORDS: [Word; 6] = [
     Word {
         name: "PATH",
         kind: WordKind::Files,
@@ -67,6 +70,11 @@ const VERIFY_WORDS: [Word; 5] = [
         kind: WordKind::Text("OLD"),
         help: "Compares each file with this older report",
     },
+    Word {
+        name: "all",
+        kind: WordKind::Flag,
+        help: "Says of each bad file which samples are lost, frame by frame",
+    },
 ];
 
 /// What `verify` asks for.
@@ -84,6 +92,7 @@ pub(crate) fn verify_request<'a>(
         report: given.get_str("report"),
         resume: given.get_str("resume"),
         against: given.get_str("against"),
+        all: given.get_flag("all"),
     })))
 }
 

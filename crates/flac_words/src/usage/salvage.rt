@@ -1,0 +1,82 @@
+//! `flac salvage`.
+
+use super::{FORCE, STREAM_OUT, Usage, Word, WordKind};
+use clap::ArgMatches;
+use flac_jobs::{Filling, Request, Salvage};
+
+const SALVAGE_EXAMPLE: &str = "Example:
+  $ flac salvage damaged.flac saved.flac
+
+IN is read also after an error, and each frame is looked for that is whole: its checks hold,
+and it fits STREAMINFO and the frames before and after it. Their samples are encoded anew,
+each at its place. What is lost between them is silence in OUT; with --gap it is left out,
+and OUT is shorter. What is lost is listed on standard error. The status is 0 if OUT was
+written, whatever is lost, and 1 if it was not. IN has to be native, and its metadata whole.
+
+OUT has to be another file than IN. If it is a file with bytes, it stays as it is until all is
+done, and what was written before an error is in OUT.part beside it. It may replace a stream,
+but no other file of sound: none that begins with RIFF, RF64, BW64, FORM or ID3. With --force
+any file is replaced.";
+
+pub(crate) static SALVAGE: Usage = Usage {
+    name: "salvage",
+    about: "Encodes the whole frames of a damaged stream anew, with silence for what is lost",
+    words: &SALVAGE_WORDS,
+    example: SALVAGE_EXAMPLE,
+};
+
+/// The arguments of `salvage`.
+const SALVAGE_WORDS: [Word; 6] = [
+    Word {
+        name: "IN",
+        kind: WordKind::File,
+        help: "The damaged stream; - for standard input",
+    },
+    STREAM_OUT,
+    Word {
+        name: "silence",
+        kind: WordKind::Flag,
+        help: "Writes zeros for samples that are lost, which is usual",
+    },
+    Word {
+        name: "gap",
+        kind: WordKind::Flag,
+        help: "Leaves samples out that are lost",
+    },
+    Word {
+        name: "lax",
+        kind: WordKind::Flag,
+        help: "Writes streams outside the streamable subset too, which other players may refuse",
+    },
+    FORCE,
+];
+
+/// What `salvage` asks for; `None` if a path is missing.
+///
+/// # Errors
+/// Both fillings are asked for: the line that says so.
+pub(crate) fn salvage_request<'a>(
+    given: &ArgMatches<'a>,
+) -> Result<Option<Request<'a>>, &'static str> {
+    let gap = given.get_flag("gap");
+    if gap && given.get_flag("silence") {
+        return Err("flac: command: --silence with --gap\n");
+    }
+    let filling = if gap {
+        Filling::Nothing
+    } else {
+        Filling::Silence
+    };
+    Ok(salvage_of(given, filling))
+}
+
+/// A salvage with this filling; `None` if a path is missing.
+fn salvage_of<'a>(given: &ArgMatches<'a>, filling: Filling) -> Option<Request<'a>> {
+    Some(Request::Salvage(Salvage {
+        input: given.get_str("IN")?,
+        output: given.get_str("OUT")?,
+        filling,
+        lax: given.get_flag("lax"),
+        force: given.get_flag("force"),
+    }))
+}
