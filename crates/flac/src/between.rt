@@ -2,25 +2,8 @@
 
 use flac_around::{Between, Trimmed};
 use flac_bits::Counted;
-use flac_cli::{Job, Task, list_head, run};
+use flac_cli::{Job, Task, run};
 use flac_files::JobFiles;
-
-/// Lists the metadata of a stream, and reads no frame. Returns the status.
-pub(crate) fn list_front_between(rt: &HostRuntime, input: &str, files: JobFiles<'_>) -> u8 {
-    let mut source = Trimmed::new(Between::new(Counted::new(files.input)));
-    let mut out = Counted::new(rt.stdout());
-    let mut err = Counted::new(rt.stderr());
-    let status = list_head(rt.alloc(), input, &mut source, &mut out, &mut err);
-    if status != 0 {
-        return status;
-    }
-    // The end was not read, so only a tag before the stream is known.
-    told(
-        rt,
-        input,
-        print_length(rt, "before ID3v2", source.into_source().before()),
-    )
-}
 
 /// Does the job over its files. Returns the status.
 pub(crate) fn do_between(rt: &HostRuntime, job: &Job<'_>, files: JobFiles<'_>) -> u8 {
@@ -65,7 +48,7 @@ fn run_between(rt: &HostRuntime, job: &Job<'_>, files: JobFiles<'_>) -> (u8, u64
 }
 
 /// Prints how long the tags are that were read, a line for each. Returns the status.
-fn list_tags(rt: &HostRuntime, input: &str, before: u64, after: u64) -> u8 {
+pub(crate) fn list_tags(rt: &HostRuntime, input: &str, before: u64, after: u64) -> u8 {
     let is_printed = print_length(rt, "before ID3v2", before)
         && print_length(rt, "after ID3v1", after);
     told(rt, input, is_printed)

@@ -16,7 +16,7 @@ pub(crate) fn export(rt: &HostRuntime, exporting: &Exporting<'_>) -> u8 {
         output: exporting.output,
         lax: true,
     };
-    match JobFiles::open(rt, &job, exporting.force) {
+    match JobFiles::open_whole(rt, &job, exporting.force) {
         Ok(files) => export_over(rt, exporting, part, files),
         Err(refused) => refused.tell(rt),
     }

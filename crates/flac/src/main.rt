@@ -3,23 +3,29 @@
 
 mod between;
 mod edit;
+mod excerpt;
 mod export;
+mod list;
 mod recode;
+mod salvage;
 mod same;
 mod tag;
 mod verify;
 
-use crate::between::{do_between, list_front_between};
+use crate::between::do_between;
 use crate::edit::edit_files;
+use crate::excerpt::excerpt;
 use crate::export::export;
+use crate::list::list_files;
 use crate::recode::recode;
+use crate::salvage::salvage;
 use crate::same::same;
 use crate::tag::tag_files;
 use crate::verify::verify;
 use flac_bits::Counted;
-use flac_cli::{Task, list_head, run};
+use flac_cli::{Task, run};
 use flac_files::JobFiles;
-use flac_jobs::{CommandLine, Job, Listing, Request};
+use flac_jobs::{CommandLine, Job, Request};
 use flac_words::{given_words, request};
 use std::process::ExitCode;
 
@@ -38,51 +44,10 @@ fn main(rt: HostRuntime) -> ExitCode {
         Ok(Request::Verify(verification)) => verify(&rt, &verification),
         Ok(Request::Same(comparison)) => same(&rt, &comparison),
         Ok(Request::Recode(recoding)) => recode(&rt, &recoding),
+        Ok(Request::Excerpt(part)) => excerpt(&rt, &part),
+        Ok(Request::Salvage(asked)) => salvage(&rt, &asked),
         Err(fault) => fault.tell(&rt),
     })
-}
-
-/// Lists the metadata of each stream, of several after a line with its path. Returns the status: 1 if that of one is not
-/// 0.
-fn list_files(rt: &HostRuntime, listing: &Listing<'_>) -> u8 {
-    let mut status = 0;
-    for input in &listing.inputs {
-        if list_file(rt, input, listing) != 0 {
-            status = 1;
-        }
-    }
-    status
-}
-
-/// Lists the metadata of one of the streams. Returns the status.
-fn list_file(rt: &HostRuntime, input: &str, listing: &Listing<'_>) -> u8 {
-    if listing.inputs.len() > 1 && println!(rt; "{input}").is_err() {
-        let _ = eprintln!(rt; "flac: {input}: 39 Write");
-        return 1;
-    }
-    let lax = listing.lax;
-    let job = Job::List { input, lax };
-    if listing.head {
-        list_front(rt, input, &job, listing.any)
-    } else {
-        let any = listing.any;
-        let force = false;
-        perform(rt, &CommandLine { job, force, any })
-    }
-}
-
-/// Lists the metadata of the stream of a job, and reads no frame. Returns the status.
-fn list_front(rt: &HostRuntime, input: &str, job: &Job<'_>, any: bool) -> u8 {
-    match JobFiles::open(rt, job, false) {
-        Ok(files) if any => list_front_between(rt, input, files),
-        Ok(files) => {
-            let mut source = Counted::new(files.input);
-            let mut out = Counted::new(rt.stdout());
-            let mut err = Counted::new(rt.stderr());
-            list_head(rt.alloc(), input, &mut source, &mut out, &mut err)
-        }
-        Err(refused) => refused.tell(rt),
-    }
 }
 
 /// Opens the files of the job, and does it. Returns the status.

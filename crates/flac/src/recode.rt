@@ -9,7 +9,7 @@ use flac_jobs::Recoding;
 /// Opens the files, and encodes the stream anew. Returns the status.
 pub(crate) fn recode(rt: &HostRuntime, recoding: &Recoding<'_>) -> u8 {
     let job = recoding.to_encoding(rt.alloc());
-    match JobFiles::open(rt, &job, recoding.force) {
+    match JobFiles::open_whole(rt, &job, recoding.force) {
         Ok(files) => recode_over(rt, recoding, files),
         Err(refused) => refused.tell(rt),
     }

@@ -2,7 +2,7 @@
 
 use flac_around::BetweenShelf;
 use flac_bits::{Counted, Target};
-use flac_cli::{report_gone, verify_files};
+use flac_cli::{Checks, report_gone, verify_files};
 use flac_files::{FileShelf, ReportFile, end_report, read_older};
 use flac_jobs::Verification;
 use flac_shelf::{ComparedShelf, Older, ResumedShelf};
@@ -54,7 +54,10 @@ fn verify_into(
     let status = verify_all(
         rt,
         BetweenShelf::new(shelf),
-        verification.subset,
+        Checks {
+            subset: verification.subset,
+            all: verification.all,
+        },
         &mut err,
         &mut lines,
     );
@@ -73,12 +76,12 @@ fn verify_into(
 fn verify_all<E: Target, P: Target>(
     rt: &HostRuntime,
     mut shelf: VerifiedShelf,
-    subset: bool,
+    checks: Checks,
     err: &mut E,
     lines: &mut P,
 ) -> u8 {
     let mut out = Counted::new(rt.stdout());
-    let status = verify_files(rt.alloc(), &mut shelf, subset, &mut out, err, lines);
+    let status = verify_files(rt.alloc(), &mut shelf, checks, &mut out, err, lines);
     match shelf.into_shelf().into_older() {
         Some(mut older) => {
             if report_gone(&mut older, err) {

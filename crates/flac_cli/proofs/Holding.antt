@@ -1,8 +1,7 @@
 -- What is held of a stream that is read whole.
-use Rattle.std.proofs.Common.{◌≡◌, ◌≢◌, ◌≤◌, ◌<◌, ◌+◌, ◌⊎◌, ◌∙◌, ℕ, zero, suc, ℤ, Bool, true, false, List, [], ◌∷◌, ◌++◌, length, map, min, drop, get_or, set, Option, Some, None, Result, Ok, Err, refl, ap, sym, subst, append_assoc, append-nil, arith, inl, inr}
+use Rattle.std.proofs.Common.{◌≡◌, ◌≢◌, ◌≤◌, ◌<◌, ◌⊎◌, ◌∙◌, ℕ, ℤ, Bool, true, false, List, [], ◌∷◌, ◌++◌, map, drop, Option, Some, None, Result, Ok, Err, refl, ap, sym, subst, append_assoc, append-nil, arith, inl, inr}
 use Rattle.std.specs.Prelude.{replicate}
 use Rattle.std.proofs.lemmas.Bool.{cases_lt}
-use Rattle.std.proofs.lemmas.List.{replicate_more, map-append}
 use Rattle.flac_bits.specs.Handing.{Hands, TakesAll, outcome_of}
 use Rattle.flac_bits.specs.State.{Mark, After}
 use Rattle.flac_bits.specs.declared.why.Why.{Why}
@@ -23,44 +22,10 @@ use Rattle.flac_native.proofs.Whole.{streams_are_whole}
 use Rattle.flac_ogg.specs.Either.{read_either}
 use Rattle.flac_ogg.proofs.NativeItems.{ogg_streams_are_streams}
 use Rattle.flac_cli.specs.Outcomes.{input_reading}
-use Rattle.flac_cli.specs.Recoded.{extended, extended_by, carried, stream_parts}
+use Rattle.flac_cli.specs.Recoded.{extended, extended_by, heard_in, carried, stream_parts}
 use Rattle.flac_cli.specs.inner.Holding.{Held, nothing, held_after, with_block, IsHeld, IsFaultOf}
 use Rattle.flac_cli.specs.inner.WaveOutcomes.{memory_by, fault_by}
 use Rattle.flac_cli.proofs.Reported.{memory_or_not}
-
--- ---- channels
-
--- one more channel without samples
-pub one_empty : {A B : Type 0} (f : A → List B) (xs ys : List A) (x : A) (n : ℕ) → ys ≡ xs ++ x ∷ [] → f x ≡ [] → map f xs ≡ replicate n [] → map f ys ≡ replicate (n + 1) []
-one_empty f xs ys x n pushed none held = ap (map f) pushed ∙ map-append f xs (x ∷ []) ∙ ap (λ l. map f xs ++ l ∷ []) none ∙ ap (λ l. l ++ [] ∷ []) held ∙ replicate_more n []
-
--- the first n channels have the samples of a frame too
-abbrev pub extended_first : (n : ℕ) (channels more : List (List ℤ)) → List (List ℤ)
-extended_first zero cs ms = cs
-extended_first (suc n) [] ms = []
-extended_first (suc n) (c ∷ cs) [] = c ∷ cs
-extended_first (suc n) (c ∷ cs) (m ∷ ms) = (c ++ m) ∷ extended_first n cs ms
-
-next_extended : (n : ℕ) (cs ms : List (List ℤ)) → n < length cs → n < length ms → set (extended_first n cs ms) n (get_or (extended_first n cs ms) n [] ++ get_or ms n []) ≡ extended_first (suc n) cs ms
-next_extended n [] ms lt few = absurd (omega (arith, lt))
-next_extended n (c ∷ cs) [] lt few = absurd (omega (arith, few))
-next_extended zero (c ∷ cs) (m ∷ ms) lt few = refl
-next_extended (suc n) (c ∷ cs) (m ∷ ms) lt few = ap (λ l. (c ++ m) ∷ l) (next_extended n cs ms (omega (arith, lt)) (omega (arith, few)))
-
--- and one more
-pub one_extended : (n : ℕ) (cs ms now : List (List ℤ)) (samples : List ℤ) → n < min (length cs) (length ms) → now ≡ extended_first n cs ms → samples ≡ get_or now n [] ++ get_or ms n [] → set now n samples ≡ extended_first (n + 1) cs ms
-one_extended n cs ms now samples lt is added =
-    let e : n + 1 ≡ suc n = omega arith in
-    rw (e, added, is) (next_extended n cs ms (omega (arith, lt)) (omega (arith, lt)))
-
--- in the end all of them
-pub all_extended : (n : ℕ) (cs ms : List (List ℤ)) → min (length cs) (length ms) ≤ n → extended_first n cs ms ≡ extended cs ms
-all_extended zero [] ms le = refl
-all_extended (suc n) [] ms le = refl
-all_extended zero (c ∷ cs) [] le = refl
-all_extended zero (c ∷ cs) (m ∷ ms) le = absurd (omega (arith, le))
-all_extended (suc n) (c ∷ cs) [] le = refl
-all_extended (suc n) (c ∷ cs) (m ∷ ms) le = ap (λ l. (c ++ m) ∷ l) (all_extended n cs ms (omega (arith, le)))
 
 -- ---- all parts
 
@@ -110,7 +75,7 @@ parts_held true info list frames = refl
 parts_held false info list frames = refl
 
 -- of all parts of a stream
-pub is_held : (is_ogg : Bool) (info : Info) (list : List Block) (frames : List Frame) (old new : Held) (xs : List Piece) → old ≡ nothing → xs ≡ stream_parts is_ogg info list frames → new ≡ after_parts old xs → IsHeld new info list frames
+pub is_held : (is_ogg : Bool) (info : Info) (list : List Block) (frames : List Frame) (old new : Held) (xs : List Piece) → old ≡ nothing → xs ≡ stream_parts is_ogg info list frames → new ≡ after_parts old xs → IsHeld new info list (heard_in info frames)
 is_held is_ogg info list frames old new xs none parts is =
     let channels : List (List ℤ) = replicate info.channels [] in
     let all : new ≡ begun info (carried list) (extended_by channels frames) =
@@ -135,7 +100,7 @@ parts_of profile false m items text s = let w = (streams_are_whole profile m ite
 
 -- ---- faults
 
-sink_or_not : (w : Why) → (w ≡ why.Sink) ⊎ ((w ≢ why.Sink) × (memory_by w ≡ w))
+pub sink_or_not : (w : Why) → (w ≡ why.Sink) ⊎ ((w ≢ why.Sink) × (memory_by w ≡ w))
 sink_or_not why.Sink = inl refl
 sink_or_not w = inr (λ e. absurd cc, refl)
 

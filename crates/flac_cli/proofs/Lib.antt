@@ -6,6 +6,7 @@ pub mod NamedLines
 pub mod Objects
 pub mod OneReading
 pub mod Entries
+pub mod Listing
 -- Streams that are read, and what is reported of them.
 pub mod BlocksFirst
 pub mod Heading
@@ -17,11 +18,15 @@ pub mod Jobs
 pub mod Told
 pub mod Gone
 pub mod Underway
+pub mod Missing
 pub mod Verifying
 -- Raw samples.
 pub mod Fronts
 pub mod Rows
 pub mod TwosComplement
+-- Parts of streams.
+pub mod Excerpts
+pub mod Opened
 -- Encoding: lists of predictors, plans, and why an encoding is refused.
 pub mod Back
 pub mod Failed
@@ -29,10 +34,13 @@ pub mod Listed
 pub mod Planning
 pub mod Recoding
 pub mod Refused
+pub mod Salvages
 pub mod Searched
 -- WAV files: those that a stream keeps, writing them, and why one is refused.
+pub mod HeldWaves
 pub mod Kept
 pub mod ReadKept
+pub mod Shifted
 pub mod TakenWaves
 pub mod WaveDecoded
 pub mod WaveReady

@@ -9,7 +9,6 @@ use Rattle.flac_bits.specs.declared.why.Why.TheVariants as why
 use Rattle.flac_info.specs.Info.{Info}
 use Rattle.flac_meta.specs.Listed.{list_fault, info_seen}
 use Rattle.flac_meta.specs.declared.block.Block.{Block}
-use Rattle.flac_header.specs.declared.subset.Profile.{Profile}
 use Rattle.flac_frame.specs.Audio.{Sound, audio_fault}
 use Rattle.flac_frame.specs.Frame.{Frame}
 use Rattle.flac_frame.specs.declared.setup.SetupFault.{SetupFault}
@@ -26,8 +25,8 @@ use Rattle.flac_cli.specs.Encoded.{cut_as, cut_found, EncodesIn, BeginsIn}
 use Rattle.flac_cli.specs.Outcomes.{reason_text}
 use Rattle.flac_cli.specs.Predictors.{AreListed}
 use Rattle.flac_cli.specs.inner.Predictors.{IsWrongLine}
-use Rattle.flac_cli.specs.Recoded.{sound_in, in_order, blocks_in, IsStreamOf, Recodes, HasBegunRecoded}
-use Rattle.flac_cli.specs.RecodeRefusals.{files_for, sound_refusal, recoding_refusal, IsInputReason, IsRecodeReason, IsOutside, recode_path, recode_text, IsRecodeReport}
+use Rattle.flac_cli.specs.Recoded.{heard_in, sound_of, in_order, blocks_in, IsStreamOf, Recodes, HasBegunRecoded}
+use Rattle.flac_cli.specs.RecodeRefusals.{files_for, sound_refusal, held_refusal, recoding_refusal, IsInputReason, IsRecodeReason, IsOutside, recode_path, recode_text, IsRecodeReport}
 use Rattle.flac_cli.specs.Refusals.{stream_fault, refusal_of, IsOutside as IsOutsideOf}
 use Rattle.flac_cli.specs.Reports.{Files, files_of, fault_line}
 use Rattle.flac_cli.specs.inner.Holding.{Held, IsHeld, IsReady, IsFaultOf}
@@ -78,60 +77,57 @@ module _ (asked : Asked) (ps : List LinearPredictor) (a : Sound) (list : List Bl
 
 -- ---- of what is held
 
-abbrev pub held_sound : Profile → Info → (channels : List (List ℤ)) → Sound
-held_sound profile i cs = record { profile = profile; rate = i.rate; bits = i.depth; channels = cs }
-
-module _ (asked : Asked) (ps : List LinearPredictor) (held : Held) (i : Info) (some : held.info ≡ Some i) (info : Info) (list : List Block) (frames : List Frame) (t : IsHeld held info list frames) where
+module _ (asked : Asked) (ps : List LinearPredictor) (held : Held) (i : Info) (some : held.info ≡ Some i) (info : Info) (list : List Block) (channels : List (List ℤ)) (t : IsHeld held info list channels) where
   same_info : i ≡ info
   same_info = inside (sym some ∙ t.stated)
     where
       inside : Some i ≡ Some info → i ≡ info
       inside e = cc
 
-  sound_is : held_sound asked.profile i held.channels ≡ sound_in asked.profile info frames
-  sound_is = ap (λ k. held_sound asked.profile k held.channels) same_info ∙ ap (λ cs. held_sound asked.profile info cs) t.heard
+  sound_is : sound_of asked.profile i held.channels ≡ sound_of asked.profile info channels
+  sound_is = ap (λ k. sound_of asked.profile k held.channels) same_info ∙ ap (λ cs. sound_of asked.profile info cs) t.heard
 
-  pub held_audio : (e : SetupFault) → audio_fault asked.profile i.rate i.depth held.channels ≡ Some e → IsOutsideOf (Setup e) ⊎ (recoding_refusal asked ps info list frames ≡ Some (Setup e))
-  held_audio e h = inr (refused_sound asked ps (sound_in asked.profile info frames) (blocks_in asked.container list) e (subst (λ (s : Sound). audio_fault s.profile s.rate s.bits s.channels ≡ Some e) sound_is h))
+  pub held_audio : (e : SetupFault) → audio_fault asked.profile i.rate i.depth held.channels ≡ Some e → IsOutsideOf (Setup e) ⊎ (held_refusal asked ps info list channels ≡ Some (Setup e))
+  held_audio e h = inr (refused_sound asked ps (sound_of asked.profile info channels) (blocks_in asked.container list) e (subst (λ (s : Sound). audio_fault s.profile s.rate s.bits s.channels ≡ Some e) sound_is h))
 
-  module _ (a : Sound) (made : a ≡ held_sound asked.profile i held.channels) (good : audio_fault asked.profile i.rate i.depth held.channels ≡ None) where
-    a_is : a ≡ sound_in asked.profile info frames
+  module _ (a : Sound) (made : a ≡ sound_of asked.profile i held.channels) (good : audio_fault asked.profile i.rate i.depth held.channels ≡ None) where
+    a_is : a ≡ sound_of asked.profile info channels
     a_is = made ∙ sound_is
 
-    good_is : let s = sound_in asked.profile info frames in audio_fault s.profile s.rate s.bits s.channels ≡ None
+    good_is : let s = sound_of asked.profile info channels in audio_fault s.profile s.rate s.bits s.channels ≡ None
     good_is = subst (λ (s : Sound). audio_fault s.profile s.rate s.bits s.channels ≡ None) sound_is good
 
-    pub held_plan : (e : SetupFault) → plan_fault (cut_as asked a ps) ≡ Some e → IsOutsideOf (Setup e) ⊎ (recoding_refusal asked ps info list frames ≡ Some (Setup e))
-    held_plan e h = inr (refused_plan asked ps (sound_in asked.profile info frames) (blocks_in asked.container list) good_is e (subst (λ s. plan_fault (cut_as asked s ps) ≡ Some e) a_is h))
+    pub held_plan : (e : SetupFault) → plan_fault (cut_as asked a ps) ≡ Some e → IsOutsideOf (Setup e) ⊎ (held_refusal asked ps info list channels ≡ Some (Setup e))
+    held_plan e h = inr (refused_plan asked ps (sound_of asked.profile info channels) (blocks_in asked.container list) good_is e (subst (λ s. plan_fault (cut_as asked s ps) ≡ Some e) a_is h))
 
     module _ (p : Cut) (cut : p ≡ cut_as asked a ps) (fine : plan_fault p ≡ None) where
-      cut_in : p ≡ cut_as asked (sound_in asked.profile info frames) ps
+      cut_in : p ≡ cut_as asked (sound_of asked.profile info channels) ps
       cut_in = cut ∙ ap (λ s. cut_as asked s ps) a_is
 
-      fine_is : plan_fault (cut_as asked (sound_in asked.profile info frames) ps) ≡ None
+      fine_is : plan_fault (cut_as asked (sound_of asked.profile info channels) ps) ≡ None
       fine_is = subst (λ k. plan_fault k ≡ None) cut_in fine
 
       module _ (ordered : List Block) (order : ordered ≡ in_order asked.container held.blocks) where
         ordered_is : ordered ≡ blocks_in asked.container list
         ordered_is = order ∙ ap (in_order asked.container) t.kept
 
-        pub held_blocks : (e : Why) → list_fault info_seen ordered ≡ Some e → IsOutsideOf (Input e) ⊎ (recoding_refusal asked ps info list frames ≡ Some (Input e))
-        held_blocks e h = refused_blocks asked ps (sound_in asked.profile info frames) (blocks_in asked.container list) good_is fine_is e (inr (subst (λ l. list_fault info_seen l ≡ Some e) ordered_is h))
+        pub held_blocks : (e : Why) → list_fault info_seen ordered ≡ Some e → IsOutsideOf (Input e) ⊎ (held_refusal asked ps info list channels ≡ Some (Input e))
+        held_blocks e h = refused_blocks asked ps (sound_of asked.profile info channels) (blocks_in asked.container list) good_is fine_is e (inr (subst (λ l. list_fault info_seen l ≡ Some e) ordered_is h))
 
-        pub held_ready : (bs : List Block) → bs ≡ ordered → list_fault info_seen ordered ≡ None → IsReady asked ps info list frames p bs a
+        pub held_ready : (bs : List Block) → bs ≡ ordered → list_fault info_seen ordered ≡ None → IsReady asked ps info list channels p bs a
         held_ready bs same fit = record {
           sound = a_is;
           cut = cut;
           listed = same ∙ ordered_is;
           good = fine;
-          refusal = container_only asked ps (sound_in asked.profile info frames) (blocks_in asked.container list) good_is fine_is (subst (λ l. list_fault info_seen l ≡ None) ordered_is fit)
+          refusal = container_only asked ps (sound_of asked.profile info channels) (blocks_in asked.container list) good_is fine_is (subst (λ l. list_fault info_seen l ≡ None) ordered_is fit)
               ∙ ap (λ k. option_map Output (stream_fault asked.container k (blocks_in asked.container list))) (sym cut_in)
               ∙ ap (λ l. option_map Output (stream_fault asked.container p l)) (sym (same ∙ ordered_is));
         }
 
 -- nothing of a stream was held
-pub not_held : {X : Type 0} (h : Held) (info : Info) (list : List Block) (frames : List Frame) → h.info ≡ None → IsHeld h info list frames → X
-not_held h info list frames none t = no (sym none ∙ t.stated)
+pub not_held : {X : Type 0} (h : Held) (info : Info) (list : List Block) (channels : List (List ℤ)) → h.info ≡ None → IsHeld h info list channels → X
+not_held h info list channels none t = no (sym none ∙ t.stated)
   where
     no : {Y : Type 0} → None ≡ Some info → Y
     no e = absurd cc
@@ -152,7 +148,7 @@ module _ (asked : Asked) (ps : List LinearPredictor) (bytes : List ℕ) (follows
   listed_reason e listed (inl out) = inl out
   listed_reason e listed (inr h) = inr (inr (ps, listed, h))
 
-  module _ (info : Info) (list : List Block) (frames : List Frame) (p : Cut) (bs : List Block) (a : Sound) (listed : AreListed asked.list ps) (s : IsStreamOf bytes follows info list frames) (is : IsReady asked ps info list frames p bs a) where
+  module _ (info : Info) (list : List Block) (frames : List Frame) (p : Cut) (bs : List Block) (a : Sound) (listed : AreListed asked.list ps) (s : IsStreamOf bytes follows info list frames) (is : IsReady asked ps info list (heard_in info frames) p bs a) where
     of_container : (o : Option EncodeFault) → stream_fault asked.container p bs ≡ o → IsRecodeReason asked bytes follows (option_map Refused (option_map Output o))
     of_container o e = inr (ps, listed, inr (info, list, frames, s, sym (ap (λ k. option_map Refused k) (is.refusal ∙ ap (λ k. option_map Output k) e))))
 

@@ -201,7 +201,7 @@ half_all bytes piece before rows count width channel lists half all = record { m
 
 -- ---- all that was read
 
-numbers_are : (bytes : List ℕ) (rows row width n : ℕ) (channels : List (List ℤ)) → n ≤ length channels → ((c : ℕ) → c < n → get_or channels c [] ≡ samples_at bytes row (c * width) width rows) → take n channels ≡ channels_at bytes rows row width n
+pub numbers_are : (bytes : List ℕ) (rows row width n : ℕ) (channels : List (List ℤ)) → n ≤ length channels → ((c : ℕ) → c < n → get_or channels c [] ≡ samples_at bytes row (c * width) width rows) → take n channels ≡ channels_at bytes rows row width n
 unfolding channels_at
 numbers_are bytes rows row width zero channels few is = refl
 numbers_are bytes rows row width (suc n) channels few is =

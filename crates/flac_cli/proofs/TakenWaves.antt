@@ -1,18 +1,18 @@
 -- The samples of WAV files, as they are taken.
-use Rattle.std.proofs.Common.{◌≡◌, ◌≢◌, ◌≤◌, ◌<◌, ◌+◌, ◌*◌, ◌-◌, ◌/◌, ◌%◌, ◌^◌, ◌&&◌, ◌⊎◌, ℕ, zero, suc, ℤ, pos, Bool, true, false, cond, Option, Some, None, Result, Ok, Err, IfErr, OnOk, List, [], ◌∷◌, ◌++◌, length, take, drop, map, get_or, refl, ap, sym, ◌∙◌, subst, inl, inr, arith, length-append}
+use Rattle.std.proofs.Common.{◌≡◌, ◌≢◌, ◌≤◌, ◌<◌, ◌+◌, ◌*◌, ◌-◌, ◌/◌, ◌%◌, ◌^◌, ◌&&◌, ℕ, zero, suc, ℤ, pos, Bool, true, false, cond, Option, Some, None, Result, Ok, Err, IfErr, OnOk, List, [], ◌∷◌, ◌++◌, length, take, map, get_or, refl, ap, sym, ◌∙◌, subst, inl, inr, arith, length-append}
 use Rattle.std.specs.Prelude.{nat_lt, nat_eq, not, slice_index_or, is_some, IfSome, Vec}
 use Rattle.std.specs.Global.{Global}
-use Rattle.std.specs.Int.{to_le_bytes, cast_unsigned, w32, bytes_low_first, byte_at}
+use Rattle.std.specs.Int.{to_le_bytes, cast_unsigned, w32, bytes_low_first}
 use Rattle.std.proofs.Math.Nat.{mod-lt, mul_assoc, mul_comm, add-mul, mul-mod_left, mul-div_cancel}
 use Rattle.std.proofs.lemmas.Nat.{div-add-mod'}
-use Rattle.std.proofs.lemmas.Bool.{le-ltb, eq-eqb, ne_eqb, eqb-true}
+use Rattle.std.proofs.lemmas.Bool.{eq-eqb, ne_eqb, eqb-true}
 use Rattle.std.proofs.lemmas.List.{length-take-le, length-map}
 use Rattle.flac_native.specs.Message.{sample_width, sample_bytes, row_bytes, rows_bytes}
 use Rattle.flac_frame.specs.Audio.{samples_each}
 use Rattle.flac_wave.specs.Format.{IsInRange, row_of}
-use Rattle.flac_wave.specs.Shift.{lowered, AreBytes, wave_width_of, known_depth, depth_in}
+use Rattle.flac_wave.specs.Shift.{lowered, AreBytes, wave_width_of, depth_in}
 use Rattle.flac_wave.specs.declared.format.WaveFormat.{WaveFormat}
-use Rattle.flac_wave.proofs.Shifts.{lowered_long, depth_cases, stated_some, depth_known}
+use Rattle.flac_wave.proofs.Shifts.{lowered_long, depth_cases, stated_some}
 use Rattle.flac_cli.specs.Waves.{turned, wave_samples, low_samples, stream_samples}
 use Rattle.flac_cli.specs.inner.Raw.{AreChannels}
 use Rattle.flac_cli.specs.inner.WaveSamples.{AreTaken, IsTaken, IsJudged, IsSamplesError, samples_fault}
@@ -27,30 +27,20 @@ use Rattle.flac_wave.proofs.Fronts.{front_file, front_none}
 
 -- ---- bytes
 
-low_small : (i n x : ℕ) → AreBytes (bytes_low_first i n x)
+pub low_small : (i n x : ℕ) → AreBytes (bytes_low_first i n x)
 low_small i zero x = tt
 low_small zero (suc n) x = (mod-lt x {m = 256} (omega arith), low_small 1 n x)
 low_small (suc i) (suc n) x = (mod-lt (x / 256 ^ suc i) {m = 256} (omega arith), low_small (suc (suc i)) n x)
 
-small_front : (n : ℕ) (bs : List ℕ) → AreBytes bs → AreBytes (take n bs)
+pub small_front : (n : ℕ) (bs : List ℕ) → AreBytes bs → AreBytes (take n bs)
 small_front zero [] h = tt
 small_front zero (b ∷ bs) h = tt
 small_front (suc n) [] h = tt
 small_front (suc n) (b ∷ bs) h = (h.0, small_front n bs h.1)
 
-small_both : (xs ys : List ℕ) → AreBytes xs → AreBytes ys → AreBytes (xs ++ ys)
+pub small_both : (xs ys : List ℕ) → AreBytes xs → AreBytes ys → AreBytes (xs ++ ys)
 small_both [] ys h k = k
 small_both (x ∷ xs) ys h k = (h.0, small_both xs ys h.1 k)
-
-row_small : (w : ℕ) (channels : List (List ℤ)) (i : ℕ) → AreBytes (row_bytes w channels i)
-unfolding row_bytes
-row_small w [] i = tt
-row_small w (c ∷ cs) i = small_both (sample_bytes w (slice_index_or c i (pos 0))) (row_bytes w cs i) (small_front w _ (low_small 0 4 (cast_unsigned w32 (slice_index_or c i (pos 0))))) (row_small w cs i)
-
-rows_small : (w : ℕ) (channels : List (List ℤ)) (n i : ℕ) → AreBytes (rows_bytes w channels n i)
-unfolding rows_bytes
-rows_small w channels zero i = tt
-rows_small w channels (suc n) i = small_both (row_bytes w channels i) (rows_bytes w channels n (i + 1)) (row_small w channels i) (rows_small w channels n (i + 1))
 
 -- ---- lengths
 
@@ -77,9 +67,6 @@ rows_long w channels (suc n) i few =
     length-append (row_bytes w channels i) (rows_bytes w channels n (i + 1)) ∙ omega (arith, one, more, e)
 
 module _ (bytes : List ℕ) (count width : ℕ) (channels : List (List ℤ)) (are : AreChannels bytes count width channels) where
-  pub channels_small : AreBytes bytes
-  channels_small = subst AreBytes are.spelled (rows_small width channels (samples_each channels) 0)
-
   pub channels_long : width ≤ 4 → length bytes ≡ samples_each channels * (count * width)
   channels_long few = ap length (sym are.spelled) ∙ (rows_long width channels (samples_each channels) 0 few ∙ ap (λ k. samples_each channels * (k * width)) are.many)
 
@@ -115,28 +102,10 @@ both_odd m n b is = ap not is ∙ both_by m n (m % 2) (n % 2) refl refl
 pub none_odd : (m n : ℕ) → m ≡ 0 → true ≡ nat_eq (m * n % 2) 0
 none_odd m n none = sym (eq-eqb (m * n % 2) 0 (even_left 0 m n (omega (arith, none))))
 
--- ---- samples that are those of a stream as they are
+-- ---- how many bytes they have
 
-pub same_samples : (wide depth : ℕ) (xs : List ℕ) → depth ≡ 8 * wide → 8 < depth → stream_samples wide depth xs ≡ xs
-same_samples wide depth xs all more =
-    let ys = wave_samples (8 * wide) xs in
-    let low : low_samples wide depth ys ≡ ys = ap (λ b. cond b ys (lowered wide (sample_width depth) (8 * wide - depth) (length ys / wide) ys)) (eq-eqb depth (8 * wide) all) in
-    low ∙ ap (λ b. cond b (map turned xs) xs) (le-ltb (8 * wide) 9 (omega (arith, all, more)))
-
-known_by : (b : Bool) (all depth : ℕ) → cond b None (Some all) ≡ Some depth → depth ≡ all
-known_by true all depth e = absurd cc
-known_by false all depth e = cc
-
-pub known_is : (f : WaveFormat) (depth : ℕ) → known_depth f ≡ Some depth → depth ≡ 8 * wave_width_of f
-known_is f depth e = known_by _ (8 * wave_width_of f) depth e
-
-width_of_all : (w : ℕ) → (8 * w + 7) / 8 ≡ w
+pub width_of_all : (w : ℕ) → (8 * w + 7) / 8 ≡ w
 width_of_all w = omega arith
-
-pub width_known : (f : WaveFormat) (depth : ℕ) → known_depth f ≡ Some depth → sample_width depth ≡ wave_width_of f
-width_known f depth e = ap sample_width (known_is f depth e) ∙ width_of_all (wave_width_of f)
-
--- ---- samples that change
 
 pub depth_fits : (f : WaveFormat) (xs : List ℕ) → IsInRange f → (0 < depth_in f xs) × (depth_in f xs ≤ 8 * wave_width_of f)
 depth_fits f xs r = elim (depth_cases f xs) [
@@ -144,20 +113,7 @@ depth_fits f xs r = elim (depth_cases f xs) [
   | inr n ↦ let some = stated_some (depth_in f xs) n.stated in let few = n.few in (omega (arith, some), omega (arith, few))
 ]
 
-pub depth_high : (f : WaveFormat) (xs : List ℕ) → (depth_in f xs ≡ 8 * wave_width_of f) ⊎ (1 < wave_width_of f)
-depth_high f xs = elim (depth_cases f xs) [
-  | inl all ↦ inl all
-  | inr n ↦ let some = stated_some (depth_in f xs) n.stated in let few = n.few in inr (omega (arith, some, few))
-]
-
--- whole samples of a file, of n bytes each
-pub file_whole : (count wide n : ℕ) → n % (count * wide) ≡ 0 → n % wide ≡ 0
-file_whole count wide n whole =
-    let d = div-add-mod' n (count * wide) in
-    let e : n ≡ n / (count * wide) * count * wide = omega (arith, d, whole) in
-    ap (λ k. k % wide) e ∙ mul-mod_left (n / (count * wide) * count) wide
-
-wave_long : (depth : ℕ) (xs : List ℕ) → length (wave_samples depth xs) ≡ length xs
+pub wave_long : (depth : ℕ) (xs : List ℕ) → length (wave_samples depth xs) ≡ length xs
 wave_long depth xs = by_test (nat_lt depth 9)
   where
     by_test : (b : Bool) → length (cond b (map turned xs) xs) ≡ length xs
@@ -195,62 +151,15 @@ stream_whole count wide depth xs some whole =
 
 -- ---- what is taken
 
--- what holds of a value that is there
-pub if_some : {X : Type 0} (P : X → Type 0) (o : Option X) (x : X) → o ≡ Some x → IfSome o P → P x
-if_some P None x e h = absurd cc
-if_some P (Some y) x e h = let same : y ≡ x = cc in subst P same h
-
-abbrev lists : Vec (Vec ℤ Global) Global → List (List ℤ)
+-- the samples of each channel
+abbrev pub lists : Vec (Vec ℤ Global) Global → List (List ℤ)
 lists v = map (λ (c : Vec ℤ Global). c.items) v.items
 
-narrow_width : (bits : ℕ) → bits < 33 → (bits + 7) / 8 ≤ 4
+pub narrow_width : (bits : ℕ) → bits < 33 → (bits + 7) / 8 ≤ 4
 narrow_width bits few = omega (arith, few)
 
-some_width : (bits : ℕ) → 0 < bits → 0 < (bits + 7) / 8
+pub some_width : (bits : ℕ) → 0 < bits → 0 < (bits + 7) / 8
 some_width bits some = omega (arith, some)
-
--- a whole number of inter-channel samples stays so
-pub raw_whole : (f : WaveFormat) (range : IsInRange f) (bytes : List ℕ) (depth : ℕ) (raw : List ℕ) (width : ℕ) → length bytes % row_of f ≡ 0 → raw ≡ stream_samples (wave_width_of f) depth bytes → width ≡ sample_width depth → length raw % (f.channels * width) ≡ 0
-raw_whole f range bytes depth raw width whole is wide =
-    ap (λ b. length b % (f.channels * width)) is ∙ (ap (λ w. length (stream_samples (wave_width_of f) depth bytes) % (f.channels * w)) wide
-    ∙ stream_whole f.channels (wave_width_of f) depth bytes (some_width f.bits range.bits) whole)
-
-module _ (f : WaveFormat) (range : IsInRange f) (bytes : List ℕ) (depth : ℕ) (v : Vec (Vec ℤ Global) Global) (odd : Bool) where
-  pub unchanged_taken : (width : ℕ) → known_depth f ≡ Some depth → 8 < depth → width ≡ wave_width_of f → length bytes % (f.channels * width) ≡ 0 → AreChannels bytes f.channels width (lists v)
-      → not odd ≡ nat_eq (samples_each (lists v) * (f.channels * width) % 2) 0 → AreTaken f bytes (record { depth = depth; channels = v; odd = odd })
-  unchanged_taken width known more wide whole are o =
-      let same : stream_samples (wave_width_of f) depth bytes ≡ bytes = same_samples (wave_width_of f) depth bytes (known_is f depth known) more in
-      let width_is : width ≡ sample_width depth = wide ∙ sym (width_known f depth known) in
-      let here : AreChannels bytes f.channels (sample_width depth) (lists v) = subst (λ w. AreChannels bytes f.channels w (lists v)) width_is are in
-      let long = channels_long bytes f.channels width (lists v) are (subst (λ w. w ≤ 4) (sym wide) (narrow_width f.bits range.narrow)) in
-      record {
-        small = channels_small bytes f.channels width (lists v) are;
-        whole = subst (λ w. length bytes % (f.channels * w) ≡ 0) wide whole;
-        deep = sym (depth_known f bytes depth known);
-        raw = record {
-          whole = ap (λ b. length b % (f.channels * sample_width depth)) same ∙ subst (λ w. length bytes % (f.channels * w) ≡ 0) width_is whole;
-          are = subst (λ b. AreChannels b f.channels (sample_width depth) (lists v)) (sym same) here;
-        };
-        odd = o ∙ ap (λ n. nat_eq (n % 2) 0) (sym long);
-      }
-
-  pub changed_taken : (raw : List ℕ) (width : ℕ) → AreBytes bytes → length bytes % row_of f ≡ 0 → depth ≡ depth_in f bytes → raw ≡ stream_samples (wave_width_of f) depth bytes → width ≡ sample_width depth
-      → AreChannels raw f.channels width (lists v) → not odd ≡ nat_eq (length bytes % 2) 0 → AreTaken f bytes (record { depth = depth; channels = v; odd = odd })
-  changed_taken raw width small whole deep is wide are o = record {
-    small = small;
-    whole = whole;
-    deep = deep;
-    raw = record {
-      whole = stream_whole f.channels (wave_width_of f) depth bytes (some_width f.bits range.bits) whole;
-      are = subst (λ b. AreChannels b f.channels (sample_width depth) (lists v)) is (subst (λ w. AreChannels raw f.channels w (lists v)) wide are);
-    };
-    odd = o;
-  }
-
-pub odd_is : (n m : ℕ) → n % 2 ≡ m → not (nat_eq m 1) ≡ nat_eq m 0
-odd_is n zero e = refl
-odd_is n (suc zero) e = refl
-odd_is n (suc (suc m)) e = absurd (let l = mod-lt n {m = 2} (omega arith) in omega (arith, l, e))
 
 -- ---- how many bytes the samples have, by how many there are
 

@@ -51,6 +51,18 @@ module _ {T : Type 0} (g : target.Ghosts T) where
   pub told_same : {text other : List ℕ} {old new : T} → IsTold g text old new → text ≡ other → IsTold g other old new
   told_same {old = old} {new = new} p same = subst (λ l. IsTold g l old new) same p
 
+  -- one text after another
+  pub told_then : {text more : List ℕ} {old mid new : T} → IsTold g text old mid → IsTold g more mid new → IsTold g (text ++ more) old new
+  told_then {text = text} {more = more} {old = old} {mid = mid} {new = new} p q = record {
+    kept = omega (arith, p.kept, q.kept);
+    told = λ k same.
+        let first : g.errors mid ≡ g.errors old = omega (arith, same, p.kept, q.kept) in
+        let then : g.errors new ≡ g.errors mid = omega (arith, same, p.kept, q.kept) in
+        let a = p.told k first in
+        let b = q.told a.0 then in
+        (b.0, b.1 ∙ ap (λ l. l ++ more) a.1 ∙ append_assoc (g.sent old) text more);
+  }
+
   pub sent_same : {text other : List ℕ} {old new : T} {done : Bool} → IsSent g text old new done → text ≡ other → IsSent g other old new done
   sent_same {old = old} {new = new} {done = done} p same = subst (λ l. IsSent g l old new done) same p
 

@@ -18,7 +18,7 @@ negative : (n x : ℕ) → 2 ^ (8 * n - 1) ≤ x → x < 2 ^ (8 * n) → twos_co
 negative n x le lt = rw (le-ltb x (2 ^ (8 * n - 1)) le) (omega (arith, ints))
 
 -- the bytes say a number below what they reach
-little_small : (bs : List ℕ) → length bs ≤ 4 → ((i : ℕ) → get_or bs i 0 < 256) → little_number (length bs) bs < 2 ^ (8 * length bs)
+pub little_small : (bs : List ℕ) → length bs ≤ 4 → ((i : ℕ) → get_or bs i 0 < 256) → little_number (length bs) bs < 2 ^ (8 * length bs)
 little_small [] few small = omega arith
 little_small (a ∷ []) few small = let p : a < 256 = small 0 in omega arith
 little_small (a ∷ b ∷ []) few small = let p : a < 256 = small 0 in let q : b < 256 = small 1 in omega arith

@@ -7,11 +7,13 @@ use Rattle.flac_cli.specs.Changes.{change_in, is_kept}
 use Rattle.flac_cli.specs.Counted.{printed}
 use Rattle.flac_cli.specs.Outcomes.{Fits}
 use Rattle.flac_cli.specs.Reports.{Serves}
-use Rattle.flac_cli.specs.Verified.{IsFinding, HasNoMemory, AreFound, AreWhole, IsWhole, ok_of, bad_of, all_kept, ok_lines, bad_lines, printed_lines, last_line, good_count, bad_count}
+use Rattle.flac_cli.specs.Missing.{IsMissingIf, asks_missing, AreMissing, told_lines}
+use Rattle.flac_cli.specs.Verified.{IsFinding, HasNoMemory, AreFound, AreWhole, IsWhole, ok_of, bad_of, all_kept, ok_lines, printed_lines, last_line, good_count, bad_count}
 use Rattle.flac_cli.specs.Reported.{entry_line, is_sought_in, report_line, report_lines}
 use Rattle.flac_cli.specs.Verifies.{Verifies}
 use Rattle.flac_cli.specs.inner.Verifying.{IsSent, IsTold, IsEntered, IsCounted, IsEnded, SoFar, Underway, good_after, bad_after}
 use Rattle.flac_cli.specs.declared.verify_facts.Facts.{Facts}
+use Rattle.flac_cli.specs.declared.verify.Checks.{Checks}
 use Rattle.flac_cli.specs.declared.verify.Finding.{Finding}
 use Rattle.flac_cli.specs.declared.verify.Finding.TheVariants.{Good, Bad, Unopened}
 use Rattle.flac_cli.specs.declared.verify.Tally.{Tally}
@@ -105,9 +107,9 @@ line_is subset again sought file path stamp finding look paths stamps seen fits 
     kinds contents (Bad fault) seen fits = refl
     kinds contents Unopened seen fits = refl
 
-module _ {O E P : Type 0} (o : target.Ghosts O) (e : target.Ghosts E) (p : target.Ghosts P) (subset : Bool) (files : List Listed) (first : O) (began : E) (blank : P) where
+module _ {O E P : Type 0} (o : target.Ghosts O) (e : target.Ghosts E) (p : target.Ghosts P) (checks : Checks) (files : List Listed) (first : O) (began : E) (blank : P) where
   -- before the first file
-  pub begins : (tally : Tally) → tally.files ≡ 0 → tally.good ≡ 0 → tally.bad ≡ 0 → tally.is_written ≡ true → tally.is_reported ≡ true → tally.is_kept ≡ true → Underway o e p subset files files first first began began blank blank tally
+  pub begins : (tally : Tally) → tally.files ≡ 0 → tally.good ≡ 0 → tally.bad ≡ 0 → tally.is_written ≡ true → tally.is_reported ≡ true → tally.is_kept ≡ true → Underway o e p checks files files first first began began blank blank tally
   begins tally no_files no_good no_bad written reported kept = record {
     kept = omega arith;
     known = λ w k. k;
@@ -120,9 +122,11 @@ module _ {O E P : Type 0} (o : target.Ghosts O) (e : target.Ghosts E) (p : targe
     files_fit = omega (arith, no_files);
     good_fits = omega (arith, no_good);
     bad_fits = omega (arith, no_bad);
-    so_far = λ left found. record {
+    so_far = λ left texts found said. record {
       all = left;
       found = found;
+      missing = texts;
+      listed = said;
       sent_is = λ w k. refl;
       told_is = λ k same. refl;
       reported_is = λ w k. refl;
@@ -134,12 +138,12 @@ module _ {O E P : Type 0} (o : target.Ghosts O) (e : target.Ghosts E) (p : targe
   }
 
   -- a file more
-  pub read_more : {rest more : List Listed} {out sent : O} {err told : E} {report reported : P} {tally counted : Tally} (file : Listed) (finding : Finding) (done entered : Bool)
-      → Underway o e p subset files rest first out began err blank report tally → rest ≡ file ∷ more
-      → Fits HasNoMemory (IsFinding subset file.contents) finding → IsSent o (ok_of file finding) out sent done → IsTold e (bad_of file finding) err told
-      → IsEntered p tally.is_reported (report_line subset file finding) report reported entered → IsCounted finding (change_in file finding) done entered tally counted
-      → Underway o e p subset files more first sent began told blank reported counted
-  read_more {rest = rest} {more = more} {out = out} {sent = sent} {err = err} {told = told} {report = report} {reported = reported} {tally = tally} {counted = counted} file finding done entered u is fits s t n c = record {
+  pub read_more : {rest more : List Listed} {out sent : O} {err told : E} {report reported : P} {tally counted : Tally} (file : Listed) (finding : Finding) (text : List ℕ) (done entered : Bool)
+      → Underway o e p checks files rest first out began err blank report tally → rest ≡ file ∷ more
+      → Fits HasNoMemory (IsFinding checks.subset file.contents) finding → IsSent o (ok_of file finding) out sent done → IsMissingIf (asks_missing checks.all finding) file text → IsTold e (bad_of file finding ++ text) err told
+      → IsEntered p tally.is_reported (report_line checks.subset file finding) report reported entered → IsCounted finding (change_in file finding) done entered tally counted
+      → Underway o e p checks files more first sent began told blank reported counted
+  read_more {rest = rest} {more = more} {out = out} {sent = sent} {err = err} {told = told} {report = report} {reported = reported} {tally = tally} {counted = counted} file finding text done entered u is fits s m t n c = record {
     kept = omega (arith, u.kept, s.kept);
     known = λ w k. let b = were w in (s.sent b.1 (u.known b.0 k)).0;
     lost = λ w k. were_not w k;
@@ -151,23 +155,26 @@ module _ {O E P : Type 0} (o : target.Ghosts O) (e : target.Ghosts E) (p : targe
     files_fit = omega (arith, c.files);
     good_fits = good_small tally.good counted.good finding u.good_fits c.good;
     bad_fits = bad_small tally.bad counted.bad finding u.bad_fits c.bad;
-    so_far = λ left found.
-        let f : SoFar o e p subset files rest first out began err blank report tally (finding ∷ left) = u.so_far (finding ∷ left) (subst (λ fs. AreFound subset fs (finding ∷ left)) (sym is) (fits, found)) in
+    so_far = λ left texts found said.
+        let f : SoFar o e p checks files rest first out began err blank report tally (finding ∷ left) (text ∷ texts) =
+        u.so_far (finding ∷ left) (text ∷ texts) (subst (λ fs. AreFound checks.subset fs (finding ∷ left)) (sym is) (fits, found)) (subst (λ fs. AreMissing checks.all fs (finding ∷ left) (text ∷ texts)) (sym is) (m, said)) in
         record {
           all = f.all;
           found = f.found;
+          missing = f.missing;
+          listed = f.listed;
           sent_is = λ w k.
               let b = were w in
               ap (λ l. l ++ ok_lines more left) (s.sent b.1 (u.known b.0 k)).1 ∙ append_assoc (o.sent out) (ok_of file finding) (ok_lines more left)
               ∙ ap (λ fs. o.sent out ++ ok_lines fs (finding ∷ left)) (sym is) ∙ f.sent_is b.0 k;
           told_is = λ k same.
               let calm = calm_before same in
-              ap (λ l. l ++ bad_lines more left) (t.told (u.told_known k calm.0) calm.1).1 ∙ append_assoc (e.sent err) (bad_of file finding) (bad_lines more left)
-              ∙ ap (λ fs. e.sent err ++ bad_lines fs (finding ∷ left)) (sym is) ∙ f.told_is k calm.0;
+              ap (λ l. l ++ told_lines more left texts) (t.told (u.told_known k calm.0) calm.1).1 ∙ append_assoc (e.sent err) (bad_of file finding ++ text) (told_lines more left texts)
+              ∙ ap (λ fs. e.sent err ++ told_lines fs (finding ∷ left) (text ∷ texts)) (sym is) ∙ f.told_is k calm.0;
           reported_is = λ w k.
               let d = was_entered w in
-              ap (λ l. l ++ report_lines subset more left) (n.sent d (u.report_known (n.was d) k)).1 ∙ append_assoc (p.sent report) (report_line subset file finding) (report_lines subset more left)
-              ∙ ap (λ fs. p.sent report ++ report_lines subset fs (finding ∷ left)) (sym is) ∙ f.reported_is (n.was d) k;
+              ap (λ l. l ++ report_lines checks.subset more left) (n.sent d (u.report_known (n.was d) k)).1 ∙ append_assoc (p.sent report) (report_line checks.subset file finding) (report_lines checks.subset more left)
+              ∙ ap (λ fs. p.sent report ++ report_lines checks.subset fs (finding ∷ left)) (sym is) ∙ f.reported_is (n.was d) k;
           files_are = files_more tally.files counted.files (length f.all) finding left c.files f.files_are;
           good_are = good_more tally.good counted.good (good_count f.all) finding left c.good f.good_are;
           bad_are = bad_more tally.bad counted.bad (bad_count f.all) finding left c.bad f.bad_are;
@@ -197,11 +204,11 @@ module _ {O E P : Type 0} (o : target.Ghosts O) (e : target.Ghosts E) (p : targe
       calm_before same = (omega (arith, same, u.told, t.kept), omega (arith, same, u.told, t.kept))
 
   -- all files were read
-  module _ {rest : List Listed} {out ended : O} {err told : E} {report : P} {tally : Tally} (done : Bool) (status : ℕ) (u : Underway o e p subset files rest first out began err blank report tally) (none : rest ≡ [])
+  module _ {rest : List Listed} {out ended : O} {err told : E} {report : P} {tally : Tally} (done : Bool) (status : ℕ) (u : Underway o e p checks files rest first out began err blank report tally) (none : rest ≡ [])
       (over : IsEnded o e tally out ended err told done) (zero : status ≡ 0 → (done ≡ true) × (tally.is_reported ≡ true) × (tally.is_kept ≡ true) × (tally.bad ≡ 0))
       (one : done ≡ true → tally.is_reported ≡ true → tally.is_kept ≡ true → tally.bad ≡ 0 → status ≡ 0) where
-    last : SoFar o e p subset files rest first out began err blank report tally []
-    last = u.so_far [] (subst (λ fs. AreFound subset fs []) (sym none) tt)
+    last : SoFar o e p checks files rest first out began err blank report tally [] []
+    last = u.so_far [] [] (subst (λ fs. AreFound checks.subset fs []) (sym none) tt) (subst (λ fs. AreMissing checks.all fs [] []) (sym none) tt)
 
     files_are : tally.files ≡ printed (length last.all)
     files_are = all_counted tally.files (length last.all) u.files_fit last.files_are
@@ -236,23 +243,25 @@ module _ {O E P : Type 0} (o : target.Ghosts O) (e : target.Ghosts E) (p : targe
     was_done false false is fails served = let rose = u.lost is served.0 in absurd (omega (arith, rose, over.kept, served.1))
 
     -- the report, if it did not fail
-    report_is : tally.is_reported ≡ true → p.known blank ≡ true → p.sent report ≡ p.sent blank ++ report_lines subset files last.all
-    report_is w k = sym (append-nil (p.sent report)) ∙ ap (λ fs. p.sent report ++ report_lines subset fs []) (sym none) ∙ last.reported_is w k
+    report_is : tally.is_reported ≡ true → p.known blank ≡ true → p.sent report ≡ p.sent blank ++ report_lines checks.subset files last.all
+    report_is w k = sym (append-nil (p.sent report)) ∙ ap (λ fs. p.sent report ++ report_lines checks.subset fs []) (sym none) ∙ last.reported_is w k
 
     was_reported : (b : Bool) → tally.is_reported ≡ b → Serves p blank report → tally.is_reported ≡ true
     was_reported true is served = is
     was_reported false is served = let rose = u.report_lost is served.0 in absurd (omega (arith, rose, served.1))
 
-    err_lines : (d : Bool) → done ≡ d → done ≡ true → Serves e began told → e.sent told ≡ e.sent began ++ bad_lines files last.all
+    err_lines : (d : Bool) → done ≡ d → done ≡ true → Serves e began told → e.sent told ≡ e.sent began ++ told_lines files last.all last.missing
     err_lines d is holds served =
         let same = over.unheard holds in
         let calm : e.errors err ≡ e.errors began = ap e.errors (sym same) ∙ served.1 in
-        ap e.sent same ∙ sym (append-nil (e.sent err)) ∙ ap (λ fs. e.sent err ++ bad_lines fs []) (sym none) ∙ last.told_is served.0 calm
+        ap e.sent same ∙ sym (append-nil (e.sent err)) ∙ ap (λ fs. e.sent err ++ told_lines fs [] []) (sym none) ∙ last.told_is served.0 calm
 
-    pub all_read : Verifies o e p subset files status first ended began told blank report
+    pub all_read : Verifies o e p checks files status first ended began told blank report
     all_read = record {
       findings = last.all;
       found = last.found;
+      missing = last.missing;
+      listed = last.listed;
       kept = λ ok. sym kept_are ∙ (zero ok).2;
       good = λ ok. is_zero tally.bad (bad_count last.all) bad_are (zero ok).3;
       written = λ ok. ended_line (zero ok).0;
@@ -265,5 +274,5 @@ module _ {O E P : Type 0} (o : target.Ghosts O) (e : target.Ghosts E) (p : targe
     }
 
     -- after status 0 each file is a stream
-    pub all_whole : status ≡ 0 → AreWhole subset files
-    all_whole ok = are_whole subset files last.all last.found (is_zero tally.bad (bad_count last.all) bad_are (zero ok).3)
+    pub all_whole : status ≡ 0 → AreWhole checks.subset files
+    all_whole ok = are_whole checks.subset files last.all last.found (is_zero tally.bad (bad_count last.all) bad_are (zero ok).3)

@@ -4,8 +4,11 @@ pub mod Changes
 pub mod Counted
 pub mod Editing
 pub mod Encoded
+pub mod Excerpts
 pub mod Headed
 pub mod Lined
+pub mod ListedJson
+pub mod Missing
 pub mod Named
 pub mod Objects
 pub mod Outcomes
@@ -17,6 +20,7 @@ pub mod Refusals
 pub mod Reported
 pub mod Reports
 pub mod Retagged
+pub mod Salvages
 pub mod Same
 pub mod Samples
 pub mod Speakers

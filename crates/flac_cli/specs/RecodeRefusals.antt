@@ -1,5 +1,5 @@
 -- Which streams cannot be encoded anew as asked for, for which first reason, and what is reported of it.
-use Rattle.std.specs.Prelude.{◌≡◌, ◌⊎◌, ℕ, List, [], ◌++◌, Err, Option, Some, None, option_map, unwrap_or, false, true}
+use Rattle.std.specs.Prelude.{◌≡◌, ◌⊎◌, ℕ, ℤ, List, [], ◌++◌, Err, Option, Some, None, option_map, unwrap_or, false, true}
 use Rattle.std.specs.Option.{option_or}
 use Rattle.flac_bits.specs.State.{After}
 use Rattle.flac_bits.specs.declared.why.Why.{Why}
@@ -20,7 +20,7 @@ use Rattle.flac_cli.specs.Asked.{Asked}
 use Rattle.flac_cli.specs.Encoded.{cut_as}
 use Rattle.flac_cli.specs.Outcomes.{input_reading, reason_text}
 use Rattle.flac_cli.specs.Predictors.{predictors_in, AreListed}
-use Rattle.flac_cli.specs.Recoded.{sound_in, blocks_in, IsStreamOf}
+use Rattle.flac_cli.specs.Recoded.{heard_in, sound_of, blocks_in, IsStreamOf}
 use Rattle.flac_cli.specs.Refusals.{stream_fault, IsOutside as IsOutsideOf}
 use Rattle.flac_cli.specs.Reports.{Files, fault_line, path_of, line_text}
 use Rattle.flac_cli.specs.Streams.{profile_of}
@@ -61,9 +61,12 @@ sound_refusal asked ps a list =
     (option_or (option_map refusal.Input (list_fault info_seen list))
     (option_map refusal.Output (stream_fault asked.container (cut_as asked a ps) list))))
 
--- the same of a stream with this STREAMINFO, these blocks and these frames
+-- the same of a stream with this STREAMINFO, these blocks and these channels of samples, or these frames
+abbrev pub held_refusal : Asked → List LinearPredictor → Info → List Block → (channels : List (List ℤ)) → Option Refusal
+held_refusal asked ps info list channels = sound_refusal asked ps (sound_of asked.profile info channels) (blocks_in asked.container list)
+
 abbrev pub recoding_refusal : Asked → List LinearPredictor → Info → List Block → List Frame → Option Refusal
-recoding_refusal asked ps info list frames = sound_refusal asked ps (sound_in asked.profile info frames) (blocks_in asked.container list)
+recoding_refusal asked ps info list frames = held_refusal asked ps info list (heard_in info frames)
 
 -- This is the first reason, if there is one, if these are the predictors: where and why the bytes are no stream; else
 -- what holds of the stream's samples and blocks.

@@ -14,6 +14,7 @@ use Rattle.flac_native.specs.Given.{closing}
 use Rattle.flac_native.specs.Stream.{Piece, framed}
 use Rattle.flac_native.specs.Whole.{head_parts}
 use Rattle.flac_ogg.specs.Either.{begins_page}
+pub use Rattle.flac_rescue.specs.Channels.{extended}
 use Rattle.flac_cli.specs.Asked.{Asked}
 use Rattle.flac_cli.specs.Encoded.{EncodesIn, BeginsIn, AreFound, cut_found}
 use Rattle.flac_cli.specs.Outcomes.{input_reading}
@@ -23,20 +24,21 @@ use Rattle.flac_jobs.specs.declared.formats.ContainerKind.TheVariants as contain
 
 -- ---- samples
 
--- each channel's samples, and after them those that it has in a frame
-abbrev pub extended : (channels more : List (List ℤ)) → List (List ℤ)
-extended [] more = []
-extended (c ∷ cs) [] = c ∷ cs
-extended (c ∷ cs) (m ∷ ms) = (c ++ m) ∷ extended cs ms
-
--- the same for all frames, one after another
+-- each channel's samples, and after them those that it has in each frame
 abbrev pub extended_by : (channels : List (List ℤ)) → List Frame → List (List ℤ)
 extended_by channels [] = channels
 extended_by channels (f ∷ fs) = extended_by (extended channels f.channels) fs
 
--- the samples of a stream with this STREAMINFO and these frames (RFC 9639, sections 8.2 and 9), for one of this profile
+-- those of a stream with this STREAMINFO and these frames (RFC 9639, sections 8.2 and 9)
+abbrev pub heard_in : Info → List Frame → List (List ℤ)
+heard_in info frames = extended_by (replicate info.channels []) frames
+
+-- channels with the rate and the depth of this STREAMINFO, for a stream of this profile
+abbrev pub sound_of : Profile → Info → (channels : List (List ℤ)) → Sound
+sound_of profile info channels = record { profile = profile; rate = info.rate; bits = info.depth; channels = channels }
+
 abbrev pub sound_in : Profile → Info → List Frame → Sound
-sound_in profile info frames = record { profile = profile; rate = info.rate; bits = info.depth; channels = extended_by (replicate info.channels []) frames }
+sound_in profile info frames = sound_of profile info (heard_in info frames)
 
 -- ---- blocks
 

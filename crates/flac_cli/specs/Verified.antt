@@ -118,16 +118,11 @@ ok_of file finding = ok_part file.path (change_in file finding) finding
 abbrev pub bad_of : Listed → Finding → List ℕ
 bad_of file finding = bad_part file.path (change_in file finding) finding
 
--- the same of all files in order
+-- what all files add to standard output
 abbrev pub ok_lines : List Listed → List Finding → List ℕ
 ok_lines [] findings = []
 ok_lines files [] = []
 ok_lines (file ∷ files) (finding ∷ findings) = ok_of file finding ++ ok_lines files findings
-
-abbrev pub bad_lines : List Listed → List Finding → List ℕ
-bad_lines [] findings = []
-bad_lines files [] = []
-bad_lines (file ∷ files) (finding ∷ findings) = bad_of file finding ++ bad_lines files findings
 
 -- each file is as good as it was in the older report, with the same audio
 abbrev pub all_kept : List Listed → List Finding → Bool

@@ -171,6 +171,10 @@ contents pieces = map (λ p. p.items) pieces
 abbrev pub kept_list : (words pieces : List (List ℕ)) → List Block
 kept_list words pieces = comment_list words ++ map riff_block pieces
 
+-- the same with these speakers, and of the pieces before and after the samples
+abbrev pub kept_with : (words : List (List ℕ)) (mask : Option ℕ) (before after : List (Vec ℕ Global)) → List Block
+kept_with words mask before after = kept_list (words_with words mask) (contents before ++ contents after)
+
 -- the pieces that are kept: all, or none
 abbrev pub kept_pieces : (keep : Bool) → List (List ℕ) → List (List ℕ)
 kept_pieces keep pieces = cond keep pieces []
@@ -230,6 +234,10 @@ pub record BeginsWave (asked : Asked) (bytes : List ℕ) (before after : List Bo
   pub sought : AreFound asked.effort predictors found
   pub begins : BeginsIn asked.container (cut_found (record asked { format = format }) audio predictors found) list audio before after
 
+-- nothing was written, or such a prefix
+abbrev pub MayBeginWave : Asked → (bytes : List ℕ) → (before after : List Bool) → Type 0
+MayBeginWave asked bytes before after = (after ≡ before) ⊎ BeginsWave asked bytes before after
+
 -- what a job asks for whose list has this text, if it is an encoding of a WAV file; the format is the file's own
 abbrev pub asked_for_wave : Job → (list : List ℕ) → Option Asked
 asked_for_wave (job.EncodeWave input output size seek_every c comments lax predictors effort keep to_end) list =
@@ -246,7 +254,7 @@ HasEncodedWave None bytes before after = Unit {0}
 
 -- nothing was written, or such a prefix, if the job is such an encoding
 abbrev pub HasBegunWave : Option Asked → (bytes : List ℕ) → (before after : List Bool) → Type 0
-HasBegunWave (Some asked) bytes before after = (after ≡ before) ⊎ BeginsWave asked bytes before after
+HasBegunWave (Some asked) bytes before after = MayBeginWave asked bytes before after
 HasBegunWave None bytes before after = Unit {0}
 
 -- The bytes of a stream that keeps a WAV file are a stream of blocks and frames whose file is that file, and of no other.

@@ -1,9 +1,13 @@
 -- What private contracts and proofs need, and no contract of an exported function.
 pub mod Heading
+pub mod HeldWaves
+pub mod Excerpts
 pub mod Holding
 pub mod Lined
 pub mod Objects
 pub mod Lines
+pub mod Listing
+pub mod Missing
 pub mod Outcomes
 pub mod Predictors
 pub mod Preparing

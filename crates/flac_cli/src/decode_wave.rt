@@ -42,7 +42,7 @@ const RAISED_ROWS: usize = 256;
 const RAISED_ROOM: usize = 32768;
 
 /// Sends pieces, one after another.
-fn send_pieces<W: Target>(pieces: &[Vec<u8>], target: &mut W) -> Result<(), Why>
+pub(crate) fn send_pieces<W: Target>(pieces: &[Vec<u8>], target: &mut W) -> Result<(), Why>
     ensures known { OnOk result (W.known target.old ≡ true → W.known target.new ≡ true) }
     ensures sent { HasSent W.Target target.old target.new (all_of (map (λ p. p.items) pieces.now)) result }
     ensures names { W.names target.new ≡ W.names target.old }
@@ -69,7 +69,7 @@ pub(crate) fn turn(wide: usize, bytes: &mut [u8])
 }
 
 /// How many inter-channel samples are sent at once, at most.
-fn most_rows(depth: u8, wide: usize) -> usize
+pub(crate) fn most_rows(depth: u8, wide: usize) -> usize
     requires { wide ≤ 4 }
     ensures some { 0 < result }
     ensures few { result ≤ 4096 }
@@ -99,7 +99,7 @@ fn send_turned<W: Target>(wide: usize, bytes: &mut [u8], target: &mut W) -> Resu
 
 /// Sends samples of a stream as those of a WAV file, of `wide` bytes each. Their bytes may be changed for it. Returns how
 /// many bytes they are in the file.
-fn send_as_file<W: Target>(
+pub(crate) fn send_as_file<W: Target>(
     depth: u8,
     wide: usize,
     bytes: &mut [u8],

@@ -275,7 +275,8 @@ pub(crate) fn plan_of(
     audio: &Audio,
     predictors: Vec<LinearPredictor>,
 ) -> Result<Plan, SetupFault>
-    ensures made { MakesPlan (with_predictors (cut_of format.block audio.now format.seek_every) predictors.items) result }
+    ensures made { MakesPlan
+        (with_predictors (cut_of format.block audio.now format.seek_every) predictors.items) result }
     ensures fits { IfOk result (λ p. fits_plan p audio.now ≡ true) }
     ensures good { IfOk result (λ p. plan_fault p ≡ None) }
 {

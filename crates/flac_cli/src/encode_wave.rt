@@ -1,23 +1,21 @@
 //! `flac encode` of WAV files.
 
 ghost use Rattle.std.specs.Prelude.{◌≡◌, ◌≢◌, ◌≤◌, ◌<◌, ◌++◌, ◌⊎◌, ℕ, List, [], true, map, IfOk, IfErr, OnOk, OnErr, Some, None};
-ghost use Rattle.flac_bits.specs.Bits.{bits_of};
 ghost use Rattle.flac_meta.specs.Listed.{list_fault, info_seen};
 ghost use Rattle.flac_native.specs.Given.{fits_plan};
-ghost use Rattle.flac_cli.specs.Calls.{HasWritten, IfServed};
+ghost use Rattle.flac_cli.specs.Calls.{HasWritten, IfKnown, IfServed};
 ghost use Rattle.flac_cli.specs.Asked.{asked_of};
 ghost use Rattle.flac_cli.specs.Refusals.{refusal_of};
 ghost use Rattle.flac_cli.specs.WaveRefusals.{refusal_of_wave, IsFileReason, IsWaveReason, IsOutside, IsWaveReport, at_chunk, wave_text};
-ghost use Rattle.flac_cli.specs.Waves.{format_with, contents, kept_list, blocks_for, riff_block, EncodesWave, BeginsWave};
-ghost use Rattle.flac_cli.specs.Speakers.{words_with};
+ghost use Rattle.flac_cli.specs.Waves.{format_with, contents, kept_with, blocks_for, riff_block, EncodesWave, MayBeginWave};
 ghost use Rattle.flac_cli.specs.inner.Preparing.{IsReady};
 ghost use Rattle.flac_cli.specs.inner.WaveSamples.{IsTaken, MakesRaw};
 ghost use Rattle.flac_wave.specs.Calls.{IfRead};
 ghost use Rattle.flac_cli.specs.declared.encode_wave.WaveRefusal.TheVariants.{Refused};
 ghost use Rattle.flac_cli.specs.declared.encode.Refusal.TheVariants as refusal;
 ghost use Rattle.flac_bits.specs.declared.why.Why.TheVariants as why;
-ghost use Rattle.flac_cli.specs.Streams.{Tells};
 ghost use Rattle.flac_cli.specs.Reports.{fault_line, files_of, Serves};
+ghost use Rattle.flac_cli.specs.Streams.{Tells};
 ghost use Rattle.flac_cli.specs.Named.{NamesWaveEncoding};
 
 use crate::comments::comments_of;
@@ -150,11 +148,11 @@ fn kept_list(
     after: &[Vec<u8>],
 ) -> Result<BlockList, Why>
     ensures list { IfOk result (λ list. list ≡
-        kept_list (words_with (map (λ word. word.now) words.now) mask) (contents before.now ++ contents after.now)) }
+        kept_with (map (λ word. word.now) words.now) mask before.now after.now) }
     ensures accepted { OnOk result (list_fault info_seen
-        (kept_list (words_with (map (λ word. word.now) words.now) mask) (contents before.now ++ contents after.now)) ≡ None) }
+        (kept_with (map (λ word. word.now) words.now) mask before.now after.now) ≡ None) }
     ensures refused { IfErr result (λ e. (e ≡ why.Memory) ⊎ (list_fault info_seen
-        (kept_list (words_with (map (λ word. word.now) words.now) mask) (contents before.now ++ contents after.now)) ≡ Some e)) }
+        (kept_with (map (λ word. word.now) words.now) mask before.now after.now) ≡ Some e)) }
 {
     let comments = comments_of(alloc, words)?;
     let all = with_mask(alloc, comments, mask)?;
@@ -294,13 +292,12 @@ pub(crate) fn encode_wave<R: Source, W: Target>(
 ) -> Result<(), WaveRefusal>
     ensures written { OnOk result (HasWritten R.Source W.Target source.old target.old target.new
         (EncodesWave (asked_of encoding.now))) }
-    ensures begun { OnErr result (R.known source.old ≡ true → W.known target.old ≡ true →
-        (bits_of (W.sent target.new) ≡ bits_of (W.sent target.old))
-        ⊎ BeginsWave (asked_of encoding.now) (R.coming source.old) (bits_of (W.sent target.old)) (bits_of (W.sent target.new))) }
-    ensures accepted { OnOk result (R.known source.old ≡ true →
-        IsWaveReason (asked_of encoding.now) (R.coming source.old) None) }
-    ensures refused { IfErr result (λ e. R.known source.old ≡ true → R.raised source.new ≡ R.raised source.old →
-        IsOutside e ⊎ IsWaveReason (asked_of encoding.now) (R.coming source.old) (Some e)) }
+    ensures begun { OnErr result (HasWritten R.Source W.Target source.old target.old target.new
+        (MayBeginWave (asked_of encoding.now))) }
+    ensures accepted { OnOk result (IfKnown R.Source source.old
+        (λ bytes. IsWaveReason (asked_of encoding.now) bytes None)) }
+    ensures refused { IfErr result (λ e. IfRead R.Source source.old source.new
+        (IsOutside e ⊎ IsWaveReason (asked_of encoding.now) (R.coming source.old) (Some e))) }
     ensures failed { IfErr result (λ e. e ≡ Refused (refusal.Output EncodeFault.Write) → W.known target.old ≡ true →
         W.errors target.old < W.errors target.new) }
 {
@@ -351,14 +348,14 @@ pub(crate) fn run_encode_wave<R: Source, W: Target, E: Target>(
     ensures status { result ≤ 1 }
     ensures encoded { result ≡ 0 →
         HasWritten R.Source W.Target source.old target.old target.new (EncodesWave (asked_of encoding.now)) }
-    ensures accepted { result ≡ 0 → R.known source.old ≡ true →
-        IsWaveReason (asked_of encoding.now) (R.coming source.old) None }
-    ensures begun { result ≡ 1 → R.known source.old ≡ true → W.known target.old ≡ true →
-        (bits_of (W.sent target.new) ≡ bits_of (W.sent target.old))
-        ⊎ BeginsWave (asked_of encoding.now) (R.coming source.old) (bits_of (W.sent target.old)) (bits_of (W.sent target.new)) }
+    ensures accepted { result ≡ 0 →
+        IfKnown R.Source source.old (λ bytes. IsWaveReason (asked_of encoding.now) bytes None) }
+    ensures begun { result ≡ 1 →
+        HasWritten R.Source W.Target source.old target.old target.new (MayBeginWave (asked_of encoding.now)) }
     ensures refused { Tells R.Source source.old source.new → Serves W.Target target.old target.new →
         Serves E.Target err.old err.new →
-        IsWaveReport (asked_of encoding.now) (R.coming source.old) (files_of job.now) result (E.sent err.old) (E.sent err.new) }
+        IsWaveReport (asked_of encoding.now) (R.coming source.old) (files_of job.now) result
+        (E.sent err.old) (E.sent err.new) }
     ensures named { result ≡ 1 → IfServed E.Target err.old err.new (NamesWaveEncoding (files_of job.now)) }
 {
     match encode_wave(alloc, encoding, source, target) {

@@ -1,18 +1,21 @@
 //! `flac list --head`: the lines of the metadata blocks, and no frame is read.
 
 ghost use Rattle.std.specs.Prelude.{◌≡◌, ◌≢◌, ◌≤◌, true, false, OnOk, IfErr};
+ghost use Rattle.flac_bits.specs.Handing.{TakesAll};
+ghost use Rattle.flac_native.specs.Decoding.{taken};
 ghost use Rattle.flac_native.specs.Track.{is_going};
 ghost use Rattle.flac_native.specs.Giving.{stage_of};
 ghost use Rattle.flac_cli.specs.inner.Heading.{ReadsBlocks, RefusesBlocks, EndsBlocks, ReadsHead, RefusesHead};
 ghost use Rattle.flac_cli.specs.Calls.{IfServed};
 ghost use Rattle.flac_cli.specs.Headed.{HasHead, HasHeadRefused, HeadReport, IsFaultOf, any_reading};
+ghost use Rattle.flac_cli.specs.ListedJson.{HasHeadOf};
 ghost use Rattle.flac_cli.specs.Streams.{Tells};
 
-use crate::lines::Lines;
-use crate::list::send_block;
+use crate::chosen::ListedFile;
+use crate::list::Listing;
 use crate::report::refuse;
 use flac_bits::{Source, Target, Why};
-use flac_native::{Container, Decoder, Fault, Item, Place, Profile};
+use flac_native::{Container, Decoder, Fault, Item, Place, Profile, Sink};
 use flac_ogg::{Fronted, begins_page, ogg_decoder_returning, pull_front};
 use std::alloc::Global;
 
@@ -26,29 +29,30 @@ fn no_memory_at(index: u64) -> Fault
     }
 }
 
-/// Reads the next block, and sends its lines. It returns no item but a block, as none comes before the last one.
-fn list_block<C: Container, W: Target>(
+/// Reads the next block, and passes it to the sink. It returns no item but a block, as none comes before the last one.
+fn pass_block<C: Container, S: Sink>(
     decoder: &mut Decoder<C>,
     index: u64,
-    lines: &mut Lines<W>,
+    sink: &mut S,
 ) -> Result<(), Fault>
     requires { is_going (stage_of decoder.old).course ≡ true }
     // proof only
     ensures going { OnOk result (is_going (stage_of decoder.new).course ≡ true) }
     ensures names { C.names (stage_of decoder.new).container ≡ C.names (stage_of decoder.old).container }
-    ensures reads { OnOk result (ReadsBlocks C.Container (stage_of decoder.old) (stage_of decoder.new)) }
+    ensures reads { OnOk result
+        (ReadsBlocks C.Container S.known S.takes (stage_of decoder.old) (stage_of decoder.new) sink.old sink.new) }
     ensures refused { IfErr result (RefusesBlocks C.Container (stage_of decoder.old) (stage_of decoder.new)) }
 {
     match decoder.step() {
         Ok(()) => {}
         Err(fault) => return Err(fault),
     }
-    let sent = match decoder.view() {
-        Item::Block(block) => send_block(lines, index, block),
+    let passed = match decoder.view() {
+        Item::Block(block) => sink.block(block),
         Item::Frame(_) => return Err(no_memory_at(index)),
         Item::End => return Err(no_memory_at(index)),
     };
-    match sent {
+    match passed {
         Ok(()) => Ok(()),
         Err(_) => Err(Fault {
             at: Place::Block(index),
@@ -57,22 +61,20 @@ fn list_block<C: Container, W: Target>(
     }
 }
 
-/// Lists the blocks that a decoder gives up to the last one.
-fn list_blocks<C: Container, W: Target>(
-    decoder: &mut Decoder<C>,
-    lines: &mut Lines<W>,
-) -> Result<(), Fault>
+/// Passes the blocks that a decoder gives up to the last one to the sink.
+fn pass_blocks<C: Container, S: Sink>(decoder: &mut Decoder<C>, sink: &mut S) -> Result<(), Fault>
     requires { is_going (stage_of decoder.old).course ≡ true }
     // proof only
     ensures names { C.names (stage_of decoder.new).container ≡ C.names (stage_of decoder.old).container }
-    ensures ends { OnOk result (EndsBlocks C.Container (stage_of decoder.old) (stage_of decoder.new)) }
+    ensures ends { OnOk result
+        (EndsBlocks C.Container S.known S.takes (stage_of decoder.old) sink.old sink.new) }
     ensures refused { IfErr result (RefusesBlocks C.Container (stage_of decoder.old) (stage_of decoder.new)) }
 {
     for index in 0..u64::MAX {
         if decoder.is_past_metadata() {
             return Ok(());
         }
-        match list_block(decoder, index, lines) {
+        match pass_block(decoder, index, sink) {
             Ok(()) => {}
             Err(fault) => return Err(fault),
         }
@@ -80,31 +82,23 @@ fn list_blocks<C: Container, W: Target>(
     Err(no_memory_at(u64::MAX))
 }
 
-/// Lists the blocks of a native stream.
-fn list_native<R: Source, W: Target>(
-    alloc: Global,
-    source: &mut R,
-    lines: &mut Lines<W>,
-) -> Result<(), Fault>
+/// Passes the blocks of a native stream to the sink.
+fn pass_native<R: Source, S: Sink>(alloc: Global, source: &mut R, sink: &mut S) -> Result<(), Fault>
     // proof only
-    ensures head { OnOk result (ReadsHead R.Source false source.old) }
+    ensures head { OnOk result (ReadsHead R.Source S.known S.takes false source.old sink.old sink.new) }
     ensures refused { IfErr result (RefusesHead R.Source false source.old source.new) }
     ensures names { R.names source.new ≡ R.names source.old }
 {
     let mut decoder = Decoder::new(alloc, source, Profile::Lax);
-    let outcome = list_blocks(&mut decoder, lines);
+    let outcome = pass_blocks(&mut decoder, sink);
     let _source = decoder.into_source(); // for its clauses alone
     outcome
 }
 
-/// Lists the blocks of an Ogg stream.
-fn list_ogg<R: Source, W: Target>(
-    alloc: Global,
-    source: &mut R,
-    lines: &mut Lines<W>,
-) -> Result<(), Fault>
+/// Passes the blocks of an Ogg stream to the sink.
+fn pass_ogg<R: Source, S: Sink>(alloc: Global, source: &mut R, sink: &mut S) -> Result<(), Fault>
     // proof only
-    ensures head { OnOk result (ReadsHead R.Source true source.old) }
+    ensures head { OnOk result (ReadsHead R.Source S.known S.takes true source.old sink.old sink.new) }
     ensures refused { IfErr result (RefusesHead R.Source true source.old source.new) }
     ensures names { R.names source.new ≡ R.names source.old }
 {
@@ -113,39 +107,43 @@ fn list_ogg<R: Source, W: Target>(
         Err(refused) => return Err(refused.fault),
     };
     let mut decoder = decoder;
-    let outcome = list_blocks(&mut decoder, lines);
+    let outcome = pass_blocks(&mut decoder, sink);
     let packets = decoder.into_container();
     let _source = packets.into_source(); // for its clauses alone
     outcome
 }
 
-/// Lists the blocks of an Ogg stream or of a native one.
-fn list_as<R: Source, W: Target>(
+/// Passes the blocks of an Ogg stream or of a native one to the sink.
+fn pass_as<R: Source, S: Sink>(
     alloc: Global,
     is_ogg: bool,
     source: &mut R,
-    lines: &mut Lines<W>,
+    sink: &mut S,
 ) -> Result<(), Fault>
     // proof only
-    ensures head { OnOk result (ReadsHead R.Source is_ogg source.old) }
+    ensures head { OnOk result (ReadsHead R.Source S.known S.takes is_ogg source.old sink.old sink.new) }
     ensures refused { IfErr result (RefusesHead R.Source is_ogg source.old source.new) }
     ensures names { R.names source.new ≡ R.names source.old }
 {
     if is_ogg {
-        list_ogg(alloc, source, lines)
+        pass_ogg(alloc, source, sink)
     } else {
-        list_native(alloc, source, lines)
+        pass_native(alloc, source, sink)
     }
 }
 
-/// Lists the blocks of a stream in either container.
-fn list_head_into<R: Source, W: Target>(
+/// Reads the blocks of a stream, native or Ogg, and passes them to the sink. No frame is read.
+///
+/// # Errors
+/// The place and the reason: the stream is refused before its last block; [`Why::Sink`] at the block that the sink did not
+/// take; an error of the source, or out of memory.
+pub(crate) fn pass_head<R: Source, S: Sink>(
     alloc: Global,
     source: &mut R,
-    lines: &mut Lines<W>,
+    sink: &mut S,
 ) -> Result<(), Fault>
-    // proof only
-    ensures head { OnOk result (R.known source.old ≡ true → HasHead (any_reading R.Source source.old)) }
+    ensures head { OnOk result (R.known source.old ≡ true → S.known sink.old ≡ true →
+        HasHeadOf (any_reading R.Source source.old) (λ head. TakesAll (taken S.takes) sink.old head sink.new)) }
     ensures refused { IfErr result (λ f. Tells R.Source source.old source.new → f.why ≢ Why.Memory → f.why ≢ Why.Sink
         → HasHeadRefused (any_reading R.Source source.old) f.at f.why) }
 {
@@ -154,7 +152,7 @@ fn list_head_into<R: Source, W: Target>(
         Err(fault) => return Err(fault),
     };
     let mut fronted = Fronted { front, source };
-    let outcome = list_as(alloc, begins_page(front), &mut fronted, lines);
+    let outcome = pass_as(alloc, begins_page(front), &mut fronted, sink);
     let Fronted {
         front: _,
         source: _source,
@@ -162,15 +160,16 @@ fn list_head_into<R: Source, W: Target>(
     outcome
 }
 
-/// Lists the metadata blocks of a stream, native or Ogg, as `flac list` does, and stops after the last one: no frame is
-/// read, so none is verified. Returns the exit status: 0 if the marker and all blocks were read and listed, else 1.
+/// Lists the metadata blocks of a stream, native or Ogg, that are chosen, as `flac list` does, and stops after the last
+/// one: no frame is read, so none is verified. Returns the exit status: 0 if the marker and all blocks were read and
+/// listed, else 1.
 ///
-/// `input` is the path of the file that `source` is, `out` and `err` are standard output and standard error. After
-/// status 1 the lines of the blocks before the fault were written to `out`, and the line of the fault to `err`, if that
-/// could be written.
+/// `file` has the path of the file that `source` is, and which blocks are listed. `out` and `err` are standard output and
+/// standard error. After status 1 the lines of the chosen blocks before the fault were written to `out`, and the line of
+/// the fault to `err`, if that could be written.
 pub fn list_head<R: Source, O: Target, E: Target>(
     alloc: Global,
-    input: &str,
+    file: &ListedFile<'_>,
     source: &mut R,
     out: &mut O,
     err: &mut E,
@@ -181,15 +180,15 @@ pub fn list_head<R: Source, O: Target, E: Target>(
     // After status 1 it is refused before that, and the line of this refusal was added to standard error, if that did not
     // fail; or the line says that memory ran out, or that standard output took no more.
     ensures refused { result ≡ 1 → Tells R.Source source.old source.new → IfServed E.Target err.old err.new
-        (HeadReport (any_reading R.Source source.old) input.now) }
+        (HeadReport (any_reading R.Source source.old) file.now.path.now) }
     // After status 1 the line of a fault of this file was added, whatever failed.
-    ensures named { result ≡ 1 → IfServed E.Target err.old err.new (IsFaultOf input.now) }
+    ensures named { result ≡ 1 → IfServed E.Target err.old err.new (IsFaultOf file.now.path.now) }
     // After status 0 nothing was added to standard error.
     ensures silent { result ≡ 0 → err.new ≡ err.old }
 {
-    let mut lines = Lines::new(out);
-    match list_head_into(alloc, source, &mut lines) {
+    let mut listing = Listing::new(out, file.names);
+    match pass_head(alloc, source, &mut listing) {
         Ok(()) => 0,
-        Err(fault) => refuse(err, input, Some(fault.at), fault.why),
+        Err(fault) => refuse(err, file.path, Some(fault.at), fault.why),
     }
 }

@@ -1,13 +1,14 @@
 //! What is held of a stream that is encoded anew.
 
-ghost use Rattle.std.specs.Prelude.{◌≡◌, ◌∷◌, [], ◌++◌, nat_lt, map, replicate, IfOk, OnOk};
-ghost use Rattle.flac_frame.specs.Viewed.{frame_of};
-ghost use Rattle.flac_cli.specs.Recoded.{is_of_frames, carried, extended};
+ghost use Rattle.std.specs.Prelude.{◌≡◌, ◌∷◌, [], ◌++◌, nat_lt, IfOk, IfErr, OnOk};
+ghost use Rattle.flac_cli.specs.Recoded.{is_of_frames, carried};
 ghost use Rattle.flac_cli.specs.inner.Holding.{nothing, view_of, with_block, with_info, held_after};
 
+use flac_bits::Why;
 use flac_frame::FrameView;
 use flac_meta::{Block, StreamInfo};
 use flac_native::{Failures, Sink, SinkFault};
+use flac_rescue::{empty_channels, extend_channels};
 use std::alloc::{AllocError, Global};
 
 /// The metadata blocks and all samples of a stream, as far as it was read.
@@ -19,19 +20,6 @@ pub(crate) struct HeldStream {
     pub(crate) blocks: Vec<Block>,
     /// The samples of each channel.
     pub(crate) channels: Vec<Vec<i32>>,
-}
-
-/// A vector without samples for each of `count` channels.
-fn empty_channels(alloc: Global, count: usize) -> Result<Vec<Vec<i32>>, AllocError>
-    ensures { IfOk result (λ channels. map (λ c. c.items) channels.items ≡ replicate count []) }
-{
-    let mut channels = Vec::with_capacity(alloc, count)?;
-    for channel in 0..count {
-        // Read only for the proof, whose invariant names it.
-        let _channel = channel;
-        channels.push(Vec::new(alloc))?;
-    }
-    Ok(channels)
 }
 
 /// Whether a block is about the frames of the stream: STREAMINFO, or a seek table.
@@ -52,25 +40,19 @@ fn keep_block(blocks: &mut Vec<Block>, block: &Block) -> Result<(), AllocError>
     Ok(())
 }
 
-/// Adds the samples of a frame to those of a channel.
-fn add_samples(samples: &mut Vec<i32>, more: &[i32]) -> Result<(), AllocError>
-    ensures { OnOk result (samples.new.items ≡ samples.old.items ++ more.now) }
+/// Copies of the blocks but for STREAMINFO and the seek table, in their order.
+///
+/// # Errors
+/// [`Why::Memory`] if an allocation fails.
+pub(crate) fn kept_blocks(alloc: Global, blocks: &[Block]) -> Result<Vec<Block>, Why>
+    ensures kept { IfOk result (λ kept. kept.items ≡ carried blocks.now) }
+    ensures memory { IfErr result (λ e. e ≡ Why.Memory) }
 {
-    samples.extend_from_slice(more)?;
-    Ok(())
-}
-
-/// Adds the samples of a frame to those of its channels.
-fn extend_channels(channels: &mut [Vec<i32>], frame: &FrameView<'_>) -> Result<(), AllocError>
-    ensures { OnOk result (map (λ c. c.items) channels.new ≡
-        extended (map (λ c. c.items) channels.old) (frame_of frame.now).channels) }
-{
-    let count = channels.len().min(frame.channels());
-    for channel in 0..count {
-        let more = frame.channel(channel);
-        add_samples(&mut channels[channel], more)?;
+    let mut kept = Vec::new(alloc);
+    for block in blocks {
+        keep_block(&mut kept, block)?;
     }
-    Ok(())
+    Ok(kept)
 }
 
 impl HeldStream {

@@ -61,9 +61,19 @@ impl Model for HeldWave {
 
     ghost Value = { Held };
 
-    ghost view = { λ h. record { pieces = map (λ p. p.items) h.pieces.items; head = h.head; bits = h.bits; plain = record { form = h.form; total = h.total; made = map (λ p. p.items) h.made.items }; cut = h.cut; depth = h.depth; begun = h.begun; odd = h.odd } };
+    ghost view = { λ h. record {
+      pieces = map (λ p. p.items) h.pieces.items;
+      head = h.head;
+      bits = h.bits;
+      plain = record { form = h.form; total = h.total; made = map (λ p. p.items) h.made.items };
+      cut = h.cut;
+      depth = h.depth;
+      begun = h.begun;
+      odd = h.odd;
+    } };
 
-    ghost invariant = { λ h. (h.depth ≤ 32) × (h.odd < 2) × (h.head ≤ length h.pieces.items) × (h.cut ≤ length h.made.items) × CanBeWritten h.form × (h.total < 68719476736) };
+    ghost invariant = { λ h. (h.depth ≤ 32) × (h.odd < 2) × (h.head ≤ length h.pieces.items)
+        × (h.cut ≤ length h.made.items) × CanBeWritten h.form × (h.total < 68719476736) };
 }
 
 /// Whether a piece is the header of the samples, alone.

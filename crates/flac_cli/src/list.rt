@@ -5,16 +5,18 @@ ghost use Rattle.std.specs.Prelude.{◌≡◌, ◌≤◌, ◌<◌, ◌∷◌, �
 ghost use Rattle.flac_bits.specs.Bits.{bit_value};
 ghost use Rattle.flac_native.specs.Sent.{FailedIfCounted};
 ghost use Rattle.flac_cli.specs.Calls.{IfBothServe};
-ghost use Rattle.flac_cli.specs.Streams.{Tells, GivesStream};
+ghost use Rattle.flac_cli.specs.Streams.{Tells, GivesStream, profile_of};
 ghost use Rattle.flac_cli.specs.Outcomes.{ReportsListing};
 ghost use Rattle.flac_cli.specs.inner.Outcomes.{FitsListing};
 ghost use Rattle.flac_cli.specs.Reports.{Serves};
 
+use crate::chosen::{ListedFile, is_chosen};
 use crate::lines::{Lines, Part};
 use crate::report::refuse;
-use crate::streams::decode_stream;
+use crate::streams::{decode_stream, profile_of};
 use flac_bits::{Source, Target, Why};
 use flac_frame::FrameView;
+use flac_jobs::BlockName;
 use flac_meta::{Block, Comments, CueSheet, CueTrack, Picture, SeekPoint, SeekTable, StreamInfo};
 use flac_native::{Failures, Fault, Profile, Sink, SinkFault};
 use std::alloc::Global;
@@ -54,11 +56,7 @@ fn write_fields<W: Target>(lines: &mut Lines<W>, block: &Block) -> Result<(), Wh
 ///
 /// # Errors
 /// [`Why::Write`] if the target fails.
-pub(crate) fn send_block<W: Target>(
-    lines: &mut Lines<W>,
-    index: u64,
-    block: &Block,
-) -> Result<(), Why>
+fn send_block<W: Target>(lines: &mut Lines<W>, index: u64, block: &Block) -> Result<(), Why>
     ensures { Prints W.Target lines.old.target lines.new.target result }
 {
     lines.put_parts(&[
@@ -193,10 +191,12 @@ fn write_picture<W: Target>(lines: &mut Lines<W>, picture: &Picture) -> Result<(
     ])
 }
 
-/// Writes the lines of each metadata block, those of one block at once.
+/// Writes the lines of each metadata block that is chosen, those of one block at once.
 #[derive(Drop)]
-pub(crate) struct Listing<W: Target> {
+pub(crate) struct Listing<'a, W: Target> {
     lines: Lines<W>,
+    /// Which blocks are listed.
+    names: &'a [BlockName],
     /// The index of the next block.
     index: u64,
     failures: Failures,
@@ -207,9 +207,9 @@ pub(crate) struct Listing<W: Target> {
     ghost failed: { W.known began.value ≡ true → 0 < failures.count → W.errors began.value < W.errors lines.target },
 }
 
-impl<W: Target> Listing<W> {
-    /// A listing that begins at block 0.
-    pub(crate) fn new(target: W) -> Listing<W>
+impl<'a, W: Target> Listing<'a, W> {
+    /// A listing of the blocks of these names, of all if there are none. It begins at block 0.
+    pub(crate) fn new(target: W, names: &'a [BlockName]) -> Listing<'a, W>
         ensures target { result.lines.target ≡ target }
         ensures failures { result.failures.count ≡ 0 }
         ensures began { result.began.value ≡ target }
@@ -217,6 +217,7 @@ impl<W: Target> Listing<W> {
         let began = Snapshot::of(&target);
         Listing {
             lines: Lines::new(target),
+            names,
             index: 0,
             failures: Failures::new(),
             began,
@@ -234,10 +235,11 @@ impl<W: Target> Listing<W> {
 
     /// Returns the target.
     pub(crate) fn into_target(self) -> W
-        ensures { result ≡ self.lines.target }
+        ensures { result ≡ self.entry.lines.target }
     {
         let Listing {
             lines,
+            names: _,
             index: _,
             failures: _,
             began: _,
@@ -246,7 +248,7 @@ impl<W: Target> Listing<W> {
     }
 }
 
-impl<W: Target> Sink for Listing<W> {
+impl<'a, W: Target> Sink for Listing<'a, W> {
     ghost takes = { λ _ _ _. ⊤ };
 
     ghost known = { λ s. nat_lt s.failures.count 18446744073709551615 };
@@ -259,6 +261,9 @@ impl<W: Target> Sink for Listing<W> {
     fn block(&mut self, block: &Block) -> Result<(), SinkFault> {
         let index = self.index;
         self.index = index.saturating_add(1);
+        if !is_chosen(self.names, index, block) {
+            return Ok(());
+        }
         match send_block(&mut self.lines, index, block) {
             Ok(()) => Ok(()),
             Err(_) => self.failures.fail(),
@@ -275,7 +280,7 @@ fn list_into<R: Source, W: Target>(
     alloc: Global,
     source: &mut R,
     profile: Profile,
-    sink: &mut Listing<W>,
+    sink: &mut Listing<'_, W>,
 ) -> Result<(), Fault>
     requires none { sink.old.failures.count ≡ 0 }
     requires began { sink.old.began.value ≡ sink.old.lines.target }
@@ -290,9 +295,10 @@ fn list_into<R: Source, W: Target>(
     outcome
 }
 
-/// Decodes a stream, and lists its metadata.
+/// Decodes a stream, and lists its metadata: the blocks of these names, all if there are none.
 fn list<R: Source, O: Target>(
     alloc: Global,
+    names: &[BlockName],
     source: &mut R,
     profile: Profile,
     out: &mut O,
@@ -301,7 +307,7 @@ fn list<R: Source, O: Target>(
     ensures outcome { Tells R.Source source.old source.new →
         FitsListing R.Source (Serves O.Target out.old out.new) profile source.old result }
 {
-    let mut sink = Listing::new(out);
+    let mut sink = Listing::new(out, names);
     let outcome = list_into(alloc, source, profile, &mut sink);
     // Given back only for the proof: the clauses are about the target.
     let _out = sink.into_target();
@@ -322,8 +328,37 @@ pub(crate) fn run_list<R: Source, O: Target, E: Target>(
     ensures reported { IfBothServe R.Source E.Target source.old source.new err.old err.new
         (ReportsListing (Serves O.Target out.old out.new) profile input.now result) }
 {
-    match list(alloc, source, profile, out) {
+    match list(alloc, &[], source, profile, out) {
         Ok(()) => 0,
         Err(fault) => refuse(err, input, Some(fault.at), fault.why),
+    }
+}
+
+/// Decodes a stream, native or Ogg, and lists its metadata blocks that are chosen, as `flac list` does. Returns the exit
+/// status: 0 if all of the stream was read and its blocks were listed, else 1.
+///
+/// `file` has the path of the file that `source` is, and which blocks are listed. With `lax` streams outside the streamable
+/// subset (RFC 9639, section 7) are accepted too. `out` and `err` are standard output and standard error. After status 1
+/// the lines of the chosen blocks before the fault were written to `out`, and the line of the fault to `err`, if that could
+/// be written.
+pub fn list_stream<R: Source, O: Target, E: Target>(
+    alloc: Global,
+    file: &ListedFile<'_>,
+    lax: bool,
+    source: &mut R,
+    out: &mut O,
+    err: &mut E,
+) -> u8
+    ensures status { result ≤ 1 }
+    // After status 0 the input is a stream.
+    ensures stream { result ≡ 0 → Tells R.Source source.old source.new → GivesStream R.Source (profile_of lax) source.old }
+    // If the source and standard error did not fail, the status and the line are those of what the input is; or memory ran
+    // out, or standard output failed: then the line says that.
+    ensures reported { IfBothServe R.Source E.Target source.old source.new err.old err.new
+        (ReportsListing (Serves O.Target out.old out.new) (profile_of lax) file.now.path.now result) }
+{
+    match list(alloc, file.names, source, profile_of(lax), out) {
+        Ok(()) => 0,
+        Err(fault) => refuse(err, file.path, Some(fault.at), fault.why),
     }
 }

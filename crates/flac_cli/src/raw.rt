@@ -13,7 +13,7 @@ use flac_wave::fill;
 use std::alloc::Global;
 
 /// How many bytes are read at once, at most.
-const PIECE: usize = 16384;
+pub(crate) const PIECE: usize = 16384;
 
 /// The number that 1 to 4 bytes are in two's complement, the lowest byte first.
 #[inline(always)]
@@ -116,7 +116,12 @@ fn push_samples(piece: &[u8], column: Column, samples: &mut Vec<i32>) -> Result<
 }
 
 /// Adds the samples of `count` inter-channel samples to those of their channels.
-fn push_piece(piece: &[u8], count: usize, width: usize, lists: &mut [Vec<i32>]) -> Result<(), Why>
+pub(crate) fn push_piece(
+    piece: &[u8],
+    count: usize,
+    width: usize,
+    lists: &mut [Vec<i32>],
+) -> Result<(), Why>
     requires channels { (1 ≤ length lists.old) × (length lists.old ≤ 8) }
     requires width { (1 ≤ width) × (width ≤ 4) }
     requires whole { length piece.now ≡ count * (length lists.old * width) }
@@ -139,7 +144,7 @@ fn push_piece(piece: &[u8], count: usize, width: usize, lists: &mut [Vec<i32>]) 
 }
 
 /// A list without samples for each of `channels` channels.
-fn no_samples(alloc: Global, channels: usize) -> Result<Vec<Vec<i32>>, Why>
+pub(crate) fn no_samples(alloc: Global, channels: usize) -> Result<Vec<Vec<i32>>, Why>
     ensures many { IfOk result (λ lists. length lists.items ≡ channels) }
     ensures none { IfOk result (λ lists. (c : ℕ) → slice_index_or (map (λ v. v.items) lists.items) c [] ≡ []) }
     ensures memory { IfErr result (λ e. e ≡ Why.Memory) }

@@ -1,6 +1,6 @@
 //! `flac recode`: a stream whose samples are encoded anew.
 
-ghost use Rattle.std.specs.Prelude.{◌≡◌, ◌≢◌, ◌≤◌, ◌⊎◌, ◌++◌, ◌∷◌, List, [], true, not, map, IfOk, IfErr, OnOk, OnErr, Some, None};
+ghost use Rattle.std.specs.Prelude.{◌≡◌, ◌≢◌, ◌≤◌, ◌⊎◌, ◌++◌, ◌∷◌, ℤ, List, [], true, not, map, IfOk, IfErr, OnOk, OnErr, Some, None};
 ghost use Rattle.std.specs.List.{filter};
 ghost use Rattle.flac_info.specs.Info.{Info};
 ghost use Rattle.flac_meta.specs.declared.block.Block.{Block};
@@ -10,8 +10,8 @@ ghost use Rattle.flac_native.specs.Given.{fits_plan};
 ghost use Rattle.flac_native.specs.Sent.{TargetFailed};
 ghost use Rattle.flac_cli.specs.Asked.{asked_of};
 ghost use Rattle.flac_cli.specs.Calls.{HasWritten, IfServed, IfAllServe};
-ghost use Rattle.flac_cli.specs.Recoded.{is_comment, no_comments, comments_first, in_order, IsStreamOf, Recodes, HasBegunRecoded};
-ghost use Rattle.flac_cli.specs.RecodeRefusals.{asked_for, files_for, recoding_refusal, IsInputReason, IsRecodeReason, IsOutside, ReportsRecoding, NamesRecoding, recode_path, recode_text};
+ghost use Rattle.flac_cli.specs.Recoded.{is_comment, no_comments, comments_first, in_order, heard_in, IsStreamOf, Recodes, HasBegunRecoded};
+ghost use Rattle.flac_cli.specs.RecodeRefusals.{asked_for, files_for, held_refusal, IsInputReason, IsRecodeReason, IsOutside, ReportsRecoding, NamesRecoding, recode_path, recode_text};
 ghost use Rattle.flac_cli.specs.Refusals.{refusal_of, IsOutside as IsOutsideOf};
 ghost use Rattle.flac_cli.specs.Reports.{AddsLine};
 ghost use Rattle.flac_cli.specs.Streams.{Tells};
@@ -173,10 +173,10 @@ fn audio_of(
 
 /// A stream that was read, ready to be written.
 #[derive(Drop)]
-struct Ready {
-    plan: Plan,
-    list: BlockList,
-    audio: Audio,
+pub(crate) struct Ready {
+    pub(crate) plan: Plan,
+    pub(crate) list: BlockList,
+    pub(crate) audio: Audio,
 }
 
 /// Makes a stream that was read ready to be written with these predictors.
@@ -184,20 +184,20 @@ struct Ready {
 /// # Errors
 /// The first reason for which it cannot be: its samples, the block size and the seek points, the predictors, the blocks.
 /// Out of memory.
-fn ready_of(
+pub(crate) fn ready_of(
     alloc: Global,
     encoding: &Encoding<'_>,
     predictors: Vec<LinearPredictor>,
     held: HeldStream,
 ) -> Result<Ready, Refusal>
-    ensures found { IfOk result (λ r. (info : Info) (list : List Block) (frames : List Frame) →
-        IsHeld (view_of held) info list frames →
-        IsReady (asked_of encoding.now) predictors.items info list frames r.plan r.list r.audio) }
+    ensures found { IfOk result (λ r. (info : Info) (list : List Block) (channels : List (List ℤ)) →
+        IsHeld (view_of held) info list channels →
+        IsReady (asked_of encoding.now) predictors.items info list channels r.plan r.list r.audio) }
     ensures fits { IfOk result (λ r. fits_plan r.plan r.audio ≡ true) }
     ensures none { IfOk result (λ r. r.plan.found ≡ []) }
-    ensures refused { IfErr result (λ e. (info : Info) (list : List Block) (frames : List Frame) →
-        IsHeld (view_of held) info list frames → IsOutsideOf e ⊎
-        (recoding_refusal (asked_of encoding.now) predictors.items info list frames ≡ Some e)) }
+    ensures refused { IfErr result (λ e. (info : Info) (list : List Block) (channels : List (List ℤ)) →
+        IsHeld (view_of held) info list channels → IsOutsideOf e ⊎
+        (held_refusal (asked_of encoding.now) predictors.items info list channels ≡ Some e)) }
     ensures unwritten { IfErr result (λ e. e ≢ refusal.Output EncodeFault.Write) }
 {
     let HeldStream {
@@ -216,7 +216,7 @@ fn ready_of(
 }
 
 /// The fault of a stream that is held, whose sink fails only if an allocation does.
-fn fault_of(fault: Fault) -> Fault
+pub(crate) fn fault_of(fault: Fault) -> Fault
     ensures { result ≡ fault_by true fault }
 {
     match fault.why {
@@ -234,7 +234,7 @@ fn fault_of(fault: Fault) -> Fault
 /// The place and the reason. The stream is refused; an error of the source, or out of memory.
 fn read_stream<R: Source>(alloc: Global, source: &mut R) -> Result<HeldStream, Fault>
     ensures held { IfOk result (λ held. R.known source.old ≡ true → (info : Info) × (list : List Block) × (frames : List Frame) ×
-        IsStreamOf (R.coming source.old) (R.after source.old) info list frames × IsHeld (view_of held) info list frames) }
+        IsStreamOf (R.coming source.old) (R.after source.old) info list frames × IsHeld (view_of held) info list (heard_in info frames)) }
     ensures refused { IfErr result (λ f. Tells R.Source source.old source.new → (f.why ≡ Why.Memory) ⊎
         IsFaultOf (R.coming source.old) (R.after source.old) f) }
 {
@@ -264,7 +264,7 @@ fn prepared<R: Source>(
 ) -> Result<Ready, RecodeRefusal>
     ensures found { IfOk result (λ r. R.known source.old ≡ true → (info : Info) × (list : List Block) × (frames : List Frame) ×
         IsStreamOf (R.coming source.old) (R.after source.old) info list frames ×
-        IsReady (asked_of encoding.now) predictors.items info list frames r.plan r.list r.audio) }
+        IsReady (asked_of encoding.now) predictors.items info list (heard_in info frames) r.plan r.list r.audio) }
     ensures fits { IfOk result (λ r. fits_plan r.plan r.audio ≡ true) }
     ensures none { IfOk result (λ r. r.plan.found ≡ []) }
     ensures refused { IfErr result (λ e. Tells R.Source source.old source.new → IsOutside e ⊎
@@ -317,7 +317,7 @@ fn recode_stream<R: Source, W: Target>(
 }
 
 /// What a recoding asks an encoding for.
-fn encoding_of<'a>(recoding: &Recoding<'_>, list: &'a [u8]) -> Encoding<'a>
+pub(crate) fn encoding_of<'a>(recoding: &Recoding<'_>, list: &'a [u8]) -> Encoding<'a>
     ensures { asked_of result ≡ asked_for recoding.now list.now }
 {
     Encoding {
@@ -340,7 +340,7 @@ fn encoding_of<'a>(recoding: &Recoding<'_>, list: &'a [u8]) -> Encoding<'a>
 }
 
 /// Writes the line of a recoding that failed, and returns the status 1.
-fn refuse_recoding<E: Target>(
+pub(crate) fn refuse_recoding<E: Target>(
     alloc: Global,
     err: &mut E,
     recoding: &Recoding<'_>,

@@ -9,11 +9,21 @@ ghost use Rattle.flac_cli.specs.inner.Verifying.{IsReading, IsReadingOutside, Is
 use crate::verify_change::{Change, compare};
 use crate::verify_facts::{Facts, read_facts};
 use crate::verify_lines::{report, report_end};
+use crate::verify_missing::list_missing;
 use crate::verify_report::{Entry, enter};
 use flac_bits::{Target, Why};
 use flac_native::{Fault, Profile};
 use flac_shelf::Shelf;
 use std::alloc::Global;
+
+/// What `flac verify` does for each file.
+#[derive(Clone, Copy, Debug)]
+pub struct Checks {
+    /// Whether a stream must be in the streamable subset (RFC 9639, section 7).
+    pub subset: bool,
+    /// Whether what is missing of a native stream that is refused is listed.
+    pub all: bool,
+}
 
 /// What a file was found to be.
 #[derive(Drop)]
@@ -164,12 +174,18 @@ fn status_of(is_written: bool, tally: &Tally) -> u8
 /// Reads the files of a list, one after another, and prints a line for each. Returns the status: 0 if all of them are
 /// streams, native or Ogg, and every line was written; else 1.
 ///
-/// With `subset` a file must be in the streamable subset (RFC 9639, section 7); otherwise all of FLAC is read. The line
+/// With [`Checks::subset`] a file must be in the streamable subset (RFC 9639, section 7); otherwise all of FLAC is read. The line
 /// of a stream is written to `out`, with its number of frames and of inter-channel samples, both up to 2^64 - 1:
 /// `ok PATH: frames N samples N`. Then come the words ` no-md5` and ` no-total`, if STREAMINFO does not state the digest
 /// of the samples or their number (section 8.2), and ` outside-subset`, if the file can be read again and is not in the
 /// streamable subset. The line of another file is written to `err`: `flac: PATH: PLACE: NUMBER NAME`, or
 /// `flac: PATH: cannot be opened`. After all files `out` gets the line `verified N ok N bad N`.
+///
+/// With [`Checks::all`] a file that is refused is read again, whole into memory, and the lines of [`flac_rescue::report`]
+/// come after its own: which samples of a native stream are missing, and at which bytes. Bytes are counted from the first
+/// that the file's source gives. If they cannot be listed, there is the line
+/// `flac: PATH: what is missing cannot be listed`: of an Ogg stream, if the marker or a metadata block is damaged, of a
+/// file that can be read only once, if it cannot be read again, or if an allocation fails.
 ///
 /// If there is an older report, a word of [`Change`] ends the line of each file. The status is 1 too if a file has other
 /// audio than in that report.
@@ -179,7 +195,7 @@ fn status_of(is_written: bool, tally: &Tally) -> u8
 pub fn verify_files<S: Shelf, O: Target, E: Target, P: Target>(
     alloc: Global,
     shelf: &mut S,
-    subset: bool,
+    checks: Checks,
     out: &mut O,
     err: &mut E,
     report_to: &mut P,
@@ -188,13 +204,13 @@ pub fn verify_files<S: Shelf, O: Target, E: Target, P: Target>(
     ensures status { result ≤ 1 }
     // If no file's device fails: the lines are those of what each file is, by its own bytes, in order, also those of the
     // report, and the status is 0 exactly if all of them are streams and every line was written. Or memory ran out: then
-    // a line says that.
+    // a line says that. After the line of a file that is refused come those of a survey of its bytes, if that is asked for.
     ensures verified { S.known shelf.old ≡ true → S.faults shelf.new ≡ S.faults shelf.old →
-        Verifies O.Target E.Target P.Target subset (S.files shelf.old) result
+        Verifies O.Target E.Target P.Target checks (S.files shelf.old) result
         out.old out.new err.old err.new report_to.old report_to.new }
     // So after status 0 each file is a stream.
     ensures streams { result ≡ 0 → S.known shelf.old ≡ true → S.faults shelf.new ≡ S.faults shelf.old →
-        AreWhole subset (S.files shelf.old) }
+        AreWhole checks.subset (S.files shelf.old) }
 {
     let mut tally = Tally {
         files: 0,
@@ -205,7 +221,7 @@ pub fn verify_files<S: Shelf, O: Target, E: Target, P: Target>(
         is_kept: true,
     };
     'files: while shelf.next() {
-        let finding = find(alloc, shelf, subset);
+        let finding = find(alloc, shelf, checks.subset);
         let stamp = shelf.stamp();
         let change = compare(&shelf.earlier(), &stamp, &finding);
         let is_sent = report(&finding, change, shelf.path(), out, err);
@@ -213,9 +229,10 @@ pub fn verify_files<S: Shelf, O: Target, E: Target, P: Target>(
         let entry = Entry {
             path: shelf.path(),
             stamp,
-            is_sought: is_sought(subset, again),
+            is_sought: is_sought(checks.subset, again),
         };
         let is_entered = enter(report_to, &entry, &finding, tally.is_reported);
+        list_missing(alloc, shelf, checks.all, &finding, err);
         tally.add(&finding, change, is_sent, is_entered);
     }
     let is_written = report_end(&tally, out, err);

@@ -98,7 +98,7 @@ fn write_last<O: Target>(out: &mut O, tally: &Tally) -> Result<(), Why>
 }
 
 /// Sends the line of a fault.
-fn tell<E: Target>(err: &mut E, path: &str, at: At, text: &str)
+pub(crate) fn tell<E: Target>(err: &mut E, path: &str, at: At, text: &str)
     ensures { IsTold E.Target (fault_line path.now (text_at at text.now)) err.old err.new }
 {
     // If it cannot be written, there is no one left to report it to.

@@ -1,20 +1,21 @@
 //! The samples of a WAV file, as they are read from a source.
 
-ghost use Rattle.std.specs.Prelude.{◌≡◌, ◌≢◌, ◌≤◌, ◌<◌, ◌*◌, ◌%◌, ◌⊎◌, not, nat_eq, true, map, length, IfOk, IfErr, IfSome, OnOk, Some, None};
+ghost use Rattle.std.specs.Prelude.{◌≡◌, ◌≢◌, ◌≤◌, ◌<◌, ◌*◌, ◌%◌, ◌/◌, not, nat_eq, [], true, map, length, ℕ, List, IfOk, IfErr, IfSome, OnOk, None};
 ghost use Rattle.flac_frame.specs.Audio.{samples_each};
 ghost use Rattle.flac_wave.specs.Calls.{IfRead};
 ghost use Rattle.flac_wave.specs.Format.{IsInRange, row_of};
-ghost use Rattle.flac_wave.specs.Shift.{known_depth};
-ghost use Rattle.flac_cli.specs.Waves.{stream_samples};
+ghost use Rattle.flac_wave.specs.Shift.{wave_width_of};
+ghost use Rattle.flac_cli.specs.inner.HeldWaves.{shifted, HasRoom, IsHeld, AreHeld};
+ghost use Rattle.flac_cli.specs.inner.Raw.{IsMore};
 ghost use Rattle.flac_cli.specs.inner.Sources.{HasRead};
 ghost use Rattle.flac_cli.specs.inner.WaveSamples.{AreTaken};
 
 use crate::decode_wave::turn;
-use crate::raw::read_channels;
-use flac_bits::{Memory, Source, Why, bytes_fit};
+use crate::raw::{PIECE, no_samples, push_piece};
+use flac_bits::{Source, Why, bytes_fit};
 use flac_native::sample_width;
-use flac_wave::{WaveFormat, lower, read_all};
-use std::alloc::{AllocError, Global};
+use flac_wave::{WaveFormat, fill};
+use std::alloc::Global;
 
 /// The samples of a WAV file, as those of a stream.
 #[derive(Drop)]
@@ -27,22 +28,13 @@ pub(crate) struct WaveSamples {
     pub(crate) odd: bool,
 }
 
-/// The samples of a WAV file, of `wide` bytes each, as those of a stream of this depth. Those of one byte are changed in
-/// place, others that change are copied.
-fn changed(alloc: Global, wide: usize, depth: u32, samples: Vec<u8>) -> Result<Vec<u8>, AllocError>
-    requires wide { (0 < wide) × (wide ≤ 4) }
-    requires depth { (0 < depth) × (depth ≤ 8 * wide) }
-    requires high { depth ≡ 8 * wide ⊎ (1 < wide) }
-    requires whole { length samples.items % wide ≡ 0 }
-    ensures { IfOk result (λ v. v.items ≡ stream_samples wide depth samples.items) }
-{
-    let shift = 8 * wide as u32 - depth;
-    if shift > 0 {
-        return lower(alloc, wide, sample_width(depth), shift, samples.as_slice());
-    }
-    let mut samples = samples;
-    turn(wide, samples.as_mut_slice());
-    Ok(samples)
+/// The samples of a WAV file as they are read: numbers of all bits of their bytes.
+#[derive(Drop)]
+pub(crate) struct HeldSamples {
+    /// How many bits of each a stream has, the highest ones: the bits below are zeros in all samples that were read.
+    depth: u32,
+    /// Those of each channel.
+    channels: Vec<Vec<i32>>,
 }
 
 /// Whether whole inter-channel samples, of `row` bytes each, are of an odd number of bytes.
@@ -55,100 +47,132 @@ fn are_odd(channels: &[Vec<i32>], row: usize) -> bool
     }
 }
 
-/// Reads all bytes of a source as samples that are those of a stream as they are, of this depth. `None` if the last
-/// inter-channel sample is not whole. No bytes are held beside the samples.
-///
-/// # Errors
-/// The source returned an error, or an allocation failed.
-fn read_unchanged<R: Source>(
-    alloc: Global,
-    format: &WaveFormat,
-    depth: u32,
-    source: &mut R,
-) -> Result<Option<WaveSamples>, Why>
-    requires range { IsInRange format.now }
-    requires depth { (known_depth format.now ≡ Some depth) × (8 < depth) }
-    ensures taken { IfOk result (λ o. IfSome o (λ s. R.known source.old ≡ true →
-        AreTaken format.now (R.coming source.old) s)) }
-    ensures part { IfOk result (λ o. o ≡ None → R.known source.old ≡ true →
-        length (R.coming source.old) % row_of format.now ≢ 0) }
-    ensures read { OnOk result (HasRead R.Source source.old source.new) }
-    ensures memory { IfErr result (λ e. IfRead R.Source source.old source.new (e ≡ Why.Memory)) }
-    ensures names { R.names source.new ≡ R.names source.old }
+/// Shifts samples down by `shift` bits.
+fn lower_samples(samples: &mut [i32], shift: u32)
+    requires { shift < 32 }
+    ensures { samples.new ≡ shifted shift samples.old }
 {
-    let count = format.channels as usize;
+    for i in 0..samples.len() {
+        samples[i] >>= shift;
+    }
+}
+
+/// Shifts the samples of all channels down by `shift` bits.
+fn lower_channels(channels: &mut [Vec<i32>], shift: u32)
+    requires { shift < 32 }
+    ensures { map (λ c. c.items) channels.new ≡ map (shifted shift) (map (λ c. c.items) channels.old) }
+{
+    for i in 0..channels.len() {
+        lower_samples(&mut channels[i], shift);
+    }
+}
+
+/// The samples as those of a stream, shifted down in place if their bytes have more bits.
+fn stream_samples(format: &WaveFormat, held: HeldSamples) -> WaveSamples
+    requires range { IsInRange format.now }
+    requires depth { HasRoom format.now held.depth }
+    ensures { (bytes : List ℕ) → AreHeld format.now bytes held → AreTaken format.now bytes result }
+{
+    let HeldSamples { depth, channels } = held;
     let width = sample_width(format.bits);
-    let Some(channels) = read_channels(alloc, source, count, width)? else {
-        return Ok(None);
-    };
-    let odd = are_odd(channels.as_slice(), count * width);
-    Ok(Some(WaveSamples {
+    let odd = are_odd(channels.as_slice(), format.channels as usize * width);
+    let shift = 8 * width as u32 - depth;
+    if shift == 0 {
+        return WaveSamples {
+            depth,
+            channels,
+            odd,
+        };
+    }
+    let mut channels = channels;
+    lower_channels(&mut channels, shift);
+    WaveSamples {
         depth,
         channels,
         odd,
-    }))
+    }
 }
 
-/// The samples of these bytes of a WAV file. `None` if the last inter-channel sample is not whole.
+/// No samples of this format.
 ///
 /// # Errors
 /// An allocation failed.
-fn samples_in(
-    alloc: Global,
-    format: &WaveFormat,
-    bytes: Vec<u8>,
-) -> Result<Option<WaveSamples>, Why>
+fn none_held(alloc: Global, format: &WaveFormat) -> Result<HeldSamples, Why>
     requires range { IsInRange format.now }
-    ensures taken { IfOk result (λ o. IfSome o (AreTaken format.now bytes.items)) }
-    ensures part { IfOk result (λ o. o ≡ None → length bytes.items % row_of format.now ≢ 0) }
+    ensures none { IfOk result (IsHeld format.now [] 0) }
+    ensures many { IfOk result (λ held. length held.channels.items ≡ format.now.channels) }
+    ensures room { IfOk result (λ held. HasRoom format.now held.depth) }
     ensures memory { IfErr result (λ e. e ≡ Why.Memory) }
 {
-    if bytes.len() as u64 % format.row() != 0 {
-        return Ok(None);
-    }
-    bytes_fit(bytes.as_slice());
-    let odd = bytes.len() % 2 == 1;
-    let depth = format.depth_of(bytes.as_slice());
-    let raw = changed(alloc, sample_width(format.bits), depth, bytes)?;
-    let mut source = Memory::new(raw.as_slice());
-    let count = format.channels as usize;
-    let Some(channels) = read_channels(alloc, &mut source, count, sample_width(depth))? else {
-        return Ok(None);
-    };
-    Ok(Some(WaveSamples {
-        depth,
-        channels,
-        odd,
-    }))
+    let channels = no_samples(alloc, format.channels as usize)?;
+    let depth = format.depth_of(&[]);
+    Ok(HeldSamples { depth, channels })
 }
 
-/// Reads all bytes of a source, and then makes samples of a stream of them, which may be others.
+/// Adds the samples of a piece of whole inter-channel samples, whose bytes become signed numbers if they are unsigned.
+///
+/// # Errors
+/// An allocation failed.
+fn hold_piece(format: &WaveFormat, piece: &mut [u8], held: &mut HeldSamples) -> Result<(), Why>
+    requires range { IsInRange format.now }
+    requires many { length held.old.channels.items ≡ format.now.channels }
+    requires whole { length piece.old % row_of format.now ≡ 0 }
+    requires room { HasRoom format.now held.old.depth }
+    ensures more { OnOk result (IsMore (IsHeld format.now) piece.old (row_of format.now)
+        (length piece.old / row_of format.now) held.old held.new) }
+    ensures many { OnOk result (length held.new.channels.items ≡ format.now.channels) }
+    ensures room { OnOk result (HasRoom format.now held.new.depth) }
+    ensures memory { IfErr result (λ e. e ≡ Why.Memory) }
+{
+    bytes_fit(piece);
+    held.depth = held.depth.max(format.depth_of(piece));
+    let width = sample_width(format.bits);
+    turn(width, piece);
+    let count = piece.len() / format.row() as usize;
+    push_piece(piece, count, width, &mut held.channels)
+}
+
+/// Reads all bytes of a source as the samples of a WAV file of this format. `None` if the last inter-channel sample is
+/// not whole. The bytes are read in pieces of at most 16384, and none of them is held beside the samples.
 ///
 /// # Errors
 /// The source returned an error, or an allocation failed.
-fn read_changed<R: Source>(
+fn read_held<R: Source>(
     alloc: Global,
     format: &WaveFormat,
     source: &mut R,
-) -> Result<Option<WaveSamples>, Why>
+) -> Result<Option<HeldSamples>, Why>
     requires range { IsInRange format.now }
-    ensures taken { IfOk result (λ o. IfSome o (λ s. R.known source.old ≡ true →
-        AreTaken format.now (R.coming source.old) s)) }
+    ensures held { IfOk result (λ o. IfSome o (λ h. R.known source.old ≡ true →
+        AreHeld format.now (R.coming source.old) h)) }
+    ensures room { IfOk result (λ o. IfSome o (λ h. HasRoom format.now h.depth)) }
     ensures part { IfOk result (λ o. o ≡ None → R.known source.old ≡ true →
         length (R.coming source.old) % row_of format.now ≢ 0) }
     ensures read { OnOk result (HasRead R.Source source.old source.new) }
     ensures memory { IfErr result (λ e. IfRead R.Source source.old source.new (e ≡ Why.Memory)) }
     ensures names { R.names source.new ≡ R.names source.old }
 {
-    let bytes = read_all(alloc, source)?;
-    samples_in(alloc, format, bytes)
+    let row = format.row() as usize;
+    let size = PIECE / row * row;
+    let mut held = none_held(alloc, format)?;
+    let mut piece = [0u8; PIECE];
+    'pieces: loop {
+        let count = fill(source, &mut piece, size)?;
+        if count % row != 0 {
+            return Ok(None);
+        }
+        hold_piece(format, &mut piece[..count], &mut held)?;
+        if count < size {
+            return Ok(Some(held));
+        }
+    }
 }
 
 /// Reads all bytes of a source as the samples of a WAV file of this format. `None` if the last inter-channel sample is
 /// not whole.
 ///
-/// Samples of 16, 24 and 32 bits that all count are read part by part. The bytes of others are held, since they change:
-/// those of 8 bits are unsigned in the file, and how many bits count shows in all of them.
+/// No bytes are held beside the samples: those of 8 bits, which are unsigned in the file, become signed as they are
+/// read, and samples of which fewer bits count than they have are shifted down once all were read.
 ///
 /// # Errors
 /// The source returned an error, or an allocation failed.
@@ -166,10 +190,8 @@ pub(crate) fn read_samples<R: Source>(
     ensures memory { IfErr result (λ e. IfRead R.Source source.old source.new (e ≡ Why.Memory)) }
     ensures names { R.names source.new ≡ R.names source.old }
 {
-    if let Some(depth) = format.known_depth() {
-        if depth > 8 {
-            return read_unchanged(alloc, format, depth, source);
-        }
+    match read_held(alloc, format, source)? {
+        Some(held) => Ok(Some(stream_samples(format, held))),
+        None => Ok(None),
     }
-    read_changed(alloc, format, source)
 }

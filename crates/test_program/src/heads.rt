@@ -3,7 +3,7 @@
 use crate::program::{Outcome, bytes_of, split_row, wanted_of};
 use crate::tables::{HEADS, LISTS};
 use flac_bits::{Collected, Memory, Pieces};
-use flac_cli::list_head;
+use flac_cli::{ListedFile, list_head};
 use std::alloc::Global;
 use std::test::Fail;
 
@@ -12,7 +12,9 @@ fn head_of(alloc: Global, input: &[u8], most: usize) -> Outcome {
     let mut source = Pieces::new(Memory::new(input), most.max(1));
     let mut out = Collected::new(alloc);
     let mut err = Collected::new(alloc);
-    let status = list_head(alloc, "a.flac", &mut source, &mut out, &mut err);
+    let path = "a.flac";
+    let file = ListedFile { path, names: &[] };
+    let status = list_head(alloc, &file, &mut source, &mut out, &mut err);
     Outcome {
         status,
         file: Vec::new(alloc),

@@ -3,13 +3,21 @@
 #![tactic(auto)]
 
 #[cfg(test)]
+mod excerpts;
+#[cfg(test)]
 mod heads;
 #[cfg(test)]
 mod hostile;
 #[cfg(test)]
+mod listing;
+#[cfg(test)]
+mod parts;
+#[cfg(test)]
 mod program;
 #[cfg(test)]
 mod recoding;
+#[cfg(test)]
+mod salvaging;
 #[cfg(test)]
 mod same;
 #[cfg(test)]

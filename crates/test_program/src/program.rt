@@ -179,7 +179,7 @@ fn lines_of(alloc: Global, text: &str) -> Result<String, Fail> {
 }
 
 /// The words of a command line, the program's name first.
-fn words_of(alloc: Global, line: &str) -> Result<Vec<String>, Fail> {
+pub(crate) fn words_of(alloc: Global, line: &str) -> Result<Vec<String>, Fail> {
     let mut words = Vec::new(alloc);
     for word in line.split_whitespace() {
         words.push(String::from_str(alloc, word)?)?;

@@ -69,7 +69,7 @@ fn refused_streams(rt: HostRuntime) -> Result<(), Fail> {
 
 /// A device that takes no byte.
 #[derive(Drop)]
-struct Full;
+pub(crate) struct Full;
 
 impl Write for Full {
     fn write(&mut self, _bytes: &[u8]) -> io::Result<usize> {

@@ -54,6 +54,14 @@ ZEROS_3 4f676753000440000000000000000100000004000000f9b2852e010cfff86908030f0f00
 ZEROS_TOGETHER 4f676753000440000000000000000100000001000000fab58f43040c0c0c0cfff86908000f300000004680fff86908010f25000000ba85fff86908020f1a0000003e8ffff86908030f0f000000c28a
 # The program's comment block on page 1.
 VENDOR 4f67675300000000000000000000010000000100000050e32f54011a840000160e000000666c61632070726f66696c65203100000000
+# STREAMINFO of 48 samples of one channel in blocks of 16, its three frames, the last one and the second one with another byte; STREAMINFO without the number of samples and their digest.
+PART_INFO 664c6143800000220010001000001e00001f0ac440f00000003089cc5a1a79ef4a2036c1fe81a38a3bb2
+PART_0 fff86908000f3012000001e660a7ae89ef2192aa632b5fc5e96c42d08012d2
+PART_1 fff86908010f2512011001d6295f9eac1a589927b650f141279aad6025d7
+PART_2 fff86908020f1a1200e405cc92ab25ea7f2f542c84d29bc6a89d8bf04582
+PART_BAD fff86908020f1a1200e405cc93ab25ea7f2f542c84d29bc6a89d8bf04582
+PART_1_BAD fff86908010f2512011001d6285f9eac1a589927b650f141279aad6025d7
+PART_OPEN 664c6143800000220010001000001e00001f0ac440f00000000000000000000000000000000000000000
 # Sixteen zeros at 65537 Hz, of 5 bits: STREAMINFO and the frame; in Ogg the mapping packet and the frame's page.
 LAX 664c6143000000220010001000000b00000b10001040000000104ae71336e44bf9bf79d2752e234818a5
 LAX_FRAME fff86000000fc700000572
@@ -288,6 +296,31 @@ MORE | 1 |  | block 0 STREAMINFO 34;  blocks 16 4096 frames 0 0 rate 44100 chann
 MORE ff000000 | 1 |  | block 0 STREAMINFO 34;  blocks 16 4096 frames 0 0 rate 44100 channels 1 depth 16 samples 0;  md5 00000000000000000000000000000000; | flac: a.flac: block 1: 6 ForbiddenType;
 MORE 82000003 | 1 |  | block 0 STREAMINFO 34;  blocks 16 4096 frames 0 0 rate 44100 channels 1 depth 16 samples 0;  md5 00000000000000000000000000000000; | flac: a.flac: block 1: 7 BlockLength;
 MORE 80000021 | 1 |  | block 0 STREAMINFO 34;  blocks 16 4096 frames 0 0 rate 44100 channels 1 depth 16 samples 0;  md5 00000000000000000000000000000000; | flac: a.flac: block 1: 9 RepeatedBlock;";
+
+/// Streams that are listed as lines of JSON, or of which some blocks are: the command line, the stream, the status, and
+/// what is written to its file (nothing), to standard output and to standard error. The lines of JSON are by a program in
+/// Python.
+pub(crate) const LISTINGS: &str =
+    r#"# All blocks, some, and none: of streams without frames, with one, and in Ogg.
+list a.flac --json | MORE 02000006616243ff0102 03000036 00*16 1000000000000000100000000000000001020010ffffffffffffffff00000000000000070001 0400002a050000006122625c0103000000090000005449544c453d783d79040000006e6f6e6504000000413dff0a 0600002e0000000300000009696d6167652f706e6700000003610a62000000020000000500000018000000000000000200ff 7e000003616263 010000020007 850001e031005c 00*130 01588880 00*258 0200000000000000000141420000000000000000000040 00*13 01000000000000024c010000000000000000000930aa 00*12 80 00*14 | 0 |  | {"path":"a.flac","blocks":[{"number":0,"type":"STREAMINFO","length":34,"min_block_size":16,"max_block_size":4096,"min_frame_size":0,"max_frame_size":0,"rate":44100,"channels":1,"depth":16,"samples":0,"md5":"00000000000000000000000000000000"},{"number":1,"type":"APPLICATION","length":6,"id":"616243ff","data_length":2,"data_md5":"0cb988d042a7f28dd5fe2b55b3f5ac7a"},{"number":2,"type":"SEEKTABLE","length":54,"points":[{"sample":0,"offset":0,"samples":4096},{"sample":4096,"offset":258,"samples":16},{"placeholder":true,"offset":7,"samples":1}]},{"number":3,"type":"VORBIS_COMMENT","length":42,"vendor":"a\u0022b\u005c\u0001","comments":[{"name":"TITLE","value":"x=y"},{"text":"none"},{"name":"A","value":{"hex":"ff0a"}}]},{"number":4,"type":"PICTURE","length":46,"picture_type":3,"media_type":"image/png","description":"a\u000ab","width":2,"height":5,"depth":24,"colors":0,"data_length":2,"data_md5":"d07d34efac6328007ad67c7e0a985e00"},{"number":5,"type":"TYPE_126","length":3,"data_length":3,"data_md5":"900150983cd24fb0d6963f7d28e17f72"},{"number":6,"type":"PADDING","length":2},{"number":7,"type":"CUESHEET","length":480,"catalog":"1\u0000\u005c","lead_in":88200,"cd":true,"tracks":[{"number":1,"offset":0,"isrc":"AB","audio":true,"pre_emphasis":true,"indices":[{"number":1,"offset":588}]},{"number":170,"offset":2352,"isrc":"","audio":false,"pre_emphasis":false,"indices":[]}]}]};
+list a.flac --json --head | MORE 02000006616243ff0102 03000036 00*16 1000000000000000100000000000000001020010ffffffffffffffff00000000000000070001 0400002a050000006122625c0103000000090000005449544c453d783d79040000006e6f6e6504000000413dff0a 0600002e0000000300000009696d6167652f706e6700000003610a62000000020000000500000018000000000000000200ff 7e000003616263 010000020007 850001e031005c 00*130 01588880 00*258 0200000000000000000141420000000000000000000040 00*13 01000000000000024c010000000000000000000930aa 00*12 80 00*14 | 0 |  | {"path":"a.flac","blocks":[{"number":0,"type":"STREAMINFO","length":34,"min_block_size":16,"max_block_size":4096,"min_frame_size":0,"max_frame_size":0,"rate":44100,"channels":1,"depth":16,"samples":0,"md5":"00000000000000000000000000000000"},{"number":1,"type":"APPLICATION","length":6,"id":"616243ff","data_length":2,"data_md5":"0cb988d042a7f28dd5fe2b55b3f5ac7a"},{"number":2,"type":"SEEKTABLE","length":54,"points":[{"sample":0,"offset":0,"samples":4096},{"sample":4096,"offset":258,"samples":16},{"placeholder":true,"offset":7,"samples":1}]},{"number":3,"type":"VORBIS_COMMENT","length":42,"vendor":"a\u0022b\u005c\u0001","comments":[{"name":"TITLE","value":"x=y"},{"text":"none"},{"name":"A","value":{"hex":"ff0a"}}]},{"number":4,"type":"PICTURE","length":46,"picture_type":3,"media_type":"image/png","description":"a\u000ab","width":2,"height":5,"depth":24,"colors":0,"data_length":2,"data_md5":"d07d34efac6328007ad67c7e0a985e00"},{"number":5,"type":"TYPE_126","length":3,"data_length":3,"data_md5":"900150983cd24fb0d6963f7d28e17f72"},{"number":6,"type":"PADDING","length":2},{"number":7,"type":"CUESHEET","length":480,"catalog":"1\u0000\u005c","lead_in":88200,"cd":true,"tracks":[{"number":1,"offset":0,"isrc":"AB","audio":true,"pre_emphasis":true,"indices":[{"number":1,"offset":588}]},{"number":170,"offset":2352,"isrc":"","audio":false,"pre_emphasis":false,"indices":[]}]}]};
+list a.flac --json --block picture --block 0 | MORE 02000006616243ff0102 03000036 00*16 1000000000000000100000000000000001020010ffffffffffffffff00000000000000070001 0400002a050000006122625c0103000000090000005449544c453d783d79040000006e6f6e6504000000413dff0a 0600002e0000000300000009696d6167652f706e6700000003610a62000000020000000500000018000000000000000200ff 7e000003616263 010000020007 850001e031005c 00*130 01588880 00*258 0200000000000000000141420000000000000000000040 00*13 01000000000000024c010000000000000000000930aa 00*12 80 00*14 | 0 |  | {"path":"a.flac","blocks":[{"number":0,"type":"STREAMINFO","length":34,"min_block_size":16,"max_block_size":4096,"min_frame_size":0,"max_frame_size":0,"rate":44100,"channels":1,"depth":16,"samples":0,"md5":"00000000000000000000000000000000"},{"number":4,"type":"PICTURE","length":46,"picture_type":3,"media_type":"image/png","description":"a\u000ab","width":2,"height":5,"depth":24,"colors":0,"data_length":2,"data_md5":"d07d34efac6328007ad67c7e0a985e00"}]};
+list a.flac --json --head --block application:0x616243ff --block 6 --block 6 | MORE 02000006616243ff0102 03000036 00*16 1000000000000000100000000000000001020010ffffffffffffffff00000000000000070001 0400002a050000006122625c0103000000090000005449544c453d783d79040000006e6f6e6504000000413dff0a 0600002e0000000300000009696d6167652f706e6700000003610a62000000020000000500000018000000000000000200ff 7e000003616263 010000020007 850001e031005c 00*130 01588880 00*258 0200000000000000000141420000000000000000000040 00*13 01000000000000024c010000000000000000000930aa 00*12 80 00*14 | 0 |  | {"path":"a.flac","blocks":[{"number":1,"type":"APPLICATION","length":6,"id":"616243ff","data_length":2,"data_md5":"0cb988d042a7f28dd5fe2b55b3f5ac7a"},{"number":6,"type":"PADDING","length":2}]};
+list a.flac --json --block application:abcd --block 8 | MORE 02000006616243ff0102 03000036 00*16 1000000000000000100000000000000001020010ffffffffffffffff00000000000000070001 0400002a050000006122625c0103000000090000005449544c453d783d79040000006e6f6e6504000000413dff0a 0600002e0000000300000009696d6167652f706e6700000003610a62000000020000000500000018000000000000000200ff 7e000003616263 010000020007 850001e031005c 00*130 01588880 00*258 0200000000000000000141420000000000000000000040 00*13 01000000000000024c010000000000000000000930aa 00*12 80 00*14 | 0 |  | {"path":"a.flac","blocks":[]};
+list a.flac --json | EXAMPLE | 0 |  | {"path":"a.flac","blocks":[{"number":0,"type":"STREAMINFO","length":34,"min_block_size":4096,"max_block_size":4096,"min_frame_size":15,"max_frame_size":15,"rate":44100,"channels":2,"depth":16,"samples":1,"md5":"00000000000000000000000000000000"}]};
+list a.flac --json --head | PAGES | 0 |  | {"path":"a.flac","blocks":[{"number":0,"type":"STREAMINFO","length":34,"min_block_size":4096,"max_block_size":4096,"min_frame_size":15,"max_frame_size":15,"rate":44100,"channels":2,"depth":16,"samples":1,"md5":"3e84b41807dc690307586a3dad1a2e0f"},{"number":1,"type":"VORBIS_COMMENT","length":8,"vendor":"","comments":[]}]};
+list a.flac --json --block vorbis_comment | PAGES | 0 |  | {"path":"a.flac","blocks":[{"number":1,"type":"VORBIS_COMMENT","length":8,"vendor":"","comments":[]}]};
+# As text: the lines that the list of all blocks has for them.
+list a.flac --block vorbis_comment --block type_126 | MORE 02000006616243ff0102 03000036 00*16 1000000000000000100000000000000001020010ffffffffffffffff00000000000000070001 0400002a050000006122625c0103000000090000005449544c453d783d79040000006e6f6e6504000000413dff0a 0600002e0000000300000009696d6167652f706e6700000003610a62000000020000000500000018000000000000000200ff 7e000003616263 010000020007 850001e031005c 00*130 01588880 00*258 0200000000000000000141420000000000000000000040 00*13 01000000000000024c010000000000000000000930aa 00*12 80 00*14 | 0 |  | block 3 VORBIS_COMMENT 42;  vendor a"b\x5c\x01;  comment TITLE=x=y;  comment none;  comment A=\xff\x0a;block 5 TYPE_126 3;
+list a.flac --head --block 3 | MORE 02000006616243ff0102 03000036 00*16 1000000000000000100000000000000001020010ffffffffffffffff00000000000000070001 0400002a050000006122625c0103000000090000005449544c453d783d79040000006e6f6e6504000000413dff0a 0600002e0000000300000009696d6167652f706e6700000003610a62000000020000000500000018000000000000000200ff 7e000003616263 010000020007 850001e031005c 00*130 01588880 00*258 0200000000000000000141420000000000000000000040 00*13 01000000000000024c010000000000000000000930aa 00*12 80 00*14 | 0 |  | block 3 VORBIS_COMMENT 42;  vendor a"b\x5c\x01;  comment TITLE=x=y;  comment none;  comment A=\xff\x0a;
+list a.flac --block padding | EXAMPLE | 0 |  | 
+# Refused streams have no line of JSON: without --head also those whose frames are. As text the blocks before are listed.
+list a.flac --json | EXAMPLE_INFO 00*64 | 1 |  |  | flac: a.flac: frame 0: 12 BadSync;
+list a.flac --json --head | EXAMPLE_INFO 00*64 | 0 |  | {"path":"a.flac","blocks":[{"number":0,"type":"STREAMINFO","length":34,"min_block_size":4096,"max_block_size":4096,"min_frame_size":15,"max_frame_size":15,"rate":44100,"channels":2,"depth":16,"samples":1,"md5":"00000000000000000000000000000000"}]};
+list a.flac --json --head | MORE 82000003 | 1 |  |  | flac: a.flac: block 1: 7 BlockLength;
+list a.flac --json --head --block 0 | 664c6142 | 1 |  |  | flac: a.flac: marker: 4 BadMarker;
+list a.flac --block 0 | MORE 82000003 | 1 |  | block 0 STREAMINFO 34;  blocks 16 4096 frames 0 0 rate 44100 channels 1 depth 16 samples 0;  md5 00000000000000000000000000000000; | flac: a.flac: block 1: 7 BlockLength;
+list a.flac --head --block 1 | MORE 82000003 | 1 |  |  | flac: a.flac: block 1: 7 BlockLength;"#;
 
 /// Raw samples that are encoded, in rows as those of native streams. The streams were put together by hand, with checks
 /// and digests that were worked out apart from this project.
@@ -593,13 +626,52 @@ flac test - | Test { input: "-", lax: false }
 flac decode --wav a.flac a.raw --force | force DecodeWave { input: "a.flac", output: "a.raw", lax: false }
 flac list a.flac | List { input: "a.flac", lax: false }
 flac list a.flac --lax | List { input: "a.flac", lax: true }
-flac list a.flac b.flac a.flac --lax | ListFiles(Listing { inputs: ["a.flac", "b.flac", "a.flac"], lax: true, any: false, head: false })
+flac list a.flac b.flac a.flac --lax | ListFiles(Listing { inputs: ["a.flac", "b.flac", "a.flac"], lax: true, any: false, head: false, json: false, blocks: Some([]) })
 flac test --any a.flac | any Test { input: "a.flac", lax: true }
 flac decode a.flac a.raw --any --lax | any Decode { input: "a.flac", output: "a.raw", lax: true }
 flac decode a.flac a.wav --any | any DecodeWave { input: "a.flac", output: "a.wav", lax: true }
 flac list --any a.flac | any List { input: "a.flac", lax: true }
-flac list --any --head a.flac | ListFiles(Listing { inputs: ["a.flac"], lax: true, any: true, head: true })
-flac list --head a.flac | ListFiles(Listing { inputs: ["a.flac"], lax: false, any: false, head: true })
+flac list --any --head a.flac | ListFiles(Listing { inputs: ["a.flac"], lax: true, any: true, head: true, json: false, blocks: Some([]) })
+flac list --head a.flac | ListFiles(Listing { inputs: ["a.flac"], lax: false, any: false, head: true, json: false, blocks: Some([]) })
+flac list --json a.flac | ListFiles(Listing { inputs: ["a.flac"], lax: false, any: false, head: false, json: true, blocks: Some([]) })
+flac list a.flac --block 0 --block 4294967295 --block picture | ListFiles(Listing { inputs: ["a.flac"], lax: false, any: false, head: false, json: false, blocks: Some([Number(0), Number(4294967295), Kind(6)]) })
+flac list a.flac --block StreamInfo --block type_126 --block application:0x41424344 | ListFiles(Listing { inputs: ["a.flac"], lax: false, any: false, head: false, json: false, blocks: Some([Kind(0), Kind(126), Application([65, 66, 67, 68])]) })
+flac list a.flac --block 4294967296 | 2 flac: command: --block takes the number of a block, or a type;
+flac list a.flac b.flac --json --block pictures | 2 flac: command: --block takes the number of a block, or a type;
+flac list a.flac --block picture:3 | 2 flac: command: --block takes the number of a block, or a type;
+flac verify Music --all | Verify(Verification { paths: ["Music"], subset: false, report: None, resume: None, against: None, all: true })
+flac verify Music a.flac | Verify(Verification { paths: ["Music", "a.flac"], subset: false, report: None, resume: None, against: None, all: false })
+flac decode a.flac a.raw --from 44100 | Excerpt(Excerpt { input: "a.flac", output: "a.raw", from: Sample(44100), to: None, wave: false, lax: false, any: false, force: false })
+flac decode a.flac a.WAV --to 0:00.5 | Excerpt(Excerpt { input: "a.flac", output: "a.WAV", from: Sample(0), to: Some(Time(500000000)), wave: true, lax: false, any: false, force: false })
+flac decode a.flac - --wav --from 90:00 --to 1:30:00.000000001 --any --force | Excerpt(Excerpt { input: "a.flac", output: "-", from: Time(5400000000000), to: Some(Time(5400000000001)), wave: true, lax: true, any: true, force: true })
+flac decode a.flac a.raw --from 18446744073709551615 --to 1:00 --lax | Excerpt(Excerpt { input: "a.flac", output: "a.raw", from: Sample(18446744073709551615), to: Some(Time(60000000000)), wave: false, lax: true, any: false, force: false })
+flac decode a.flac a.raw --from 5 --to 5 | Excerpt(Excerpt { input: "a.flac", output: "a.raw", from: Sample(5), to: Some(Sample(5)), wave: false, lax: false, any: false, force: false })
+flac decode a.flac a.raw --to 5124095:34:33.709551615 | Excerpt(Excerpt { input: "a.flac", output: "a.raw", from: Sample(0), to: Some(Time(18446744073709551615)), wave: false, lax: false, any: false, force: false })
+flac decode a.flac a.raw --from 6 --to 5 | 2 flac: command: --to is before --from;
+flac decode a.flac a.raw --from 0:01 --to 0:00.999999999 | 2 flac: command: --to is before --from;
+flac decode a.flac a.raw --to 5124095:34:33.709551616 | 2 flac: command: --from and --to take*
+flac decode a.flac a.raw --from 18446744073709551616 | 2 flac: command: --from and --to take*
+flac decode a.flac a.raw --from +5 | 2 flac: command: --from and --to take*
+flac decode a.flac a.raw --from 1.5 | 2 flac: command: --from and --to take*
+flac decode a.flac a.raw --from :05 | 2 flac: command: --from and --to take*
+flac decode a.flac a.raw --from 1:5 | 2 flac: command: --from and --to take*
+flac decode a.flac a.raw --from 1:60 | 2 flac: command: --from and --to take*
+flac decode a.flac a.raw --from 1:60:00 | 2 flac: command: --from and --to take*
+flac decode a.flac a.raw --from 1:5:00 | 2 flac: command: --from and --to take*
+flac decode a.flac a.raw --from 1:00:00:00 | 2 flac: command: --from and --to take*
+flac decode a.flac a.raw --from 1:00. | 2 flac: command: --from and --to take*
+flac decode a.flac a.raw --from 1:00.0123456789 | 2 flac: command: --from and --to take*
+flac decode a.flac a.raw --from 1:00.5s | 2 flac: command: --from and --to take*
+flac decode a.flac a.raw --from=-5 | 2 flac: command: --from and --to take*
+flac decode a.flac a.raw --from 5 --from 6 | 2 error: the argument '--from <MOMENT>' cannot be used multiple times*
+flac decode a.flac --from 5 | 2 error: the following required arguments were not provided:*
+flac test a.flac --from 5 | 2 error: unexpected argument '--from' found*
+flac salvage a.flac b.flac | Salvage(Salvage { input: "a.flac", output: "b.flac", filling: Silence, lax: false, force: false })
+flac salvage - - --silence --lax | Salvage(Salvage { input: "-", output: "-", filling: Silence, lax: true, force: false })
+flac salvage a.flac b.flac --gap --force | Salvage(Salvage { input: "a.flac", output: "b.flac", filling: Nothing, lax: false, force: true })
+flac salvage a.flac b.flac --gap --silence | 2 flac: command: --silence with --gap;
+flac salvage a.flac | 2 error: the following required arguments were not provided:*
+flac salvage a.flac b.flac --ogg | 2 error: unexpected argument '--ogg' found*
 flac recode a.flac b.flac | Recode(Recoding { input: "a.flac", output: "b.flac", block: 4096, seek_every: 0, container: Native, lax: false, predictors: None, effort: Quick, force: false })
 flac recode a.flac b.oga --ogg --serial 7 --lax --force --block 16 --predictors a.txt --search full | Recode(Recoding { input: "a.flac", output: "b.oga", block: 16, seek_every: 0, container: Ogg { serial: 7 }, lax: true, predictors: Some("a.txt"), effort: Full, force: true })
 flac recode - - --seek-every 5 | Recode(Recoding { input: "-", output: "-", block: 4096, seek_every: 5, container: Native, lax: false, predictors: None, effort: Quick, force: false })
@@ -649,7 +721,7 @@ flac encode a.raw a.flac --raw | 2 flac: command: raw samples need --rate, --cha
 flac encode a.raw a.flac --rate 44100 --channels 2 --bits 16 none | 2 flac: command: comment without =;
 flac encode a.raw a.flac --rate 44100 --channels 2 --bits 16 --ogg --seek-every 5 | 2 flac: command: --ogg with --seek-every;
 flac encode a.raw a.flac --rate 44100 --channels 2 --bits 16 --ogg --seek-every 5 none | 2 flac: command: comment without =;
-flac | 2 error: 'flac' requires a subcommand but one was not provided;  [subcommands: test, decode, list, encode, retag, tag, edit, export, verify, same, recode, help];;Usage: flac <COMMAND>;;For more information, try '--help'.;
+flac | 2 error: 'flac' requires a subcommand but one was not provided;  [subcommands: test, decode, list, encode, retag, tag, edit, export, verify, same, recode, salvage, help];;Usage: flac <COMMAND>;;For more information, try '--help'.;
 flac test | 2 error: the following required arguments were not provided:;  <IN>;;Usage: flac test <IN>;;For more information, try '--help'.;
 flac list | 2 error: the following required arguments were not provided:;  <IN>...;;Usage: flac list <IN>...;;For more information, try '--help'.;
 flac retag a.flac b.flac --lax | 2 error: unexpected argument '--lax' found*
@@ -666,6 +738,7 @@ flac tag a.flac --from a.txt --add =x | 2 flac: command: 55 FieldName;
 flac tag a.flac --from a.txt --from b.txt | 2 error: the argument '--from <LINES>' cannot be used multiple times*
 flac edit a.flac | 2 flac: command: edit needs --padding, --remove-block or --picture;
 flac edit a.flac --remove-block 0 | 2 flac: command: --remove-block takes a number from 1 on, or a type other than STREAMINFO;
+flac edit a.flac --remove-block streaminfo | 2 flac: command: --remove-block takes a number from 1 on, or a type other than STREAMINFO;
 flac edit a.flac --picture 21:b.png | 2 flac: command: --picture takes [TYPE:]FILE, the type 0 to 20;
 flac export a.flac pictures b | 2 flac: command: export takes tags, picture or the number of a block;
 flac play a.flac | 2 error: unrecognized subcommand 'play';;Usage: flac <COMMAND>;;For more information, try '--help'.;
@@ -676,4 +749,5 @@ flac list --help | 0 Decodes a stream, and lists its metadata blocks;*
 flac encode --help | 0 Encodes a WAV file, or raw samples*
 flac tag --help | 0 Edits the comments of streams*
 flac edit --help | 0 Removes metadata blocks of streams*
+flac salvage --help | 0 Encodes the whole frames of a damaged stream*
 flac retag --help | 0 Writes a stream with other comments;*"#;

@@ -1,7 +1,8 @@
 //! `flac verify` over files in memory.
 
+use flac_around::BetweenShelf;
 use flac_bits::{Collected, Counted, Target};
-use flac_cli::{report_gone, verify_files};
+use flac_cli::{Checks, report_gone, verify_files};
 use flac_shelf::{
     Audio, ComparedShelf, HeldFile, HeldShelf, Older, Past, Record, ResumedShelf, Stamp,
 };
@@ -11,6 +12,24 @@ use std::io::{ErrorKind, Write};
 use std::process::Abort;
 use std::test::Fail;
 use test_vectors::{EXAMPLE, OUTSIDE, OUTSIDE_PAGES, bytes_of};
+
+/// All of FLAC is read, and nothing more is listed.
+const PLAIN: Checks = Checks {
+    subset: false,
+    all: false,
+};
+
+/// A stream must be in the streamable subset.
+const SUBSET: Checks = Checks {
+    subset: true,
+    all: false,
+};
+
+/// What is missing is listed too.
+const ALL: Checks = Checks {
+    subset: false,
+    all: true,
+};
 
 /// A file that can be read again.
 fn file<'a>(path: &'a str, bytes: &'a [u8]) -> HeldFile<'a> {
@@ -46,13 +65,13 @@ fn unopened<'a>(path: &'a str) -> HeldFile<'a> {
 fn verify_on<O: Target>(
     alloc: Global,
     files: &[HeldFile<'_>],
-    subset: bool,
+    checks: Checks,
     out: &mut O,
     err: &mut Collected,
 ) -> u8 {
     let mut shelf = HeldShelf::new(files);
     let mut report = Collected::new(alloc);
-    verify_files(alloc, &mut shelf, subset, out, err, &mut report)
+    verify_files(alloc, &mut shelf, checks, out, err, &mut report)
 }
 
 /// A file of this size and time that can be read again.
@@ -75,15 +94,20 @@ fn is_reported(alloc: Global, files: &[HeldFile<'_>], due: &str) -> bool {
     let mut out = Collected::new(alloc);
     let mut err = Collected::new(alloc);
     let mut report = Collected::new(alloc);
-    let _status = verify_files(alloc, &mut shelf, false, &mut out, &mut err, &mut report);
+    let _status = verify_files(alloc, &mut shelf, PLAIN, &mut out, &mut err, &mut report);
     report.bytes() == due.as_bytes()
 }
 
 /// Whether verifying these files returns this status and prints these texts.
-fn is_verified(alloc: Global, files: &[HeldFile<'_>], subset: bool, due: (u8, &str, &str)) -> bool {
+fn is_verified(
+    alloc: Global,
+    files: &[HeldFile<'_>],
+    checks: Checks,
+    due: (u8, &str, &str),
+) -> bool {
     let mut out = Collected::new(alloc);
     let mut err = Collected::new(alloc);
-    let status = verify_on(alloc, files, subset, &mut out, &mut err);
+    let status = verify_on(alloc, files, checks, &mut out, &mut err);
     (status, out.bytes(), err.bytes()) == (due.0, due.1.as_bytes(), due.2.as_bytes())
 }
 
@@ -109,7 +133,7 @@ fn each_file_has_its_line(rt: HostRuntime) -> Result<(), Fail> {
         ok 7.flac: frames 1 samples 1 no-md5\n\
         verified 7 ok 5 bad 2\n";
     let err = "flac: 3.flac: marker: 3 Truncated\nflac: 4: cannot be opened\n";
-    assert!(rt; is_verified(alloc, &files, false, (1, out, err)));
+    assert!(rt; is_verified(alloc, &files, PLAIN, (1, out, err)));
     Ok(())
 }
 
@@ -159,7 +183,7 @@ fn a_report_that_is_not_written(rt: HostRuntime) -> Result<(), Fail> {
     let mut out = Collected::new(alloc);
     let mut err = Collected::new(alloc);
     let mut full = Counted::new(Full);
-    let status = verify_files(alloc, &mut shelf, false, &mut out, &mut err, &mut full);
+    let status = verify_files(alloc, &mut shelf, PLAIN, &mut out, &mut err, &mut full);
     assert!(rt; status == 1);
     let due = b"ok 1.flac: frames 1 samples 1 no-md5\nverified 1 ok 1 bad 0\n".as_slice();
     assert!(rt; out.bytes() == due);
@@ -174,7 +198,7 @@ fn the_subset_alone(rt: HostRuntime) -> Result<(), Fail> {
     let files = [file("1.flac", &example), file("2.flac", &outside)];
     let out = "ok 1.flac: frames 1 samples 1 no-md5\nverified 2 ok 1 bad 1\n";
     let err = "flac: 2.flac: frame 0: 14 NotSubset\n";
-    assert!(rt; is_verified(alloc, &files, true, (1, out, err)));
+    assert!(rt; is_verified(alloc, &files, SUBSET, (1, out, err)));
     Ok(())
 }
 
@@ -183,8 +207,8 @@ fn good_files_and_none(rt: HostRuntime) -> Result<(), Fail> {
     let alloc = rt.alloc();
     let example = bytes_of(alloc, EXAMPLE)?;
     let out = "ok 1.flac: frames 1 samples 1 no-md5\nverified 1 ok 1 bad 0\n";
-    assert!(rt; is_verified(alloc, &[file("1.flac", &example)], false, (0, out, "")));
-    assert!(rt; is_verified(alloc, &[], false, (0, "verified 0 ok 0 bad 0\n", "")));
+    assert!(rt; is_verified(alloc, &[file("1.flac", &example)], PLAIN, (0, out, "")));
+    assert!(rt; is_verified(alloc, &[], PLAIN, (0, "verified 0 ok 0 bad 0\n", "")));
     Ok(())
 }
 
@@ -208,7 +232,7 @@ fn a_line_that_is_not_written(rt: HostRuntime) -> Result<(), Fail> {
     let example = bytes_of(alloc, EXAMPLE)?;
     let mut err = Collected::new(alloc);
     let files = [file("1.flac", &example)];
-    let status = verify_on(alloc, &files, false, &mut Counted::new(Full), &mut err);
+    let status = verify_on(alloc, &files, PLAIN, &mut Counted::new(Full), &mut err);
     assert!(rt; status == 1);
     assert!(rt; err.bytes() == b"flac: standard output: 39 Write\n".as_slice());
     Ok(())
@@ -285,7 +309,7 @@ fn verify_against(
     let older = older_of(alloc)?;
     let mut shelf = ComparedShelf::new(HeldShelf::new(files), Some(older));
     let mut report = Collected::new(alloc);
-    let status = verify_files(alloc, &mut shelf, false, out, err, &mut report);
+    let status = verify_files(alloc, &mut shelf, PLAIN, out, err, &mut report);
     let is_gone = match shelf.into_older() {
         Some(mut older) => report_gone(&mut older, err),
         None => false,
@@ -390,7 +414,7 @@ fn good_files_are_left_out(rt: HostRuntime) -> Result<(), Fail> {
     let mut out = Collected::new(alloc);
     let mut err = Collected::new(alloc);
     let mut report = Collected::new(alloc);
-    let status = verify_files(alloc, &mut shelf, false, &mut out, &mut err, &mut report);
+    let status = verify_files(alloc, &mut shelf, PLAIN, &mut out, &mut err, &mut report);
     let due = "ok 2: frames 1 samples 1 no-md5\n\
         ok 3: frames 1 samples 1 no-md5\n\
         ok 4: frames 1 samples 1 no-md5\n\
@@ -398,5 +422,69 @@ fn good_files_are_left_out(rt: HostRuntime) -> Result<(), Fail> {
         verified 4 ok 4 bad 0\n";
     assert!(rt; status == 0);
     assert!(rt; out.bytes() == due.as_bytes());
+    Ok(())
+}
+
+// The example has its only frame, of one sample, at byte 42.
+#[test]
+fn what_is_missing_is_listed(rt: HostRuntime) -> Result<(), Fail> {
+    let alloc = rt.alloc();
+    let example = bytes_of(alloc, EXAMPLE)?;
+    let cut = &example[..56usize.min(example.len())];
+    let files = [
+        file("1.flac", cut),
+        file("2.flac", &example),
+        pipe("3.flac", cut),
+        file("4.flac", b"fLa"),
+        file("5.oga", b"OggS"),
+        unopened("6"),
+    ];
+    let out = "ok 2.flac: frames 1 samples 1 no-md5\nverified 6 ok 1 bad 5\n";
+    let err = "flac: 1.flac: frame 0: 3 Truncated\n\
+        flac: 1.flac: bytes 42 to 55: samples 0 to 0 missing, 0:00.000 to 0:00.000\n\
+        flac: 1.flac: found 0 of 1 samples in 0 frames\n\
+        flac: 3.flac: frame 0: 3 Truncated\n\
+        flac: 3.flac: what is missing cannot be listed\n\
+        flac: 4.flac: marker: 3 Truncated\n\
+        flac: 4.flac: what is missing cannot be listed\n\
+        flac: 5.oga: page 0: 3 Truncated\n\
+        flac: 5.oga: what is missing cannot be listed\n\
+        flac: 6: cannot be opened\n";
+    assert!(rt; is_verified(alloc, &files, ALL, (1, out, err)));
+    Ok(())
+}
+
+/// These bytes between an ID3v2 tag of 10 bytes and an ID3v1 tag of 128.
+fn tagged(alloc: Global, bytes: &[u8]) -> Result<Vec<u8>, AllocError> {
+    let mut all = Vec::new(alloc);
+    all.extend_from_slice(b"ID3\x03\0\0\0\0\0\0")?;
+    all.extend_from_slice(bytes)?;
+    all.extend_from_slice(b"TAG")?;
+    all.extend_from_slice(&[0; 125])?;
+    Ok(all)
+}
+
+/// What is printed on standard error of files between tags, with what is missing of them.
+fn told_between(alloc: Global, files: &[HeldFile<'_>]) -> Collected {
+    let mut shelf = BetweenShelf::new(HeldShelf::new(files));
+    let mut out = Collected::new(alloc);
+    let mut err = Collected::new(alloc);
+    let mut report = Collected::new(alloc);
+    let _status = verify_files(alloc, &mut shelf, ALL, &mut out, &mut err, &mut report);
+    err
+}
+
+// A good file has no line, and the bytes of a bad one are counted from its marker on.
+#[test]
+fn tags_are_not_missing(rt: HostRuntime) -> Result<(), Fail> {
+    let alloc = rt.alloc();
+    let example = bytes_of(alloc, EXAMPLE)?;
+    let good = tagged(alloc, &example)?;
+    let bad = tagged(alloc, &example[..56usize.min(example.len())])?;
+    let err = told_between(alloc, &[file("1.flac", &good), file("2.flac", &bad)]);
+    let due = "flac: 2.flac: frame 0: 3 Truncated\n\
+        flac: 2.flac: bytes 42 to 55: samples 0 to 0 missing, 0:00.000 to 0:00.000\n\
+        flac: 2.flac: found 0 of 1 samples in 0 frames\n";
+    assert!(rt; err.bytes() == due.as_bytes());
     Ok(())
 }

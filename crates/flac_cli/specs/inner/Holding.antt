@@ -15,8 +15,8 @@ use Rattle.flac_subframe.specs.declared.format.linear.LinearPredictor.{LinearPre
 use Rattle.flac_cli.specs.Asked.{Asked}
 use Rattle.flac_cli.specs.Encoded.{cut_as}
 use Rattle.flac_cli.specs.Outcomes.{input_reading}
-use Rattle.flac_cli.specs.Recoded.{extended, extended_by, carried, blocks_in, sound_in}
-use Rattle.flac_cli.specs.RecodeRefusals.{recoding_refusal}
+use Rattle.flac_cli.specs.Recoded.{extended, carried, blocks_in, sound_of}
+use Rattle.flac_cli.specs.RecodeRefusals.{held_refusal}
 use Rattle.flac_cli.specs.Refusals.{stream_fault}
 use Rattle.flac_cli.specs.declared.encode.Refusal.TheVariants.{Output}
 use Rattle.flac_cli.specs.declared.held_stream.HeldStream.{HeldStream}
@@ -47,20 +47,20 @@ abbrev pub held_after : Held → Item → Held
 held_after h (metadata b) = with_block h b
 held_after h (frame f) = record h { channels = extended h.channels f.channels }
 
--- This is held of a stream with this STREAMINFO, these blocks after it, and these frames.
-pub record IsHeld (h : Held) (info : Info) (list : List Block) (frames : List Frame) : Type 0 where
+-- This is held of a stream with this STREAMINFO, these blocks after it, and these channels of samples.
+pub record IsHeld (h : Held) (info : Info) (list : List Block) (channels : List (List ℤ)) : Type 0 where
   pub stated : h.info ≡ Some info
   pub kept : h.blocks ≡ carried list
-  pub heard : h.channels ≡ extended_by (replicate info.channels []) frames
+  pub heard : h.channels ≡ channels
 
 -- These are its samples, how they are divided into frames, and the blocks of the new stream. Only the container can be
 -- a reason to refuse them.
-pub record IsReady (asked : Asked) (ps : List LinearPredictor) (info : Info) (list : List Block) (frames : List Frame) (plan : Cut) (blocks : List Block) (audio : Sound) : Type 0 where
-  pub sound : audio ≡ sound_in asked.profile info frames
+pub record IsReady (asked : Asked) (ps : List LinearPredictor) (info : Info) (list : List Block) (channels : List (List ℤ)) (plan : Cut) (blocks : List Block) (audio : Sound) : Type 0 where
+  pub sound : audio ≡ sound_of asked.profile info channels
   pub cut : plan ≡ cut_as asked audio ps
   pub listed : blocks ≡ blocks_in asked.container list
   pub good : plan_fault plan ≡ None
-  pub refusal : recoding_refusal asked ps info list frames ≡ option_map Output (stream_fault asked.container plan blocks)
+  pub refusal : held_refusal asked ps info list channels ≡ option_map Output (stream_fault asked.container plan blocks)
 
 -- the bytes are refused at the place of this fault, for its reason
 abbrev pub IsFaultOf : (bytes : List ℕ) → After → Fault → Type 0

@@ -8,7 +8,9 @@ use Rattle.flac_cli.specs.Changes.{is_kept}
 use Rattle.flac_cli.specs.Counted.{printed}
 use Rattle.flac_cli.specs.Outcomes.{Fits, Reads, IsOutOfMemory}
 use Rattle.flac_cli.specs.Reported.{report_lines}
-use Rattle.flac_cli.specs.Verified.{IsStreamOf, AreFound, ok_lines, bad_lines, last_line, good_count, bad_count, all_kept}
+use Rattle.flac_cli.specs.Missing.{IsMissingIf, asks_missing, AreMissing, told_lines}
+use Rattle.flac_cli.specs.Verified.{IsStreamOf, AreFound, ok_lines, last_line, good_count, bad_count, all_kept}
+use Rattle.flac_cli.specs.declared.verify.Checks.{Checks}
 use Rattle.flac_cli.specs.declared.verify.Finding.{Finding}
 use Rattle.flac_cli.specs.declared.verify.Finding.TheVariants.{Good, Bad, Unopened}
 use Rattle.flac_cli.specs.declared.verify.Tally.{Tally}
@@ -24,6 +26,12 @@ pub record IsSent {T : Type 0} (g : target.Ghosts T) (text : List ℕ) (old new 
 pub record IsTold {T : Type 0} (g : target.Ghosts T) (text : List ℕ) (old new : T) : Type 0 where
   pub kept : g.errors old ≤ g.errors new
   pub told : g.known old ≡ true → g.errors new ≡ g.errors old → (g.known new ≡ true) × (g.sent new ≡ g.sent old ++ text)
+
+-- What is said of a file after its line, if that is asked for, was sent.
+pub record IsListed {T : Type 0} (g : target.Ghosts T) (asked : Bool) (file : Listed) (old new : T) : Type 0 where
+  pub text : List ℕ
+  pub missing : IsMissingIf asked file text
+  pub told : IsTold g text old new
 
 -- A call that was to send this text, if it was going on: it was sent, or the target returned an error.
 pub record IsEntered {T : Type 0} (g : target.Ghosts T) (going : Bool) (text : List ℕ) (old new : T) (done : Bool) : Type 0 where
@@ -81,20 +89,22 @@ pub record IsEnded {O E : Type 0} (o : target.Ghosts O) (e : target.Ghosts E) (t
 
 -- ---- a list that is read
 
--- If these are found of the files that are left, then these are found of all files; what was sent and counted so far is
--- that of the files before.
-pub record SoFar {O E P : Type 0} (o : target.Ghosts O) (e : target.Ghosts E) (p : target.Ghosts P) (subset : Bool) (files rest : List Listed) (first out : O) (began err : E) (blank report : P) (tally : Tally) (left : List Finding) : Type 0 where
+-- If these are found of the files that are left, and these texts said of them, then these are found and said of all
+-- files; what was sent and counted so far is that of the files before.
+pub record SoFar {O E P : Type 0} (o : target.Ghosts O) (e : target.Ghosts E) (p : target.Ghosts P) (checks : Checks) (files rest : List Listed) (first out : O) (began err : E) (blank report : P) (tally : Tally) (left : List Finding) (texts : List (List ℕ)) : Type 0 where
   pub all : List Finding
-  pub found : AreFound subset files all
+  pub found : AreFound checks.subset files all
+  pub missing : List (List ℕ)
+  pub listed : AreMissing checks.all files all missing
   pub sent_is : tally.is_written ≡ true → o.known first ≡ true → o.sent out ++ ok_lines rest left ≡ o.sent first ++ ok_lines files all
-  pub told_is : e.known began ≡ true → e.errors err ≡ e.errors began → e.sent err ++ bad_lines rest left ≡ e.sent began ++ bad_lines files all
-  pub reported_is : tally.is_reported ≡ true → p.known blank ≡ true → p.sent report ++ report_lines subset rest left ≡ p.sent blank ++ report_lines subset files all
+  pub told_is : e.known began ≡ true → e.errors err ≡ e.errors began → e.sent err ++ told_lines rest left texts ≡ e.sent began ++ told_lines files all missing
+  pub reported_is : tally.is_reported ≡ true → p.known blank ≡ true → p.sent report ++ report_lines checks.subset rest left ≡ p.sent blank ++ report_lines checks.subset files all
   pub files_are : printed (tally.files + length left) ≡ printed (length all)
   pub good_are : printed (tally.good + good_count left) ≡ printed (good_count all)
   pub bad_are : printed (tally.bad + bad_count left) ≡ printed (bad_count all)
   pub kept_are : (tally.is_kept && all_kept rest left) ≡ all_kept files all
 
-pub record Underway {O E P : Type 0} (o : target.Ghosts O) (e : target.Ghosts E) (p : target.Ghosts P) (subset : Bool) (files rest : List Listed) (first out : O) (began err : E) (blank report : P) (tally : Tally) : Type 0 where
+pub record Underway {O E P : Type 0} (o : target.Ghosts O) (e : target.Ghosts E) (p : target.Ghosts P) (checks : Checks) (files rest : List Listed) (first out : O) (began err : E) (blank report : P) (tally : Tally) : Type 0 where
   pub kept : o.errors first ≤ o.errors out
   pub known : tally.is_written ≡ true → o.known first ≡ true → o.known out ≡ true
   pub lost : tally.is_written ≡ false → o.known first ≡ true → o.errors first < o.errors out
@@ -106,4 +116,4 @@ pub record Underway {O E P : Type 0} (o : target.Ghosts O) (e : target.Ghosts E)
   pub files_fit : tally.files ≤ 18446744073709551615
   pub good_fits : tally.good ≤ 18446744073709551615
   pub bad_fits : tally.bad ≤ 18446744073709551615
-  pub so_far : (left : List Finding) → AreFound subset rest left → SoFar o e p subset files rest first out began err blank report tally left
+  pub so_far : (left : List Finding) (texts : List (List ℕ)) → AreFound checks.subset rest left → AreMissing checks.all rest left texts → SoFar o e p checks files rest first out began err blank report tally left texts

@@ -1,4 +1,4 @@
-use Rattle.std.proofs.Common.{◌≡◌, refl, length}
+use Rattle.std.proofs.Common.{refl, length}
 use Rattle.std.proofs.lemmas.Result.{err_from_is_err_and}
 use Rattle.flac_cli.proofs.Rows.{raw_is}
 use Rattle.flac_cli.proofs.Refused.{sound_of, bad_format, bad_samples, good_samples}

@@ -3,8 +3,10 @@ use Rattle.flac_cli.specs.Changes.{change_of}
 use Rattle.flac_cli.specs.Reported.{entry_line}
 use Rattle.flac_cli.specs.Verified.{ok_part, bad_part}
 use Rattle.flac_cli.specs.inner.Verifying.{IsCounted}
-use Rattle.flac_cli.proofs.Told.{sent_same, told_same, entered_same}
+use Rattle.flac_cli.specs.Missing.{IsMissingIf, asks_missing}
+use Rattle.flac_cli.proofs.Told.{sent_same, told_same, told_then, entered_same}
 use Rattle.flac_cli.proofs.Underway.{begins, read_more, all_read, all_whole, first_of, none_of, calm_so_far, line_is}
+use Rattle.flac_cli.proofs.Verifying.{stays_then, still}
 use Rattle.flac_cli.proofs.verify.verify_files.Goals as goal
 
 pub files-init : goal.files-init
@@ -17,13 +19,16 @@ pub files-preserved : goal.files-preserved
 files-preserved g c =
     let inv = c.files.invariant in
     let found = c.find-finding.ensures in
+    let said = c.list_missing.ensures in
+    let both = stays_then found.stays said.stays in
     record {
-      kept = omega (arith, inv.kept, c.next.ensures.faults, found.stays.kept);
+      kept = omega (arith, inv.kept, c.next.ensures.faults, both.kept);
       under = λ known same.
-          let calm = calm_so_far _ _ _ _ inv.kept c.next.ensures.faults found.stays.kept same in
+          let calm = calm_so_far _ _ _ _ inv.kept c.next.ensures.faults both.kept same in
+          let each = still found.stays said.stays calm.1 in
           let u = inv.under known calm.0 in
           let here = c.next.ensures.known u.0 in
-          let after = found.stays.knows here calm.1 in
+          let after = found.stays.knows here each.0 in
           let file = found.stays.here in
           let path = c.path.ensures after ∙ ap (λ k. k.path) file in
           let stamp = c.stamp-stamp.ensures after ∙ ap (λ k. k.stamp) file in
@@ -36,9 +41,11 @@ files-preserved g c =
           ∙ ap (λ d. bad_part (g.S.Shelf.current c.next.new.self).path d c.find-finding.result) change) in
           let counted = subst (λ d. IsCounted c.find-finding.result d c.report-is_sent.result c.enter-is_entered.result c.files.tally c.add.new.self) change c.add.ensures in
           let line = line_is _ c.reads_again-again.result c.is_sought.result (g.S.Shelf.current c.next.new.self) _ _ c.find-finding.result c.is_sought.ensures (c.path-in-files.ensures after ∙ ap (λ k. k.path) file) stamp
-          (subst (λ k. IfSome k.contents (λ of. c.reads_again-again.result ≡ of.again)) file (c.reads_again-again.ensures after)) (found.found here calm.1) in
+          (subst (λ k. IfSome k.contents (λ of. c.reads_again-again.result ≡ of.again)) file (c.reads_again-again.ensures after)) (found.found here each.0) in
           let entered = entered_same g.P.Target c.enter-is_entered.ensures line in
-          (after, read_more g.O.Target g.E.Target g.P.Target _ _ _ _ _ (g.S.Shelf.current c.next.new.self) _ _ _ u.1 (first_of _ c.files-test.true (c.next.ensures.files u.0) found.stays.rest) (found.found here calm.1) out err entered counted);
+          let told = said.told after each.1 in
+          let missing = subst (λ k. IsMissingIf (asks_missing c.args.checks.all c.find-finding.result) k told.text) file told.missing in
+          (said.stays.knows after each.1, read_more g.O.Target g.E.Target g.P.Target _ _ _ _ _ (g.S.Shelf.current c.next.new.self) _ told.text _ _ u.1 (first_of _ c.files-test.true (c.next.ensures.files u.0) both.rest) (found.found here each.0) out missing (told_then g.E.Target err told.told) entered counted);
     }
 
 pub returns-clause-verified : goal.returns-clause-verified

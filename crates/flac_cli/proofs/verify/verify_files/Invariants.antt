@@ -7,7 +7,7 @@ abbrev pub invariant-files : goal.invariant-files
 invariant-files g l = record {
   kept : g.S.Shelf.faults l.fn.shelf ≤ g.S.Shelf.faults l.shelf;
   under : g.S.Shelf.known l.fn.shelf ≡ true → g.S.Shelf.faults l.shelf ≡ g.S.Shelf.faults l.fn.shelf
-      → (g.S.Shelf.known l.shelf ≡ true) × Underway g.O.Target g.E.Target g.P.Target l.subset (g.S.Shelf.files l.fn.shelf) (g.S.Shelf.files l.shelf) l.fn.out l.out l.fn.err l.err l.fn.report_to l.report_to l.tally;
+      → (g.S.Shelf.known l.shelf ≡ true) × Underway g.O.Target g.E.Target g.P.Target l.checks (g.S.Shelf.files l.fn.shelf) (g.S.Shelf.files l.shelf) l.fn.out l.out l.fn.err l.err l.fn.report_to l.report_to l.tally;
 }
 
 abbrev pub decreases-files : goal.decreases-files

@@ -1,4 +1,4 @@
-use Rattle.std.proofs.Common.{rules, ◌≡◌, ◌∙◌, ◌&&◌, ℕ, Bool, true, not, refl, ap}
+use Rattle.std.proofs.Common.{rules, ◌≡◌, ◌∙◌, ◌&&◌, true, not, refl, ap}
 use Rattle.flac_wave.specs.Parts.{given, beyond, is_cut}
 use Rattle.flac_wave.specs.Front.{are_whole}
 use Rattle.flac_wave.proofs.Parts.{part_read}

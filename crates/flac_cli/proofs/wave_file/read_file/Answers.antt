@@ -1,4 +1,4 @@
-use Rattle.std.proofs.Common.{◌≡◌, ◌∙◌, sym}
+use Rattle.std.proofs.Common.{◌∙◌, sym}
 use Rattle.std.proofs.lemmas.Result.{err_from_is_err_and}
 use Rattle.flac_cli.proofs.TakenWaves.{samples_error, file_taken}
 use Rattle.flac_cli.proofs.wave_file.read_file.Goals as goal

@@ -1,7 +1,0 @@
-use Rattle.std.proofs.Common.{◌≡◌, map}
-use Rattle.flac_frame.specs.Viewed.{frame_of}
-use Rattle.flac_cli.proofs.Holding.{extended_first}
-use Rattle.flac_cli.proofs.held_stream.extend_channels.Given as goal
-
-abbrev pub invariant-loop-channel : goal.invariant-loop-channel
-invariant-loop-channel l = map (λ c. c.items) l.channels ≡ extended_first l.channel (map (λ c. c.items) l.fn.channels) (frame_of l.frame).channels

@@ -1,0 +1,255 @@
+//! `flac salvage`: a stream of what is left of a damaged one.
+
+ghost use Rattle.std.specs.Prelude.{◌≡◌, ◌≢◌, ◌≤◌, ◌⊎◌, ℤ, List, true, Some, None, IfOk, IfErr, OnOk, OnErr};
+ghost use Rattle.flac_bits.specs.Bits.{bits_of};
+ghost use Rattle.flac_meta.specs.declared.block.Block.{Block};
+ghost use Rattle.flac_native.specs.Sent.{TargetFailed};
+ghost use Rattle.flac_rescue.specs.Report.{report_text};
+ghost use Rattle.flac_rescue.specs.Salvaged.{is_too_long};
+ghost use Rattle.flac_rescue.specs.Survey.{IsSurvey};
+ghost use Rattle.flac_rescue.specs.declared.survey.Survey.{Survey};
+ghost use Rattle.flac_cli.specs.Asked.{asked_of};
+ghost use Rattle.flac_cli.specs.Calls.{HasWritten, IfServed, IfAllServe};
+ghost use Rattle.flac_cli.specs.Streams.{Tells};
+ghost use Rattle.flac_cli.specs.RecodeRefusals.{IsOutside, NamesRecoding};
+ghost use Rattle.flac_cli.specs.Salvages.{salvage_asks, salvage_files, fills, IsLeft, Salvages, HasBegunSalvaged, salvage_refusal, IsSalvageReason, RefusesSalvage, TellsLeft};
+ghost use Rattle.flac_cli.specs.inner.Holding.{view_of, IsHeld};
+ghost use Rattle.flac_cli.specs.declared.encode.Refusal.TheVariants as refusal;
+ghost use Rattle.flac_cli.specs.declared.recode.RecodeRefusal.TheVariants.{Refused};
+
+use crate::encode::{Encoding, Refusal, write_stream};
+use crate::held_stream::{HeldStream, kept_blocks};
+use crate::recode::{RecodeRefusal, encoding_of, ready_of, refuse_recoding};
+use crate::searching::searched;
+use flac_bits::{Source, Target, Why, send_all};
+use flac_frame::SetupFault;
+use flac_jobs::{Filling, Salvage};
+use flac_native::EncodeFault;
+use flac_rescue::{SalvageFault, Survey, SurveyFault, report, salvage_samples, survey_bytes};
+use flac_wave::read_at_most;
+use std::alloc::Global;
+
+impl From<SurveyFault> for RecodeRefusal {
+    ghost use Rattle.flac_cli.specs.Salvages.{survey_refusal};
+
+    ghost from_gives = { λ fault e. e ≡ survey_refusal fault };
+
+    fn from(fault: SurveyFault) -> RecodeRefusal {
+        match fault {
+            SurveyFault::Head(fault) => RecodeRefusal::Unread(fault),
+            SurveyFault::Memory => RecodeRefusal::Refused(Refusal::Input(Why::Memory)),
+            SurveyFault::Unordered => RecodeRefusal::Refused(Refusal::Input(Why::Sequence)),
+        }
+    }
+}
+
+impl From<SalvageFault> for RecodeRefusal {
+    ghost use Rattle.flac_cli.specs.Salvages.{salvage_refusal};
+
+    ghost from_gives = { λ fault e. e ≡ salvage_refusal fault };
+
+    fn from(fault: SalvageFault) -> RecodeRefusal {
+        match fault {
+            SalvageFault::Memory => RecodeRefusal::Refused(Refusal::Input(Why::Memory)),
+            SalvageFault::TooLong => RecodeRefusal::Refused(Refusal::Setup(SetupFault::TooLong)),
+        }
+    }
+}
+
+/// All bytes of a source.
+///
+/// # Errors
+/// An error of the source, or out of memory.
+fn read_whole<R: Source>(alloc: Global, source: &mut R) -> Result<Vec<u8>, Why>
+    ensures whole { IfOk result (λ bytes. R.known source.old ≡ true → bytes.items ≡ R.coming source.old) }
+    ensures memory { IfErr result (λ e. Tells R.Source source.old source.new → e ≡ Why.Memory) }
+{
+    let bytes = read_at_most(alloc, source, u64::MAX)?;
+    if bytes.len() as u64 == u64::MAX {
+        return Err(Why::Memory);
+    }
+    Ok(bytes)
+}
+
+/// The lines of what is missing of the stream of a file of this path.
+fn lines_of(alloc: Global, path: &str, survey: &Survey) -> Result<Vec<u8>, Why>
+    ensures lines { IfOk result (λ text. text.items ≡ report_text path.now survey.now) }
+    ensures memory { IfErr result (λ e. e ≡ Why.Memory) }
+{
+    let text = report(alloc, path, survey)?;
+    Ok(text)
+}
+
+/// Holds what was found of a stream: the samples of the frames that are kept, with what fills the gaps.
+fn held_of(
+    alloc: Global,
+    bytes: &[u8],
+    survey: &Survey,
+    silence: bool,
+) -> Result<HeldStream, RecodeRefusal>
+    requires { IsSurvey bytes.now survey.now }
+    ensures held { IfOk result (λ held. (list : List Block) × (channels : List (List ℤ)) ×
+        IsLeft silence bytes.now survey.now list channels × IsHeld (view_of held) survey.now.info list channels) }
+    ensures refused { IfErr result (λ e. IsOutside e ⊎
+        ((e ≡ salvage_refusal SalvageFault.TooLong) × (is_too_long silence survey.now ≡ true))) }
+    ensures unwritten { IfErr result (λ e. e ≢ Refused (refusal.Output EncodeFault.Write)) }
+{
+    let channels = salvage_samples(alloc, bytes, survey, silence)?;
+    let blocks = kept_blocks(alloc, &survey.blocks)?;
+    Ok(HeldStream {
+        info: Some(survey.info),
+        blocks,
+        channels,
+    })
+}
+
+/// Encodes what was found of a stream, and writes it. After an error, nothing or a prefix of the stream was sent.
+///
+/// # Errors
+/// The first reason for which it cannot be encoded as asked for; an error of the target, or out of memory.
+fn write_left<W: Target>(
+    alloc: Global,
+    encoding: &Encoding<'_>,
+    bytes: &[u8],
+    survey: &Survey,
+    silence: bool,
+    target: &mut W,
+) -> Result<(), RecodeRefusal>
+    requires { IsSurvey bytes.now survey.now }
+    ensures written { OnOk result (W.known target.old ≡ true →
+        Salvages (asked_of encoding.now) silence bytes.now (bits_of (W.sent target.old)) (bits_of (W.sent target.new))) }
+    ensures begun { OnErr result (W.known target.old ≡ true →
+        HasBegunSalvaged (asked_of encoding.now) silence bytes.now (bits_of (W.sent target.old)) (bits_of (W.sent target.new))) }
+    ensures accepted { OnOk result (IsSalvageReason (asked_of encoding.now) silence bytes.now None) }
+    ensures refused { IfErr result (λ e. IsOutside e ⊎ IsSalvageReason (asked_of encoding.now) silence bytes.now (Some e)) }
+    ensures failed { IfErr result (λ e. e ≡ Refused (refusal.Output EncodeFault.Write) →
+        TargetFailed W.Target target.old target.new) }
+{
+    let held = held_of(alloc, bytes, survey, silence)?;
+    let ready = ready_of(alloc, encoding, Vec::new(alloc), held)?;
+    let tried = searched(alloc, encoding.effort, ready.plan, &ready.audio)?;
+    write_stream(
+        alloc,
+        encoding.container,
+        &tried,
+        &ready.list,
+        &ready.audio,
+        target,
+    )?;
+    Ok(())
+}
+
+/// Does what [`write_left`] does with what is found in these bytes, and returns the lines of what is missing.
+///
+/// # Errors
+/// Those of [`survey_bytes`] and of [`write_left`].
+fn salvage_bytes<W: Target>(
+    alloc: Global,
+    encoding: &Encoding<'_>,
+    path: &str,
+    bytes: &[u8],
+    silence: bool,
+    target: &mut W,
+) -> Result<Vec<u8>, RecodeRefusal>
+    ensures written { OnOk result (W.known target.old ≡ true →
+        Salvages (asked_of encoding.now) silence bytes.now (bits_of (W.sent target.old)) (bits_of (W.sent target.new))) }
+    ensures lines { IfOk result (λ text. (s : Survey) × IsSurvey bytes.now s × (text.items ≡ report_text path.now s)) }
+    ensures begun { OnErr result (W.known target.old ≡ true →
+        HasBegunSalvaged (asked_of encoding.now) silence bytes.now (bits_of (W.sent target.old)) (bits_of (W.sent target.new))) }
+    ensures accepted { OnOk result (IsSalvageReason (asked_of encoding.now) silence bytes.now None) }
+    ensures refused { IfErr result (λ e. IsOutside e ⊎ IsSalvageReason (asked_of encoding.now) silence bytes.now (Some e)) }
+    ensures failed { IfErr result (λ e. e ≡ Refused (refusal.Output EncodeFault.Write) →
+        TargetFailed W.Target target.old target.new) }
+{
+    let survey = survey_bytes(alloc, bytes)?;
+    let text = lines_of(alloc, path, &survey)?;
+    write_left(alloc, encoding, bytes, &survey, silence, target)?;
+    Ok(text)
+}
+
+/// Whether missing samples are silence.
+fn fills(filling: Filling) -> bool
+    ensures { result ≡ fills filling }
+{
+    match filling {
+        Filling::Silence => true,
+        Filling::Nothing => false,
+    }
+}
+
+/// Reads all bytes of a source, and does what [`salvage_bytes`] does with them.
+fn salvage_source<R: Source, W: Target>(
+    alloc: Global,
+    encoding: &Encoding<'_>,
+    salvage: &Salvage<'_>,
+    source: &mut R,
+    target: &mut W,
+) -> Result<Vec<u8>, RecodeRefusal>
+    ensures written { OnOk result (HasWritten R.Source W.Target source.old target.old target.new
+        (Salvages (asked_of encoding.now) (fills salvage.now.filling))) }
+    ensures lines { IfOk result (λ text. R.known source.old ≡ true →
+        (s : Survey) × IsSurvey (R.coming source.old) s × (text.items ≡ report_text salvage.now.input.now s)) }
+    ensures begun { OnErr result (HasWritten R.Source W.Target source.old target.old target.new
+        (HasBegunSalvaged (asked_of encoding.now) (fills salvage.now.filling))) }
+    ensures accepted { OnOk result (R.known source.old ≡ true →
+        IsSalvageReason (asked_of encoding.now) (fills salvage.now.filling) (R.coming source.old) None) }
+    ensures refused { IfErr result (λ e. Tells R.Source source.old source.new → IsOutside e ⊎
+        IsSalvageReason (asked_of encoding.now) (fills salvage.now.filling) (R.coming source.old) (Some e)) }
+    ensures failed { IfErr result (λ e. e ≡ Refused (refusal.Output EncodeFault.Write) →
+        TargetFailed W.Target target.old target.new) }
+{
+    let bytes = read_whole(alloc, source)?;
+    let silence = fills(salvage.filling);
+    let text = salvage_bytes(alloc, encoding, salvage.input, &bytes, silence, target)?;
+    Ok(text)
+}
+
+/// Reads a native stream, damaged or not, also outside the streamable subset, and holds all of its bytes; finds the frames
+/// that stand whole in it, and encodes the samples of those that belong together anew, with the same metadata blocks but
+/// for STREAMINFO and the seek table. What is missing is silence, or is left out. Returns the exit status: 0 if the new
+/// stream is written, whatever is missing, else 1.
+///
+/// `source` is the stream, `target` the file that is written, `err` is standard error. After status 0 the lines of
+/// [`report`] were written to `err`: what is missing, none if nothing is. After status 1 it was the line of the error: the
+/// fault of the marker or of a metadata block; 18 if its frames are out of order, and too many; 45 if there would be too
+/// much silence; else those of [`recode_file`](crate::recode_file).
+pub fn salvage_file<R: Source, W: Target, E: Target>(
+    alloc: Global,
+    salvage: &Salvage<'_>,
+    source: &mut R,
+    target: &mut W,
+    err: &mut E,
+) -> u8
+    // The status is 0 or 1.
+    ensures status { result ≤ 1 }
+    // After status 0 exactly one stream of what is left was added to the target.
+    ensures salvaged { result ≡ 0 → HasWritten R.Source W.Target source.old target.old target.new
+        (Salvages (salvage_asks salvage.now) (fills salvage.now.filling)) }
+    // And the lines of what is missing were added to standard error, if it did not fail.
+    ensures told { result ≡ 0 → R.known source.old ≡ true → IfServed E.Target err.old err.new
+        (TellsLeft salvage.now.input.now (R.coming source.old)) }
+    // After status 0 there was no reason to refuse it.
+    ensures accepted { result ≡ 0 → R.known source.old ≡ true →
+        IsSalvageReason (salvage_asks salvage.now) (fills salvage.now.filling) (R.coming source.old) None }
+    // After status 1 nothing was added to the target, or a prefix of such a stream.
+    ensures begun { result ≡ 1 → HasWritten R.Source W.Target source.old target.old target.new
+        (HasBegunSalvaged (salvage_asks salvage.now) (fills salvage.now.filling)) }
+    // After status 1, if no device failed, the line of the first reason to refuse it was added to standard error; or memory
+    // ran out, and the line says that.
+    ensures refused { result ≡ 1 → IfAllServe R.Source W.Target E.Target source.old source.new target.old target.new err.old err.new
+        (RefusesSalvage (salvage_asks salvage.now) (fills salvage.now.filling) (salvage_files salvage.now)) }
+    // After status 1, whatever failed, its line was added to standard error, if that did not fail. It names the output if
+    // that could not be written (39), and else the input.
+    ensures named { result ≡ 1 → IfServed E.Target err.old err.new (NamesRecoding (salvage_files salvage.now)) }
+{
+    let recoding = salvage.to_recoding();
+    let encoding = encoding_of(&recoding, &[]);
+    match salvage_source(alloc, &encoding, salvage, source, target) {
+        Ok(text) => {
+            // If it cannot be written, there is no one left to report it to.
+            let _ = send_all(err, &text);
+            0
+        }
+        Err(refused) => refuse_recoding(alloc, err, &recoding, refused),
+    }
+}
