@@ -9,6 +9,8 @@ FLAC names the program, JOBS how many runs at once. Status 1 if an answer is not
 import argparse
 import itertools
 import os
+import re
+import struct
 import subprocess
 import sys
 import tempfile
@@ -54,6 +56,14 @@ class Job:
                 return place
             written -= len(data)
         raise Wrong("more is written than is due")
+
+
+class Other(Job):
+    """A job of which no place is judged: it does all of its work, or says what failed."""
+
+    def __init__(self, name, words, source):
+        super().__init__(name, ["test"], source=source)
+        self.words, self.kind, self.writes = words, words[0], True
 
 
 class Ran:
@@ -117,6 +127,77 @@ def jobs():
     yield Job("encode with a list", [*ENCODE, "--predictors", "LIST", "TITLE=y"], source=raw[0], listed=LIST)
     yield Job("help", ["--help"])
     yield Job("help of encode", ["encode", "--help"])
+
+
+def wave_of(width, channels, frames):
+    """A WAV file with a chunk after its samples."""
+    samples = bytes(n * 401 % 256 for n in range(width * channels * frames))
+    head = struct.pack("<4sIHHIIHH4sI", b"fmt ", 16, 1, channels, 44100, 44100 * width * channels, width * channels, 8 * width, b"data", len(samples))
+    chunks = b"WAVE" + head + samples + b"\0" * (len(samples) % 2) + b"note\x04\0\0\0song"
+    return b"RIFF" + struct.pack("<I", len(chunks)) + chunks
+
+
+def other_jobs():
+    native, damaged = streams.native().data, streams.native(frames=300)
+    lost = bytearray(damaged.data)
+    lost[len(lost) // 2] ^= 1
+    for name, form in (("", (2, 2, 41)), (", long", (2, 2, 9000)), (" of 8 bits", (1, 1, 9001)), (" of 24 bits", (3, 2, 3000))):
+        yield Other(f"encode a WAV file{name}", ["encode", "IN", "OUT", "TITLE=y"], wave_of(*form))
+    for name, source in (("", native), (", long", damaged.data)):
+        yield Other(f"decode to a WAV file{name}", ["decode", "--wav", "IN", "OUT"], source)
+        yield Other(f"decode a part{name}", ["decode", "--from", "1", "--to", "17", "IN", "OUT"], source)
+        yield Other(f"decode a part to a WAV file{name}", ["decode", "--wav", "--from", "1", "IN", "OUT"], source)
+        yield Other(f"recode{name}", ["recode", "IN", "OUT"], source)
+    yield Other("salvage", ["salvage", "IN", "OUT"], bytes(lost))
+    yield Other("salvage with gaps", ["salvage", "--gap", "IN", "OUT"], bytes(lost))
+
+
+TOLD = {
+    "memory": r"(IN: .*2 Memory|OUT: cannot be created|IN: cannot be opened|command: 2 Memory)",
+    "read": r"(IN: .*1 Read|OUT: cannot be created)",
+    "write": r"(OUT: (.*: )?(39 Write|30 Sink))",
+}
+"""What may be said of a failure of these calls; of others that a file cannot be used."""
+
+
+def unnamed(ran):
+    text = ran.error.decode()
+    for name, path in ran.files.items():
+        text = text.replace(f"flac: {path}:", f"flac: {name}:")
+    return text
+
+
+def told_case(job, due, runner, call, number, how, **more):
+    """One failing call of a job whose places are not judged: all is done, or one line says why not, and OUT keeps its bytes."""
+    ran = runner.run(job, call=call, number=number, how=ERRNO.get(how, how), **more)
+    if "fails" not in ran.at:
+        raise Wrong("the call that is to fail is not made")
+    if ran.status == 0 or how == "short":
+        # what is told of a job that is done is lost if that cannot be written
+        expect((ran.status, call == "write" and unnamed(due).startswith(unnamed(ran)) or unnamed(ran) == unnamed(due)), (0, True))
+        return expect((ran.printed, ran.file, ran.part), (due.printed, due.file, None))
+    said = TOLD.get(call, "(IN|OUT): cannot be (opened|created|replaced|stored)")
+    silent = call == "write" and "on" in more
+    if ran.status != 1 or not re.fullmatch("" if silent else f"({re.escape(unnamed(due))})?flac: {said}\n", unnamed(ran)):
+        raise Wrong(f"status {ran.status}, {ran.error!r}")
+    expect((ran.printed, ran.file), (b"", BEFORE))
+    written = ran.part or b""
+    return expect(written, due.file[:len(written)])
+
+
+def told_of(job, counts, runner):
+    """Every failure of such a job."""
+    due = runner.run(job)
+    for number, more in itertools.product(range(1, counts["memory"] + 1), ({}, {"on": 1})):
+        yield f"memory {number}{' on' if more else ''}", lambda n=number, m=more: told_case(job, due, runner, "memory", n, "12", **m)
+    for call, hows in (("read", ("EIO", "EINTR", "short")), ("write", ("EIO", "EINTR", "short", "none"))):
+        for number, how in itertools.product(range(1, counts[call] + 1), hows):
+            yield f"{call} {number}, {how}", lambda c=call, n=number, h=how: told_case(job, due, runner, c, n, h)
+    for number in range(1, counts["write"] + 1):
+        yield f"write from {number} on", lambda n=number: told_case(job, due, runner, "write", n, "EIO", on=1)
+    for call in ("open", "statx", "realpath", "fchmod", "fsync", "rename"):
+        for number in range(1, counts[call] + 1):
+            yield f"{call} {number}", lambda c=call, n=number: told_case(job, due, runner, c, n, "EIO")
 
 
 def listed_line(job, call, at):
@@ -326,6 +407,11 @@ def cases(runner):
                 yield f"{job.name}: {name}", call
         if job.layout and job.kind != "retag":
             yield f"{job.name}: memory after the blocks", lambda j=job: later_memory_case(j, runner)
+    for job in other_jobs():
+        due = runner.run(job)
+        expect(due.status, 0)
+        for name, call in told_of(job, due.at["exit"], runner):
+            yield f"{job.name}: {name}", call
     for number, how in itertools.product(range(1, 8), ("EIO", "EINTR", "short")):
         yield f"test, refused: write {number}, {how}", lambda n=number, h=how: refused_line_case(runner, n, h)
 

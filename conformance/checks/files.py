@@ -19,6 +19,7 @@ from concurrent.futures import ThreadPoolExecutor
 
 import folders  # noqa: F401  (the path of the modules below)
 import devices
+import model
 import program
 from devices import BEFORE, ENCODE, NATIVE, OGG, RAW, due_of
 from program import Wrong, expect, read
@@ -297,6 +298,118 @@ def missing(place, words):
     expect(os.path.exists(names["OUT"]), False)
 
 
+RECODE, EXPORT = ["recode", "IN", "OUT"], ["export", "IN", "0", "OUT"]
+WHOLE = [("recode", RECODE), ("export", EXPORT)]
+"""Jobs of which OUT is of use only as a whole."""
+
+
+def whole_cases(library):
+    """OUT of these jobs is there when all of it is: before, and after a job that failed, there is no new file."""
+    cut = NATIVE[:-1]
+    lacks = [("recode", RECODE, cut, answer_of(cut)), ("recode", RECODE, NATIVE + b"\0", answer_of(NATIVE + b"\0")), ("recode", RECODE, b"", "marker: 3 Truncated"),
+             ("export", ["export", "IN", "99", "OUT"], NATIVE, None), ("export", EXPORT, b"fLaD", "marker: 4 BadMarker")]
+    for number, (name, words, source, line) in enumerate(lacks):
+        for old in (None, b"", BEFORE):
+            what = "new" if old is None else "replaced" if old else "empty"
+            yield f"{name} of input {number} is refused, OUT is {what}", lambda p, w=words, s=source, t=line, o=old: not_made(p, w, s, t, o)
+    for name, words in WHOLE:
+        for old in (None, b"", BEFORE):
+            what = "new" if old is None else "replaced" if old else "empty"
+            yield f"{name}: OUT is {what}", lambda p, w=words, o=old: made_whole(p, w, o)
+            yield f"{name}: OUT is {what}, and cannot be written", lambda p, w=words, o=old: not_written(p, library, w, o)
+            yield f"{name}: OUT is {what}, and cannot be stored", lambda p, w=words, o=old: not_stored_whole(p, library, w, o)
+        yield f"{name}: OUT is a link that leads nowhere", lambda p, w=words: through_link(p, w)
+        yield f"{name}: OUT.part is taken", lambda p, w=words: part_taken(p, w)
+        yield f"{name}: a folder that is not there", lambda p, w=words: no_folder(p, w)
+        yield f"{name}: a folder without rights", lambda p, w=words: no_rights(p, w)
+        for mask in (0, 0o22, 0o77):
+            yield f"{name}: a new OUT under the mask {mask:o}", lambda p, w=words, m=mask: masked(p, w, m)
+        for length in (249, 250, 251, 255):
+            yield f"{name}: a new OUT with a name of {length} bytes", lambda p, w=words, n=length: made_whole(p, w, None, "a" * n)
+        yield f"{name}: OUT is a device", lambda p, w=words: expect(p.call(w, {"IN": p.put("in", NATIVE), "OUT": "/dev/null"}), (0, b"", ""))
+        yield f"{name}: OUT is -", lambda p, w=words: expect(p.call(w, {"IN": p.put("in", NATIVE), "OUT": "-"})[::2], (0, ""))
+
+
+def answer_of(data):
+    return model.answer(data, model.LAX)
+
+
+def not_made(place, words, source, line, old):
+    names = names_of(place, source, old)
+    status, out, error = place.call(words, names)
+    expect((status, out, error.startswith(f"flac: {names['IN']}: ")), (1, b"", True))
+    if line is not None:
+        expect(error, f"flac: {names['IN']}: {line}\n")
+    expect(set(os.listdir(place.folder)), {"in"} | ({"out"} if old is not None else set()))
+    expect(read(names["OUT"]) if old is not None else None, old)
+
+
+def made_whole(place, words, old, name="out"):
+    """All of it is written to the file in place if there is an empty one, and else to a new file."""
+    names = {"IN": place.put("in", NATIVE), "OUT": place.path(name)}
+    if old is not None:
+        place.put(name, old)
+    before = os.stat(names["OUT"]).st_ino if old == b"" else None
+    expect(place.call(words, names), (0, b"", ""))
+    expect(set(os.listdir(place.folder)), {"in", name})
+    expect(len(read(names["OUT"])) > 33, True)
+    if old == b"":
+        expect(os.stat(names["OUT"]).st_ino, before)
+
+
+def not_written(place, library, words, old):
+    """A write that fails leaves no new file, and a file that has bytes as it was."""
+    names = names_of(place, NATIVE, old)
+    found, _ = calls(place, library, words, names, "write")
+    expect((found[0], found[1], found[2].startswith("flac: ")), (1, b"", True))
+    expect(set(os.listdir(place.folder)), {"in"} | ({"out"} if old is not None else set()))
+    if old:
+        expect(read(names["OUT"]), old)
+
+
+def not_stored_whole(place, library, words, old):
+    """All was written, so it stays, beside OUT if that may be another file."""
+    names = names_of(place, NATIVE, old)
+    found, _ = calls(place, library, words, names, "fsync")
+    expect(found, (1, b"", f"flac: {names['OUT']}: cannot be {'replaced' if old else 'stored'}\n"))
+    left = {None: {"out.part"}, b"": {"out"}, BEFORE: {"out", "out.part"}}[old]
+    expect(set(os.listdir(place.folder)), {"in"} | left)
+
+
+def through_link(place, words):
+    names = {"IN": place.put("in", NATIVE), "OUT": place.path("out")}
+    os.symlink("nowhere", names["OUT"])
+    expect(place.call(words, names), (0, b"", ""))
+    expect((os.path.islink(names["OUT"]), set(os.listdir(place.folder))), (True, {"in", "out", "nowhere"}))
+
+
+def part_taken(place, words):
+    names = {"IN": place.put("in", NATIVE), "OUT": place.path("out")}
+    place.put("out.part", BEFORE)
+    expect(place.call(words, names), (0, b"", ""))
+    expect((read(place.path("out.part")), set(os.listdir(place.folder))), (BEFORE, {"in", "out", "out.part"}))
+
+
+def no_folder(place, words):
+    names = {"IN": place.put("in", NATIVE), "OUT": place.path("absent/out")}
+    place.refused(words, names, f"{names['OUT']}: cannot be created")
+    expect(os.listdir(place.folder), ["in"])
+
+
+def no_rights(place, words):
+    names = {"IN": place.put("in", NATIVE), "OUT": place.path("below/out")}
+    os.mkdir(place.path("below"), 0o555)
+    place.refused(words, names, f"{names['OUT']}: cannot be created", **devices.other_user())
+    expect(os.listdir(place.path("below")), [])
+
+
+def masked(place, words, mask):
+    """A new file has the permissions that any new file has."""
+    names = {"IN": place.put("in", NATIVE), "OUT": place.path("out")}
+    expect(place.call(words, names, umask=mask), (0, b"", ""))
+    expect(os.stat(names["OUT"]).st_mode & 0o7777, 0o666 & ~mask)
+
+
 def stored_cases(library):
     """A regular OUT is stored before status 0, no other; a new file beside OUT never has more permissions than OUT."""
     for name, words, source in WRITING:
@@ -370,7 +483,7 @@ def main():
         os.chmod(folder, 0o755)
         binary, library = shutil.copy(program.BINARY, os.path.join(folder, "flac")), os.path.join(folder, "failing.so")
         subprocess.run(["cc", "-O1", "-shared", "-fPIC", "-o", library, os.path.join(HERE, "failing.c")], check=True)
-        groups = (kind_cases(), retag_cases(), forced_cases(), raw_cases(), word_cases(), long_name_cases(), stored_cases(library))
+        groups = (kind_cases(), retag_cases(), forced_cases(), raw_cases(), word_cases(), long_name_cases(), whole_cases(library), stored_cases(library))
         every = [case for group in groups for case in group if words.only in case[0]]
         found = list(pool.map(lambda case: devices.outcome(case, folder, binary), every))
     for _, line in found:

@@ -162,35 +162,45 @@ def large_streams():
 
 
 def wave_cases(quick):
-    """WAV files: name, format and seconds, a chunk after the samples, whether its bytes may be held beside the samples, and whether it
-    comes by standard input."""
-    stereo = dict(rate=44100, channels=2, bits=16)
-    yield "WAV, 16 bits, 30 s", stereo, 30, b"", False, False
-    yield "WAV, 16 bits, 30 s, by -", stereo, 30, b"", False, True
-    yield "WAV, 24 bits, 6 channels, 10 s", dict(rate=48000, channels=6, bits=24), 10, b"", False, False
-    yield "WAV, 8 bits, 30 s", dict(stereo, bits=8), 30, b"", True, False
-    yield "WAV, 16 bits, 30 s, a chunk of 1 MiB after them", stereo, 30, bytes(1 << 20), False, False
+    """WAV files: name, format and seconds, a chunk after the samples, and whether it comes by standard input. A format has the bits of a sample
+    in the file, and how many of them count."""
+    stereo = dict(rate=44100, channels=2, bits=16, valid=16)
+    yield "WAV, 16 bits, 30 s", stereo, 30, b"", False
+    yield "WAV, 16 bits, 30 s, by -", stereo, 30, b"", True
+    yield "WAV, 24 bits, 6 channels, 10 s", dict(rate=48000, channels=6, bits=24, valid=24), 10, b"", False
+    yield "WAV, 8 bits, 30 s", dict(stereo, bits=8, valid=8), 30, b"", False
+    yield "WAV, 12 in 16 bits, 30 s", dict(stereo, valid=12), 30, b"", False
+    yield "WAV, 20 in 24 bits, 6 channels, 10 s, by -", dict(rate=48000, channels=6, bits=24, valid=20), 10, b"", True
+    # (what holds samples doubles from one that a piece of the file fills: here the raw job's is not the smaller one)
+    yield "WAV, 24 in 32 bits, 40 s", dict(stereo, bits=32, valid=24), 40, b"", False
+    yield "WAV, 16 bits, 30 s, a chunk of 1 MiB after them", stereo, 30, bytes(1 << 20), False
     if not quick:
-        yield "WAV, 16 bits, 10 minutes", stereo, 600, b"", False, False
-        yield "WAV, 16 bits, 10 minutes, by -", stereo, 600, b"", False, True
+        yield "WAV, 16 bits, 10 minutes", stereo, 600, b"", False
+        yield "WAV, 8 bits, 10 minutes", dict(stereo, bits=8, valid=8), 600, b"", False
+        yield "WAV, 24 in 32 bits, 10 minutes", dict(stereo, bits=32, valid=24), 600, b"", False
+        yield "WAV, 16 bits, 10 minutes, by -", stereo, 600, b"", True
 
 
-def second_of(rate, channels, bits):
-    """The samples of a second, raw: a saw in each channel, and a little noise."""
-    width, top, seed, out = bits // 8, 1 << bits - 2, 1, bytearray()
+def second_of(rate, channels, bits, valid):
+    """The samples of a second, raw and as a WAV file has them: a saw in each channel, and a little noise."""
+    top, seed, raw, wave = 1 << valid - 2, 1, bytearray(), bytearray()
     for at in range(rate):
         for channel in range(channels):
             seed = (seed * 1103515245 + 12345) & 0x7FFFFFFF
             value = at * (37 + channel) * (top // 4096 or 1) % (2 * top) - top + (seed >> 16) % 5
-            out += value.to_bytes(width, "little", signed=True)
-    return bytes(out)
+            raw += value.to_bytes((valid + 7) // 8, "little", signed=True)
+            wave += (value + 128).to_bytes(1, "little") if bits == 8 else (value << bits - valid).to_bytes(bits // 8, "little", signed=True)
+    return bytes(raw), bytes(wave)
 
 
-def wave_head(rate, channels, bits, size, extra):
-    """What comes before the samples of a WAV file."""
-    row = channels * bits // 8
-    form = struct.pack("<HHIIHH", 1, channels, rate, rate * row, row, bits)
-    return b"RIFF" + struct.pack("<I", 36 + size + extra) + b"WAVEfmt " + struct.pack("<I", 16) + form + b"data" + struct.pack("<I", size)
+def wave_head(rate, channels, bits, valid, size, extra):
+    """What comes before the samples of a WAV file. If not all bits of a sample count, its format is WAVE_FORMAT_EXTENSIBLE."""
+    row, whole = channels * bits // 8, valid == bits
+    form = struct.pack("<HHIIHH", 1 if whole else 0xFFFE, channels, rate, rate * row, row, bits)
+    if not whole:
+        form += struct.pack("<HHI", 22, valid, 0) + bytes.fromhex("0100000000001000800000aa00389b71")
+    head = b"WAVEfmt " + struct.pack("<I", len(form)) + form + b"data" + struct.pack("<I", size)
+    return b"RIFF" + struct.pack("<I", len(head) + size + extra) + head
 
 
 class Meter:
@@ -221,17 +231,16 @@ class Meter:
         return done.returncode, int(lines["exit"]["peak"])
 
     def wave(self, folder, form, seconds, chunk, piped):
-        """The status of encoding a WAV file and the raw samples, both peaks, and how many bytes the samples have."""
-        one, raw, file = second_of(**form), os.path.join(folder, "x.raw"), os.path.join(folder, "x.wav")
-        unsigned = bytes(byte ^ 128 for byte in one) if form["bits"] == 8 else one
+        """The status of encoding a WAV file and the raw samples, both peaks, and how many bytes the samples have in the file."""
+        (plain, one), raw, file = second_of(**form), os.path.join(folder, "x.raw"), os.path.join(folder, "x.wav")
         piece = b"JUNK" + struct.pack("<I", len(chunk)) + chunk if chunk else b""
         with open(raw, "wb") as to_raw, open(file, "wb") as to_wave:
             to_wave.write(wave_head(size=len(one) * seconds, extra=len(piece), **form))
             for _ in range(seconds):
-                to_raw.write(one)
-                to_wave.write(unsigned)
+                to_raw.write(plain)
+                to_wave.write(one)
             to_wave.write(piece)
-        words = [word for name, value in form.items() for word in (f"--{name}", str(value))]
+        words = ["--rate", str(form["rate"]), "--channels", str(form["channels"]), "--bits", str(form["valid"])]
         raw_status, least = self.encoding(raw, [*words, "--search", "quick"], False)
         status, most = self.encoding(file, [], piped)
         return raw_status or status, least, most, len(one) * seconds
@@ -253,9 +262,9 @@ def main():
                 good, cases = answer == due and taken <= most + SLACK, cases + 1
                 failed += not good
                 print(f"{name:54}  {len(stream):9}  {taken:9}  {most:9}  {whole - least:9}" + ("" if good else f"  FAILED, answers '{answer}'"))
-        for name, form, seconds, chunk, changes, piped in wave_cases(words.quick):
+        for name, form, seconds, chunk, piped in wave_cases(words.quick):
             status, least, taken, size = meter.wave(folder, form, seconds, chunk, piped)
-            most = least + 3 * len(chunk) + (grown(size) if changes else 0)
+            most = least + 3 * len(chunk)
             good, cases = status == 0 and taken <= most + KEPT, cases + 1
             failed += not good
             print(f"{name:54}  {size:9}  {taken:9}  {most:9}  {'':9}" + ("" if good else f"  FAILED, status {status}"))

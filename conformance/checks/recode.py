@@ -197,7 +197,7 @@ class Runs:
                 with open("out", "wb") as file:
                     file.write(old)
             expect(call("recode", path, "out", *words), (1, b"", line))
-            expect(read("out"), old or b"")
+            expect(read("out") if os.path.exists("out") else None, old)
             expect(os.path.exists("out.part"), False)
         self.refused += 1
         return True
@@ -210,8 +210,7 @@ def outside_subset(runs, path):
     status, out, err = call("recode", path, "out.flac")
     if status != 1 or out or err.split(b": ")[-1][:2] not in (b"40", b"41"):
         raise Wrong(f"recode {path}: {status} {err}")
-    expect(read("out.flac"), b"")
-    os.remove("out.flac")
+    expect(os.path.exists("out.flac"), False)
     runs.refused += 1
 
 
@@ -273,9 +272,7 @@ def words_refused(path):
         status, out, err = call("recode", path, "out.flac", *words)
         if status == 0 or out or not err or (due and (status, err) != (2, due)):
             raise Wrong(f"recode {words}: {status} {err}")
-        if os.path.exists("out.flac"):
-            expect(read("out.flac"), b"")
-            os.remove("out.flac")
+        expect(os.path.exists("out.flac"), False)
 
 
 def tagged(runs, path, sound):

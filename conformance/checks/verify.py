@@ -7,8 +7,10 @@ The tree has streams of the reference encoder, some of them damaged, some withou
 streamable subset, in both containers; names of all kinds; files that are no streams; links to files and folders; a pipe. A second
 tree has 2,000 small files in 40 folders (with --quick 200), 1 in 20 damaged. For each the line of the report is predicted too; runs
 are killed and resumed, and reports cannot be created or written. Trees are changed and compared with an older report of them: the
-word of each file and the files that are gone are predicted. FLAC names the program. Status 1 if an answer is not the one that is
-due.
+word of each file and the files that are gone are predicted. With `--all` streams are damaged: bits, holes, insertions, zeros, ends
+that are cut off, frames that change places. What is missing of them is predicted by a search of its own: a frame is whole where the
+model's reader takes it, by its CRC-8 and CRC-16, if it fits STREAMINFO. FLAC names the program. Status 1 if an answer is not the one
+that is due.
 """
 import functools
 import json
@@ -25,6 +27,8 @@ import time
 
 import folders  # noqa: F401  (the path of the modules below)
 import model
+import model_bits
+import model_frames
 import program
 from program import Wrong, expect, read
 
@@ -427,6 +431,184 @@ def check_standard_input(folder, good):
     expect(read(report), entry_of(b"-", data, False, False))
 
 
+class Search(model_frames.Reader):
+    """Whole frames among other bytes: each is judged by its own bytes and STREAMINFO alone."""
+
+    def __init__(self, data, info):
+        self.profile, self.info, self.bits = model.LAX, info, model_bits.Bits(data)
+        self.places, self.first, self.before, self.header = [], None, None, None
+
+    def judge(self, header):
+        super().judge(header)
+        self.header = header
+
+    def at(self, place):
+        """The frame that is whole at a place: where it begins and ends, its first sample and how many it has; None if there is none."""
+        self.bits.place, self.first, self.before = 8 * place, None, None
+        try:
+            self.frame()
+        except model.Fault:
+            return None
+        size, number = self.header["size"], self.header["number"]
+        return place, self.bits.place >> 3, number if self.header["variable"] else number * self.info["greatest_block"], size
+
+    def frames(self, place):
+        """All of them from a place on."""
+        data, found = self.bits.data, []
+        while (place := data.find(b"\xff", place)) >= 0:
+            frame = self.at(place) if data[place + 1:place + 2] in (b"\xf8", b"\xf9") else None
+            if frame:
+                found.append(frame)
+            place = frame[1] if frame else place + 1
+        return found
+
+
+def best_chain(frames, limit):
+    """Those whose samples rise up to the limit, as many samples as can be; of two such chains the one with the earlier frame."""
+    most = [0] * (len(frames) + 1)
+
+    def after(index, sample):
+        return max((most[i] for i in range(index, len(frames)) if frames[i][2] >= sample), default=0)
+
+    for index in reversed(range(len(frames))):
+        _, _, first, size = frames[index]
+        most[index] = size + after(index + 1, first + size) if first + size <= limit else 0
+    chain, sample = [], 0
+    for index, frame in enumerate(frames):
+        if most[index] and frame[2] >= sample and most[index] >= after(index + 1, sample):
+            chain.append(frame)
+            sample = frame[2] + frame[3]
+    return chain
+
+
+def time_of(sample, rate):
+    return b"%d:%02d.%03d" % (sample // rate // 60, sample // rate % 60, sample % rate * 1000 // rate)
+
+
+def gap_line(start, end, first, following, rate):
+    """The line of bytes that are of no frame, and of samples that no frame has."""
+    where = b"bytes %d to %d" % (start, end - 1) if start < end else b"byte %d" % start
+    if first < following:
+        times = (time_of(first, rate), time_of(following - 1, rate))
+        return where + b": samples %d to %d missing, %s to %s" % (first, following - 1, *times)
+    return where + b": no frame, no sample is missing" if start < end else b""
+
+
+def missing_lines(path, data):
+    """What `--all` says of a file that is refused: lines about its stream, or one that there are none."""
+    begin = b"flac: " + path + b": "
+    try:
+        blocks = model.Metadata(data)
+    except model.Fault:
+        return begin + b"what is missing cannot be listed\n"
+    info, at, first, lines = blocks.blocks[0][2], blocks.bits.place >> 3, 0, []
+    found = Search(data, info).frames(at)
+    kept = best_chain(found, info["total"] or 2**64 - 1)
+    for start, end, number, size in kept:
+        lines.append(gap_line(at, start, first, number, info["rate"]))
+        at, first = end, number + size
+    lines.append(gap_line(at, len(data), first, info["total"] or first, info["rate"]))
+    lines += [b"frame at byte %d: out of order, %d samples from %d" % (it[0], it[3], it[2]) for it in found if it not in kept]
+    lines = [line for line in lines if line]
+    if lines:
+        total = b" of %d" % info["total"] if info["total"] else b""
+        lines.append(b"found %d%s samples in %d frames" % (sum(it[3] for it in kept), total, len(kept)))
+    return b"".join(begin + line + b"\n" for line in lines)
+
+
+def due_of_all(files):
+    """The status and the texts that are due with `--all`; a file is its path, its bytes, and those between tags."""
+    status, out, _ = due_of([(path, inner) for path, _, inner in files])
+    err = b""
+    for path, _, inner in files:
+        line = line_of(path, inner, False)[1]
+        err += line + (missing_lines(path, inner) if line and inner is not None else b"")
+    return status, out, err
+
+
+def damaged_copies(data, front, frames, chance, count):
+    """Copies of a stream, each with damage of one kind after its metadata: the kind and the bytes."""
+    def place():
+        return chance.randrange(front, len(data))
+
+    for number in range(count):
+        kind = ("bits", "holes", "insertions", "zeros", "cut", "swapped", "twice", "another", "blocks")[number % 9]
+        copy = bytearray(data)
+        if kind == "bits":
+            for _ in range(chance.randrange(1, 8)):
+                copy[place()] ^= 1 << chance.randrange(8)
+        elif kind == "holes":
+            for _ in range(chance.randrange(1, 4)):
+                at = chance.randrange(front, len(copy))
+                del copy[at:at + chance.randrange(1, 3000)]
+        elif kind == "insertions":
+            at = place()
+            copy[at:at] = chance.randbytes(chance.randrange(1, 2000))
+        elif kind == "zeros":
+            at = place()
+            length = min(chance.randrange(1, 3000), len(copy) - at)
+            copy[at:at + length] = bytes(length)
+        elif kind == "cut":
+            del copy[place():]
+        elif kind == "swapped":
+            one, other = sorted(chance.sample(range(len(frames)), 2))
+            (a, b), (c, d) = frames[one][:2], frames[other][:2]
+            copy = bytearray(data[:a] + data[c:d] + data[b:c] + data[a:b] + data[d:])
+        elif kind == "twice":
+            a, b = chance.choice(frames)[:2]
+            copy[a:a] = data[a:b]
+        elif kind == "another":
+            a, b = chance.choice(frames)[:2]
+            c, d = chance.choice(frames)[:2]
+            copy[a:b] = data[c:d]
+        else:
+            copy[chance.randrange(front)] ^= 1 << chance.randrange(8)
+        yield kind, bytes(copy)
+
+
+def check_all(folder, count):
+    """What is missing of damaged streams: of many files at once, in order, some of them good or between tags."""
+    place = os.path.join(folder, "damaged").encode()
+    os.makedirs(place)
+    chance, files = random.Random(11), []
+    id3, tag = b"ID3\4\0\0\0\0\1\0" + bytes(128), b"TAG" + bytes(125)
+    for words in (["-b", "512"], ["-b", "1024", "-8"], ["-b", "4096", "-0"]):
+        data = encoded(folder, *words)
+        if words[-1] == "-0":
+            data = changed(data, 21, bytes([data[21] & 0xF0]) + bytes(4))  # no total
+        head = model.Metadata(data)
+        front = head.bits.place >> 3
+        frames = Search(data, head.blocks[0][2]).frames(front)
+        expect((frames[0][0], frames[-1][1]), (front, len(data)))
+        copies = [("whole", data), *damaged_copies(data, front, frames, chance, count)]
+        for number, (kind, copy) in enumerate(copies):
+            name = os.path.join(place, f"{words[1]} {number:03d} {kind}.flac".encode())
+            before, after = (id3 if number % 4 == 1 else b""), (tag if number % 3 == 0 else b"")
+            files.append((name, before + copy + after, copy))
+    ogg = encoded(folder, "--ogg")
+    files += [(os.path.join(place, name), data, data) for name, data in ((b"cut.oga", ogg[:-300]), (b"good.oga", ogg), (b"none.flac", b""))]
+    for path, data, _ in files:
+        with open(path, "wb") as file:
+            file.write(data)
+    os.symlink("nowhere", os.path.join(place, b"unopened.flac"))
+    files.append((os.path.join(place, b"unopened.flac"), None, None))
+    files.sort(key=lambda it: it[0])
+    due = due_of_all(files)
+    expect(all(text in due[2] for text in (b": out of order, ", b"no frame, no sample", b" missing, ", b"cannot be listed", b" of 20000 samples")), True)
+    compare(["--all", place], due)
+    compare([place], (due[0], due[1], b"".join(line_of(path, inner, False)[1] for path, _, inner in files)))
+    report = os.path.join(folder, "all.jsonl")
+    compare(["--all", "--report", report, place], due)
+    expect(read(report).count(b"\n"), len(files))
+    chosen = chance.sample(files, min(12, len(files)))
+    compare(["--all", *(path for path, _, _ in chosen)], due_of_all(chosen))
+    # a pipe is read once
+    path, data, inner = next(it for it in files if it[0].endswith(b"bits.flac"))
+    found = subprocess.run([program.PROGRAM, "verify", "--all", "-"], input=data, capture_output=True, timeout=600, check=False)
+    due = line_of(b"-", inner, False, False)[1] + b"flac: -: what is missing cannot be listed\n"
+    expect((found.returncode, found.stdout, found.stderr), (1, b"verified 1 ok 0 bad 1\n", due))
+
+
 def rows(folder):
     music = make_tree(folder)
     one, good, lax = (os.path.join(music, name) for name in (b"one", b"one/01.flac", b"one/13.flac"))
@@ -459,6 +641,7 @@ def tries(folder, count):
     good = os.path.join(music, b"one/01.flac")
     yield "the report of a tree", lambda: compare_report(folder, [music], files, due_of(files))
     yield "the report of a tree, the subset alone", lambda: compare_report(folder, ["--subset", music], files, due_of(files, True), True)
+    yield "what is missing", lambda: check_all(folder, 9 if count <= 200 else 45)
     yield "many files", lambda: check_many(folder, count)
     yield "runs that are resumed", lambda: check_resumed(folder, count // 4)
     yield "files against an older report", lambda: check_against(folder, count)
