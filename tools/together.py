@@ -95,6 +95,22 @@ class File:
         self.heads = [[word for _, start, _, _, word in rows[path] if it.first <= start < it.start] for it in self.functions]
 
 
+def dereferenced(words):
+    """A type's words without lifetimes and references, and what the prover's name for it has in place of these."""
+    words, references = [it for it in words if not it.startswith("'")], ""
+    while words[:1] == ["&"]:
+        is_mut = words[1:2] == ["mut"]
+        words, references = words[1 + is_mut :], references + ("RefMut" if is_mut else "Ref")
+    return words, references
+
+
+def argument(words):
+    """The prover's name for an argument of a trait: the words of its path, each begun with a capital."""
+    words, references = dereferenced(words)
+    path = words[: words.index("<")] if "<" in words else words
+    return references + "".join(it[0].upper() + it[1:] for it in path if it.isidentifier())
+
+
 def module_of(path):
     folders = path.removeprefix("src/").removesuffix(".rt").split("/")
     return [] if folders in (["lib"], ["main"]) else folders
@@ -118,16 +134,13 @@ class Sources:
     def names(self, block):
         """The names of an impl's type and of its trait, as the prover has them: that of a reference begins with Ref or RefMut, and ends there
         if it is one to a parameter; that of a type of which the impl fixes an argument has the words of all its arguments after it, as
-        Decoder+BitReader+R; and that of a trait has the names of its arguments, as FromAllocError."""
-        words, references = [it for it in block.ty or [] if not it.startswith("'")], ""
-        while words[:1] == ["&"]:
-            is_mut = words[1:2] == ["mut"]
-            words, references = words[1 + is_mut :], references + ("RefMut" if is_mut else "Ref")
+        Decoder+BitReader+R; and that of a trait has the names of its arguments, as FromAllocError, FromClapError, FromRefStr."""
+        words, references = dereferenced(block.ty or [])
         (own, _, given), (of, _, arguments) = (self.made.named(it) for it in (words, block.trait or ["Self"]))
         own = "" if own in block.generics else own
         if any(it not in [[name] for name in block.generics] for it in given):
             own = "+".join([own, *(word for it in given for word in it if word.isidentifier())])
-        return references + own, of + "".join(self.made.named(it)[0] for it in arguments)
+        return references + own, of + "".join(map(argument, arguments))
 
     def owner(self, function):
         """The name by which the prover has a method's impl, or nothing. A drop goes by its type's name alone."""
