@@ -330,6 +330,38 @@ def whole_cases(library):
         yield f"{name}: OUT is -", lambda p, w=words: expect(p.call(w, {"IN": p.put("in", NATIVE), "OUT": "-"})[::2], (0, ""))
 
 
+def recoded_cases():
+    """A stream that is encoded anew replaces no other song, whatever the container; --force lets it."""
+    other, unknown = NATIVE[:26] + bytes([NATIVE[26] ^ 1]) + NATIVE[27:], NATIVE[:26] + bytes(16) + NATIVE[42:]
+    for name in ("recode", "salvage"):
+        words = [name, "IN", "OUT"]
+        yield f"{name} *.flac: the second song stays", lambda p, w=words: kept(p, w, other, NATIVE, "second.flac")
+        for what, old in (("an Ogg stream", OGG), ("a WAV file", WAVE), ("begun as an ID3 tag", b"ID3" + bytes(60)), ("the marker alone", b"fLaC")):
+            yield f"{name}: OUT is {what}", lambda p, w=words, o=old: kept(p, w, o, NATIVE)
+        yield f"{name}: OUT is the same song", lambda p, w=words: anew(p, w, NATIVE, NATIVE)
+        yield f"{name}: neither has a digest", lambda p, w=words: kept(p, w, unknown, unknown)
+        for what, old in (("another song", other), ("an Ogg stream", OGG), ("a WAV file", WAVE)):
+            yield f"{name} --force: OUT is {what}", lambda p, w=words, o=old: anew(p, [*w, "--force"], o, NATIVE)
+        yield f"{name}: OUT is no file of sound", lambda p, w=words: anew(p, w, BEFORE, NATIVE)
+        yield f"{name}: OUT has no name", lambda p, w=words: no_name(p, w)
+    yield "recode of an Ogg stream: OUT is a stream", lambda p: kept(p, RECODE, NATIVE, OGG)
+    yield "export: OUT has no name", lambda p: no_name(p, EXPORT)
+
+
+def anew(place, words, old, source):
+    """OUT has a new stream of the samples of IN, and no other file is there."""
+    names = {"IN": place.put("in", source), "OUT": place.put("out", old)}
+    expect(place.call(words, names), (0, b"", ""))
+    expect(set(os.listdir(place.folder)), {"in", "out"})
+    expect(place.call(["same", "IN", "OUT"], names)[0], 0)
+
+
+def no_name(place, words):
+    names = {"IN": place.put("in", NATIVE), "OUT": ""}
+    expect(place.call(words, names, cwd=place.folder), (1, b"", "flac: : cannot be created\n"))
+    expect(os.listdir(place.folder), ["in"])
+
+
 def answer_of(data):
     return model.answer(data, model.LAX)
 
@@ -483,7 +515,7 @@ def main():
         os.chmod(folder, 0o755)
         binary, library = shutil.copy(program.BINARY, os.path.join(folder, "flac")), os.path.join(folder, "failing.so")
         subprocess.run(["cc", "-O1", "-shared", "-fPIC", "-o", library, os.path.join(HERE, "failing.c")], check=True)
-        groups = (kind_cases(), retag_cases(), forced_cases(), raw_cases(), word_cases(), long_name_cases(), whole_cases(library), stored_cases(library))
+        groups = (kind_cases(), retag_cases(), forced_cases(), raw_cases(), word_cases(), long_name_cases(), whole_cases(library), recoded_cases(), stored_cases(library))
         every = [case for group in groups for case in group if words.only in case[0]]
         found = list(pool.map(lambda case: devices.outcome(case, folder, binary), every))
     for _, line in found:

@@ -1,5 +1,5 @@
 -- Which files a job may replace, by their first bytes.
-use Rattle.std.specs.Prelude.{ℕ, ◌%◌, Bool, true, false, ◌&&◌, eqb, nat_eq, nat_le, List, length, codes, take, drop, slice_index, Option, Some, None, is_none}
+use Rattle.std.specs.Prelude.{ℕ, ◌%◌, Bool, true, false, not, ◌&&◌, ◌||◌, eqb, nat_eq, nat_le, List, [], ◌∷◌, length, codes, take, drop, slice_index, Option, Some, None, is_none}
 use Rattle.std.specs.Cmp.Lexicographic.{pointwise}
 use Rattle.flac_jobs.specs.Kinds.{begins, file_kind}
 use Rattle.flac_jobs.specs.declared.jobs.Job.{Job}
@@ -28,9 +28,23 @@ begins_native front =
     nat_le 42 (length front) && (begins front (codes "fLaC") && (nat_eq (slice_index front 4 % 128) 0
     && (nat_eq (slice_index front 5) 0 && (nat_eq (slice_index front 6) 0 && nat_eq (slice_index front 7) 34))))
 
+-- a digest that is not known
+abbrev pub unknown_digest : List ℕ
+unknown_digest = 0 ∷ 0 ∷ 0 ∷ 0 ∷ 0 ∷ 0 ∷ 0 ∷ 0 ∷ 0 ∷ 0 ∷ 0 ∷ 0 ∷ 0 ∷ 0 ∷ 0 ∷ 0 ∷ []
+
 -- two native streams that begin so have the same STREAMINFO
 abbrev pub is_same_info : (one other : List ℕ) → Bool
 is_same_info one other = pointwise eqb (take 34 (drop 8 one)) (take 34 (drop 8 other))
+
+-- Two native streams that begin so have the same samples by their STREAMINFO: the rate, the channels, the bits per sample,
+-- the total, and the digest, which is known (RFC 9639, section 8.2).
+abbrev pub is_same_sound : (one other : List ℕ) → Bool
+is_same_sound one other = pointwise eqb (take 24 (drop 18 one)) (take 24 (drop 18 other)) && not (pointwise eqb (take 16 (drop 26 one)) unknown_digest)
+
+-- A stream that is encoded anew, from a file that begins with `input`, may replace a file that begins with the bytes `old`:
+-- one that is no file of sound, or a native stream of the same samples.
+unfoldable pub may_replace_recoded : (input old : List ℕ) → Bool
+may_replace_recoded input old = is_none (file_kind old) || (begins_native input && (begins_native old && is_same_sound input old))
 
 -- The job may replace a file that begins with the bytes `old`, if the file that it reads begins with `input`. One that
 -- writes raw samples replaces no stream, no WAV file and no other file of sound; one that writes a WAV file no stream

@@ -2,7 +2,7 @@
 
 ghost use Rattle.std.specs.Prelude.{◌≤◌, length, IfOk};
 
-use crate::replacing::{FRONT, begins_native, may_replace};
+use crate::replacing::{FRONT, begins_native, may_replace, may_replace_recoded};
 use flac_jobs::Job;
 use std::fs::{File, Metadata, OpenOptions};
 use std::io;
@@ -268,8 +268,13 @@ impl Rule<'_> {
         })
     }
 
-    /// Whether the job may replace the file of this path, which has bytes ([`may_replace`]). False if a retagging
-    /// reads no native stream, which the job reports: nothing is replaced then.
+    /// Whether a stream is encoded anew.
+    fn is_recoding(&self) -> bool {
+        self.is_whole && matches!(self.job, Job::EncodeWave { .. })
+    }
+
+    /// Whether the job may replace the file of this path, which has bytes ([`may_replace`], [`may_replace_recoded`]). False
+    /// if a retagging reads no native stream, which the job reports: nothing is replaced then.
     ///
     /// # Errors
     /// `AlreadyExists` if it may not. The file cannot be read; or a retagging reads a pipe, which has no first bytes to
@@ -281,6 +286,11 @@ impl Rule<'_> {
         let mut old = [0; FRONT];
         let count = read_front(&File::open(rt, path)?, &mut old)?;
         let mut input = [0; FRONT];
+        if self.is_recoding() {
+            // (a pipe has no first bytes to compare)
+            let known = front_of_input(self.input, &mut input).unwrap_or(0);
+            return refused_unless(may_replace_recoded(&input[..known], &old[..count]));
+        }
         let is_retag = matches!(self.job, Job::Retag { .. });
         let known = if is_retag {
             front_of_input(self.input, &mut input)?
@@ -297,8 +307,18 @@ impl Rule<'_> {
     }
 }
 
-/// Reads the first bytes of what a retagging reads, and returns how many: none if it cannot be read, which the job
-/// reports.
+/// Refuses to replace a file that may not be replaced.
+///
+/// # Errors
+/// `AlreadyExists` if it may not.
+fn refused_unless(may: bool) -> io::Result<bool> {
+    if may {
+        return Ok(true);
+    }
+    Err(io::Error::from(ErrorKind::AlreadyExists))
+}
+
+/// Reads the first bytes of what a job reads, and returns how many: none if it cannot be read, which the job reports.
 ///
 /// # Errors
 /// It is a pipe or standard input: its bytes could not be read again.
@@ -361,6 +381,9 @@ pub(crate) fn create(
     } else {
         path
     };
+    if path.is_empty() {
+        return Err(io::Error::from(ErrorKind::NotFound));
+    }
     input.refuse_path(rt, path)?;
     if let Some(list) = list {
         list.refuse_path(rt, path)?;

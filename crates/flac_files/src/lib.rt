@@ -25,7 +25,7 @@ pub use job_files::{Ending, FileRefused, JobFiles};
 pub use list::List;
 pub use older::{OlderRefused, read_older};
 pub use pictures::read_picture;
-pub use replacing::may_replace;
+pub use replacing::{may_replace, may_replace_recoded};
 pub use report::{ReportFile, end_report};
 pub use shelf::FileShelf;
 pub use tag_files::{FileDevice, NewFile, TagFile};

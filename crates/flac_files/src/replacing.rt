@@ -1,7 +1,7 @@
 //! Which files a job may replace.
 
 ghost use Rattle.std.specs.Prelude.{◌≡◌};
-ghost use Rattle.flac_files.specs.Replacing.{begins_native, may_replace};
+ghost use Rattle.flac_files.specs.Replacing.{begins_native, may_replace, may_replace_recoded};
 
 use flac_jobs::{FileKind, Job, file_kind};
 
@@ -39,4 +39,18 @@ pub fn may_replace(job: &Job<'_>, input: &[u8], old: &[u8]) -> bool
             begins_native(input) && begins_native(old) && input[8..FRONT] == old[8..FRONT]
         }
     }
+}
+
+/// Whether a stream that is encoded anew, from a file that begins with the bytes `input`, may replace a file that begins
+/// with the bytes `old`: one that is no file of sound, or a native stream of the same samples, by the rate, the channels,
+/// the bits per sample, the total and the digest that its STREAMINFO states (RFC 9639, section 8.2).
+#[tactic(auto, unfolding(crate::specs::Replacing::may_replace_recoded))]
+pub fn may_replace_recoded(input: &[u8], old: &[u8]) -> bool
+    ensures { result ≡ may_replace_recoded input.now old.now }
+{
+    file_kind(old).is_none()
+        || (begins_native(input)
+            && begins_native(old)
+            && input[18..FRONT] == old[18..FRONT]
+            && input[26..FRONT] != [0; 16])
 }

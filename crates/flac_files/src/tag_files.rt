@@ -6,7 +6,7 @@ ghost use Rattle.flac_files.specs.Unknown.{nothing_known, not_known};
 use crate::files::{Output, Replacement, create_beside};
 use crate::job_files::FileRefused;
 use flac_edit::{Device, DeviceError};
-use std::fs::{File, Metadata, OpenOptions};
+use std::fs::{File, Metadata, OpenOptions, TryLockError};
 use std::io;
 use std::io::{ErrorKind, Seek, SeekFrom};
 use std::os::unix::fs::{FileExt, MetadataExt, fchown};
@@ -51,16 +51,19 @@ impl Device for FileDevice {
 #[derive(Clone, Copy)]
 struct Refusals {
     not_regular: &'static str,
+    held: &'static str,
     ogg: &'static str,
 }
 
 const TAGGED: Refusals = Refusals {
     not_regular: "tagged: it is no regular file",
+    held: "tagged: another program edits it",
     ogg: "tagged: it is an Ogg stream",
 };
 
 const EDITED: Refusals = Refusals {
     not_regular: "edited: it is no regular file",
+    held: "edited: another program edits it",
     ogg: "edited: it is an Ogg stream",
 };
 
@@ -73,10 +76,12 @@ pub struct TagFile<'a> {
 }
 
 impl<'a> TagFile<'a> {
-    /// Opens a regular file, to which symbolic links may lead, and stores what was written to it before.
+    /// Opens a regular file, to which symbolic links may lead, locks it for as long as it is open, so that no other edit of
+    /// it begins, and stores what was written to it before.
     ///
     /// # Errors
-    /// The file cannot be opened for reading and writing, is no regular file, is an Ogg stream, or cannot be stored.
+    /// The file cannot be opened for reading and writing, is no regular file, is locked by another program, is an Ogg
+    /// stream, or cannot be stored.
     pub fn open(rt: &HostRuntime, path: &'a str) -> Result<TagFile<'a>, FileRefused<'a>> {
         TagFile::open_as(rt, path, TAGGED)
     }
@@ -110,6 +115,12 @@ impl<'a> TagFile<'a> {
                 what: words.not_regular,
             });
         };
+        if !holds_alone(rt, path, &file, &found) {
+            return Err(FileRefused {
+                path,
+                what: words.held,
+            });
+        }
         if is_ogg(&file) {
             return Err(FileRefused {
                 path,
@@ -244,6 +255,18 @@ fn regular(file: &File) -> io::Result<Metadata> {
         return Err(io::Error::from(ErrorKind::InvalidInput));
     }
     Ok(found)
+}
+
+/// Locks a file, and returns whether no other program holds it, and it is still the one at its path: another edit may have
+/// put a new file there after it was opened. File systems without locks let every program in.
+fn holds_alone(rt: &HostRuntime, path: &str, file: &File, found: &Metadata) -> bool {
+    if let Err(TryLockError::WouldBlock) = file.try_lock() {
+        return false;
+    }
+    match std::fs::metadata(rt, path) {
+        Ok(now) => now.dev() == found.dev() && now.ino() == found.ino(),
+        Err(_) => false,
+    }
 }
 
 /// Gives a file the time at which another was changed.

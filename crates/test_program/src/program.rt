@@ -1,12 +1,12 @@
 //! The program over memory, by tables of text.
 
-use crate::tables::{
+use crate::tables::{RECODED, 
     CHANGES, COME_BACK, ENCODINGS, JOBS, LAST_BYTE, LAX, LISTS, NATIVE, OGG, PIECES, PREDICTED,
     PREFIXES, REPLACED, RETAGGINGS, SWEPT, WAVES,
 };
 use flac_bits::{Collected, Counted, Memory, Pieces, Source, Target};
 use flac_cli::{ContainerKind, Job, LineFault, RawFormat, SearchEffort, Task, run};
-use flac_files::may_replace;
+use flac_files::{may_replace, may_replace_recoded};
 use flac_jobs::Request;
 use flac_words::{command_line, given_words, job, request};
 use std::alloc::Global;
@@ -589,6 +589,25 @@ fn replaced_holds(alloc: Global, row: &str) -> Result<bool, Fail> {
     let input = bytes_of(alloc, input)?;
     let old = bytes_of(alloc, old)?;
     Ok(replaces(alloc, &line, &input, &old)? == Some(answer == "yes"))
+}
+
+/// Whether the row says what a stream that is encoded anew may replace.
+fn recoded_holds(alloc: Global, row: &str) -> Result<bool, Fail> {
+    let (input, rest) = split_row(row);
+    let (old, answer) = split_row(rest);
+    let input = bytes_of(alloc, input)?;
+    let old = bytes_of(alloc, old)?;
+    Ok(may_replace_recoded(&input, &old) == (answer == "yes"))
+}
+
+#[test]
+fn replaced_by_recodings(rt: HostRuntime) -> Result<(), Fail> {
+    for row in RECODED.lines() {
+        if !row.starts_with('#') {
+            assert!(rt; recoded_holds(rt.alloc(), row)?, "{row}");
+        }
+    }
+    Ok(())
 }
 
 #[test]

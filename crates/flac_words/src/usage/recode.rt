@@ -23,10 +23,11 @@ In an Ogg stream the comments come first; a stream without comments gets an empt
 A stream with an error is refused, and a line says where and why. Without --lax a stream
 with a rate or a depth outside the streamable subset is refused (40, 41).
 
-OUT has to be another file than IN and LIST. If it is a file with bytes, it stays as it is
-until all is done, and what was written before an error is in OUT.part beside it. It may
-replace a stream, but no other file of sound: none that begins with RIFF, RF64, BW64, FORM
-or ID3. With --force any file is replaced.";
+OUT has to be another file than IN and LIST. It is written beside its place, as OUT.part, and
+named OUT when all is done; after an error nothing of it stays. It may replace a native
+stream that has the samples of IN by its STREAMINFO, but no other file of sound: no other
+stream, and none that begins with RIFF, RF64, BW64, FORM or ID3. With --force any file is
+replaced.";
 
 pub(crate) static RECODE: Usage = Usage {
     name: "recode",

@@ -13,10 +13,10 @@ each at its place. What is lost between them is silence in OUT; with --gap it is
 and OUT is shorter. What is lost is listed on standard error. The status is 0 if OUT was
 written, whatever is lost, and 1 if it was not. IN has to be native, and its metadata whole.
 
-OUT has to be another file than IN. If it is a file with bytes, it stays as it is until all is
-done, and what was written before an error is in OUT.part beside it. It may replace a stream,
-but no other file of sound: none that begins with RIFF, RF64, BW64, FORM or ID3. With --force
-any file is replaced.";
+OUT has to be another file than IN. It is written beside its place, as OUT.part, and named OUT
+when all is done; after an error nothing of it stays. It may replace a native stream that has
+the samples of IN by its STREAMINFO, but no other file of sound: no other stream, and none
+that begins with RIFF, RF64, BW64, FORM or ID3. With --force any file is replaced.";
 
 pub(crate) static SALVAGE: Usage = Usage {
     name: "salvage",
