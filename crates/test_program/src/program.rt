@@ -1,8 +1,8 @@
 //! The program over memory, by tables of text.
 
-use crate::tables::{RECODED, 
+use crate::tables::{
     CHANGES, COME_BACK, ENCODINGS, JOBS, LAST_BYTE, LAX, LISTS, NATIVE, OGG, PIECES, PREDICTED,
-    PREFIXES, REPLACED, RETAGGINGS, SWEPT, WAVES,
+    PREFIXES, RECODED, REPLACED, RETAGGINGS, SWEPT, WAVES,
 };
 use flac_bits::{Collected, Counted, Memory, Pieces, Source, Target};
 use flac_cli::{ContainerKind, Job, LineFault, RawFormat, SearchEffort, Task, run};

@@ -753,7 +753,8 @@ flac salvage --help | 0 Encodes the whole frames of a damaged stream*
 flac retag --help | 0 Writes a stream with other comments;*"#;
 
 /// What IN and what OUT of `recode` and of `salvage` begin with, and whether OUT may be replaced.
-pub(crate) const RECODED: &str = "# Native streams of the same samples in blocks and frames of other sizes, STREAMINFO the last block or not.
+pub(crate) const RECODED: &str =
+    "# Native streams of the same samples in blocks and frames of other sizes, STREAMINFO the last block or not.
 664c6143 00000022 10001000 00*6 0ac442f000000100 11*16 | 664c6143 80000022 12001200 00000e00010f 0ac442f000000100 11*16 | yes
 664c6143 80000022 10001000 00*6 0ac442f000000000 ff*16 66 | 664c6143 00000022 10001000 00*6 0ac442f000000000 ff*16 84 | yes
 # Another digest, in its first and its last byte; another total, rate, depth.
