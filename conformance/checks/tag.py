@@ -9,6 +9,7 @@ the same bytes in their order; the comments are those of the model; one block is
 length if it was edited in place, and was edited in place if the rule says so. FLAC names the program. Status 1 if anything is wrong.
 """
 import argparse
+import fcntl
 import os
 import random
 import stat
@@ -368,6 +369,22 @@ def fixed(folder, info, frames):
     if os.getuid() != 0:
         locked = put("locked.flac", roomy, 0o444)
         refused(locked, "cannot be opened", "--set", "A=b")
+
+    # a file is locked while it is edited: one that another program holds is refused, and of edits at one time none is half done
+    path = put("held.flac", roomy)
+    with open(path, "rb") as file:
+        fcntl.flock(file, fcntl.LOCK_EX)
+        refused(path, "cannot be tagged: another program edits it", "--set", "A=b")
+        expect(run("edit", "--padding", "10", path), (1, b"", f"flac: {path}: cannot be edited: another program edits it\n".encode()))
+    expect(run("tag", "--set", "A=b", path)[0], 0)
+    for number in range(20):
+        path = put("crowd.flac", roomy)
+        crowd = [subprocess.Popen([PROGRAM, "tag", "--set", f"{name}={'x' * 4000}", path], stderr=subprocess.PIPE) for name in "ABC"]
+        ends = [it.communicate()[1].decode() for it in crowd]
+        expect({end for end in ends} <= {"", f"flac: {path}: cannot be tagged: another program edits it\n"}, True)
+        names = {line.split("=")[0] for line in run("export", path, "tags", "-")[1].decode().splitlines()}
+        expect({name for name, it in zip("ABC", crowd) if it.returncode == 0} <= names, True)
+        expect(run("test", path)[0], 0)
 
     # links: an edit in place is seen by all of them, a new file takes the place of the one that was named
     path, link = put("named.flac", roomy), os.path.join(folder, "hard.flac")
