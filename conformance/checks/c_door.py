@@ -17,6 +17,7 @@ import array
 import importlib.util
 import itertools
 import os
+import random
 import shutil
 import subprocess
 import sys
@@ -32,6 +33,7 @@ import model_pages
 import program
 import vectors
 import vectors_lax
+import wave_files
 
 EXAMPLES = os.path.join(program.ROOT, "examples", "c")
 HEAP = "/opt/rattle/c/liblibc_c.a"
@@ -366,14 +368,79 @@ def refuse_each(door, words, out):
     print(f"{os.path.basename(words[0])}: {counts[-1] - counts[0]} requests refused", flush=True)
 
 
-def module(door, made, listed, paths):
-    """The module for Python: what it says of some streams is the program's."""
+def loaded(door):
+    """The module for Python, and the library's calls by it."""
     shared = os.path.join(door.folder, "libflac_proved.so")
     must("cc", "-shared", "-o", shared, "-Wl,--whole-archive", door.library, "-Wl,--no-whole-archive", HEAP)
     spec = importlib.util.spec_from_file_location("flac_proved", os.path.join(EXAMPLES, "flac_proved.py"))
     flac_proved = importlib.util.module_from_spec(spec)
     spec.loader.exec_module(flac_proved)
-    library, raw = flac_proved.load(shared), os.path.join(door.folder, "decoded.raw")
+    return flac_proved, flac_proved.load(shared)
+
+
+def said_by(flac_proved, call, *words):
+    """What a call returns, or the text of its error."""
+    try:
+        return call(*words)
+    except flac_proved.Error as error:
+        return str(error)
+
+
+def waves(door, flac_proved, library, quick):
+    """WAV files, made and generated ones: what they are, or why they are none, their samples as numbers and back; then numbers of each form, and
+    the heads of plain files."""
+    pick, counts = random.Random(7), {"files": 0, "refused": 0}
+    for name, file in [*wave_files.made().items(), *((f"{number}", wave_files.generated(number)) for number in range(300 if quick else 3000))]:
+        due, found = wave_files.judge(file), said_by(flac_proved, library.wave, file)
+        if isinstance(due, str) and due != "40 BadRate":
+            counts["refused"] += 1
+            door.expect(f"WAV file {name}", found, due.split(": ")[-1])
+        elif isinstance(due, str):
+            door.expect(f"WAV file {name}, of another rate", isinstance(found, flac_proved.Wave), True)
+        else:
+            counts["files"] += 1
+            told = (found.rate, found.channels, found.bits, found.width, bytes(found.of(file))) if isinstance(found, flac_proved.Wave) else found
+            door.expect(f"WAV file {name}", told, (due.rate, due.channels, due.depth(), due.width, due.samples))
+            numbers = library.wave_samples(due.samples, due.width, due.depth())
+            door.expect(f"numbers of WAV file {name}", numbers, wave_numbers(due.samples, due.width, due.depth()))
+            door.expect(f"samples of WAV file {name}", library.wave_bytes(numbers, due.width, due.depth()), due.samples)
+    print(f"{counts['files']} WAV files, {counts['refused']} that are refused", flush=True)
+    for width, bits in ((width, bits) for width in range(1, 5) for bits in range(1, 8 * width + 1)):
+        samples = pick.randbytes(60 * width)
+        numbers = library.wave_samples(samples, width, bits)
+        door.expect(f"numbers of {width} bytes, {bits} bits", numbers, wave_numbers(samples, width, bits))
+        raw = b"".join(number.to_bytes(4, "little", signed=True)[:(bits + 7) // 8] for number in numbers)
+        if width == (bits + 7) // 8:
+            door.expect(f"samples of {width} bytes, {bits} bits", library.wave_bytes(numbers, width, bits), wave_files.shifted(raw, width, bits))
+            for channels in range(1, 9):
+                total, rate = pick.randrange(1, 9), pick.choice([1, 8000, 44100, 192000, 655350, 1048575])
+                part = raw[:total * channels * width]
+                head = library.wave_head(rate, channels, bits, total) + library.wave_bytes(numbers[:total * channels], width, bits)
+                door.expect(f"plain file of {channels} channels, {bits} bits", head + bytes(len(head) % 2), wave_files.plain(rate, channels, bits, total, part))
+                door.expect(f"head of {channels} channels, {bits} bits, of any number", library.wave_head(rate, channels, bits), wave_files.plain(rate, channels, bits, 0, b""))
+                for total in (2**31 // channels // width, 2**32 // channels // width - 9, 2**32 // channels // width + 9, 2**36 - 1):
+                    due = wave_files.plain(rate, channels, bits, total, b"")
+                    pad = total * channels * width % 2
+                    door.expect(f"head of {channels} channels, {bits} bits, {total} samples", library.wave_head(rate, channels, bits, total), due[:len(due) - pad])
+    for call, words, due in ((library.wave_samples, (b"ab", 0, 1), "67 FormatFields"), (library.wave_samples, (bytes(5), 5, 8), "67 FormatFields"),
+                             (library.wave_samples, (b"ab", 2, 0), "67 FormatFields"), (library.wave_samples, (b"ab", 2, 17), "67 FormatFields"),
+                             (library.wave_samples, (b"abc", 2, 16), "70 PartSample"), (library.wave_bytes, ([1], 0, 1), "67 FormatFields"),
+                             (library.wave_bytes, ([1], 4, 33), "67 FormatFields"), (library.wave_head, (44100, 0, 16, 1), "42 BadChannels"),
+                             (library.wave_head, (44100, 9, 16, 1), "42 BadChannels"), (library.wave_head, (2**27, 1, 16, 1), "40 BadRate"),
+                             (library.wave_head, (44100, 1, 0, 1), "41 BadDepth"), (library.wave_head, (44100, 1, 33, 1), "41 BadDepth"),
+                             (library.wave_head, (44100, 1, 16, 2**36), "45 TooLong")):
+        door.expect(f"refused: {call.__name__} {words}", said_by(flac_proved, call, *words), due)
+
+
+def wave_numbers(samples, width, bits):
+    """The samples of a WAV file as numbers: those of a byte are unsigned, and the highest bits count."""
+    values = (samples[at] - 128 if width == 1 else int.from_bytes(samples[at:at + width], "little", signed=True) for at in range(0, len(samples), width))
+    return array.array("i", [value >> (8 * width - bits) for value in values])
+
+
+def module(door, flac_proved, library, made, listed, paths):
+    """The module for Python: what it says of some streams is the program's."""
+    raw = os.path.join(door.folder, "decoded.raw")
     for path in paths:
         answer, stream = program.answer(path), program.read(path)
         try:
@@ -525,7 +592,9 @@ def main():
         lax_encodings(door)
         searches(door, made, listed(made)[:12])
         wav_programs(door, made, listed(made), not given.no_valgrind)
-        module(door, made, listed(made), few)
+        flac_proved, library = loaded(door)
+        waves(door, flac_proved, library, given.quick)
+        module(door, flac_proved, library, made, listed(made), few)
     print(f"{len(paths)} streams, {door.passed} comparisons passed, {len(door.failed)} failed")
     return 1 if door.failed else 0
 

@@ -1,4 +1,4 @@
-/* FLAC streams in memory: verified, described, decoded and encoded by code that is proved.
+/* FLAC streams in memory: verified, described, decoded and encoded by code that is proved; and WAV files of their samples.
  *
  * The calls of version 0.5, for C99 and C++ on x86-64. docs/c.md has a worked example.
  *
@@ -240,6 +240,43 @@ uint32_t flac_proved_encode_in(const struct flac_proved_settings *settings, cons
  * has more, in either profile and by any search. It is computed by plain arithmetic: the bytes of the samples as they are, and of what is around them. Settings that are refused
  * may have any bound; it stops at 2^64 - 1. */
 uint64_t flac_proved_bound(const struct flac_proved_settings *settings, size_t count, const struct flac_proved_tags *tags);
+
+/* ---- WAV files. Nothing of them is in a stream that the calls above write: only their samples are. */
+
+/* A WAV file of PCM samples: their format, and where they are. */
+struct flac_proved_wave {
+    uint64_t offset;   /* bytes from the first byte of the file to the first sample */
+    uint64_t len;      /* bytes of all samples */
+    uint32_t rate;     /* samples a second */
+    uint32_t channels; /* how many channels there are, 1 to 8 */
+    uint32_t bits;     /* bits a sample of a stream has: the bits that count, if they are 8, 12, 16, 20, 24 or 32 and all bits below them are zeros;
+                        * otherwise all bits of a sample's bytes */
+    uint32_t width;    /* bytes of a sample in the file, 1 to 4 */
+};
+
+/* Takes a WAV file apart that is in memory as a whole: RIFF, RF64 or BW64, of PCM samples of 1 to 32 bits in 1 to 8 channels.
+ * Returns 0, or the number of the reason for which the bytes are none: 60 to 70, or 2 if an allocation fails; `wave` is then as it was. */
+uint32_t flac_proved_wave(const uint8_t *bytes, size_t size, struct flac_proved_wave *wave);
+
+/* Copies samples of a WAV file as numbers to a buffer, in the order of flac_proved_samples. `bytes` and `size` are all of them, or some, one after
+ * another: each has `width` bytes, 1 to 4, the lowest first, of which the highest `bits` bits count; the bits below them are dropped. They are in
+ * two's complement, but a sample of one byte is unsigned, with 128 as silence. *len is how many samples there are.
+ * Returns 0, or 67 if width is none of 1 to 4 or bits none of 1 to 8 * width, 70 if the last sample is not whole, or 2 if an allocation fails. */
+uint32_t flac_proved_wave_samples(const uint8_t *bytes, size_t size, uint32_t width, uint32_t bits, int32_t *out, size_t room, size_t *len);
+
+/* Copies `count` numbers as samples of a WAV file to a buffer, as flac_proved_wave_samples reads them: the bits of a sample below its highest `bits`
+ * bits are zeros. Of a number the lowest `bits` bits count. *len is how many bytes there are, count * width.
+ * Returns 0, or 67 if width is none of 1 to 4 or bits none of 1 to 8 * width, or 2 if an allocation fails. */
+uint32_t flac_proved_wave_bytes(const int32_t *samples, size_t count, uint32_t width, uint32_t bits, uint8_t *out, size_t room, size_t *len);
+
+/* Copies the head of a plain WAV file to a buffer: all that comes before `total` samples of each channel, of (bits + 7) / 8 bytes each; *len is at
+ * most 104. It is that of an RF64 file if one of RIFF would have 4294967303 bytes or more. After the samples comes a byte 0, if they have an odd
+ * number of bytes. If total is 0, it is unknown: the lengths in the head are FFFFFFFF, the samples go to the end of the file, and no byte 0 follows
+ * them.
+ * Returns 0, or the number of the first reason of these:
+ *   42 channels is 0 or above 8    40 rate is 2^27 or above    41 bits is 0 or above 32    45 total is 2^36 or above
+ * or 2 if an allocation fails. */
+uint32_t flac_proved_wave_head(uint32_t rate, uint32_t channels, uint32_t bits, uint64_t total, uint8_t *out, size_t room, size_t *len);
 
 #ifdef __cplusplus
 }

@@ -82,6 +82,16 @@ class Block(ctypes.Structure):
         return memoryview(stream)[self.offset + 4:self.offset + 4 + self.length]
 
 
+class Wave(ctypes.Structure):
+    """A WAV file: the format of its samples, of which a stream has `bits` bits, and where they are."""
+
+    _fields_ = [("offset", LONG), ("len", LONG)] + [(name, WORD) for name in ("rate", "channels", "bits", "width")]
+
+    def of(self, file: bytes) -> memoryview:
+        """The bytes of the samples, which are not copied."""
+        return memoryview(file)[self.offset:self.offset + self.len]
+
+
 class Settings(ctypes.Structure):
     """What samples are, and how they are encoded."""
 
@@ -174,6 +184,12 @@ def numbers_of(samples: Any) -> Any:
     return (ctypes.c_int32 * (view.nbytes // 4)).from_buffer(view.cast("B"))
 
 
+def count_of(samples: Any) -> int:
+    """How many samples these are."""
+    count = getattr(samples, "size", None) if not isinstance(samples, (list, tuple, array.array)) else len(samples)
+    return memoryview(samples).nbytes // 4 if count is None else count
+
+
 class Library:
     """The library's calls. A stream is given as `bytes`; `profile` is SUBSET, or LAX for all streams."""
 
@@ -195,6 +211,10 @@ class Library:
                 ("next_in", WORD, stream + [WORD, ctypes.POINTER(Cursor), INTS] + buffer[1:] + fault),
                 ("bound", LONG, [ctypes.POINTER(Settings), SIZE, ctypes.POINTER(Tags)]),
                 ("encode_in", WORD, [ctypes.POINTER(Settings), ctypes.POINTER(Options), INTS, SIZE, ctypes.POINTER(Tags)] + buffer),
+                ("wave", WORD, stream + [ctypes.POINTER(Wave)]),
+                ("wave_samples", WORD, stream + [WORD, WORD, INTS] + buffer[1:]),
+                ("wave_bytes", WORD, [INTS, SIZE, WORD, WORD] + buffer),
+                ("wave_head", WORD, [WORD, WORD, WORD, LONG] + buffer),
                 ("strerror", SIZE, [WORD, BYTES, SIZE]),
                 ("place", SIZE, [WORD, BYTES, SIZE])):
             call = getattr(self.c, "flac_proved_" + name)
@@ -307,9 +327,7 @@ class Library:
         """The stream of interleaved samples; an Ogg stream if it gets a serial number. `effort` 1 or 2 searches for linear predictors."""
         settings = Settings(rate, channels, bits, block_size, seek_every, serial is not None, serial or 0)
         options = Options(profile, effort)
-        numbers = numbers_of(samples)
-        count = getattr(samples, "size", None) if not isinstance(samples, (list, tuple, array.array)) else len(samples)
-        count = memoryview(samples).nbytes // 4 if count is None else count
+        numbers, count = numbers_of(samples), count_of(samples)
         tags = Tags(text(vendor), (Text * max(len(comments), 1))(*map(text, comments)), len(comments))
         length = SIZE(self.c.flac_proved_bound(ctypes.byref(settings), count, ctypes.byref(tags)))
         while True:
@@ -319,6 +337,37 @@ class Library:
                 raise Error(self, number)
             if length.value <= len(out):
                 return bytes(memoryview(out)[:length.value])
+
+    def copied(self, name: str, *arguments: Any, room: int, unit: Any = ctypes.c_uint8) -> memoryview:
+        """What a call without a fault writes into a buffer that is long enough."""
+        out, length = (unit * max(room, 1))(), SIZE()
+        number = getattr(self.c, "flac_proved_" + name)(*arguments, out, room, ctypes.byref(length))
+        if number:
+            raise Error(self, number)
+        return memoryview(out).cast("B")[:length.value * ctypes.sizeof(unit)]
+
+    def wave(self, file: bytes) -> Wave:
+        """The format and the place of the samples of a WAV file."""
+        wave = Wave()
+        number = self.c.flac_proved_wave(file, len(file), ctypes.byref(wave))
+        if number:
+            raise Error(self, number)
+        return wave
+
+    def wave_samples(self, samples: bytes, width: int, bits: int) -> array.array:
+        """Samples of a WAV file as numbers: each has `width` bytes, of which the highest `bits` bits count."""
+        found = array.array("i")
+        found.frombytes(self.copied("wave_samples", samples, len(samples), width, bits, room=len(samples) // max(width, 1), unit=ctypes.c_int32).tobytes())
+        return found
+
+    def wave_bytes(self, samples: Any, width: int, bits: int) -> bytes:
+        """Numbers as samples of a WAV file, as `wave_samples` reads them."""
+        count = count_of(samples)
+        return bytes(self.copied("wave_bytes", numbers_of(samples), count, width, bits, room=count * width))
+
+    def wave_head(self, rate: int, channels: int, bits: int, total: int = 0) -> bytes:
+        """What comes before `total` samples of each channel in a plain WAV file; 0: their number is unknown."""
+        return bytes(self.copied("wave_head", rate, channels, bits, total, room=104))
 
 
 class Stream:

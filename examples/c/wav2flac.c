@@ -1,4 +1,4 @@
-/* Encodes a WAV file. What reads the WAV file here is not proved; the stream is written by proved code, which decodes it again.
+/* Encodes a WAV file. Proved code takes it apart, and writes the stream, which it decodes again.
  *
  * usage: wav2flac [--ogg] IN.wav OUT.flac [NAME=VALUE ..] */
 #include "files.h"
@@ -9,70 +9,19 @@
 
 #define PROGRAM "wav2flac"
 
-/* A WAV file: its format, and where its samples are. */
-struct wav {
-    uint32_t tag, channels, rate, container, bits;
-    struct bytes data;
-};
-
-static uint32_t number(const uint8_t *at, int width) {
-    uint32_t value = 0;
-    while (width-- > 0) {
-        value = value << 8 | at[width];
+/* The samples of a WAV file as numbers. */
+static int32_t *read_samples(const char *path, struct bytes file, struct flac_proved_wave *wave, size_t *count) {
+    int32_t *samples = NULL;
+    uint32_t reason = flac_proved_wave(file.bytes, file.len, wave);
+    if (reason == 0) {
+        *count = (size_t)wave->len / wave->width;
+        samples = room_for(PROGRAM, *count, sizeof *samples);
+        reason = flac_proved_wave_samples(file.bytes + wave->offset, (size_t)wave->len, wave->width, wave->bits, samples, *count, count);
     }
-    return value;
-}
-
-/* Reads the chunk `fmt `: PCM (1), or the extensible form (0xFFFE) of it, which has a number of valid bits. */
-static void read_format(const char *path, struct bytes chunk, struct wav *wav) {
-    if (chunk.len < 16) {
-        fail(PROGRAM, path, "the chunk 'fmt ' is too short");
+    if (reason != 0) {
+        fail_with(PROGRAM, path, reason);
     }
-    wav->tag = number(chunk.bytes, 2);
-    wav->channels = number(chunk.bytes + 2, 2);
-    wav->rate = number(chunk.bytes + 4, 4);
-    wav->container = number(chunk.bytes + 14, 2);
-    wav->bits = wav->container;
-    if (wav->tag == 0xFFFE && chunk.len >= 40) {
-        wav->bits = number(chunk.bytes + 18, 2);
-        wav->tag = number(chunk.bytes + 24, 2);
-    }
-    if (wav->tag != 1 || wav->container % 8 != 0 || wav->container < 8 || wav->container > 32 || wav->bits > wav->container || wav->bits == 0) {
-        fail(PROGRAM, path, "its samples are no PCM of 8 to 32 bits");
-    }
-}
-
-static struct wav read_wav(const char *path, struct bytes file) {
-    struct wav wav = {0, 0, 0, 0, 0, {NULL, 0}};
-    size_t at = 12;
-    if (file.len < 12 || memcmp(file.bytes, "RIFF", 4) != 0 || memcmp(file.bytes + 8, "WAVE", 4) != 0) {
-        fail(PROGRAM, path, "is no WAV file");
-    }
-    while (wav.data.bytes == NULL && file.len - at >= 8) {
-        struct bytes chunk = {file.bytes + at + 8, number(file.bytes + at + 4, 4)};
-        if (chunk.len > file.len - at - 8) {
-            fail(PROGRAM, path, "a chunk is longer than the file");
-        }
-        if (memcmp(file.bytes + at, "fmt ", 4) == 0) {
-            read_format(path, chunk, &wav);
-        } else if (memcmp(file.bytes + at, "data", 4) == 0) {
-            wav.data = chunk;
-        }
-        at += 8 + chunk.len;
-        at += at % 2 != 0 && at < file.len;
-    }
-    if (wav.tag == 0 || wav.data.bytes == NULL || wav.channels == 0 || wav.data.len % (wav.container / 8 * wav.channels) != 0) {
-        fail(PROGRAM, path, "has no format and whole samples");
-    }
-    return wav;
-}
-
-/* The sample at a place: unsigned if it has 8 bits, otherwise in two's complement; the valid bits are the upper ones. */
-static int32_t sample(const struct wav *wav, const uint8_t *at) {
-    uint32_t value = number(at, (int)(wav->container / 8)) << (32 - wav->container);
-    int64_t top = wav->container == 8 ? (int64_t)value - 0x80000000LL : value < 0x80000000U ? (int64_t)value : (int64_t)value - 0x100000000LL;
-    int64_t unit = (int64_t)1 << (32 - wav->bits);
-    return (int32_t)((top - ((top % unit) + unit) % unit) / unit);
+    return samples;
 }
 
 int main(int count, char **words) {
@@ -83,21 +32,18 @@ int main(int count, char **words) {
     }
     const char *in = words[first], *path = words[first + 1];
     struct bytes file = read_file(PROGRAM, in);
-    struct wav wav = read_wav(in, file);
-    struct flac_proved_settings settings = {wav.rate, wav.channels, wav.bits, 4096, 0, (uint32_t)ogg, 1};
-    size_t width = wav.container / 8, samples = wav.data.len / width, k;
-    int32_t *list = room_for(PROGRAM, samples, sizeof *list);
+    struct flac_proved_wave wave;
+    size_t samples;
+    int32_t *list = read_samples(in, file, &wave, &samples);
+    struct flac_proved_settings settings = {wave.rate, wave.channels, wave.bits, 4096, 0, (uint32_t)ogg, 1};
     struct flac_proved_text *texts = room_for(PROGRAM, (size_t)count, sizeof *texts);
     struct flac_proved_tags tags = {{(const uint8_t *)PROGRAM, strlen(PROGRAM)}, texts, 0};
-    for (k = 0; k < samples; k++) {
-        list[k] = sample(&wav, wav.data.bytes + k * width);
-    }
     for (i = first + 2; i < count; i++) {
         texts[tags.count].bytes = (const uint8_t *)words[i];
         texts[tags.count++].len = strlen(words[i]);
     }
     /* The stream is mostly shorter than its samples. If it is not, its length is known now. */
-    struct bytes stream = {NULL, wav.data.len + 65536};
+    struct bytes stream = {NULL, (size_t)wave.len + 65536};
     size_t room;
     do {
         free(stream.bytes);

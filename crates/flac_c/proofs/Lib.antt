@@ -27,3 +27,7 @@ pub mod LongestHeads
 pub mod LongestStreams
 pub mod LongestPages
 pub mod Enough
+-- ---- WAV files: where their samples are, their numbers, and the head of a plain one
+pub mod WaveFiles
+pub mod WaveNumbers
+pub mod WaveHeads

@@ -11,4 +11,5 @@ pub mod Starts
 pub mod Texts
 pub mod Unpacked
 pub mod Bound
+pub mod Waves
 pub mod inner

@@ -1,5 +1,5 @@
 //! FLAC for programs in C: streams in memory are verified, described, decoded frame by frame or as a whole, and
-//! encoded.
+//! encoded; WAV files in memory are taken apart, and the heads of plain ones are made.
 //!
 //! The header is `examples/c/flac_proved.h`, and `docs/c.md` has worked examples. A pointer and a length in C are a
 //! slice here. Each call that reads or encodes a stream returns 0 or the number of a reason (`docs/errors.md`);
@@ -34,3 +34,8 @@ mod tests;
 mod texts;
 mod unpacking;
 mod verifying;
+mod wave_head;
+mod wave_samples;
+#[cfg(test)]
+mod wave_tests;
+mod waves;

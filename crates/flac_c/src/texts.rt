@@ -4,11 +4,13 @@ ghost use Rattle.std.specs.Prelude.{◌≡◌, ◌<◌, ◌⊎◌, [], Some, Non
 ghost use Rattle.flac_bits.specs.Reasons.{number_of};
 ghost use Rattle.flac_frame.specs.Setup.{number_of as setup_number};
 ghost use Rattle.flac_c.specs.Answers.{place_text, IsCopied};
-ghost use Rattle.flac_c.specs.Texts.{CopiesReason, CopiesSetup, IsNoReason};
+ghost use Rattle.flac_c.specs.Texts.{CopiesReason, CopiesSetup, CopiesWave, IsNoReason};
+ghost use Rattle.flac_wave.specs.Reasons.{number_of as wave_number};
 
 use crate::fault::kind_name;
 use flac_bits::Why;
 use flac_frame::SetupFault;
+use flac_wave::WaveWhy;
 
 /// Copies bytes or samples to the front of a buffer, as far as there is room, and returns how many there are.
 pub(crate) fn copy<T: Copy>(items: &[T], out: &mut [T]) -> usize
@@ -93,13 +95,40 @@ fn setup_of(number: u32) -> Option<SetupFault>
     }
 }
 
+/// The reasons for which bytes are no WAV file, in the order of their numbers, which begin at 60.
+const WAVE_REASONS: [WaveWhy; 11] = [
+    WaveWhy::NotWave,
+    WaveWhy::ChunkCut,
+    WaveWhy::ChunkLength,
+    WaveWhy::NoFormat,
+    WaveWhy::RepeatedFormat,
+    WaveWhy::FormatLength,
+    WaveWhy::Coding,
+    WaveWhy::FormatFields,
+    WaveWhy::NoData,
+    WaveWhy::DataCut,
+    WaveWhy::PartSample,
+];
+
+/// The reason with this number, 60 to 70.
+fn wave_of(number: u32) -> Option<WaveWhy>
+    ensures each { (why : WaveWhy) → wave_number why ≡ number → result ≡ Some why }
+    ensures other { (number < 60) ⊎ (70 < number) → result ≡ None }
+{
+    if number < 60 || number > 70 {
+        return None;
+    }
+    Some(WAVE_REASONS[number as usize - 60])
+}
+
 /// Copies the number and the name of a reason, as `26 FrameCheck`, to the front of `out`, as far as there is room, and
 /// returns the length of this text in bytes. The rest of `out` is unchanged. The text is empty for numbers
-/// of no reason: 0, 48 to 50, and those above 52.
+/// of no reason: 0, 48 to 50, 53 to 59, and those above 70.
 #[unsafe(no_mangle)]
 pub extern "C" fn flac_proved_strerror(number: u32, out: &mut [u8]) -> usize
     ensures reason { CopiesReason number out.old out.new result }
     ensures setup { CopiesSetup number out.old out.new result }
+    ensures wave { CopiesWave number out.old out.new result }
     ensures other { IsNoReason number → IsCopied [] out.old out.new result }
 {
     if let Some(why) = reason_of(number) {
@@ -107,6 +136,9 @@ pub extern "C" fn flac_proved_strerror(number: u32, out: &mut [u8]) -> usize
     }
     if let Some(fault) = setup_of(number) {
         return copy(fault.as_str().as_bytes(), out);
+    }
+    if let Some(reason) = wave_of(number) {
+        return copy(reason.as_str().as_bytes(), out);
     }
     copy(&[], out)
 }
