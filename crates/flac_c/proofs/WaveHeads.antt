@@ -1,11 +1,9 @@
 -- The pieces of the head of a plain WAV file, joined.
-use Rattle.std.proofs.Common.{◌≡◌, ◌<◌, ◌+◌, ◌++◌, ◌∷◌, [], ℕ, Bool, true, false, cond, List, length, take, map, get_or, refl, sym, ap, ◌∙◌}
-use Rattle.std.specs.Prelude.{nat_eq, Vec}
+use Rattle.std.proofs.Common.{◌≡◌, ◌<◌, ◌+◌, ◌++◌, ◌∷◌, [], ℕ, List, length, take, map, get_or, sym, ap, ◌∙◌}
+use Rattle.std.specs.Prelude.{Vec}
 use Rattle.std.specs.Global.{Global}
 use Rattle.std.proofs.lemmas.List.{take_more, map-append, append-nil}
-use Rattle.flac_wave.specs.Plain.{plain_front, plain_back, plain_pieces, plain_head}
 use Rattle.flac_wave.specs.Wave.{all_of}
-use Rattle.flac_wave.specs.declared.format.WaveFormat.{WaveFormat}
 use Rattle.flac_c.proofs.WaveFiles.{all_append}
 
 abbrev pub items : Vec ℕ Global → List ℕ

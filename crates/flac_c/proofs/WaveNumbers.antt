@@ -2,8 +2,7 @@
 use Rattle.std.proofs.Common.{◌≡◌, ◌≤◌, ◌<◌, ◌+◌, ◌*◌, ◌-◌, ◌^◌, ℕ, suc, ℤ, pos, negsuc, List, [], ◌∷◌, ◌++◌, length, take, drop, true, get_or, of_z, to_z, w32, w64, refl, ap, sym, ◌∙◌, arith, add-one, inl, inr, FitsSigned}
 use Rattle.std.proofs.Math.Nat.{pow-le-pow_right, pow-succ'}
 use Rattle.std.proofs.lemmas.Int.{ints}
-use Rattle.std.proofs.lemmas.Bool.{cases_lt, le-ltb, lt-ltb}
-use Rattle.std.proofs.lemmas.Bool.{and_parts, ltb-true}
+use Rattle.std.proofs.lemmas.Bool.{cases_lt, le-ltb, lt-ltb, and_parts, ltb-true}
 use Rattle.std.specs.Int.{bytes_low_first}
 use Rattle.std.specs.Prelude.{nat_lt}
 use Rattle.byteorder.specs.Endian.{twos_complement, little_number, little_bytes}

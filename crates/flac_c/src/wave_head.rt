@@ -66,13 +66,13 @@ fn plain_head(
 
 /// Copies the head of a plain WAV file to the front of `out`, as far as there is room: all that comes before `total`
 /// samples of each channel, at most 104 bytes. It is that of an RF64 file if one of RIFF would have 4294967303 bytes or
-/// more. If `total` is 0, it is unknown: the lengths in the head are FFFFFFFF, and the samples go to the end of the file.
-/// After the samples comes a zero, if their number of bytes is odd and `total` is not 0. `len` becomes the length of the
-/// head.
+/// more. If `total` is 0, it is unknown: the lengths in the head are FFFFFFFF, and the samples go to the end of the
+/// file. After the samples comes a zero, if their number of bytes is odd and `total` is not 0. `len` becomes the length
+/// of the head.
 ///
 /// Returns 0, or the number of the first reason for which there is none: 42 if `channels` is 0 or above 8, 40 if `rate`
-/// is 134217728 Hz (2^27) or more, 41 if `bits` is 0 or above 32, 45 if `total` is 68719476736 (2^36) or more. Or 2 if an
-/// allocation fails. `out` and `len` are unchanged then.
+/// is 134217728 Hz (2^27) or more, 41 if `bits` is 0 or above 32, 45 if `total` is 68719476736 (2^36) or more. Or 2 if
+/// an allocation fails. `out` and `len` are unchanged then.
 #[unsafe(no_mangle)]
 #[tactic(auto, using(crate::proofs::Encodings::some_setup))]
 pub extern "C" fn flac_proved_wave_head(

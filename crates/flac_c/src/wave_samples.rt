@@ -129,13 +129,13 @@ fn samples_of(
     Ok(bytes)
 }
 
-/// Copies the samples of a WAV file, or of a part of it, as numbers to the front of `out`, as far as there is room. Each
-/// has `width` bytes, 1 to 4, the lowest first, of which the highest `bits` bits count; the bits below them are dropped.
-/// They are in two's complement, but those of 1 byte are unsigned, with 128 as silence. `len` becomes the number of all
-/// samples. The numbers are in the order of `flac_proved_samples`.
+/// Copies the samples of a WAV file, or of a part of it, as numbers to the front of `out`, as far as there is room.
+/// Each has `width` bytes, 1 to 4, the lowest first, of which the highest `bits` bits count; the bits below them are
+/// dropped. They are in two's complement, but those of 1 byte are unsigned, with 128 as silence. `len` becomes the
+/// number of all samples. The numbers are in the order of `flac_proved_samples`.
 ///
-/// Returns 0, or 67 if `width` is not 1 to 4 or `bits` is not 1 to `8 * width`, 70 if the last sample is not whole, or 2
-/// if an allocation fails; `out` and `len` are unchanged then.
+/// Returns 0, or 67 if `width` is not 1 to 4 or `bits` is not 1 to `8 * width`, 70 if the last sample is not whole, or
+/// 2 if an allocation fails; `out` and `len` are unchanged then.
 #[unsafe(no_mangle)]
 #[tactic(auto, using(crate::proofs::WaveNumbers::some_why))]
 pub extern "C" fn flac_proved_wave_samples(
@@ -167,8 +167,8 @@ pub extern "C" fn flac_proved_wave_samples(
 
 /// Copies numbers as samples of a WAV file to the front of `out`, as far as there is room. Each has `width` bytes, 1 to
 /// 4, the lowest first, of which the highest `bits` bits are the lowest `bits` bits of the number, and the bits below
-/// them are zeros. They are in two's complement, but those of 1 byte are unsigned, with 128 as silence. `len` becomes the
-/// number of all bytes.
+/// them are zeros. They are in two's complement, but those of 1 byte are unsigned, with 128 as silence. `len` becomes
+/// the number of all bytes.
 ///
 /// Returns 0, or 67 if `width` is not 1 to 4 or `bits` is not 1 to `8 * width`, or 2 if an allocation fails; `out` and
 /// `len` are unchanged then.
