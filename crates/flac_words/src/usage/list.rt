@@ -25,10 +25,11 @@ With --any lines at the end say how long the tags of other programs are, in byte
   before ID3v2 1034
   after ID3v1 128
 
-With --json each stream is a line of JSON. With --block only some blocks are listed. A block
-is named by its number, 0 for STREAMINFO, or by its type: streaminfo, padding, application,
-application:ID, seektable, vorbis_comment, cuesheet, picture, or type_7 to type_126. ID is
-four characters, or 0x and eight hexadecimal digits.
+With --json each stream is a line of JSON. With --block only some blocks are listed. If a
+stream has none of them, nothing is listed of it, and the exit status is 0; with --json its
+line has no block. A block is named by its number, 0 for STREAMINFO, or by its type:
+streaminfo, padding, application, application:ID, seektable, vorbis_comment, cuesheet,
+picture, or type_7 to type_126. ID is four characters, or 0x and eight hexadecimal digits.
 
 Bytes of a text outside 20 to 7E (hexadecimal), and the backslash, are shown as \\x and
 two digits.";

@@ -29,8 +29,9 @@ gone PATH on standard error says that OLD has a file that was not met now. The e
 is 1 if there is an audio, worse or gone. Where neither has an MD5 digest, the same audio
 means as many samples in the same format, and no more.
 
-With --all a bad file is read to its end, and lines after its own say what is lost: for
-each damaged part its samples, their time and their bytes, and then how much it is in all.
+With --all a bad file is read again, whole into memory, and lines after its own say what
+is lost: for each damaged part its samples, their time and their bytes, and then how much
+was found. This is of native streams: of an Ogg stream a line says that it is not listed.
 
 In a folder, and in the folders in it, files are read whose names end in .flac, .fla or
 .oga, and in .ogg if they are FLAC. Links to folders are not followed. The exit status is 0
@@ -73,7 +74,7 @@ const VERIFY_WORDS: [Word; 6] = [
     Word {
         name: "all",
         kind: WordKind::Flag,
-        help: "Says of each bad file which samples are lost, frame by frame",
+        help: "Says of each bad native file which samples are lost, frame by frame",
     },
 ];
 
