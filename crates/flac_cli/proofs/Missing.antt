@@ -1,40 +1,35 @@
 -- What is said of a file that is refused.
-use Rattle.std.proofs.Common.{◌≡◌, ℕ, Bool, true, false, List, ◌++◌, [], Option, Some, None, IfSome, refl, sym, subst, ◌∙◌, append-nil, inl, inr}
+use Rattle.std.proofs.Common.{◌≡◌, ◌⊎◌, ◌↔◌, ℕ, Bool, true, false, List, [], Option, Some, None, IfSome, refl, sym, ap, subst, ◌∙◌, codes, inl, inr}
 use Rattle.flac_bits.specs.declared.source.Source as source
 use Rattle.flac_bits.specs.declared.target.Target as target
+use Rattle.flac_bits.specs.declared.why.Why.{Why}
+use Rattle.flac_bits.specs.declared.why.Why.TheVariants as why
+use Rattle.flac_rescue.specs.Survey.{IsSurveyFault}
+use Rattle.flac_rescue.specs.declared.survey.SurveyFault.{SurveyFault}
 use Rattle.flac_shelf.specs.Listed.{Contents, Listed, Opens}
-use Rattle.flac_cli.specs.Missing.{IsSurveyed, IsListing, unlisted_line}
-use Rattle.flac_cli.specs.inner.Missing.{IsContents, IsSurveyOf}
+use Rattle.flac_cli.specs.Missing.{IsOutOfMemory, AreUnlisted}
+use Rattle.flac_cli.specs.Reports.{fault_line}
+use Rattle.flac_cli.specs.declared.verify_missing.Unlisted.{Unlisted}
+use Rattle.flac_cli.specs.declared.verify_missing.Unlisted.TheVariants.{Unsurveyed, Memory}
+use Rattle.flac_cli.specs.inner.Missing.{IsContents, IsUnread, line_for}
 use Rattle.flac_cli.specs.inner.Verifying.{IsListed}
 use Rattle.flac_cli.proofs.Told.{none_told}
 
--- what holds of each value, if there is one
-pub some_more : {X : Type 0} {P Q : X → Type 0} → ((x : X) → P x → Q x) → (o : Option X) → IfSome o P → IfSome o Q
-some_more more None h = tt
-some_more more (Some x) h = more x h
+-- why bytes that are not surveyed are not listed
+pub unlisted_for : (bytes : List ℕ) (fault : SurveyFault) (e : Unlisted) → IsSurveyFault bytes fault → (e ≡ Memory ↔ IsOutOfMemory fault) → (e ≡ Memory) ⊎ (AreUnlisted bytes × (e ≡ Unsurveyed))
+unlisted_for bytes fault Memory is same = inl refl
+unlisted_for bytes fault Unsurveyed is same = inr (record { fault = fault; is = is; shown = λ out. other (same.1 out) }, refl)
+  where
+    other : Unsurveyed ≡ Memory → ⊥
+    other e = absurd cc
 
--- that line can always be said
-pub unlisted : (path : List ℕ) (contents : Option Contents) → IsListing path contents (unlisted_line path)
-unlisted path None = refl
-unlisted path (Some of) = inr refl
+-- the line as it is printed
+pub line_said : (path shown text : List ℕ) (e : Unlisted) → shown ≡ path → (e ≡ Unsurveyed → text ≡ codes "what is missing cannot be listed") → (e ≡ Memory → text ≡ codes "what is missing cannot be listed: 2 Memory")
+    → fault_line shown text ≡ line_for path e
+line_said path shown text Unsurveyed at unsurveyed memory = ap (λ p. fault_line p text) at ∙ ap (fault_line path) (unsurveyed refl)
+line_said path shown text Memory at unsurveyed memory = ap (λ p. fault_line p text) at ∙ ap (fault_line path) (memory refl)
 
-listed_in : (path : List ℕ) (contents : Option Contents) (of : Contents) (text : List ℕ) (again : Bool) → contents ≡ Some of → IsSurveyed path of.bytes text → IfSome contents (λ c. again ≡ c.again) → again ≡ true → IsListing path contents text
-listed_in path contents of text again is lines look holds =
-    subst (λ k. IsListing path k text) (sym is) (inl (sym (subst (λ k. IfSome k (λ c. again ≡ c.again)) is look) ∙ holds, lines))
-
--- a survey of a file that can be read again
-pub surveyed : {again : Bool} (file : Listed) (text : List ℕ) → IfSome file.contents (λ c. again ≡ c.again) → again ≡ true → IsSurveyOf file text → IsListing file.path file.contents text
-surveyed {again = again} file text look holds s = listed_in file.path file.contents s.of text again s.is s.lines look holds
-
--- the lines about the bytes of a file
-pub survey_of : (file : Listed) (path shown bytes text : List ℕ) → path ≡ file.path → shown ≡ bytes → IsContents file.contents bytes → IsSurveyed path shown text → IsSurveyOf file text
-survey_of file path shown bytes text at same c s = record {
-  of = c.of;
-  is = c.is;
-  lines = subst (λ b. IsSurveyed file.path b text) (same ∙ c.all) (subst (λ l. IsSurveyed l shown text) at s);
-}
-
--- the bytes of an opened file
+-- an opened file
 module _ {F : Type 0} (g : source.Ghosts F) where
   pub contents_read : {contents : Option Contents} (file : F) (bytes : List ℕ) → Opens g contents file → (g.known file ≡ true → bytes ≡ g.coming file) → IsContents contents bytes
   contents_read file bytes o all = record {
@@ -42,6 +37,10 @@ module _ {F : Type 0} (g : source.Ghosts F) where
     is = o.is;
     all = all o.known ∙ o.coming;
   }
+
+  -- If its device did not fail, memory ran out.
+  pub contents_unread : {contents : Option Contents} (file read : F) (w : Why) (e : Unlisted) → Opens g contents file → (g.known file ≡ true → g.raised read ≡ g.raised file → w ≡ why.Memory) → (e ≡ Memory ↔ w ≡ why.Memory) → g.raised read ≡ 0 → IsUnread contents e
+  contents_unread file read w e o memory same calm = subst (λ k. IsUnread k e) (sym o.is) (same.1 (memory o.known (calm ∙ sym o.raised)))
 
 module _ {T : Type 0} (g : target.Ghosts T) where
   -- what is said if it is asked for, by two equal conditions

@@ -1,8 +1,11 @@
 -- What `flac verify --all` says of a file that is refused: which samples of its stream are missing, and where.
-use Rattle.std.specs.Prelude.{◌≡◌, ◌⊎◌, ℕ, Bool, true, false, List, [], ◌∷◌, ◌++◌, codes, Option, Some, None}
+use Rattle.std.specs.Prelude.{◌≡◌, ◌⊎◌, ⊤, ℕ, Bool, true, false, List, [], ◌∷◌, ◌++◌, codes, Option, Some, None}
+use Rattle.flac_bits.specs.declared.why.Why.TheVariants as why
 use Rattle.flac_rescue.specs.Report.{report_text}
-use Rattle.flac_rescue.specs.Survey.{IsSurvey}
+use Rattle.flac_rescue.specs.Survey.{IsSurvey, IsSurveyFault}
 use Rattle.flac_rescue.specs.declared.survey.Survey.{Survey}
+use Rattle.flac_rescue.specs.declared.survey.SurveyFault.{SurveyFault}
+use Rattle.flac_rescue.specs.declared.survey.SurveyFault.TheVariants.{Head, Memory, Unordered}
 use Rattle.flac_shelf.specs.Listed.{Contents, Listed}
 use Rattle.flac_cli.specs.Reports.{fault_line}
 use Rattle.flac_cli.specs.Verified.{bad_of}
@@ -15,14 +18,39 @@ pub record IsSurveyed (path bytes text : List ℕ) : Type 0 where
   pub is : IsSurvey bytes survey
   pub lines : text ≡ report_text path survey
 
--- the line of a file that cannot be surveyed
+-- memory ran out in a survey, which no bytes show
+abbrev pub IsOutOfMemory : SurveyFault → Type 0
+IsOutOfMemory (Head fault) = fault.why ≡ why.Memory
+IsOutOfMemory Memory = ⊤
+IsOutOfMemory Unordered = ⊥
+
+-- These bytes are refused by a survey, by what they are: the marker or a metadata block is refused, or too many frames are
+-- out of order.
+pub record AreUnlisted (bytes : List ℕ) : Type 0 where
+  pub fault : SurveyFault
+  pub is : IsSurveyFault bytes fault
+  pub shown : IsOutOfMemory fault → ⊥
+
+-- the line of a file of which it is not said what is missing, and that of one for which memory ran out
 abbrev pub unlisted_line : (path : List ℕ) → List ℕ
 unlisted_line path = fault_line path (codes "what is missing cannot be listed")
 
--- What is said of a file: the lines of its survey, for which it is read again, or that one line.
+abbrev pub memory_line : (path : List ℕ) → List ℕ
+memory_line path = fault_line path (codes "what is missing cannot be listed: 2 Memory")
+
+-- What is said of these bytes: the lines of their survey, or that they have none; or memory ran out, and the line says that.
+abbrev pub IsSaidOf : (path bytes text : List ℕ) → Type 0
+IsSaidOf path bytes text = IsSurveyed path bytes text ⊎ ((AreUnlisted bytes × (text ≡ unlisted_line path)) ⊎ (text ≡ memory_line path))
+
+-- They are read for that alone: once more, if they can be.
+abbrev pub IsSaidIf : (again : Bool) → (path bytes text : List ℕ) → Type 0
+IsSaidIf true path bytes text = IsSaidOf path bytes text
+IsSaidIf false path bytes text = text ≡ unlisted_line path
+
+-- what is said of a file
 abbrev pub IsListing : (path : List ℕ) → Option Contents → (text : List ℕ) → Type 0
 IsListing path None text = text ≡ unlisted_line path
-IsListing path (Some of) text = ((of.again ≡ true) × IsSurveyed path of.bytes text) ⊎ (text ≡ unlisted_line path)
+IsListing path (Some of) text = IsSaidIf of.again path of.bytes text
 
 -- it is said of a file that is refused, if all is asked for
 abbrev pub asks_missing : (all : Bool) → Finding → Bool

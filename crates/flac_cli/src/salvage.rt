@@ -26,7 +26,7 @@ use flac_frame::SetupFault;
 use flac_jobs::{Filling, Salvage};
 use flac_native::EncodeFault;
 use flac_rescue::{SalvageFault, Survey, SurveyFault, report, salvage_samples, survey_bytes};
-use flac_wave::read_at_most;
+use flac_wave::read_all;
 use std::alloc::Global;
 
 impl From<SurveyFault> for RecodeRefusal {
@@ -54,21 +54,6 @@ impl From<SalvageFault> for RecodeRefusal {
             SalvageFault::TooLong => RecodeRefusal::Refused(Refusal::Setup(SetupFault::TooLong)),
         }
     }
-}
-
-/// All bytes of a source.
-///
-/// # Errors
-/// An error of the source, or out of memory.
-fn read_whole<R: Source>(alloc: Global, source: &mut R) -> Result<Vec<u8>, Why>
-    ensures whole { IfOk result (λ bytes. R.known source.old ≡ true → bytes.items ≡ R.coming source.old) }
-    ensures memory { IfErr result (λ e. Tells R.Source source.old source.new → e ≡ Why.Memory) }
-{
-    let bytes = read_at_most(alloc, source, u64::MAX)?;
-    if bytes.len() as u64 == u64::MAX {
-        return Err(Why::Memory);
-    }
-    Ok(bytes)
 }
 
 /// The lines of what is missing of the stream of a file of this path.
@@ -198,7 +183,7 @@ fn salvage_source<R: Source, W: Target>(
     ensures failed { IfErr result (λ e. e ≡ Refused (refusal.Output EncodeFault.Write) →
         TargetFailed W.Target target.old target.new) }
 {
-    let bytes = read_whole(alloc, source)?;
+    let bytes = read_all(alloc, source)?;
     let silence = fills(salvage.filling);
     let text = salvage_bytes(alloc, encoding, salvage.input, &bytes, silence, target)?;
     Ok(text)

@@ -107,7 +107,7 @@ fn read_outside<S: Shelf>(alloc: Global, shelf: &mut S) -> Finding
 }
 
 /// Whether memory ran out.
-fn is_memory(why: Why) -> bool
+pub(crate) fn is_memory(why: Why) -> bool
     ensures { (result ≡ true) ↔ (why ≡ Why.Memory) }
 {
     matches!(why, Why::Memory)
@@ -184,8 +184,9 @@ fn status_of(is_written: bool, tally: &Tally) -> u8
 /// With [`Checks::all`] a file that is refused is read again, whole into memory, and the lines of [`flac_rescue::report`]
 /// come after its own: which samples of a native stream are missing, and at which bytes. Bytes are counted from the first
 /// that the file's source gives. If they cannot be listed, there is the line
-/// `flac: PATH: what is missing cannot be listed`: of an Ogg stream, if the marker or a metadata block is damaged, of a
-/// file that can be read only once, if it cannot be read again, or if an allocation fails.
+/// `flac: PATH: what is missing cannot be listed`: of an Ogg stream, if the marker or a metadata block is damaged, if too
+/// many frames are out of order, of a file that can be read only once, or if it cannot be read again. If memory runs out,
+/// the line ends with `: 2 Memory`.
 ///
 /// If there is an older report, a word of [`Change`] ends the line of each file. The status is 1 too if a file has other
 /// audio than in that report.

@@ -1,100 +1,141 @@
 //! What `flac verify --all` prints of a file that is refused: what is missing of its stream.
 
-ghost use Rattle.std.specs.Prelude.{◌≡◌, true, IfSome};
+ghost use Rattle.std.specs.Prelude.{◌≡◌, ◌⊎◌, ◌↔◌, true, IfOk, IfErr, codes};
 ghost use Rattle.flac_rescue.specs.Survey.{IsSurvey};
-ghost use Rattle.flac_cli.specs.Missing.{IsSurveyed, IsListing, asks_missing};
-ghost use Rattle.flac_cli.specs.inner.Missing.{IsContents, IsSurveyOf};
+ghost use Rattle.flac_cli.specs.Missing.{IsOutOfMemory, AreUnlisted, IsSaidOf, IsListing, asks_missing};
+ghost use Rattle.flac_cli.specs.inner.Missing.{IsContents, IsUnread, line_for, IsSaidAgain};
 ghost use Rattle.flac_cli.specs.inner.Verifying.{IsListed, IsTold, Stays};
 
 use crate::lines::At;
-use crate::verify::Finding;
+use crate::verify::{Finding, is_memory};
 use crate::verify_lines::tell;
-use flac_bits::{Source, Target, send_all};
-use flac_rescue::{Survey, report, survey_bytes};
+use flac_bits::{Target, Why, send_all};
+use flac_rescue::{Survey, SurveyFault, report, survey_bytes};
 use flac_shelf::Shelf;
-use flac_wave::read_at_most;
+use flac_wave::read_all;
 use std::alloc::Global;
 
-/// More bytes than a file has.
-const MOST: u64 = u64::MAX;
+/// Why it is not said what is missing of a file.
+#[derive(Clone, Copy)]
+enum Unlisted {
+    /// The file cannot be read again, or its bytes are refused by a survey.
+    Unsurveyed,
+    /// Memory ran out.
+    Memory,
+}
 
-/// All bytes of a source; `None` if it returns an error, or an allocation fails.
-fn read_all<R: Source>(alloc: Global, source: &mut R) -> Option<Vec<u8>>
-    ensures { IfSome result (λ bytes. R.known source.old ≡ true → bytes.items ≡ R.coming source.old) }
-{
-    match read_at_most(alloc, source, MOST) {
-        Ok(bytes) => {
-            if bytes.len() as u64 >= MOST {
-                return None;
-            }
-            Some(bytes)
+impl Unlisted {
+    /// Why it is not said of a file that is not read, or whose metadata blocks are not, for this reason.
+    fn of(why: Why) -> Unlisted
+        ensures { (result ≡ Unlisted.Memory) ↔ (why ≡ Why.Memory) }
+    {
+        if is_memory(why) {
+            Unlisted::Memory
+        } else {
+            Unlisted::Unsurveyed
         }
-        Err(_) => None,
+    }
+
+    /// Why it is not said of bytes that are not surveyed.
+    fn of_survey(fault: SurveyFault) -> Unlisted
+        ensures { (result ≡ Unlisted.Memory) ↔ IsOutOfMemory fault }
+    {
+        match fault {
+            SurveyFault::Head(fault) => Unlisted::of(fault.why),
+            SurveyFault::Memory => Unlisted::Memory,
+            SurveyFault::Unordered => Unlisted::Unsurveyed,
+        }
+    }
+
+    /// What is printed of the file.
+    fn text(self) -> &'static str
+        ensures unsurveyed { self ≡ Unlisted.Unsurveyed → result.now ≡ codes "what is missing cannot be listed" }
+        ensures memory { self ≡ Unlisted.Memory → result.now ≡ codes "what is missing cannot be listed: 2 Memory" }
+    {
+        match self {
+            Unlisted::Unsurveyed => "what is missing cannot be listed",
+            Unlisted::Memory => "what is missing cannot be listed: 2 Memory",
+        }
     }
 }
 
-/// A survey of a native stream of these bytes; `None` if there is none, or an allocation fails.
-fn survey_of(alloc: Global, bytes: &[u8]) -> Option<Survey>
-    ensures { IfSome result (λ survey. IsSurvey bytes.now survey) }
+/// A survey of a native stream of these bytes.
+fn survey_of(alloc: Global, bytes: &[u8]) -> Result<Survey, Unlisted>
+    ensures survey { IfOk result (λ survey. IsSurvey bytes.now survey) }
+    ensures unlisted { IfErr result (λ e. (e ≡ Unlisted.Memory) ⊎ (AreUnlisted bytes.now × (e ≡ Unlisted.Unsurveyed))) }
 {
     match survey_bytes(alloc, bytes) {
-        Ok(survey) => Some(survey),
-        Err(_) => None,
+        Ok(survey) => Ok(survey),
+        Err(fault) => Err(Unlisted::of_survey(fault)),
     }
 }
 
-/// The lines about a native stream of these bytes; `None` if it cannot be surveyed, or an allocation fails.
-fn lines_about(alloc: Global, path: &str, bytes: &[u8]) -> Option<Vec<u8>>
-    ensures { IfSome result (λ text. IsSurveyed path.now bytes.now text.items) }
+/// The lines about a native stream of these bytes.
+fn lines_about(alloc: Global, path: &str, bytes: &[u8]) -> Result<Vec<u8>, Unlisted>
+    ensures lines { IfOk result (λ text. IsSaidOf path.now bytes.now text.items) }
+    ensures unlisted { IfErr result (λ e. IsSaidOf path.now bytes.now (line_for path.now e)) }
 {
     match survey_of(alloc, bytes) {
-        Some(survey) => match report(alloc, path, &survey) {
-            Ok(text) => Some(text),
-            Err(_) => None,
+        Ok(survey) => match report(alloc, path, &survey) {
+            Ok(text) => Ok(text),
+            Err(_) => Err(Unlisted::Memory),
         },
-        None => None,
+        Err(unlisted) => Err(unlisted),
     }
 }
 
 /// The bytes of the current file, read again.
-fn bytes_of<S: Shelf>(alloc: Global, shelf: &mut S) -> Option<Vec<u8>>
+fn bytes_of<S: Shelf>(alloc: Global, shelf: &mut S) -> Result<Vec<u8>, Unlisted>
     ensures read { S.known shelf.old ≡ true → S.faults shelf.new ≡ S.faults shelf.old →
-        IfSome result (λ bytes. IsContents (S.current shelf.old).contents bytes.items) }
+        IfOk result (λ bytes. IsContents (S.current shelf.old).contents bytes.items) }
+    ensures unread { S.known shelf.old ≡ true → S.faults shelf.new ≡ S.faults shelf.old →
+        IfErr result (λ e. IsUnread (S.current shelf.old).contents e) }
     ensures stays { Stays S.known S.current S.files S.faults S.most shelf.old shelf.new }
 {
     match shelf.open() {
-        Some(mut file) => {
-            let bytes = read_all(alloc, &mut file);
-            shelf.close(file);
-            bytes
-        }
-        None => None,
+        Some(mut file) => match read_all(alloc, &mut file) {
+            Ok(bytes) => {
+                shelf.close(file);
+                Ok(bytes)
+            }
+            Err(why) => {
+                shelf.close(file);
+                Err(Unlisted::of(why))
+            }
+        },
+        None => Err(Unlisted::Unsurveyed),
     }
 }
 
 /// The lines about the current file, which is read again.
-fn survey_again<S: Shelf>(alloc: Global, shelf: &mut S) -> Option<Vec<u8>>
-    ensures found { S.known shelf.old ≡ true → S.faults shelf.new ≡ S.faults shelf.old →
-        IfSome result (λ text. IsSurveyOf (S.current shelf.old) text.items) }
+fn survey_again<S: Shelf>(alloc: Global, shelf: &mut S) -> Result<Vec<u8>, Unlisted>
+    ensures lines { S.known shelf.old ≡ true → S.faults shelf.new ≡ S.faults shelf.old →
+        IfOk result (λ text. IsSaidAgain (S.current shelf.old).path (S.current shelf.old).contents text.items) }
+    ensures unlisted { S.known shelf.old ≡ true → S.faults shelf.new ≡ S.faults shelf.old →
+        IfErr result (λ e. IsSaidAgain (S.current shelf.old).path (S.current shelf.old).contents
+        (line_for (S.current shelf.old).path e)) }
     ensures stays { Stays S.known S.current S.files S.faults S.most shelf.old shelf.new }
 {
     match bytes_of(alloc, shelf) {
-        Some(bytes) => lines_about(alloc, shelf.path(), &bytes),
-        None => None,
+        Ok(bytes) => lines_about(alloc, shelf.path(), &bytes),
+        Err(unlisted) => Err(unlisted),
     }
 }
 
 /// The lines about the current file, if it can be read again.
-fn survey<S: Shelf>(alloc: Global, shelf: &mut S) -> Option<Vec<u8>>
-    ensures found { S.known shelf.old ≡ true → S.faults shelf.new ≡ S.faults shelf.old →
-        IfSome result (λ text. IsListing (S.current shelf.old).path (S.current shelf.old).contents text.items) }
+fn survey<S: Shelf>(alloc: Global, shelf: &mut S) -> Result<Vec<u8>, Unlisted>
+    ensures lines { S.known shelf.old ≡ true → S.faults shelf.new ≡ S.faults shelf.old →
+        IfOk result (λ text. IsListing (S.current shelf.old).path (S.current shelf.old).contents text.items) }
+    ensures unlisted { S.known shelf.old ≡ true → S.faults shelf.new ≡ S.faults shelf.old →
+        IfErr result (λ e. IsListing (S.current shelf.old).path (S.current shelf.old).contents
+        (line_for (S.current shelf.old).path e)) }
     ensures stays { Stays S.known S.current S.files S.faults S.most shelf.old shelf.new }
 {
     let again = shelf.reads_again();
     if again {
         return survey_again(alloc, shelf);
     }
-    None
+    Err(Unlisted::Unsurveyed)
 }
 
 /// Sends lines.
@@ -112,13 +153,8 @@ fn tell_missing<S: Shelf, E: Target>(alloc: Global, shelf: &mut S, err: &mut E)
     ensures stays { Stays S.known S.current S.files S.faults S.most shelf.old shelf.new }
 {
     match survey(alloc, shelf) {
-        Some(text) => tell_all(err, &text),
-        None => tell(
-            err,
-            shelf.path(),
-            At::Whole,
-            "what is missing cannot be listed",
-        ),
+        Ok(text) => tell_all(err, &text),
+        Err(unlisted) => tell(err, shelf.path(), At::Whole, unlisted.text()),
     }
 }
 

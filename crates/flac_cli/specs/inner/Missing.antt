@@ -1,7 +1,9 @@
 -- For proofs of `flac verify --all`: a file that is read again.
 use Rattle.std.specs.Prelude.{◌≡◌, ℕ, List, Option, Some, None}
-use Rattle.flac_shelf.specs.Listed.{Contents, Listed}
-use Rattle.flac_cli.specs.Missing.{IsSurveyed}
+use Rattle.flac_shelf.specs.Listed.{Contents}
+use Rattle.flac_cli.specs.Missing.{IsSaidOf, unlisted_line, memory_line}
+use Rattle.flac_cli.specs.declared.verify_missing.Unlisted.{Unlisted}
+use Rattle.flac_cli.specs.declared.verify_missing.Unlisted.TheVariants.{Unsurveyed, Memory}
 
 -- these are the bytes of a file that can be opened
 pub record IsContents (contents : Option Contents) (bytes : List ℕ) : Type 0 where
@@ -9,8 +11,17 @@ pub record IsContents (contents : Option Contents) (bytes : List ℕ) : Type 0 w
   pub is : contents ≡ Some of
   pub all : bytes ≡ of.bytes
 
--- these lines are those of a survey of its stream
-pub record IsSurveyOf (file : Listed) (text : List ℕ) : Type 0 where
-  pub of : Contents
-  pub is : file.contents ≡ Some of
-  pub lines : IsSurveyed file.path of.bytes text
+-- a file is not read again only if it cannot be opened, or if memory ran out
+abbrev pub IsUnread : Option Contents → Unlisted → Type 0
+IsUnread None e = e ≡ Unsurveyed
+IsUnread (Some of) e = e ≡ Memory
+
+-- the line of a file of which it is not said what is missing
+abbrev pub line_for : (path : List ℕ) → Unlisted → List ℕ
+line_for path Unsurveyed = unlisted_line path
+line_for path Memory = memory_line path
+
+-- what is said of a file that is read again
+abbrev pub IsSaidAgain : (path : List ℕ) → Option Contents → (text : List ℕ) → Type 0
+IsSaidAgain path None text = text ≡ unlisted_line path
+IsSaidAgain path (Some of) text = IsSaidOf path of.bytes text

@@ -11,7 +11,7 @@ returns g c =
     let asked = asked_of c.args.encoding.now in
     let e = c.in_ok-text.ensures in
     let is = c.fills-silence.ensures in
-    let same = λ (known : g.R.Source.known c.args.source.now ≡ true). c.deref.ensures.value ∙ c.in_ok-bytes.ensures.whole known in
+    let same = λ (known : g.R.Source.known c.args.source.now ≡ true). c.deref.ensures.value ∙ c.in_ok-bytes.ensures.bytes known in
     record {
       written = λ known sent.
           moved (λ b l. Salvages asked b l (bits_of (g.W.Target.sent c.args.target.now)) (bits_of (g.W.Target.sent c.salvage_bytes.new.target))) _ _ _ _ is (same known) (e.written sent);
@@ -30,7 +30,7 @@ returns-in_err-bytes g c =
       lines = tt;
       begun = λ known sent. inl refl;
       accepted = tt;
-      refused = λ tells. no_memory _ (c.in_err-bytes.ensures.memory tells);
+      refused = λ tells. no_memory _ (c.in_err-bytes.ensures.memory tells.0 tells.2);
       failed = λ is. not_input _ is;
     })
 
@@ -40,7 +40,7 @@ returns-in_err-text g c =
     let asked = asked_of c.args.encoding.now in
     let e = c.in_err-text.ensures in
     let is = c.fills-silence.ensures in
-    let same = λ (known : g.R.Source.known c.args.source.now ≡ true). c.deref.ensures.value ∙ c.in_ok-bytes.ensures.whole known in
+    let same = λ (known : g.R.Source.known c.args.source.now ≡ true). c.deref.ensures.value ∙ c.in_ok-bytes.ensures.bytes known in
     rw (p.1, p.2) (record {
       written = tt;
       lines = tt;

@@ -1,8 +1,9 @@
+use Rattle.std.proofs.Common.{inl}
 use Rattle.flac_cli.proofs.verify_missing.lines_about.Goals as goal
 
-pub returns-in-Ok : goal.returns-in-Ok
-returns-in-Ok c = record {
-  survey = c.in-Some.survey;
-  is = c.in-Some.ensures;
-  lines = c.in-Ok.ensures;
-}
+pub returns-in-Ok-report-clause-lines : goal.returns-in-Ok-report-clause-lines
+returns-in-Ok-report-clause-lines c = inl (record {
+  survey = c.in-Ok.survey;
+  is = c.in-Ok.ensures.survey;
+  lines = c.in-Ok-report.ensures;
+})
