@@ -313,6 +313,12 @@ def refusals(door):
         door.expect(f"{rate} {channels} {bits} {block}", found, program.fault_of(raw, status, err))
 
 
+def plain(path):
+    """A WAV file as a plain head begins it: that of no samples states lengths that are not known, as the program's does."""
+    data = program.read(path)
+    return data if len(data) > 44 else data[:4] + b"\xff" * 4 + data[8:40] + b"\xff" * 4
+
+
 def wav_programs(door, made, listed, valgrind):
     """Each sound from WAV and back, and a stream of the reference to WAV; two sounds also with sanitizers, valgrind and each allocation refused."""
     flags = {"": ["-O2"], "_checked": SANITIZED}
@@ -322,7 +328,7 @@ def wav_programs(door, made, listed, valgrind):
     def there_and_back(name, wav, first, second, *words):
         door.quiet(f"wav2flac {name}", *first, *words, wav, flac, *COMMENTS)
         door.quiet(f"flac2wav {name}", *second, flac, back)
-        door.expect(f"back {name}", program.read(back) == program.read(wav), True)
+        door.expect(f"back {name}", program.read(back) == plain(wav), True)
         door.expect(f"program reads {name}", program.answer(flac).startswith("frames "), True)
 
     for sound in listed:
@@ -333,7 +339,7 @@ def wav_programs(door, made, listed, valgrind):
         answer, result = program.answer(entry.path), ran(tools["flac2wav"], entry.path, back)
         if answer.startswith("frames "):
             door.expect(f"flac2wav {entry.path}", (result.returncode, result.stderr), (0, b""))
-            door.expect(f"reference's {entry.path}", program.read(back) == program.read(entry.raw[:-4] + ".wav"), True)
+            door.expect(f"reference's {entry.path}", program.read(back) == plain(entry.raw[:-4] + ".wav"), True)
         else:
             reason = answer.split(": ")[-1]
             door.expect(f"flac2wav {entry.path}", (result.returncode, result.stderr.decode()), (1, f"flac2wav: {entry.path}: {reason}\n"))
