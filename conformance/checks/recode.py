@@ -123,6 +123,13 @@ def judge_info(path, sound, raw, size):
     expect((info["least_block"], info["greatest_block"]), (size, size))
 
 
+def anew(path, out, *words):
+    """Encodes a stream anew into a file that is not there, since that of an earlier song is not replaced."""
+    if os.path.exists(out):
+        os.remove(out)
+    expect(call("recode", path, out, *words), (0, b"", b""))
+
+
 def by_reference(path, ogg):
     """The samples that the reference decoder gives; it writes raw samples of whole bytes alone."""
     words = ["flac", "-s", "-d", "-c", "--force-raw-format", "--endian=little", "--sign=signed", *(["--ogg"] if ogg else []), path]
@@ -158,7 +165,7 @@ class Runs:
         ogg, lax, points = "--ogg" in words, "--lax" in words, "--seek-every" in words
         size = int(words[words.index("--block") + 1]) if "--block" in words else 4096
         before = read(path)
-        expect(call("recode", path, out, *words), (0, b"", b""))
+        anew(path, out, *words)
         expect(read(path), before)
         expect(call("same", path, out), (0, b"", b""))
         test = call("test", *(["--lax"] if lax else []), out)
@@ -179,7 +186,7 @@ class Runs:
         self.recoded(path, "1.flac", sound, *options, *words)
         self.recoded("1.flac", "2.oga", sound, "--ogg", "--serial", str(self.chance.randrange(2**32)), *options, *words)
         self.recoded("2.oga", "3.flac", sound, *options, *words)
-        expect(call("recode", "3.flac", "4.flac", *options, *words), (0, b"", b""))
+        anew("3.flac", "4.flac", *options, *words)
         expect(read("4.flac"), read("3.flac"))
         if self.chance.randrange(3) == 0:
             self.recoded(path, "5.flac", sound, "--seek-every", "1000", *words)
@@ -196,7 +203,8 @@ class Runs:
             if old is not None:
                 with open("out", "wb") as file:
                     file.write(old)
-            expect(call("recode", path, "out", *words), (1, b"", line))
+            force = ["--force"] if old == b"fLaC old" else []
+            expect(call("recode", path, "out", *words, *force), (1, b"", line))
             expect(read("out") if os.path.exists("out") else None, old)
             expect(os.path.exists("out.part"), False)
         self.refused += 1

@@ -281,7 +281,9 @@ def refused(data, chance):
             continue
         with open("out.flac", "wb") as file:
             file.write(b"fLaC old")
-        expect(call("salvage", "bad.flac", "out.flac"), (1, b"", line))
+        expect(call("salvage", "bad.flac", "out.flac", "--force"), (1, b"", line))
+        expect(read("out.flac"), b"fLaC old")
+        expect(call("salvage", "bad.flac", "out.flac"), (1, b"", b"flac: out.flac: cannot be created\n"))
         expect(read("out.flac"), b"fLaC old")
     for name in ("out.flac", "out.flac.part"):
         if os.path.exists(name):
