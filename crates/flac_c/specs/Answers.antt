@@ -1,5 +1,5 @@
 -- What a call returns in C: a number, and the place of a refusal.
-use Rattle.std.specs.Prelude.{◌≡◌, ℕ, min, List, [], ◌++◌, length, take, drop, slice_index_or, ◌∷◌, Option, Some, None}
+use Rattle.std.specs.Prelude.{◌≡◌, ◌⊎◌, ℕ, min, List, [], ◌++◌, length, take, drop, slice_index_or, ◌∷◌, Option, Some, None}
 use Rattle.flac_bits.specs.declared.why.Why.{Why}
 use Rattle.flac_bits.specs.Reasons.{number_of}
 use Rattle.flac_native.specs.declared.fault.Place.{Place}
@@ -31,6 +31,10 @@ in_c (Some f) = record { number = number_of f.1; place = kind_of f.0; index = in
 -- the fault is that of an outcome of which this holds
 abbrev pub IsAnswered : (Option (Place × Why) → Type 0) → FlacProvedFault → Type 0
 IsAnswered holds fault = (outcome : Option (Place × Why)) × holds outcome × (fault ≡ in_c outcome)
+
+-- a call returned 0, and this holds, or memory ran out (2)
+abbrev pub IsDone : (status : ℕ) → Type 0 → Type 0
+IsDone status holds = (status ≡ 2) ⊎ ((status ≡ 0) × holds)
 
 -- as much of a list as there is room for, and the rest of the buffer unchanged
 abbrev pub copied : {X : Type 0} → (list out : List X) → List X

@@ -1,5 +1,5 @@
 -- Reading a native stream frame by frame (RFC 9639, sections 8.2, 8.5 and 9).
-use Rattle.std.specs.Prelude.{◌≡◌, ◌⊎◌, ℕ, ◌+◌, ◌<◌, ◌≤◌, min, true, ℤ, List, [], ◌∷◌, ◌++◌, length, take, drop, replicate, Option, Some}
+use Rattle.std.specs.Prelude.{◌≡◌, ◌⊎◌, ℕ, ◌+◌, ◌<◌, ◌≤◌, min, true, ℤ, List, [], ◌∷◌, ◌++◌, length, take, drop, replicate, Option, Some, Result, Err, IsOkAnd}
 use Rattle.flac_bits.specs.Bits.{bits_of}
 use Rattle.flac_bits.specs.Items.{Joined, Stream, state_after}
 use Rattle.flac_bits.specs.declared.why.Why.{Why}
@@ -13,7 +13,7 @@ use Rattle.flac_native.specs.FrameAt.{IsFrameAt, NoFrameAt}
 use Rattle.flac_native.specs.Stream.{Piece, framed, grammar, opening}
 use Rattle.flac_native.specs.declared.fault.Place.{Place}
 use Rattle.flac_native.specs.declared.fault.Place.TheVariants as place
-use Rattle.flac_c.specs.Answers.{copied}
+use Rattle.flac_c.specs.Answers.{copied, IsDone}
 use Rattle.flac_c.specs.Starts.{are_metadata}
 use Rattle.flac_c.specs.declared.info.FlacProvedInfo.{FlacProvedInfo}
 use Rattle.flac_c.specs.declared.cursor.FlacProvedCursor.{FlacProvedCursor}
@@ -76,9 +76,27 @@ NoFrame profile bytes c why =
 abbrev pub RefusesNext : Profile → List ℕ → FlacProvedCursor → Option (Place × Why) → Type 0
 RefusesNext profile bytes c outcome = (why : Why) × (outcome ≡ Some (place.Frame c.frames, why)) × NoFrame profile bytes c why
 
+-- this holds of each frame with which these bytes begin, and its number of bytes
+abbrev pub OfFrameAt : Profile → Info → List ℕ → (Frame → ℕ → Type 0) → Type 0
+OfFrameAt profile info bytes holds = (f : Frame) → (n : ℕ) → IsFrameAt profile info bytes f n → holds f n
+
+-- if there is a frame at the cursor, it was handed over with this result
+abbrev pub HandsIfThere : Profile → Info → List ℕ → Result ℕ Why → (old new : FlacProvedCursor) → (out written : List ℤ) → Type 0
+HandsIfThere profile info bytes result old new out written =
+    OfFrameAt profile info (drop old.offset bytes) (λ f n. IsOkAnd result (HandsOver f (old.offset + n) old new out written))
+
 -- this holds of each frame that is at the cursor, and its number of bytes, if the cursor has a STREAMINFO
 abbrev pub OfFrame : Profile → List ℕ → FlacProvedCursor → (Frame → ℕ → Type 0) → Type 0
-OfFrame profile bytes c holds = KeepsRules (info_from_c c.info) → (f : Frame) → (n : ℕ) → IsFrameAt profile (info_from_c c.info) (drop c.offset bytes) f n → holds f n
+OfFrame profile bytes c holds = KeepsRules (info_from_c c.info) → OfFrameAt profile (info_from_c c.info) (drop c.offset bytes) holds
+
+-- if there is a frame at the cursor, it was handed over with this result, unless memory ran out
+abbrev pub HandsOrLacks : Profile → List ℕ → Result ℕ Why → (old new : FlacProvedCursor) → (out written : List ℤ) → Type 0
+HandsOrLacks profile bytes result old new out written =
+    OfFrame profile bytes old (λ f n. (result ≡ Err Memory) ⊎ IsOkAnd result (HandsOver f (old.offset + n) old new out written))
+
+-- if there is a frame at the cursor, the call of this status handed it over, unless memory ran out
+abbrev pub HandsAny : Profile → List ℕ → (status : ℕ) → (old new : FlacProvedCursor) → (out written : List ℤ) → (len : ℕ) → Type 0
+HandsAny profile bytes status old new out written len = OfFrame profile bytes old (λ f n. IsDone status (HandsOver f (old.offset + n) old new out written len))
 
 -- ---- in a stream
 
@@ -107,3 +125,7 @@ OfNextFrame profile bytes c holds = (front : List Piece) → (more : List Piece)
 -- Of a stream the samples of the next frame are written, and the cursor after it is in the same stream.
 abbrev pub GoesOn : Profile → List ℕ → (old new : FlacProvedCursor) → (out written : List ℤ) → ℕ → (front more : List Piece) → Frame → Type 0
 GoesOn profile bytes old new out written len front more f = (end : ℕ) × HandsOver f end old new out written len × StandsIn profile bytes (passed old f end) (front ++ framed f ∷ []) more
+
+-- if a frame of a stream is next, the call of this status went on, unless memory ran out
+abbrev pub GoesOnAny : Profile → List ℕ → (status : ℕ) → (old new : FlacProvedCursor) → (out written : List ℤ) → ℕ → Type 0
+GoesOnAny profile bytes status old new out written len = OfNextFrame profile bytes old (λ front more f. IsDone status (GoesOn profile bytes old new out written len front more f))

@@ -1,12 +1,14 @@
 -- Frames of a native stream that are passed: to the one of a number, and to the one that holds a sample (RFC 9639,
 -- section 9).
-use Rattle.std.specs.Prelude.{◌≡◌, ◌⊎◌, ℕ, zero, suc, ◌+◌, ◌<◌, ◌≤◌, List, ◌++◌, length, take, drop, map, Option}
+use Rattle.std.specs.Prelude.{◌≡◌, ◌⊎◌, ℕ, zero, suc, ◌+◌, ◌<◌, ◌≤◌, List, ◌++◌, length, take, drop, map, Option, Result, Ok, Err}
 use Rattle.flac_bits.specs.declared.why.Why.{Why}
+use Rattle.flac_bits.specs.declared.why.Why.TheVariants.{Memory}
 use Rattle.flac_header.specs.declared.subset.Profile.{Profile}
 use Rattle.flac_frame.specs.Frame.{Frame}
 use Rattle.flac_native.specs.Stream.{Piece, framed}
 use Rattle.flac_native.specs.declared.fault.Place.{Place}
-use Rattle.flac_c.specs.Cursors.{info_from_c, passed, RefusesNext, StandsIn}
+use Rattle.flac_c.specs.Answers.{IsDone}
+use Rattle.flac_c.specs.Cursors.{info_from_c, passed, OfFrame, RefusesNext, StandsIn}
 use Rattle.flac_native.specs.FrameAt.{IsFrameAt}
 use Rattle.flac_c.specs.declared.cursor.FlacProvedCursor.{FlacProvedCursor}
 
@@ -39,3 +41,11 @@ OfFrames profile bytes c holds = (front : List Piece) → (frames : List Frame) 
 abbrev pub GoesFurther : Profile → List ℕ → (count sample : ℕ) → (old new : FlacProvedCursor) → Type 0
 GoesFurther profile bytes count sample old new = OfFrames profile bytes old (λ front frames.
     (p : Passes profile bytes count sample old new) × StandsIn profile bytes new (front ++ map framed (take p.n frames)) (map framed (drop p.n frames)))
+
+-- in a stream the call of this status went further, unless memory ran out
+abbrev pub GoesFurtherAny : Profile → List ℕ → (count sample : ℕ) → (status : ℕ) → (old new : FlacProvedCursor) → Type 0
+GoesFurtherAny profile bytes count sample status old new = OfFrames profile bytes old (λ front frames. IsDone status (GoesFurther profile bytes count sample old new))
+
+-- if there is a frame at the cursor, the result is the cursor after it, unless memory ran out
+abbrev pub PassesAny : Profile → List ℕ → FlacProvedCursor → Result FlacProvedCursor Why → Type 0
+PassesAny profile bytes c result = OfFrame profile bytes c (λ f n. (result ≡ Err Memory) ⊎ (result ≡ Ok (passed c f (c.offset + n))))

@@ -17,7 +17,7 @@ use Rattle.flac_pages.specs.Packets.{stop_of}
 use Rattle.flac_pages.specs.Runs.{IsRun}
 use Rattle.flac_ogg.specs.Mapping.{mapping, page_place}
 use Rattle.flac_ogg.specs.Stream.{OggStream}
-use Rattle.flac_c.specs.Answers.{IsCopied}
+use Rattle.flac_c.specs.Answers.{IsCopied, IsDone}
 
 -- ---- pages
 
@@ -61,6 +61,10 @@ OfOggStream profile bytes holds = (items : List Piece) → OggStream profile (be
 -- a native stream of these items is written to the front of a buffer, as far as there is room
 abbrev pub WritesItems : Profile → (out new : List ℕ) → (len : ℕ) → List Piece → Type 0
 WritesItems profile out new len items = (native : List ℕ) × Stream grammar (opening profile) (beginning Truncated) (marked ∷ items) (bits_of native) × IsCopied native out new len
+
+-- if the bytes are an Ogg stream, the call of this status wrote its native stream, unless memory ran out
+abbrev pub WritesAny : Profile → List ℕ → (status : ℕ) → (out new : List ℕ) → (len : ℕ) → Type 0
+WritesAny profile bytes status out new len = OfOggStream profile bytes (λ items. IsDone status (WritesItems profile out new len items))
 
 -- ---- what is refused
 

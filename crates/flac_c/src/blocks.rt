@@ -1,18 +1,15 @@
 //! Lists the metadata blocks of a native stream.
 
 ghost use Rattle.std.specs.Prelude.{◌≡◌, ◌≢◌, ◌⊎◌, ◌≤◌, ◌<◌, ◌+◌, ◌*◌, ◌^◌, [], length, true, None, Some, OnOk, IfOk, IfErr};
-ghost use Rattle.flac_bits.specs.Fence.{StopsIn};
-ghost use Rattle.flac_bits.specs.State.{fresh};
 ghost use Rattle.flac_header.specs.declared.subset.Profile.{Profile};
-ghost use Rattle.flac_meta.specs.Block.{block as block_layout};
 ghost use Rattle.flac_meta.specs.Spelling.{length_of};
 ghost use Rattle.flac_native.specs.Item.{fault_pair};
 ghost use Rattle.flac_c.specs.Answers.{IsAnswered, in_c};
 ghost use Rattle.flac_c.specs.Cursors.{OfStream};
 ghost use Rattle.flac_c.specs.Described.{parts_in, no_picture, picture_at, picture_in, block_at, ListsBlocks, WritesBlocks};
 ghost use Rattle.flac_c.specs.Starts.{RefusesHead};
-ghost use Rattle.flac_c.specs.inner.Blocks.{BlockRead, HeadRead, IsRefusedIn};
-ghost use Rattle.flac_c.specs.inner.Described.{Listed, ListOf};
+ghost use Rattle.flac_c.specs.inner.Blocks.{NoBlock, HeadRead, IsRefusedIn};
+ghost use Rattle.flac_c.specs.inner.Described.{BlockListed, ListOf};
 
 use crate::fault::{FlacProvedFault, in_c};
 use crate::texts::copy;
@@ -165,9 +162,8 @@ fn list_block(
     requires known { bits.old.known ≡ true }
     requires whole { bits.old.cursor.mark.unread ≡ 0 }
     requires short { 8 * bits.old.cursor.mark.bytes + length bits.old.cursor.left < 2 ^ 67 }
-    ensures read { IfOk result (λ last. BlockRead seen.old seen.new bits.old bits.new (Listed list.old.items list.new.items bits.old.cursor.mark.bytes last) last) }
-    ensures refused { IfErr result (λ why. bits.new.errors ≡ bits.old.errors → why ≢ Why.Memory
-        → StopsIn None (block_layout seen.old) (fresh bits.old.cursor.mark) bits.old.cursor.left why) }
+    ensures read { IfOk result (BlockListed seen.old seen.new bits.old bits.new list.old.items list.new.items) }
+    ensures refused { IfErr result (NoBlock seen.old bits.old bits.new) }
 {
     let at = bits.bytes_taken();
     bits.start_checks();

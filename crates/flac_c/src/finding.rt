@@ -1,9 +1,9 @@
 //! Passes frames of a native stream: to the frame of a number, and to the frame that holds a sample.
 
-ghost use Rattle.std.specs.Prelude.{◌≡◌, ◌≢◌, ◌⊎◌, ◌+◌, None, OnOk, IfOk, IfErr};
+ghost use Rattle.std.specs.Prelude.{◌≡◌, ◌≢◌, None, OnOk, IfOk, IfErr};
 ghost use Rattle.flac_c.specs.Answers.{IsAnswered, in_c};
-ghost use Rattle.flac_c.specs.Cursors.{NoFrame, OfFrame, passed};
-ghost use Rattle.flac_c.specs.Passing.{PassesFrame, Passes, RefusesOn, OfFrames, GoesFurther};
+ghost use Rattle.flac_c.specs.Cursors.{NoFrame, passed};
+ghost use Rattle.flac_c.specs.Passing.{PassesFrame, PassesAny, Passes, RefusesOn, OfFrames, GoesFurther, GoesFurtherAny};
 ghost use Rattle.flac_c.specs.inner.Passing.{StopsOn};
 ghost use Rattle.flac_c.specs.Profiles.{profile_of};
 
@@ -25,8 +25,7 @@ fn after_frame(
 ) -> Result<FlacProvedCursor, Why>
     ensures found { IfOk result (PassesFrame profile bytes.now cursor.now) }
     ensures fault { IfErr result (NoFrame profile bytes.now cursor.now) }
-    ensures only { OfFrame profile bytes.now cursor.now (λ f n.
-        (result ≡ Err Why.Memory) ⊎ (result ≡ Ok (passed cursor.now f (cursor.now.offset + n)))) }
+    ensures only { PassesAny profile bytes.now cursor.now result }
 {
     let info = info_from_c(&cursor.info)?;
     let mut buffers = FrameBuffers::new(
@@ -84,8 +83,7 @@ fn pass_by(
     fault: &mut FlacProvedFault,
 ) -> u32
     ensures passed { result ≡ 0 → Passes profile bytes.now count sample cursor.old cursor.new }
-    ensures streams { OfFrames profile bytes.now cursor.old (λ front frames. (result ≡ 2)
-        ⊎ ((result ≡ 0) × GoesFurther profile bytes.now count sample cursor.old cursor.new)) }
+    ensures streams { GoesFurtherAny profile bytes.now count sample result cursor.old cursor.new }
     ensures refused { result ≢ 0 → IsAnswered (RefusesOn profile bytes.now sample cursor.old) fault.new }
     ensures kept { result ≢ 0 → cursor.new ≡ cursor.old }
     ensures number { result ≡ fault.new.number }
@@ -124,8 +122,7 @@ pub extern "C" fn flac_proved_pass(
     fault: &mut FlacProvedFault,
 ) -> u32
     ensures passed { result ≡ 0 → Passes Profile.Subset bytes.now count sample cursor.old cursor.new }
-    ensures streams { OfFrames Profile.Subset bytes.now cursor.old (λ front frames. (result ≡ 2)
-        ⊎ ((result ≡ 0) × GoesFurther Profile.Subset bytes.now count sample cursor.old cursor.new)) }
+    ensures streams { GoesFurtherAny Profile.Subset bytes.now count sample result cursor.old cursor.new }
     ensures refused { result ≢ 0 → IsAnswered (RefusesOn Profile.Subset bytes.now sample cursor.old) fault.new }
     ensures kept { result ≢ 0 → cursor.new ≡ cursor.old }
     ensures number { result ≡ fault.new.number }
@@ -149,8 +146,7 @@ pub extern "C" fn flac_proved_pass_in(
     fault: &mut FlacProvedFault,
 ) -> u32
     ensures passed { result ≡ 0 → Passes (profile_of profile) bytes.now count sample cursor.old cursor.new }
-    ensures streams { OfFrames (profile_of profile) bytes.now cursor.old (λ front frames. (result ≡ 2)
-        ⊎ ((result ≡ 0) × GoesFurther (profile_of profile) bytes.now count sample cursor.old cursor.new)) }
+    ensures streams { GoesFurtherAny (profile_of profile) bytes.now count sample result cursor.old cursor.new }
     ensures refused { result ≢ 0 → IsAnswered (RefusesOn (profile_of profile) bytes.now sample cursor.old) fault.new }
     ensures kept { result ≢ 0 → cursor.new ≡ cursor.old }
     ensures number { result ≡ fault.new.number }

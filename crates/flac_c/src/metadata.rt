@@ -1,11 +1,8 @@
 //! Reads the metadata of a native stream up to its first frame.
 
-ghost use Rattle.std.specs.Prelude.{◌≡◌, ◌≢◌, true, [], None, Some, OnOk, IfOk, IfErr};
-ghost use Rattle.flac_bits.specs.Fence.{StopsIn};
-ghost use Rattle.flac_bits.specs.State.{fresh};
+ghost use Rattle.std.specs.Prelude.{◌≡◌, true, [], None, Some, OnOk, IfOk, IfErr};
 ghost use Rattle.flac_header.specs.declared.subset.Profile.{Profile};
-ghost use Rattle.flac_meta.specs.Block.{block as block_layout};
-ghost use Rattle.flac_c.specs.inner.Blocks.{Noted, IsFound, FoundOf, BlockRead, HeadRead, IsRefusedIn};
+ghost use Rattle.flac_c.specs.inner.Blocks.{Noted, IsFound, FoundOf, BlockRead, NoBlock, HeadRead, IsRefusedIn};
 
 use flac_bits::{BitReader, Memory, Why};
 use flac_meta::{Block, SeekPoint, Seen, StreamInfo, read_block};
@@ -58,8 +55,7 @@ fn next_block(
 ) -> Result<bool, Why>
     requires { bits.old.known ≡ true }
     ensures read { IfOk result (BlockRead seen.old seen.new bits.old bits.new (λ b. Noted found.old b found.new)) }
-    ensures refused { IfErr result (λ why. bits.new.errors ≡ bits.old.errors → why ≢ Why.Memory
-        → StopsIn None (block_layout seen.old) (fresh bits.old.cursor.mark) bits.old.cursor.left why) }
+    ensures refused { IfErr result (NoBlock seen.old bits.old bits.new) }
 {
     bits.start_checks();
     match read_block(alloc, bits, seen) {

@@ -1,11 +1,10 @@
 //! Decodes one frame of a native stream after another.
 
-ghost use Rattle.std.specs.Prelude.{◌≡◌, ◌≢◌, ◌≤◌, ◌<◌, ◌+◌, ◌⊎◌, ℕ, IfOk, IfErr, IsOkAnd, None, drop};
+ghost use Rattle.std.specs.Prelude.{◌≡◌, ◌≢◌, ◌≤◌, ◌<◌, ◌+◌, IfOk, IfErr, IsOkAnd, None, drop};
 ghost use Rattle.flac_info.specs.Info.{KeepsRules};
-ghost use Rattle.flac_frame.specs.Frame.{Frame};
 ghost use Rattle.flac_frame.specs.Viewed.{frame_of};
 ghost use Rattle.flac_c.specs.Answers.{IsAnswered, in_c};
-ghost use Rattle.flac_c.specs.Cursors.{info_from_c, NoFrame, OfFrame, HandsOver, HandsNext, HandsFrame, GivesNext, RefusesNext, OfNextFrame, GoesOn};
+ghost use Rattle.flac_c.specs.Cursors.{info_from_c, NoFrame, OfFrameAt, HandsOver, HandsNext, HandsFrame, HandsIfThere, HandsOrLacks, HandsAny, GivesNext, RefusesNext, GoesOnAny};
 ghost use Rattle.flac_native.specs.FrameAt.{IsFrameAt, NoFrameAt};
 ghost use Rattle.flac_c.specs.Profiles.{profile_of};
 
@@ -31,8 +30,8 @@ pub(crate) fn fill_frame(
     requires first { buffers.old.before ≡ None }
     ensures found { IfOk result (λ n. IsFrameAt profile info.now bytes.now buffers.new.held n) }
     ensures fault { IfErr result (λ why. NoFrameAt profile info.now bytes.now why) }
-    ensures only { (f : Frame) → (n : ℕ) → IsFrameAt profile info.now bytes.now f n
-        → IsOkAnd result (λ m. (buffers.new.held ≡ f) × (m ≡ n)) }
+    ensures only { OfFrameAt profile info.now bytes.now
+        (λ f n. IsOkAnd result (λ m. (buffers.new.held ≡ f) × (m ≡ n))) }
 {
     // Read only for the proof, which then knows that a slice is shorter than 2^64 bytes.
     let _len = bytes.len();
@@ -83,8 +82,7 @@ fn step(
     ensures found { IfOk result (λ len. HandsNext profile info.now bytes.now cursor.old cursor.new out.old out.new len) }
     ensures fault { IfErr result (λ why. NoFrameAt profile info.now (drop cursor.old.offset bytes.now) why) }
     ensures kept { IfErr result (λ _. (cursor.new ≡ cursor.old) × (out.new ≡ out.old)) }
-    ensures only { (f : Frame) → (n : ℕ) → IsFrameAt profile info.now (drop cursor.old.offset bytes.now) f n
-        → IsOkAnd result (λ len. HandsOver f (cursor.old.offset + n) cursor.old cursor.new out.old out.new len) }
+    ensures only { HandsIfThere profile info.now bytes.now result cursor.old cursor.new out.old out.new }
 {
     let taken = match fill_frame(bytes_from(bytes, cursor.offset), info, profile, buffers) {
         Ok(taken) => taken,
@@ -105,8 +103,7 @@ fn step_alone(
     ensures found { IfOk result (HandsFrame profile bytes.now cursor.old cursor.new out.old out.new) }
     ensures fault { IfErr result (NoFrame profile bytes.now cursor.old) }
     ensures kept { IfErr result (λ _. (cursor.new ≡ cursor.old) × (out.new ≡ out.old)) }
-    ensures only { OfFrame profile bytes.now cursor.old (λ f n.
-        (result ≡ Err Why.Memory) ⊎ IsOkAnd result (HandsOver f (cursor.old.offset + n) cursor.old cursor.new out.old out.new)) }
+    ensures only { HandsOrLacks profile bytes.now result cursor.old cursor.new out.old out.new }
 {
     let info = info_from_c(&cursor.info)?;
     let mut buffers = FrameBuffers::new(
@@ -129,10 +126,8 @@ fn next_by(
 ) -> u32
     ensures given { result ≡ 0 → GivesNext profile bytes.now cursor.old cursor.new out.old out.new len.new }
     ensures refused { result ≢ 0 → IsAnswered (RefusesNext profile bytes.now cursor.old) fault.new }
-    ensures frames { OfFrame profile bytes.now cursor.old (λ f n.
-        (result ≡ 2) ⊎ ((result ≡ 0) × HandsOver f (cursor.old.offset + n) cursor.old cursor.new out.old out.new len.new)) }
-    ensures streams { OfNextFrame profile bytes.now cursor.old (λ front more f.
-        (result ≡ 2) ⊎ ((result ≡ 0) × GoesOn profile bytes.now cursor.old cursor.new out.old out.new len.new front more f)) }
+    ensures frames { HandsAny profile bytes.now result cursor.old cursor.new out.old out.new len.new }
+    ensures streams { GoesOnAny profile bytes.now result cursor.old cursor.new out.old out.new len.new }
     ensures kept { result ≢ 0 → (cursor.new ≡ cursor.old) × (out.new ≡ out.old) × (len.new ≡ len.old) }
     ensures number { result ≡ fault.new.number }
     ensures clear { result ≡ 0 → fault.new ≡ in_c None }
@@ -178,10 +173,8 @@ pub extern "C" fn flac_proved_next(
 ) -> u32
     ensures given { result ≡ 0 → GivesNext Profile.Subset bytes.now cursor.old cursor.new out.old out.new len.new }
     ensures refused { result ≢ 0 → IsAnswered (RefusesNext Profile.Subset bytes.now cursor.old) fault.new }
-    ensures frames { OfFrame Profile.Subset bytes.now cursor.old (λ f n.
-        (result ≡ 2) ⊎ ((result ≡ 0) × HandsOver f (cursor.old.offset + n) cursor.old cursor.new out.old out.new len.new)) }
-    ensures streams { OfNextFrame Profile.Subset bytes.now cursor.old (λ front more f.
-        (result ≡ 2) ⊎ ((result ≡ 0) × GoesOn Profile.Subset bytes.now cursor.old cursor.new out.old out.new len.new front more f)) }
+    ensures frames { HandsAny Profile.Subset bytes.now result cursor.old cursor.new out.old out.new len.new }
+    ensures streams { GoesOnAny Profile.Subset bytes.now result cursor.old cursor.new out.old out.new len.new }
     ensures kept { result ≢ 0 → (cursor.new ≡ cursor.old) × (out.new ≡ out.old) × (len.new ≡ len.old) }
     ensures number { result ≡ fault.new.number }
     ensures clear { result ≡ 0 → fault.new ≡ in_c None }
@@ -205,10 +198,8 @@ pub extern "C" fn flac_proved_next_in(
 ) -> u32
     ensures given { result ≡ 0 → GivesNext (profile_of profile) bytes.now cursor.old cursor.new out.old out.new len.new }
     ensures refused { result ≢ 0 → IsAnswered (RefusesNext (profile_of profile) bytes.now cursor.old) fault.new }
-    ensures frames { OfFrame (profile_of profile) bytes.now cursor.old (λ f n.
-        (result ≡ 2) ⊎ ((result ≡ 0) × HandsOver f (cursor.old.offset + n) cursor.old cursor.new out.old out.new len.new)) }
-    ensures streams { OfNextFrame (profile_of profile) bytes.now cursor.old (λ front more f.
-        (result ≡ 2) ⊎ ((result ≡ 0) × GoesOn (profile_of profile) bytes.now cursor.old cursor.new out.old out.new len.new front more f)) }
+    ensures frames { HandsAny (profile_of profile) bytes.now result cursor.old cursor.new out.old out.new len.new }
+    ensures streams { GoesOnAny (profile_of profile) bytes.now result cursor.old cursor.new out.old out.new len.new }
     ensures kept { result ≢ 0 → (cursor.new ≡ cursor.old) × (out.new ≡ out.old) × (len.new ≡ len.old) }
     ensures number { result ≡ fault.new.number }
     ensures clear { result ≡ 0 → fault.new ≡ in_c None }

@@ -1,6 +1,6 @@
 //! The native stream in the packets of an Ogg stream.
 
-ghost use Rattle.std.specs.Prelude.{◌≡◌, ◌≢◌, ◌≤◌, ◌⊎◌, [], true, false, length, None, Some, OnOk, IfOk, IfErr};
+ghost use Rattle.std.specs.Prelude.{◌≡◌, ◌≢◌, ◌≤◌, [], true, false, length, None, Some, OnOk, IfOk, IfErr};
 ghost use Rattle.flac_bits.specs.Layout.{because};
 ghost use Rattle.flac_bits.specs.Reading.{Reads, CallInPlace};
 ghost use Rattle.flac_header.specs.declared.subset.Profile.{Profile};
@@ -9,7 +9,8 @@ ghost use Rattle.flac_pages.specs.Page.{went_on, goes_on_after};
 ghost use Rattle.flac_pages.specs.Pages.{next_page, end_fault};
 ghost use Rattle.flac_ogg.specs.Mapping.{mapping, page_place};
 ghost use Rattle.flac_c.specs.Answers.{IsAnswered, in_c};
-ghost use Rattle.flac_c.specs.Unpacked.{HasMapping, Maps, RefusesPages, OfOggStream, WritesNative, WritesItems};
+ghost use Rattle.flac_c.specs.Unpacked.{HasMapping, Maps, RefusesPages, WritesNative, WritesAny};
+ghost use Rattle.flac_c.specs.inner.Blocks.{IfServed};
 ghost use Rattle.flac_c.specs.inner.Unpacked.{after_or_last, PageAdded, IsUnpacked, StopsAt};
 
 use crate::fault::{FlacProvedFault, in_c};
@@ -113,8 +114,8 @@ fn add_page(
 ) -> Result<Option<Before>, Why>
     requires { bits.old.known ≡ true }
     ensures read { IfOk result (PageAdded before bits.old bits.new list.old.items list.new.items) }
-    ensures refused { IfErr result (λ why. bits.new.errors ≡ bits.old.errors → why ≢ Why.Memory
-        → next_page before bits.old.cursor ≡ Err (because why)) }
+    ensures refused { IfErr result (λ why.
+        IfServed bits.old bits.new why (next_page before bits.old.cursor ≡ Err (because why))) }
 {
     match next_page(bits, room, before) {
         Ok(()) => {}
@@ -214,8 +215,7 @@ pub extern "C" fn flac_proved_native(
     fault: &mut FlacProvedFault,
 ) -> u32
     ensures native { result ≡ 0 → WritesNative bytes.now out.old out.new len.new }
-    ensures streams { (profile : Profile) → OfOggStream profile bytes.now (λ items.
-        (result ≡ 2) ⊎ ((result ≡ 0) × WritesItems profile out.old out.new len.new items)) }
+    ensures streams { (profile : Profile) → WritesAny profile bytes.now result out.old out.new len.new }
     ensures refused { result ≢ 0 → IsAnswered (RefusesPages bytes.now) fault.new }
     ensures kept { result ≢ 0 → (out.new ≡ out.old) × (len.new ≡ len.old) }
     ensures number { result ≡ fault.new.number }

@@ -1,8 +1,10 @@
 -- For proofs of reading metadata: blocks that are read one after another.
 use Rattle.std.specs.Prelude.{◌≡◌, ◌≢◌, ℕ, Bool, true, List, ◌++◌, Option, None}
 use Rattle.flac_bits.specs.State.{State, past, fresh}
+use Rattle.flac_bits.specs.Fence.{StopsIn}
 use Rattle.flac_bits.specs.Meaning.{Spells}
 use Rattle.flac_bits.specs.Items.{Joined, Refused, state_after, mark_after}
+use Rattle.flac_bits.specs.declared.why.Why.{Why}
 use Rattle.flac_bits.specs.declared.why.Why.TheVariants.{Memory}
 use Rattle.flac_meta.specs.Block.{block as block_layout, seen_after}
 use Rattle.flac_meta.specs.declared.block.Seen.{Seen}
@@ -34,6 +36,14 @@ pub record IsFound (profile : Profile) (sample : ℕ) (parts : List Piece) (foun
 
 abbrev pub FoundOf : Profile → (sample : ℕ) → Metadata → List Piece → Type 0
 FoundOf profile sample found parts = IsFound profile sample parts found
+
+-- If the source returned no error in the call, and memory did not run out, this holds.
+abbrev pub IfServed : (old new : State) → Why → Type 0 → Type 0
+IfServed old new why holds = new.errors ≡ old.errors → why ≢ Memory → holds
+
+-- the next block is refused for this reason
+abbrev pub NoBlock : Seen → (old new : State) → Why → Type 0
+NoBlock seen old new why = IfServed old new why (StopsIn None (block_layout seen) (fresh old.cursor.mark) old.cursor.left why)
 
 -- one block more was read, and this was kept of it
 pub record BlockRead (seen left : Seen) (old new : State) (Kept : Block → Type 0) (last : Bool) : Type 0 where
