@@ -35,6 +35,7 @@ from program import Wrong, expect, read
 SAMPLES = b"".join(struct.pack("<hh", int(8000 * math.sin(i / 20)), int(7000 * math.sin(i / 33))) for i in range(20000))
 FORMAT = ["--force-raw-format", "--endian=little", "--sign=signed", "--channels=2", "--bps=16", "--sample-rate=44100"]
 ENDINGS = (b".flac", b".fla", b".oga")
+ODD = [" ", "\n", '"', "\\", "\x01", "\x7f", "\u00e9", "\u4e2d", "'", "$x", "\ue000", "\t", "%s", "-"]
 
 
 answer_of = functools.lru_cache(maxsize=None)(model.answer)
@@ -65,8 +66,14 @@ def word_of(data):
     return words
 
 
+def shown(path):
+    """A path as the lines have it: control characters of ASCII and backslashes as \\x and two digits."""
+    return b"".join(b"\\x%02x" % byte if byte < 32 or byte in b"\x7f\\" else bytes([byte]) for byte in path)
+
+
 def line_of(path, data, subset, again=True):
     """The line of a file on standard output and on standard error."""
+    path = shown(path)
     if data is None:
         return b"", b"flac: " + path + b": cannot be opened\n"
     narrow, wide = (answer_of(bytes(data), profile) for profile in (model.SUBSET, model.LAX))
@@ -167,7 +174,7 @@ def make_tree(folder):
         "one/03 no total.FLAC": changed(native, 21, bytes([native[21] & 0xF0]) + bytes(4)),
         "one/04.fla": native[:len(native) // 2], "one/05.Oga": ogg, "one/06.ogg": ogg, "one/07.ogg": b"OggS" + bytes(60),
         "one/08.txt": native, "one/09": native, "one/10.flac": b"", "one/11.flac": changed(native, len(native) - 3000, b"\0\0\0\0\0\0"),
-        "one/12\nline end.flac": native, "one/13.flac": lax, "one/.hidden.flac": native, "one/\u00e9.flac": native,
+        "one/12\nline end.flac": native, "one/12\nok b.flac: frames 1 samples 1\x1b[2J\x7f\\.flac": native, "one/13.flac": lax, "one/.hidden.flac": native, "one/\u00e9.flac": native,
         "two/deep/deeper/x.flac": changed(native, 26, bytes(range(16))), "two/deep.flac": native, "z.flac": ogg[:300],
     }
     for name, data in files.items():
@@ -200,10 +207,9 @@ def make_many(folder, count, seed):
     chance = random.Random(seed)
     short = [encoded_short(folder, samples, words) for samples in (1, 700, 5000) for words in ([], ["--ogg"], ["-0"], ["--lax", "-b", "17000"])]
     many = os.path.join(folder, "many")
-    odd = [" ", "\n", '"', "\\", "\x01", "\x7f", "\u00e9", "\u4e2d", "'", "$x", "\ue000", "\t", "%s", "-"]
     places = []
     for number in range(40):
-        name = f"{number:02d}{chance.choice(odd)}{'/deep' if number % 5 == 0 else ''}"
+        name = f"{number:02d}{chance.choice(ODD)}{'/deep' if number % 5 == 0 else ''}"
         places.append(os.path.join(many, name))
         os.makedirs(places[-1])
     for number in range(count):
@@ -211,7 +217,7 @@ def make_many(folder, count, seed):
         if number % 20 == 0:
             at = chance.randrange(len(data))
             data = data[:at] if chance.random() < 0.5 else data[:at] + bytes([data[at] ^ 1 << chance.randrange(8)]) + data[at + 1:]
-        name = f"{number:04d}{chance.choice(odd)}" + chance.choice([".flac", ".FLAC", ".fla", ".oga"])
+        name = f"{number:04d}{chance.choice(ODD)}" + chance.choice([".flac", ".FLAC", ".fla", ".oga"])
         with open(os.path.join(chance.choice(places), name), "wb") as file:
             file.write(data)
     for number, place in enumerate(places):
@@ -301,7 +307,7 @@ def due_against(files, report):
     count = sum(bool(line_of(path, data, False)[0]) for path, data in files)
     out += b"verified %d ok %d bad %d\n" % (len(files), count, len(files) - count)
     gone = sorted(older.keys() - {path for path, _ in files})
-    return int(status or bool(gone)), out, err + b"".join(b"gone " + path + b"\n" for path in gone)
+    return int(status or bool(gone)), out, err + b"".join(b"gone " + shown(path) + b"\n" for path in gone)
 
 
 def change_tree(folder, many, chance):
@@ -496,7 +502,7 @@ def gap_line(start, end, first, following, rate):
 
 def missing_lines(path, data):
     """What `--all` says of a file that is refused: lines about its stream, or one that there are none."""
-    begin = b"flac: " + path + b": "
+    begin = b"flac: " + shown(path) + b": "
     try:
         blocks = model.Metadata(data)
     except model.Fault:
@@ -582,7 +588,7 @@ def check_all(folder, count):
         expect((frames[0][0], frames[-1][1]), (front, len(data)))
         copies = [("whole", data), *damaged_copies(data, front, frames, chance, count)]
         for number, (kind, copy) in enumerate(copies):
-            name = os.path.join(place, f"{words[1]} {number:03d} {kind}.flac".encode())
+            name = os.path.join(place, f"{words[1]}{chance.choice(ODD)}{number:03d} {kind}.flac".encode())
             before, after = (id3 if number % 4 == 1 else b""), (tag if number % 3 == 0 else b"")
             files.append((name, before + copy + after, copy))
     ogg = encoded(folder, "--ogg")

@@ -1,5 +1,5 @@
 -- What is said of a file that is refused.
-use Rattle.std.proofs.Common.{◌≡◌, ◌⊎◌, ◌↔◌, ℕ, Bool, true, false, List, [], Option, Some, None, IfSome, refl, sym, ap, subst, ◌∙◌, codes, inl, inr}
+use Rattle.std.proofs.Common.{◌≡◌, ◌⊎◌, ◌↔◌, ℕ, Bool, true, false, List, [], ◌++◌, append-nil, Option, Some, None, IfSome, refl, sym, ap, subst, ◌∙◌, codes, inl, inr}
 use Rattle.flac_bits.specs.declared.source.Source as source
 use Rattle.flac_bits.specs.declared.target.Target as target
 use Rattle.flac_bits.specs.declared.why.Why.{Why}
@@ -8,7 +8,7 @@ use Rattle.flac_rescue.specs.Survey.{IsSurveyFault}
 use Rattle.flac_rescue.specs.declared.survey.SurveyFault.{SurveyFault}
 use Rattle.flac_shelf.specs.Listed.{Contents, Listed, Opens}
 use Rattle.flac_cli.specs.Missing.{IsOutOfMemory, AreUnlisted}
-use Rattle.flac_cli.specs.Reports.{fault_line}
+use Rattle.flac_cli.specs.Verified.{file_line}
 use Rattle.flac_cli.specs.declared.verify_missing.Unlisted.{Unlisted}
 use Rattle.flac_cli.specs.declared.verify_missing.Unlisted.TheVariants.{Unsurveyed, Memory}
 use Rattle.flac_cli.specs.inner.Missing.{IsContents, IsUnread, line_for}
@@ -24,10 +24,10 @@ unlisted_for bytes fault Unsurveyed is same = inr (record { fault = fault; is = 
     other e = absurd cc
 
 -- the line as it is printed
-pub line_said : (path shown text : List ℕ) (e : Unlisted) → shown ≡ path → (e ≡ Unsurveyed → text ≡ codes "what is missing cannot be listed") → (e ≡ Memory → text ≡ codes "what is missing cannot be listed: 2 Memory")
-    → fault_line shown text ≡ line_for path e
-line_said path shown text Unsurveyed at unsurveyed memory = ap (λ p. fault_line p text) at ∙ ap (fault_line path) (unsurveyed refl)
-line_said path shown text Memory at unsurveyed memory = ap (λ p. fault_line p text) at ∙ ap (fault_line path) (memory refl)
+pub line_said : (path given text : List ℕ) (e : Unlisted) → given ≡ path → (e ≡ Unsurveyed → text ≡ codes "what is missing cannot be listed") → (e ≡ Memory → text ≡ codes "what is missing cannot be listed: 2 Memory")
+    → file_line given (text ++ []) ≡ line_for path e
+line_said path given text Unsurveyed at unsurveyed memory = ap (λ p. file_line p (text ++ [])) at ∙ ap (file_line path) (append-nil text ∙ unsurveyed refl)
+line_said path given text Memory at unsurveyed memory = ap (λ p. file_line p (text ++ [])) at ∙ ap (file_line path) (append-nil text ∙ memory refl)
 
 -- an opened file
 module _ {F : Type 0} (g : source.Ghosts F) where

@@ -3,6 +3,7 @@ use Rattle.std.proofs.Common.{◌≡◌, ◌<◌, ◌≤◌, ◌+◌, ◌/◌, �
 use Rattle.std.proofs.lemmas.List.{take_more, take_all}
 use Rattle.flac_bits.specs.declared.target.Target as target
 use Rattle.flac_bits.specs.declared.why.Why.{Why}
+use Rattle.flac_shelf.specs.Shown.{shown_byte, shown}
 use Rattle.flac_cli.specs.Objects.{escape, escapes, hex_digit, hex_digits, all_digits, member_text, member_of, more_text, known_members}
 use Rattle.flac_cli.specs.declared.json.Member.{Member}
 use Rattle.flac_cli.specs.inner.Lined.{Adds}
@@ -26,6 +27,9 @@ joined_all all xs i le = ap all (take_all i xs le)
 
 pub escapes_joined : IsJoined escape escapes
 escapes_joined = record { none = refl; more = λ x xs. refl }
+
+pub paths_joined : IsJoined shown_byte shown
+paths_joined = record { none = refl; more = λ x xs. refl }
 
 pub digits_joined : IsJoined hex_digits all_digits
 digits_joined = record { none = refl; more = λ x xs. refl }

@@ -7,8 +7,8 @@ use Rattle.flac_rescue.specs.declared.survey.Survey.{Survey}
 use Rattle.flac_rescue.specs.declared.survey.SurveyFault.{SurveyFault}
 use Rattle.flac_rescue.specs.declared.survey.SurveyFault.TheVariants.{Head, Memory, Unordered}
 use Rattle.flac_shelf.specs.Listed.{Contents, Listed}
-use Rattle.flac_cli.specs.Reports.{fault_line}
-use Rattle.flac_cli.specs.Verified.{bad_of}
+use Rattle.flac_shelf.specs.Shown.{shown}
+use Rattle.flac_cli.specs.Verified.{bad_of, file_line}
 use Rattle.flac_cli.specs.declared.verify.Finding.{Finding}
 use Rattle.flac_cli.specs.declared.verify.Finding.TheVariants.{Good, Bad, Unopened}
 
@@ -16,7 +16,7 @@ use Rattle.flac_cli.specs.declared.verify.Finding.TheVariants.{Good, Bad, Unopen
 pub record IsSurveyed (path bytes text : List ℕ) : Type 0 where
   pub survey : Survey
   pub is : IsSurvey bytes survey
-  pub lines : text ≡ report_text path survey
+  pub lines : text ≡ report_text (shown path) survey
 
 -- memory ran out in a survey, which no bytes show
 abbrev pub IsOutOfMemory : SurveyFault → Type 0
@@ -33,10 +33,10 @@ pub record AreUnlisted (bytes : List ℕ) : Type 0 where
 
 -- the line of a file of which it is not said what is missing, and that of one for which memory ran out
 abbrev pub unlisted_line : (path : List ℕ) → List ℕ
-unlisted_line path = fault_line path (codes "what is missing cannot be listed")
+unlisted_line path = file_line path (codes "what is missing cannot be listed")
 
 abbrev pub memory_line : (path : List ℕ) → List ℕ
-memory_line path = fault_line path (codes "what is missing cannot be listed: 2 Memory")
+memory_line path = file_line path (codes "what is missing cannot be listed: 2 Memory")
 
 -- What is said of these bytes: the lines of their survey, or that they have none; or memory ran out, and the line says that.
 abbrev pub IsSaidOf : (path bytes text : List ℕ) → Type 0

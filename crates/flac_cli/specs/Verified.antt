@@ -8,6 +8,7 @@ use Rattle.flac_header.specs.declared.subset.Profile.TheVariants.{Subset, Lax}
 use Rattle.flac_native.specs.Places.{fault_text}
 use Rattle.flac_native.specs.Stream.{Piece, marked, block, framed, info_after, is_unknown}
 use Rattle.flac_shelf.specs.Listed.{Contents, Listed}
+use Rattle.flac_shelf.specs.Shown.{shown}
 use Rattle.flac_cli.specs.Changes.{change_in, is_kept, word_of}
 use Rattle.flac_cli.specs.Counted.{frames_in, samples_in_all, printed}
 use Rattle.flac_cli.specs.Outcomes.{Fits, Reads, input_reading}
@@ -96,10 +97,14 @@ words_of change facts =
     word_if (lacks_digest facts.info) (codes " no-md5") ++ (word_if (lacks_total facts.info) (codes " no-total") ++ (word_if facts.outside (codes " outside-subset")
     ++ word_of change))
 
+-- the line of a text about a file, whose path is printed without control characters
+abbrev pub file_line : (path text : List ℕ) → List ℕ
+file_line path text = fault_line (shown path) text
+
 -- the line of a stream: `ok PATH: frames 2 samples 8192 no-md5 same`
 abbrev pub ok_line : (path : List ℕ) → Change → Facts → List ℕ
 ok_line path change facts =
-    codes "ok " ++ (path ++ (codes ": frames " ++ (decimal facts.counts.frames ++ (codes " samples " ++ (decimal facts.counts.samples ++ (words_of change facts ++ codes "\n"))))))
+    codes "ok " ++ (shown path ++ (codes ": frames " ++ (decimal facts.counts.frames ++ (codes " samples " ++ (decimal facts.counts.samples ++ (words_of change facts ++ codes "\n"))))))
 
 -- what a file adds to standard output
 abbrev pub ok_part : (path : List ℕ) → Change → Finding → List ℕ
@@ -109,8 +114,8 @@ ok_part path change other = []
 -- what a file adds to standard error: the line of its fault, and the word of a change
 abbrev pub bad_part : (path : List ℕ) → Change → Finding → List ℕ
 bad_part path change (Good facts) = []
-bad_part path change (Bad fault) = fault_line path (fault_text fault ++ word_of change)
-bad_part path change Unopened = fault_line path (codes "cannot be opened" ++ word_of change)
+bad_part path change (Bad fault) = file_line path (fault_text fault ++ word_of change)
+bad_part path change Unopened = file_line path (codes "cannot be opened" ++ word_of change)
 
 abbrev pub ok_of : Listed → Finding → List ℕ
 ok_of file finding = ok_part file.path (change_in file finding) finding
@@ -132,7 +137,7 @@ all_kept (file ∷ files) (finding ∷ findings) = is_kept (change_in file findi
 
 -- the lines of the files of an older report that were not met
 abbrev pub gone_line : (path : List ℕ) → List ℕ
-gone_line path = codes "gone " ++ (path ++ codes "\n")
+gone_line path = codes "gone " ++ (shown path ++ codes "\n")
 
 abbrev pub gone_lines : List (List ℕ) → List ℕ
 gone_lines [] = []

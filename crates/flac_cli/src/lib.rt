@@ -38,6 +38,7 @@ mod verify_facts;
 mod verify_gone;
 mod verify_lines;
 mod verify_missing;
+mod verify_paths;
 mod verify_report;
 mod wave_file;
 mod wave_samples;

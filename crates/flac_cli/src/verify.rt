@@ -179,7 +179,8 @@ fn status_of(is_written: bool, tally: &Tally) -> u8
 /// `ok PATH: frames N samples N`. Then come the words ` no-md5` and ` no-total`, if STREAMINFO does not state the digest
 /// of the samples or their number (section 8.2), and ` outside-subset`, if the file can be read again and is not in the
 /// streamable subset. The line of another file is written to `err`: `flac: PATH: PLACE: NUMBER NAME`, or
-/// `flac: PATH: cannot be opened`. After all files `out` gets the line `verified N ok N bad N`.
+/// `flac: PATH: cannot be opened`. Paths are printed as [`flac_shelf::shown`] gives them, so that each line is that of one
+/// file. After all files `out` gets the line `verified N ok N bad N`.
 ///
 /// With [`Checks::all`] a file that is refused is read again, whole into memory, and the lines of [`flac_rescue::report`]
 /// come after its own: which samples of a native stream are missing, and at which bytes. Bytes are counted from the first

@@ -1,10 +1,11 @@
 //! The lines that `flac verify` prints.
 
 ghost use Rattle.std.specs.Prelude.{◌≡◌, ◌≤◌, ◌<◌, ◌+◌, ◌++◌, true, [], take, OnOk, OnErr};
+ghost use Rattle.flac_cli.specs.Calls.{HasSent};
 ghost use Rattle.flac_cli.specs.Changes.{word_of};
 ghost use Rattle.flac_cli.specs.Lined.{text_at};
 ghost use Rattle.flac_cli.specs.Reports.{fault_line};
-ghost use Rattle.flac_cli.specs.Verified.{ok_line, ok_part, bad_part, words_of, word_if, last_line};
+ghost use Rattle.flac_cli.specs.Verified.{file_line, ok_line, ok_part, bad_part, words_of, word_if, last_line};
 ghost use Rattle.flac_cli.specs.inner.Lined.{Adds};
 ghost use Rattle.flac_cli.specs.inner.Verifying.{IsEnded, IsSent, IsTold};
 
@@ -42,7 +43,7 @@ fn put_ok<O: Target>(
     requires { lines.old.held ≡ 0 }
     ensures { Adds O.Target (ok_line path.now change facts.now) lines.old.target lines.new.target [] [] result }
 {
-    lines.put_both("ok ", path)?;
+    lines.put_path("ok ", path)?;
     lines.put_counted(": frames ", facts.counts.frames)?;
     lines.put_counted(" samples ", facts.counts.samples)?;
     put_words(lines, change, facts)?;
@@ -97,15 +98,15 @@ fn write_last<O: Target>(out: &mut O, tally: &Tally) -> Result<(), Why>
     put_last(&mut lines, tally)
 }
 
-/// Sends the line of a fault.
-pub(crate) fn tell<E: Target>(err: &mut E, path: &str, at: At, text: &str)
+/// Sends the line of a fault that is not of a file.
+fn tell<E: Target>(err: &mut E, path: &str, at: At, text: &str)
     ensures { IsTold E.Target (fault_line path.now (text_at at text.now)) err.old err.new }
 {
     // If it cannot be written, there is no one left to report it to.
     let _ = write_line(err, path, at, text);
 }
 
-/// Sends the line of a fault, with a word at its end, through a buffer.
+/// Sends the line of a file's fault, with a word at its end, through a buffer.
 fn put_fault<E: Target>(
     lines: &mut Lines<E>,
     path: &str,
@@ -114,10 +115,10 @@ fn put_fault<E: Target>(
     word: &str,
 ) -> Result<(), Why>
     requires { lines.old.held ≡ 0 }
-    ensures { Adds E.Target (fault_line path.now (text_at at text.now ++ word.now))
+    ensures { Adds E.Target (file_line path.now (text_at at text.now ++ word.now))
         lines.old.target lines.new.target [] [] result }
 {
-    lines.put_both("flac: ", path)?;
+    lines.put_path("flac: ", path)?;
     lines.put(": ")?;
     lines.put_reason(at, text)?;
     lines.put(word)?;
@@ -125,7 +126,7 @@ fn put_fault<E: Target>(
     lines.send()
 }
 
-/// Sends the line of a fault, with a word at its end.
+/// Sends the line of a file's fault, with a word at its end.
 ///
 /// # Errors
 /// [`Why::Write`] if the target fails.
@@ -138,8 +139,7 @@ fn write_fault<E: Target>(
 ) -> Result<(), Why>
     ensures kept { E.errors err.old ≤ E.errors err.new }
     ensures known { OnOk result (E.known err.old ≡ true → E.known err.new ≡ true) }
-    ensures sent { OnOk result (E.known err.old ≡ true →
-        E.sent err.new ≡ E.sent err.old ++ fault_line path.now (text_at at text.now ++ word.now)) }
+    ensures sent { HasSent E.Target err.old err.new (file_line path.now (text_at at text.now ++ word.now)) result }
     ensures failed { OnErr result (E.known err.old ≡ true → E.errors err.old < E.errors err.new) }
 {
     let mut lines = Lines::new(err);
@@ -147,8 +147,8 @@ fn write_fault<E: Target>(
 }
 
 /// Sends the line of a file that is bad.
-fn tell_bad<E: Target>(err: &mut E, path: &str, at: At, text: &str, word: &str)
-    ensures { IsTold E.Target (fault_line path.now (text_at at text.now ++ word.now)) err.old err.new }
+pub(crate) fn tell_bad<E: Target>(err: &mut E, path: &str, at: At, text: &str, word: &str)
+    ensures { IsTold E.Target (file_line path.now (text_at at text.now ++ word.now)) err.old err.new }
 {
     // If it cannot be written, there is no one left to report it to.
     let _ = write_fault(err, path, at, text, word);

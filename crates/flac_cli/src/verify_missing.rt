@@ -1,19 +1,21 @@
 //! What `flac verify --all` prints of a file that is refused: what is missing of its stream.
 
 ghost use Rattle.std.specs.Prelude.{◌≡◌, ◌⊎◌, ◌↔◌, true, IfOk, IfErr, codes};
+ghost use Rattle.flac_rescue.specs.Report.{report_text};
 ghost use Rattle.flac_rescue.specs.Survey.{IsSurvey};
+ghost use Rattle.flac_shelf.specs.Shown.{shown};
 ghost use Rattle.flac_cli.specs.Missing.{IsOutOfMemory, AreUnlisted, IsSaidOf, IsListing, asks_missing};
 ghost use Rattle.flac_cli.specs.inner.Missing.{IsContents, IsUnread, line_for, IsSaidAgain};
 ghost use Rattle.flac_cli.specs.inner.Verifying.{IsListed, IsTold, Stays};
 
 use crate::lines::At;
 use crate::verify::{Finding, is_memory};
-use crate::verify_lines::tell;
+use crate::verify_lines::tell_bad;
 use flac_bits::{Target, Why, send_all};
 use flac_rescue::{Survey, SurveyFault, report, survey_bytes};
-use flac_shelf::Shelf;
+use flac_shelf::{Shelf, shown};
 use flac_wave::read_all;
-use std::alloc::Global;
+use std::alloc::{AllocError, Global};
 
 /// Why it is not said what is missing of a file.
 #[derive(Clone, Copy)]
@@ -70,13 +72,21 @@ fn survey_of(alloc: Global, bytes: &[u8]) -> Result<Survey, Unlisted>
     }
 }
 
+/// The lines of a survey of the file of this path.
+fn lines_of(alloc: Global, path: &str, survey: &Survey) -> Result<Vec<u8>, AllocError>
+    ensures { IfOk result (λ text. text.items ≡ report_text (shown path.now) survey.now) }
+{
+    let name = shown(alloc, path)?;
+    report(alloc, name.as_str(), survey)
+}
+
 /// The lines about a native stream of these bytes.
 fn lines_about(alloc: Global, path: &str, bytes: &[u8]) -> Result<Vec<u8>, Unlisted>
     ensures lines { IfOk result (λ text. IsSaidOf path.now bytes.now text.items) }
     ensures unlisted { IfErr result (λ e. IsSaidOf path.now bytes.now (line_for path.now e)) }
 {
     match survey_of(alloc, bytes) {
-        Ok(survey) => match report(alloc, path, &survey) {
+        Ok(survey) => match lines_of(alloc, path, &survey) {
             Ok(text) => Ok(text),
             Err(_) => Err(Unlisted::Memory),
         },
@@ -154,7 +164,7 @@ fn tell_missing<S: Shelf, E: Target>(alloc: Global, shelf: &mut S, err: &mut E)
 {
     match survey(alloc, shelf) {
         Ok(text) => tell_all(err, &text),
-        Err(unlisted) => tell(err, shelf.path(), At::Whole, unlisted.text()),
+        Err(unlisted) => tell_bad(err, shelf.path(), At::Whole, unlisted.text(), ""),
     }
 }
 

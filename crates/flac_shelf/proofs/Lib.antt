@@ -1,2 +1,3 @@
 pub mod Compared
 mod Resumed
+pub mod Paths

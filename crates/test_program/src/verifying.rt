@@ -137,6 +137,24 @@ fn each_file_has_its_line(rt: HostRuntime) -> Result<(), Fail> {
     Ok(())
 }
 
+// The digits are those of the bytes in hexadecimal; é is two bytes of UTF-8.
+#[test]
+fn a_path_is_in_one_line(rt: HostRuntime) -> Result<(), Fail> {
+    let alloc = rt.alloc();
+    let example = bytes_of(alloc, EXAMPLE)?;
+    let files = [
+        file("a\nok b.flac: frames 1 samples 1", &example),
+        file("\u{1b}[2J\u{7f}\\\u{e9}", b"fLa"),
+        unopened("\u{1f} \0"),
+    ];
+    let out = "ok a\\x0aok b.flac: frames 1 samples 1: frames 1 samples 1 no-md5\n\
+        verified 3 ok 1 bad 2\n";
+    let err = "flac: \\x1b[2J\\x7f\\x5c\u{e9}: marker: 3 Truncated\n\
+        flac: \\x1f \\x00: cannot be opened\n";
+    assert!(rt; is_verified(alloc, &files, PLAIN, (1, out, err)));
+    Ok(())
+}
+
 // The values are those of the streams by RFC 9639, section 8.2, and the layout is that of RFC 8259.
 #[test]
 fn each_file_is_in_the_report(rt: HostRuntime) -> Result<(), Fail> {
@@ -296,6 +314,7 @@ fn older_of(alloc: Global) -> Result<Older, AllocError> {
     add(alloc, &mut older, "not there", stamp_of(57, 9), Some(audio))?;
     add(alloc, &mut older, "gone 2", stamp_of(57, 9), Some(audio))?;
     add(alloc, &mut older, "gone 1", stamp_of(9, 9), None)?;
+    add(alloc, &mut older, "gone\n3", stamp_of(9, 9), None)?;
     Ok(older)
 }
 
@@ -349,7 +368,7 @@ fn each_change_has_its_word(rt: HostRuntime) -> Result<(), Fail> {
         flac: now bad: marker: 3 Truncated worse\n\
         flac: not there: cannot be opened worse\n\
         flac: and bad: marker: 3 Truncated new\n\
-        gone gone 1\ngone gone 2\n";
+        gone gone\\x0a3\ngone gone 1\ngone gone 2\n";
     assert!(rt; status == 1 && is_gone);
     assert!(rt; out.bytes() == due_out.as_bytes());
     assert!(rt; err.bytes() == due_err.as_bytes());
@@ -432,19 +451,19 @@ fn what_is_missing_is_listed(rt: HostRuntime) -> Result<(), Fail> {
     let example = bytes_of(alloc, EXAMPLE)?;
     let cut = &example[..56usize.min(example.len())];
     let files = [
-        file("1.flac", cut),
+        file("1\n.flac", cut),
         file("2.flac", &example),
-        pipe("3.flac", cut),
+        pipe("3\t", cut),
         file("4.flac", b"fLa"),
         file("5.oga", b"OggS"),
         unopened("6"),
     ];
     let out = "ok 2.flac: frames 1 samples 1 no-md5\nverified 6 ok 1 bad 5\n";
-    let err = "flac: 1.flac: frame 0: 3 Truncated\n\
-        flac: 1.flac: bytes 42 to 55: samples 0 to 0 missing, 0:00.000 to 0:00.000\n\
-        flac: 1.flac: found 0 of 1 samples in 0 frames\n\
-        flac: 3.flac: frame 0: 3 Truncated\n\
-        flac: 3.flac: what is missing cannot be listed\n\
+    let err = "flac: 1\\x0a.flac: frame 0: 3 Truncated\n\
+        flac: 1\\x0a.flac: bytes 42 to 55: samples 0 to 0 missing, 0:00.000 to 0:00.000\n\
+        flac: 1\\x0a.flac: found 0 of 1 samples in 0 frames\n\
+        flac: 3\\x09: frame 0: 3 Truncated\n\
+        flac: 3\\x09: what is missing cannot be listed\n\
         flac: 4.flac: marker: 3 Truncated\n\
         flac: 4.flac: what is missing cannot be listed\n\
         flac: 5.oga: page 0: 3 Truncated\n\

@@ -2,7 +2,9 @@ use Rattle.std.proofs.Common.{◌≡◌, ap, ◌∙◌, ◌++◌, take, [], subs
 use Rattle.std.proofs.lemmas.Result.{err_from_is_err_and}
 use Rattle.flac_cli.specs.Lined.{text_at}
 use Rattle.flac_cli.specs.inner.Lined.{Adds}
+use Rattle.flac_shelf.specs.Shown.{shown}
 use Rattle.flac_cli.specs.Reports.{fault_line}
+use Rattle.flac_cli.specs.Verified.{file_line}
 use Rattle.flac_cli.proofs.Lined.{none_taken, adds_then, adds_same, lost, lost_then, adds_lost, sent_adds}
 use Rattle.flac_cli.proofs.verify_lines.put_fault.Goals as goal
 
@@ -10,31 +12,31 @@ use Rattle.flac_cli.proofs.verify_lines.put_fault.Goals as goal
 joined : (path text word : List ℕ) → (codes "flac: " ++ path) ++ (codes ": " ++ (text ++ (word ++ (codes "\n" ++ [])))) ≡ fault_line path (text ++ word)
 joined path text word = append_assoc (codes "flac: ") path _ ∙ ap (λ l. codes "flac: " ++ (path ++ (codes ": " ++ l))) (sym (append_assoc text word (codes "\n")))
 
-pub returns-in_err-put_both : goal.returns-in_err-put_both
-returns-in_err-put_both g c =
+pub returns-in_err-put_path : goal.returns-in_err-put_path
+returns-in_err-put_path g c =
     let p = err_from_is_err_and c.from_residual.result c.from_residual.ensures.1 in
-    rw p.1 (adds_lost g.E.Target (lost g.E.Target c.in_err-put_both.ensures))
+    rw p.1 (adds_lost g.E.Target (lost g.E.Target c.in_err-put_path.ensures))
 
 pub returns-in_err-put : goal.returns-in_err-put
 returns-in_err-put g c =
     let p = err_from_is_err_and c.from_residual-in_err-put.result c.from_residual-in_err-put.ensures.1 in
-    rw p.1 (adds_lost g.E.Target (lost_then g.E.Target c.in_ok-put_both.ensures (lost g.E.Target c.in_err-put.ensures)))
+    rw p.1 (adds_lost g.E.Target (lost_then g.E.Target c.in_ok-put_path.ensures (lost g.E.Target c.in_err-put.ensures)))
 
 pub returns-in_err-put_reason : goal.returns-in_err-put_reason
 returns-in_err-put_reason g c =
     let p = err_from_is_err_and c.from_residual-in_err-put_reason.result c.from_residual-in_err-put_reason.ensures.1 in
-    rw p.1 (adds_lost g.E.Target (lost_then g.E.Target c.in_ok-put_both.ensures (lost_then g.E.Target c.in_ok-put.ensures (lost g.E.Target c.in_err-put_reason.ensures))))
+    rw p.1 (adds_lost g.E.Target (lost_then g.E.Target c.in_ok-put_path.ensures (lost_then g.E.Target c.in_ok-put.ensures (lost g.E.Target c.in_err-put_reason.ensures))))
 
 pub returns-in_err-put-2 : goal.returns-in_err-put-2
 returns-in_err-put-2 g c =
     let p = err_from_is_err_and c.from_residual-in_err-put-2.result c.from_residual-in_err-put-2.ensures.1 in
-    rw p.1 (adds_lost g.E.Target (lost_then g.E.Target c.in_ok-put_both.ensures (lost_then g.E.Target c.in_ok-put.ensures (lost_then g.E.Target c.in_ok-put_reason.ensures (lost g.E.Target c.in_err-put-2.ensures)))))
+    rw p.1 (adds_lost g.E.Target (lost_then g.E.Target c.in_ok-put_path.ensures (lost_then g.E.Target c.in_ok-put.ensures (lost_then g.E.Target c.in_ok-put_reason.ensures (lost g.E.Target c.in_err-put-2.ensures)))))
 
 pub returns-in_err-put-3 : goal.returns-in_err-put-3
 returns-in_err-put-3 g c =
     let p = err_from_is_err_and c.from_residual-in_err-put-3.result c.from_residual-in_err-put-3.ensures.1 in
     let later = lost_then g.E.Target c.in_ok-put_reason.ensures (lost_then g.E.Target c.in_ok-put-2.ensures (lost g.E.Target c.in_err-put-3.ensures)) in
-    rw p.1 (adds_lost g.E.Target (lost_then g.E.Target c.in_ok-put_both.ensures (lost_then g.E.Target c.in_ok-put.ensures later)))
+    rw p.1 (adds_lost g.E.Target (lost_then g.E.Target c.in_ok-put_path.ensures (lost_then g.E.Target c.in_ok-put.ensures later)))
 
 pub returns : goal.returns
 returns g c =
@@ -42,6 +44,6 @@ returns g c =
     let d = adds_then g.E.Target _ c.in_ok-put-2.ensures (adds_then g.E.Target _ c.in_ok-put-3.ensures sent) in
     let b = adds_then g.E.Target _ c.in_ok-put_reason.ensures d in
     let a = adds_then g.E.Target _ c.in_ok-put.ensures b in
-    let all = adds_same g.E.Target _ (adds_then g.E.Target _ c.in_ok-put_both.ensures a) (joined c.args.path.now (text_at c.args.at c.args.text.now) c.args.word.now) in
+    let all = adds_same g.E.Target _ (adds_then g.E.Target _ c.in_ok-put_path.ensures a) (joined (shown c.args.path.now) (text_at c.args.at c.args.text.now) c.args.word.now) in
     let none : take c.args.lines.now.held c.args.lines.now.bytes ≡ [] = ap (λ n. take n c.args.lines.now.bytes) c.requires ∙ none_taken c.args.lines.now.bytes in
-    subst (λ held. Adds g.E.Target (fault_line c.args.path.now (text_at c.args.at c.args.text.now ++ c.args.word.now)) c.args.lines.now.target c.send.new.self.target held [] c.send.result) none all
+    subst (λ held. Adds g.E.Target (file_line c.args.path.now (text_at c.args.at c.args.text.now ++ c.args.word.now)) c.args.lines.now.target c.send.new.self.target held [] c.send.result) none all

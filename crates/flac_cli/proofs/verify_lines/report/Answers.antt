@@ -1,8 +1,7 @@
 use Rattle.std.proofs.Common.{◌≡◌, ◌∙◌, ◌++◌, refl, ap, sym, codes}
 use Rattle.flac_native.specs.Places.{place_text}
 use Rattle.flac_cli.specs.Changes.{word_of}
-use Rattle.flac_cli.specs.Reports.{fault_line}
-use Rattle.flac_cli.specs.Verified.{ok_part, bad_part}
+use Rattle.flac_cli.specs.Verified.{file_line, ok_part, bad_part}
 use Rattle.flac_cli.proofs.Told.{sent_of, none_sent, none_told, told_same, sent_same}
 use Rattle.flac_cli.proofs.verify_lines.report.Goals as goal
 
@@ -15,8 +14,8 @@ returns-in-Good g c = record {
 
 pub returns-in-Bad : goal.returns-in-Bad
 returns-in-Bad g c =
-    let word = ap (λ w. fault_line c.args.path.now ((place_text c.in-Bad.fault.at ++ (codes ": " ++ c.as_str.result.now)) ++ w)) c.word.ensures in
-    let text = ap (λ t. fault_line c.args.path.now ((place_text c.in-Bad.fault.at ++ (codes ": " ++ t)) ++ word_of c.args.change)) c.as_str.ensures in
+    let word = ap (λ w. file_line c.args.path.now ((place_text c.in-Bad.fault.at ++ (codes ": " ++ c.as_str.result.now)) ++ w)) c.word.ensures in
+    let text = ap (λ t. file_line c.args.path.now ((place_text c.in-Bad.fault.at ++ (codes ": " ++ t)) ++ word_of c.args.change)) c.as_str.ensures in
     record {
       out = sent_same g.O.Target (none_sent g.O.Target c.args.out.now) (ap (ok_part c.args.path.now c.args.change) (sym c.in-Bad.is));
       err = told_same g.E.Target c.tell_bad.ensures (word ∙ text ∙ ap (bad_part c.args.path.now c.args.change) (sym c.in-Bad.is));
@@ -24,7 +23,7 @@ returns-in-Bad g c =
 
 pub returns-in-Unopened : goal.returns-in-Unopened
 returns-in-Unopened g c =
-    let word = ap (λ w. fault_line c.args.path.now (codes "cannot be opened" ++ w)) c.word-in-Unopened.ensures in
+    let word = ap (λ w. file_line c.args.path.now (codes "cannot be opened" ++ w)) c.word-in-Unopened.ensures in
     record {
       out = sent_same g.O.Target (none_sent g.O.Target c.args.out.now) (ap (ok_part c.args.path.now c.args.change) (sym c.in-Unopened.is));
       err = told_same g.E.Target c.tell_bad-in-Unopened.ensures (word ∙ ap (bad_part c.args.path.now c.args.change) (sym c.in-Unopened.is));

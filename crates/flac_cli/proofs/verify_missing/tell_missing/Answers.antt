@@ -23,7 +23,7 @@ returns-in-Err g c =
           record {
             text = line_for (g.S.Shelf.current c.args.shelf.now).path c.in-Err.unlisted;
             missing = c.in-Err.ensures.unlisted known same;
-            told = told_same g.E.Target c.tell.ensures (line_said _ _ _ c.in-Err.unlisted path c.text.ensures.unsurveyed c.text.ensures.memory);
+            told = told_same g.E.Target c.tell_bad.ensures (line_said _ _ _ c.in-Err.unlisted path c.text.ensures.unsurveyed c.text.ensures.memory);
           };
       stays = s;
     }
