@@ -326,7 +326,8 @@ def fixed(folder, info, frames):
     for words in (["--set", "TITLE"], ["--add", ""]):
         expect(run("tag", *words, path), (2, b"", b"flac: command: comment without =\n"))
     expect(read(path), roomy)
-    expect(run("tag", "-v", path), (0, f"{path}: same\n".encode(), b""))
+    for words in ([], ["-v"], ["--in-place"], ["--padding", "100"]):
+        expect(run("tag", *words, path), (2, b"", b"flac: command: tag needs --clear, --from, --remove, --set, --add or --rewrite\n"))
 
     # lines
     back, lines = put("back.flac", roomy), os.path.join(folder, "back.txt")

@@ -736,6 +736,8 @@ flac --version | 0 flac (proved) 1.0.0;
 flac tag a.flac --set TITLE | 2 flac: command: comment without =;
 flac tag a.flac --from a.txt --add =x | 2 flac: command: 55 FieldName;
 flac tag a.flac --from a.txt --from b.txt | 2 error: the argument '--from <LINES>' cannot be used multiple times*
+flac tag a.flac | 2 flac: command: tag needs --clear, --from, --remove, --set, --add or --rewrite;
+flac tag a.flac --padding 0 | 2 flac: command: tag needs --clear, --from, --remove, --set, --add or --rewrite;
 flac edit a.flac | 2 flac: command: edit needs --padding, --remove-block or --picture;
 flac edit a.flac --remove-block 0 | 2 flac: command: --remove-block takes a number from 1 on, or a type other than STREAMINFO;
 flac edit a.flac --remove-block streaminfo | 2 flac: command: --remove-block takes a number from 1 on, or a type other than STREAMINFO;

@@ -204,6 +204,11 @@ pub(crate) fn fault_of_tagging(tagging: &Tagging<'_>) -> Option<LineFault>
     if tagging.mode.is_none() {
         return Some(LineFault::refused("flac: command: --in-place with --rewrite\n"));
     }
+    if tagging.edits.is_empty() && tagging.mode != Some(TagMode::Rewrite) {
+        return Some(LineFault::refused(
+            "flac: command: tag needs --clear, --from, --remove, --set, --add or --rewrite\n",
+        ));
+    }
     for edit in &tagging.edits {
         if lacks_equals(edit) {
             return Some(LineFault::refused("flac: command: comment without =\n"));
