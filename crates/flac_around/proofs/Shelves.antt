@@ -17,6 +17,9 @@ pub next_listed : (there : Bool) (files more : List Listed) (at : Listed) → fi
 next_listed true files more at is = ap (map between_listed) is
 next_listed false files more at is = ap (map between_listed) is
 
+pub over_listed : (more : List Listed) → more ≡ [] → map between_listed more ≡ []
+over_listed more none = ap (map between_listed) none
+
 pub again_listed : (again : Bool) (contents : Option Contents) → IfSome contents (λ of. again ≡ of.again) → IfSome (between_contents contents) (λ of. again ≡ of.again)
 again_listed again None is = tt
 again_listed again (Some of) is = is

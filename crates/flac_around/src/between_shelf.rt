@@ -41,11 +41,13 @@ impl<S: Shelf> Shelf for BetweenShelf<S> {
 
     ghost files = { λ s. map between_listed (S.files s.shelf) };
 
+    ghost gone = { λ s. S.gone s.shelf };
+
     ghost faults = { λ s. S.faults s.shelf };
 
     ghost most = { λ s. S.most s.shelf };
 
-    #[tactic(auto, using(crate::proofs::Shelves::next_listed))]
+    #[tactic(auto, using(crate::proofs::Shelves::next_listed, crate::proofs::Shelves::over_listed))]
     fn next(&mut self) -> bool {
         self.shelf.next()
     }

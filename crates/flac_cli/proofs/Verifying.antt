@@ -285,36 +285,39 @@ outside_unopened (Some of) w = absurd w
 
 -- ---- the list
 
-module _ {S : Type 0} {known : S → Bool} {current : S → Listed} {files : S → List Listed} {faults most : S → ℕ} where
+module _ {S : Type 0} {known : S → Bool} {current : S → Listed} {files : S → List Listed} {gone : S → List (List ℕ)} {faults most : S → ℕ} where
   -- no device failed in either of two calls
-  pub still : {a b c : S} → Stays known current files faults most a b → Stays known current files faults most b c → faults c ≡ faults a → (faults b ≡ faults a) × (faults c ≡ faults b)
+  pub still : {a b c : S} → Stays known current files gone faults most a b → Stays known current files gone faults most b c → faults c ≡ faults a → (faults b ≡ faults a) × (faults c ≡ faults b)
   still p q same = (omega (arith, same, p.kept, q.kept), omega (arith, same, p.kept, q.kept))
 
-  pub stays_then : {a b c : S} → Stays known current files faults most a b → Stays known current files faults most b c → Stays known current files faults most a c
+  pub stays_then : {a b c : S} → Stays known current files gone faults most a b → Stays known current files gone faults most b c → Stays known current files gone faults most a c
   stays_then {a = a} {b = b} {c = c} p q = record {
     kept = omega (arith, p.kept, q.kept);
     knows = λ k same. let calm = still p q same in q.knows (p.knows k calm.0) calm.1;
     here = q.here ∙ p.here;
     rest = q.rest ∙ p.rest;
+    left = q.left ∙ p.left;
     room = q.room ∙ p.room;
   }
 
   -- the file was opened, and no more
-  pub stays_opened : {a b : S} → (known a ≡ true → known b ≡ true) → current b ≡ current a → files b ≡ files a → faults b ≡ faults a → most b ≡ most a → Stays known current files faults most a b
-  stays_opened {a = a} {b = b} k at left same more = record {
+  pub stays_opened : {a b : S} → (known a ≡ true → known b ≡ true) → current b ≡ current a → files b ≡ files a → gone b ≡ gone a → faults b ≡ faults a → most b ≡ most a → Stays known current files gone faults most a b
+  stays_opened {a = a} {b = b} k at left paths same more = record {
     kept = omega (arith, same);
     knows = λ was calm. k was;
     here = at;
     rest = left;
+    left = paths;
     room = more;
   }
 
   -- it was given back
-  pub stays_closed : {a b : S} → faults a ≤ faults b → (known a ≡ true → faults b ≡ faults a → known b ≡ true) → current b ≡ current a → files b ≡ files a → most b ≡ most a → Stays known current files faults most a b
-  stays_closed kept k at left more = record {
+  pub stays_closed : {a b : S} → faults a ≤ faults b → (known a ≡ true → faults b ≡ faults a → known b ≡ true) → current b ≡ current a → files b ≡ files a → gone b ≡ gone a → most b ≡ most a → Stays known current files gone faults most a b
+  stays_closed kept k at left paths more = record {
     kept = kept;
     knows = k;
     here = at;
     rest = left;
+    left = paths;
     room = more;
   }

@@ -76,6 +76,11 @@ abbrev pub AreWhole : (subset : Bool) → List Listed → Type 0
 AreWhole subset [] = Unit {0}
 AreWhole subset (file ∷ files) = IsWhole subset file.contents × AreWhole subset files
 
+-- All files of a list have come: none is left, and what is gone of an older report is what was to be gone of it.
+pub record HaveCome {S : Type 0} (files : S → List Listed) (gone : S → List (List ℕ)) (old new : S) : Type 0 where
+  pub over : files new ≡ []
+  pub left : gone new ≡ gone old
+
 -- ---- what is printed
 
 -- STREAMINFO does not state the digest of the samples, or their number

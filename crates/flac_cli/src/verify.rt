@@ -2,7 +2,7 @@
 
 ghost use Rattle.std.specs.Prelude.{◌≡◌, ◌≤◌, ◌↔◌, ◌||◌, true, false, IfSome};
 ghost use Rattle.flac_cli.specs.Outcomes.{Fits};
-ghost use Rattle.flac_cli.specs.Verified.{IsFinding, HasNoMemory, AreWhole};
+ghost use Rattle.flac_cli.specs.Verified.{IsFinding, HasNoMemory, AreWhole, HaveCome};
 ghost use Rattle.flac_cli.specs.Verifies.{Verifies};
 ghost use Rattle.flac_cli.specs.inner.Verifying.{IsReading, IsReadingOutside, IsCounted, Stays};
 
@@ -73,7 +73,7 @@ impl Tally {
 fn read_in<S: Shelf>(alloc: Global, shelf: &mut S, profile: Profile) -> Finding
     ensures found { S.known shelf.old ≡ true → S.faults shelf.new ≡ S.faults shelf.old →
         IsReading profile (S.current shelf.old).contents result }
-    ensures stays { Stays S.known S.current S.files S.faults S.most shelf.old shelf.new }
+    ensures stays { Stays S.known S.current S.files S.gone S.faults S.most shelf.old shelf.new }
 {
     match shelf.open() {
         Some(mut file) => match read_facts(alloc, &mut file, profile) {
@@ -94,7 +94,7 @@ fn read_in<S: Shelf>(alloc: Global, shelf: &mut S, profile: Profile) -> Finding
 fn read_outside<S: Shelf>(alloc: Global, shelf: &mut S) -> Finding
     ensures found { S.known shelf.old ≡ true → S.faults shelf.new ≡ S.faults shelf.old →
         IsReadingOutside (S.current shelf.old).contents result }
-    ensures stays { Stays S.known S.current S.files S.faults S.most shelf.old shelf.new }
+    ensures stays { Stays S.known S.current S.files S.gone S.faults S.most shelf.old shelf.new }
 {
     match read_in(alloc, shelf, Profile::Lax) {
         Finding::Good(facts) => Finding::Good(Facts {
@@ -119,7 +119,7 @@ fn find_again<S: Shelf>(alloc: Global, shelf: &mut S) -> Finding
     ensures found { S.known shelf.old ≡ true → S.faults shelf.new ≡ S.faults shelf.old →
         IfSome (S.current shelf.old).contents (λ of. of.again ≡ true) →
         Fits HasNoMemory (IsFinding false (S.current shelf.old).contents) result }
-    ensures stays { Stays S.known S.current S.files S.faults S.most shelf.old shelf.new }
+    ensures stays { Stays S.known S.current S.files S.gone S.faults S.most shelf.old shelf.new }
 {
     match read_in(alloc, shelf, Profile::Subset) {
         Finding::Good(facts) => Finding::Good(facts),
@@ -137,7 +137,7 @@ fn find_again<S: Shelf>(alloc: Global, shelf: &mut S) -> Finding
 fn find<S: Shelf>(alloc: Global, shelf: &mut S, subset: bool) -> Finding
     ensures found { S.known shelf.old ≡ true → S.faults shelf.new ≡ S.faults shelf.old →
         Fits HasNoMemory (IsFinding subset (S.current shelf.old).contents) result }
-    ensures stays { Stays S.known S.current S.files S.faults S.most shelf.old shelf.new }
+    ensures stays { Stays S.known S.current S.files S.gone S.faults S.most shelf.old shelf.new }
 {
     if subset {
         return read_in(alloc, shelf, Profile::Subset);
@@ -213,6 +213,9 @@ pub fn verify_files<S: Shelf, O: Target, E: Target, P: Target>(
     // So after status 0 each file is a stream.
     ensures streams { result ≡ 0 → S.known shelf.old ≡ true → S.faults shelf.new ≡ S.faults shelf.old →
         AreWhole checks.subset (S.files shelf.old) }
+    // All files have come. So the paths that are left of an older report are those that no file of the list has.
+    ensures gone { S.known shelf.old ≡ true → S.faults shelf.new ≡ S.faults shelf.old →
+        HaveCome S.files S.gone shelf.old shelf.new }
 {
     let mut tally = Tally {
         files: 0,

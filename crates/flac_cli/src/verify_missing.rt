@@ -100,7 +100,7 @@ fn bytes_of<S: Shelf>(alloc: Global, shelf: &mut S) -> Result<Vec<u8>, Unlisted>
         IfOk result (λ bytes. IsContents (S.current shelf.old).contents bytes.items) }
     ensures unread { S.known shelf.old ≡ true → S.faults shelf.new ≡ S.faults shelf.old →
         IfErr result (λ e. IsUnread (S.current shelf.old).contents e) }
-    ensures stays { Stays S.known S.current S.files S.faults S.most shelf.old shelf.new }
+    ensures stays { Stays S.known S.current S.files S.gone S.faults S.most shelf.old shelf.new }
 {
     match shelf.open() {
         Some(mut file) => match read_all(alloc, &mut file) {
@@ -124,7 +124,7 @@ fn survey_again<S: Shelf>(alloc: Global, shelf: &mut S) -> Result<Vec<u8>, Unlis
     ensures unlisted { S.known shelf.old ≡ true → S.faults shelf.new ≡ S.faults shelf.old →
         IfErr result (λ e. IsSaidAgain (S.current shelf.old).path (S.current shelf.old).contents
         (line_for (S.current shelf.old).path e)) }
-    ensures stays { Stays S.known S.current S.files S.faults S.most shelf.old shelf.new }
+    ensures stays { Stays S.known S.current S.files S.gone S.faults S.most shelf.old shelf.new }
 {
     match bytes_of(alloc, shelf) {
         Ok(bytes) => lines_about(alloc, shelf.path(), &bytes),
@@ -139,7 +139,7 @@ fn survey<S: Shelf>(alloc: Global, shelf: &mut S) -> Result<Vec<u8>, Unlisted>
     ensures unlisted { S.known shelf.old ≡ true → S.faults shelf.new ≡ S.faults shelf.old →
         IfErr result (λ e. IsListing (S.current shelf.old).path (S.current shelf.old).contents
         (line_for (S.current shelf.old).path e)) }
-    ensures stays { Stays S.known S.current S.files S.faults S.most shelf.old shelf.new }
+    ensures stays { Stays S.known S.current S.files S.gone S.faults S.most shelf.old shelf.new }
 {
     let again = shelf.reads_again();
     if again {
@@ -160,7 +160,7 @@ fn tell_all<E: Target>(err: &mut E, text: &[u8])
 fn tell_missing<S: Shelf, E: Target>(alloc: Global, shelf: &mut S, err: &mut E)
     ensures told { S.known shelf.old ≡ true → S.faults shelf.new ≡ S.faults shelf.old →
         IsListed E.Target true (S.current shelf.old) err.old err.new }
-    ensures stays { Stays S.known S.current S.files S.faults S.most shelf.old shelf.new }
+    ensures stays { Stays S.known S.current S.files S.gone S.faults S.most shelf.old shelf.new }
 {
     match survey(alloc, shelf) {
         Ok(text) => tell_all(err, &text),
@@ -189,7 +189,7 @@ pub(crate) fn list_missing<S: Shelf, E: Target>(
 )
     ensures told { S.known shelf.old ≡ true → S.faults shelf.new ≡ S.faults shelf.old →
         IsListed E.Target (asks_missing all finding.now) (S.current shelf.old) err.old err.new }
-    ensures stays { Stays S.known S.current S.files S.faults S.most shelf.old shelf.new }
+    ensures stays { Stays S.known S.current S.files S.gone S.faults S.most shelf.old shelf.new }
 {
     if asks_missing(all, finding) {
         tell_missing(alloc, shelf, err);

@@ -153,6 +153,8 @@ impl Shelf for FileShelf {
 
     ghost files = { λ _. [] };
 
+    ghost gone = { λ _. [] };
+
     ghost faults = { λ _. 0 };
 
     ghost most = { λ s. s.room };

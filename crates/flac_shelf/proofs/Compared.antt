@@ -12,7 +12,7 @@ use Rattle.std.specs.Str.{bytes_eq}
 use Rattle.std.specs.Prelude.{String}
 use Rattle.std.specs.String.{string_bytes, string_cmp}
 use Rattle.flac_shelf.specs.Listed.{Listed}
-use Rattle.flac_shelf.specs.Records.{with_path, without}
+use Rattle.flac_shelf.specs.Records.{with_path, without, without_all}
 
 -- two functions that are equal on each file
 same_map : (f h : Listed → Listed) → ((x : Listed) → h x ≡ f x) → (files : List Listed) → map f files ≡ map h files
@@ -22,6 +22,20 @@ same_map f h same (x ∷ xs) = ap (λ y. y ∷ map f xs) (sym (same x)) ∙ ap (
 pub compared_next : (f h : Listed → Listed) → ((x : Listed) → h x ≡ f x) → (there : Bool) (files more : List Listed) (at : Listed) → files ≡ cond there (at ∷ more) [] → map f files ≡ cond there (h at ∷ map h more) []
 compared_next f h same true files more at is = ap (map f) is ∙ same_map f h same (at ∷ more)
 compared_next f h same false files more at is = ap (map f) is
+
+-- no file comes after the last
+pub compared_over : (f : Listed → Listed) (more : List Listed) → more ≡ [] → map f more ≡ []
+compared_over f more none = ap (map f) none
+
+-- a file that comes is taken out of the paths that are left
+pub gone_next : (there : Bool) (files more : List Listed) (at : Listed) (path : List ℕ) (was left : List (List ℕ)) → there ≡ true → files ≡ cond there (at ∷ more) [] → path ≡ at.path → left ≡ without path was
+    → without_all more left ≡ without_all files was
+gone_next true files more at path was left holds is same met = ap (without_all more) (met ∙ ap (λ p. without p was) same) ∙ sym (ap (λ fs. without_all fs was) is)
+gone_next false files more at path was left holds is same met = absurd cc
+
+pub gone_over : (there : Bool) (files more : List Listed) (at : Listed) (left : List (List ℕ)) → there ≡ false → files ≡ cond there (at ∷ more) [] → more ≡ [] → without_all more left ≡ without_all files left
+gone_over true files more at left fails is none = absurd cc
+gone_over false files more at left fails is none = ap (λ fs. without_all fs left) none ∙ sym (ap (λ fs. without_all fs left) is)
 
 module _ {Y : Type 0} (path : List ℕ) where
   removed_step : (k : String Y) (ks : List (String Y)) (rest : List (List ℕ)) (kept : List (String Y)) → map string_bytes kept ≡ rest → (b : Bool)

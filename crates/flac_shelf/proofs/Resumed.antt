@@ -21,6 +21,10 @@ pub stops : (report : Report) (there good : Bool) (at : Listed) (files more : Li
 stops report true good at files more some fails is all = ap (without_good report) all ∙ kept_one good report at more (sym is) fails
 stops report false good at files more some fails is all = absurd cc
 
+-- no file comes after the last
+pub none_left : (report : Report) (more : List Listed) → more ≡ [] → without_good report more ≡ []
+none_left report more none = ap (without_good report) none
+
 -- at the end
 pub ends : (report : Report) (there : Bool) (at : Listed) (files more : List Listed) → there ≡ false → files ≡ cond there (at ∷ more) [] → without_good report files ≡ []
 ends report false at files more none all = ap (without_good report) all

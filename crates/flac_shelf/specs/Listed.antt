@@ -1,5 +1,5 @@
 -- A file of a list, and what its bytes are.
-use Rattle.std.specs.Prelude.{◌≡◌, ℕ, Bool, true, List, Option, Some, None}
+use Rattle.std.specs.Prelude.{◌≡◌, ℕ, Bool, true, List, Option, Some, None, MatchOption}
 use Rattle.flac_bits.specs.State.{After}
 use Rattle.flac_bits.specs.declared.source.Source as source
 use Rattle.flac_shelf.specs.declared.past.Earlier.{Earlier}
@@ -32,3 +32,7 @@ pub record Opens {S : Type 0} (g : source.Ghosts S) (contents : Option Contents)
   pub after : g.after s ≡ of.after
   pub errors : g.errors s ≡ 0
   pub raised : g.raised s ≡ 0
+
+-- such a source, or none if the file cannot be opened
+abbrev pub OpensIf : {S : Type 0} (g : source.Ghosts S) (contents : Option Contents) → Option S → Type 0
+OpensIf g contents opened = MatchOption opened (contents ≡ None) (λ file. Opens g contents file)

@@ -32,6 +32,11 @@ abbrev pub without : (path : List ℕ) → List (List ℕ) → List (List ℕ)
 without path [] = []
 without path (p ∷ ps) = cond (bytes_eq path p) ps (p ∷ without path ps)
 
+-- paths without those of these files
+abbrev pub without_all : List Listed → List (List ℕ) → List (List ℕ)
+without_all [] paths = paths
+without_all (file ∷ files) paths = without_all files (without file.path paths)
+
 -- paths in the order of their bytes with this one, which is there once
 abbrev pub with_path : (path : List ℕ) → List (List ℕ) → List (List ℕ)
 with_path path [] = path ∷ []

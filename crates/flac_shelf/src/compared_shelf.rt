@@ -1,6 +1,6 @@
 //! A list of files with what an older report has of each.
 
-ghost use Rattle.std.specs.Prelude.{◌≡◌, ◌<◌, map};
+ghost use Rattle.std.specs.Prelude.{◌≡◌, ◌<◌, true, false, [], map};
 ghost use Rattle.flac_shelf.specs.Listed.{Listed};
 ghost use Rattle.flac_shelf.specs.Records.{compared_by, left_of, without};
 
@@ -50,7 +50,7 @@ impl<S: Shelf> Shelf for ComparedShelf<S> {
     type File = S::File;
 
     ghost use Rattle.std.specs.Prelude.{map};
-    ghost use Rattle.flac_shelf.specs.Records.{compared_by};
+    ghost use Rattle.flac_shelf.specs.Records.{compared_by, left_of, without_all};
 
     ghost known = { λ s. S.known s.shelf };
 
@@ -58,11 +58,13 @@ impl<S: Shelf> Shelf for ComparedShelf<S> {
 
     ghost files = { λ s. map (compared_by s.older) (S.files s.shelf) };
 
+    ghost gone = { λ s. without_all (S.files s.shelf) (left_of s.older) };
+
     ghost faults = { λ s. S.faults s.shelf };
 
     ghost most = { λ s. S.most s.shelf };
 
-    #[tactic(auto, using(crate::proofs::Compared::compared_next))]
+    #[tactic(auto, using(crate::proofs::Compared::compared_next, crate::proofs::Compared::compared_over, crate::proofs::Compared::gone_next, crate::proofs::Compared::gone_over))]
     fn next(&mut self) -> bool {
         if !self.shelf.next() {
             return false;

@@ -1,6 +1,6 @@
 //! Files in memory.
 
-ghost use Rattle.std.specs.Prelude.{◌≡◌, ◌<◌, true, [], length, map};
+ghost use Rattle.std.specs.Prelude.{◌≡◌, ◌<◌, true, false, [], length, map};
 ghost use Rattle.flac_shelf.specs.Listed.{Listed};
 
 use crate::past::Earlier;
@@ -53,6 +53,8 @@ impl<'a> Shelf for HeldShelf<'a> {
     ghost current = { λ s. listed_of s.at };
 
     ghost files = { λ s. map listed_of s.rest.now };
+
+    ghost gone = { λ _. [] };
 
     ghost faults = { λ _. 0 };
 

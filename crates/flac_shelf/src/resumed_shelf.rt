@@ -1,6 +1,6 @@
 //! A list of files without those that a report has as good.
 
-ghost use Rattle.std.specs.Prelude.{◌≡◌, ◌<◌, true};
+ghost use Rattle.std.specs.Prelude.{◌≡◌, ◌<◌, true, false, []};
 ghost use Rattle.flac_shelf.specs.Past.{has_good};
 ghost use Rattle.flac_shelf.specs.Records.{report_of};
 
@@ -47,6 +47,8 @@ impl<S: Shelf> Shelf for ResumedShelf<S> {
     ghost current = { λ s. S.current s.shelf };
 
     ghost files = { λ s. without_good (report_of s.good) (S.files s.shelf) };
+
+    ghost gone = { λ s. S.gone s.shelf };
 
     ghost faults = { λ s. S.faults s.shelf };
 

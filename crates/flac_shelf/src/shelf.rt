@@ -1,7 +1,7 @@
 //! Lists of files.
 
-ghost use Rattle.std.specs.Prelude.{◌≡◌, ◌≤◌, ◌<◌, ℕ, Bool, true, cond, List, [], ◌∷◌, None, MatchOption, IfSome};
-ghost use Rattle.flac_shelf.specs.Listed.{Listed, Opens};
+ghost use Rattle.std.specs.Prelude.{◌≡◌, ◌≤◌, ◌<◌, ℕ, Bool, true, false, cond, List, [], ◌∷◌, IfSome};
+ghost use Rattle.flac_shelf.specs.Listed.{Listed, OpensIf};
 
 use crate::past::Earlier;
 use crate::stamp::Stamp;
@@ -24,6 +24,9 @@ pub trait Shelf {
     /// The files after it, if they are known.
     ghost files: { Self → List Listed };
 
+    /// The paths of an older report that no file has had when all files have come, if they are known.
+    ghost gone: { Self → List (List ℕ) };
+
     /// How many files were given back after their device had failed. If the count can rise no more, the files count as
     /// unknown.
     ghost faults: { Self → ℕ };
@@ -35,6 +38,8 @@ pub trait Shelf {
     fn next(&mut self) -> bool
         ensures known { known self.old ≡ true → known self.new ≡ true }
         ensures files { known self.old ≡ true → files self.old ≡ cond result (current self.new ∷ files self.new) [] }
+        ensures over { known self.old ≡ true → result ≡ false → files self.new ≡ [] }
+        ensures gone { known self.old ≡ true → gone self.new ≡ gone self.old }
         ensures faults { faults self.new ≡ faults self.old }
         ensures most { result ≡ true → most self.new < most self.old };
 
@@ -56,11 +61,11 @@ pub trait Shelf {
 
     /// Opens the file, to be read from its start. `None` if it cannot be opened.
     fn open(&mut self) -> Option<Self::File>
-        ensures opened { known self.old ≡ true → MatchOption result ((current self.old).contents ≡ None)
-            (λ file. Opens Self.File.Source (current self.old).contents file) }
+        ensures opened { known self.old ≡ true → OpensIf Self.File.Source (current self.old).contents result }
         ensures known { known self.old ≡ true → known self.new ≡ true }
         ensures current { current self.new ≡ current self.old }
         ensures files { files self.new ≡ files self.old }
+        ensures gone { gone self.new ≡ gone self.old }
         ensures faults { faults self.new ≡ faults self.old }
         ensures most { most self.new ≡ most self.old };
 
@@ -72,5 +77,6 @@ pub trait Shelf {
         ensures known { known self.old ≡ true → faults self.new ≡ faults self.old → known self.new ≡ true }
         ensures current { current self.new ≡ current self.old }
         ensures files { files self.new ≡ files self.old }
+        ensures gone { gone self.new ≡ gone self.old }
         ensures most { most self.new ≡ most self.old };
 }

@@ -41,11 +41,12 @@ pub record IsEntered {T : Type 0} (g : target.Ghosts T) (going : Bool) (text : L
   pub lost : going ≡ true → done ≡ false → g.known old ≡ true → g.errors old < g.errors new
 
 -- A call that read the current file: the list is still there.
-pub record Stays {S : Type 0} (known : S → Bool) (current : S → Listed) (files : S → List Listed) (faults most : S → ℕ) (old new : S) : Type 0 where
+pub record Stays {S : Type 0} (known : S → Bool) (current : S → Listed) (files : S → List Listed) (gone : S → List (List ℕ)) (faults most : S → ℕ) (old new : S) : Type 0 where
   pub kept : faults old ≤ faults new
   pub knows : known old ≡ true → faults new ≡ faults old → known new ≡ true
   pub here : current new ≡ current old
   pub rest : files new ≡ files old
+  pub left : gone new ≡ gone old
   pub room : most new ≡ most old
 
 -- What a reading in this profile found: a stream, or a fault, which is reported as the input is.

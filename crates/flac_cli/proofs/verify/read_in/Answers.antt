@@ -5,8 +5,8 @@ pub returns-in-Ok : goal.returns-in-Ok
 returns-in-Ok g c =
     let got = c.in-Some.ensures in
     let back = c.close.ensures in
-    let opened = stays_opened got.known got.current got.files got.faults got.most in
-    let closed = stays_closed back.kept back.known back.current back.files back.most in
+    let opened = stays_opened got.known got.current got.files got.gone got.faults got.most in
+    let closed = stays_closed back.kept back.known back.current back.files back.gone back.most in
     record {
       found = λ known same.
           let calm = still opened closed same in
@@ -19,8 +19,8 @@ pub returns-in-Err : goal.returns-in-Err
 returns-in-Err g c =
     let got = c.in-Some.ensures in
     let back = c.close-in-Err.ensures in
-    let opened = stays_opened got.known got.current got.files got.faults got.most in
-    let closed = stays_closed back.kept back.known back.current back.files back.most in
+    let opened = stays_opened got.known got.current got.files got.gone got.faults got.most in
+    let closed = stays_closed back.kept back.known back.current back.files back.gone back.most in
     record {
       found = λ known same.
           let calm = still opened closed same in
@@ -34,5 +34,5 @@ returns-in-None g c =
     let got = c.in-None.ensures in
     record {
       found = λ known same. unopened_reading _ (got.opened known);
-      stays = stays_opened got.known got.current got.files got.faults got.most;
+      stays = stays_opened got.known got.current got.files got.gone got.faults got.most;
     }

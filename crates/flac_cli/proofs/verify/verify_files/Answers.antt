@@ -11,6 +11,7 @@ use Rattle.flac_cli.proofs.verify.verify_files.Goals as goal
 
 pub files-init : goal.files-init
 files-init g c = record {
+  gone = λ known same. refl;
   kept = omega arith;
   under = λ known same. (known, begins g.O.Target g.E.Target g.P.Target _ _ _ _ _ _ refl refl refl refl refl refl);
 }
@@ -22,6 +23,9 @@ files-preserved g c =
     let said = c.list_missing.ensures in
     let both = stays_then found.stays said.stays in
     record {
+      gone = λ known same.
+          let calm = calm_so_far _ _ _ _ inv.kept c.next.ensures.faults both.kept same in
+          both.left ∙ c.next.ensures.gone (inv.under known calm.0).0 ∙ inv.gone known calm.0;
       kept = omega (arith, inv.kept, c.next.ensures.faults, both.kept);
       under = λ known same.
           let calm = calm_so_far _ _ _ _ inv.kept c.next.ensures.faults both.kept same in
@@ -57,3 +61,12 @@ pub returns-clause-streams : goal.returns-clause-streams
 returns-clause-streams g c = λ ok known same.
     let u = c.files.invariant.under known (sym c.next.ensures.faults ∙ same) in
     all_whole g.O.Target g.E.Target g.P.Target _ _ _ _ _ _ _ u.1 (none_of _ _ _ _ c.files-test.false (c.next.ensures.files u.0)) c.report_end-is_written.ensures c.status_of.ensures.zero c.status_of.ensures.one ok
+
+pub returns-clause-gone : goal.returns-clause-gone
+returns-clause-gone g c = λ known same.
+    let calm = sym c.next.ensures.faults ∙ same in
+    let here = (c.files.invariant.under known calm).0 in
+    record {
+      over = c.next.ensures.over here c.files-test.false;
+      left = c.next.ensures.gone here ∙ c.files.invariant.gone known calm;
+    }

@@ -12,15 +12,15 @@ returns-in-Ok g c =
     record {
       read = λ known same. contents_read g.S.File.Source c.in-Some.file _ (got.opened known) c.in-Ok.ensures.bytes;
       unread = λ known same. tt;
-      stays = stays_then (stays_opened got.known got.current got.files got.faults got.most) (stays_closed back.kept back.known back.current back.files back.most);
+      stays = stays_then (stays_opened got.known got.current got.files got.gone got.faults got.most) (stays_closed back.kept back.known back.current back.files back.gone back.most);
     }
 
 pub returns-in-Err : goal.returns-in-Err
 returns-in-Err g c =
     let got = c.in-Some.ensures in
     let back = c.close-in-Err.ensures in
-    let opened = stays_opened got.known got.current got.files got.faults got.most in
-    let closed = stays_closed back.kept back.known back.current back.files back.most in
+    let opened = stays_opened got.known got.current got.files got.gone got.faults got.most in
+    let closed = stays_closed back.kept back.known back.current back.files back.gone back.most in
     record {
       read = λ known same. tt;
       unread = λ known same.
@@ -35,5 +35,5 @@ returns-in-None g c =
     record {
       read = λ known same. tt;
       unread = λ known same. subst (λ k. IsUnread k Unsurveyed) (sym (got.opened known)) refl;
-      stays = stays_opened got.known got.current got.files got.faults got.most;
+      stays = stays_opened got.known got.current got.files got.gone got.faults got.most;
     }

@@ -10,6 +10,7 @@ invariant-files g l = record {
   known : g.S.Shelf.known l.fn.self.shelf ≡ true → g.S.Shelf.known l.self.shelf ≡ true;
   same : g.S.Shelf.known l.fn.self.shelf ≡ true
       → without_good (report_of l.fn.self.good) (g.S.Shelf.files l.fn.self.shelf) ≡ without_good (report_of l.self.good) (g.S.Shelf.files l.self.shelf);
+  gone : g.S.Shelf.known l.fn.self.shelf ≡ true → g.S.Shelf.gone l.self.shelf ≡ g.S.Shelf.gone l.fn.self.shelf;
   faults : g.S.Shelf.faults l.self.shelf ≡ g.S.Shelf.faults l.fn.self.shelf;
   most : g.S.Shelf.most l.self.shelf ≤ g.S.Shelf.most l.fn.self.shelf;
 }
