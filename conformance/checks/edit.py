@@ -3,10 +3,13 @@
 
 usage: conformance/checks/edit.py [--quick] [--seed N]
 
-Layouts of blocks are those of tag.py. What has to hold of each edit: the file is the marker, the blocks of the model, and the
-frames byte for byte. Pictures by pnmtopng, pngquant and cjpeg have to give the block that metaflac --import-picture-from gives,
-and come back by metaflac --export-picture-to and `flac export`. A file that is refused stays as it was, and the next one is
-edited. FLAC names the program. Status 1 if anything is wrong.
+Cue sheets of several formats have to give the block that metaflac --import-cuesheet-from gives, and be exported as by metaflac
+--export-cuesheet-to. They differ on purpose in a stream with the format of a CD that is no whole number of frames of 588 samples:
+its sheet is that of no CD here (lead-out 255, lead-in 0, places as numbers of samples), where metaflac keeps lead-out 170 and
+lead-in 88200; and in where a new sheet is put, before comments and padding. Layouts of blocks are those of tag.py. What has to hold
+of each edit: the file is the marker, the blocks of the model, and the frames byte for byte. Pictures by pnmtopng, pngquant and
+cjpeg have to give the block that metaflac --import-picture-from gives, and come back by metaflac --export-picture-to and `flac
+export`. A file that is refused stays as it was, and the next one is edited. FLAC names the program. Status 1 if anything is wrong.
 """
 import argparse
 import os
@@ -24,7 +27,7 @@ import folders  # noqa: F401  (the path of the modules below)
 from program import PROGRAM, Wrong, expect, read
 from tag import COMMENTS, PADDING, blocks_of, content_of, layout, stream_of
 
-PICTURE, APPLICATION = 6, 2
+PICTURE, APPLICATION, CUESHEET = 6, 2, 5
 NAMES = {1: "padding", 2: "application", 3: "seektable", 4: "vorbis_comment", 5: "cuesheet", 6: "picture"}
 
 
@@ -57,11 +60,11 @@ def is_meant(removal, number, block):
     return name.lower() == NAMES.get(kind, f"type_{kind}")
 
 
-def edited(blocks, removals, pictures, padding):
+def edited(blocks, removals, pictures, padding, sheets=()):
     kept = [b for i, b in enumerate(blocks) if i == 0 or not (any(is_meant(r, i, b) for r in removals)
-                                                               or padding is not None and b[0] == PADDING)]
+                                                               or padding is not None and b[0] == PADDING or sheets and b[0] == CUESHEET)]
     at = next((i for i, b in enumerate(kept) if b[0] in (PADDING, COMMENTS)), len(kept))
-    kept = kept[:at] + [(PICTURE, body) for body in pictures] + kept[at:]
+    kept = kept[:at] + [(CUESHEET, body) for body in sheets] + [(PICTURE, body) for body in pictures] + kept[at:]
     return kept + ([(PADDING, bytes(padding))] if padding else [])
 
 
@@ -206,6 +209,184 @@ def by_mutagen(path, kind, picture):
     expect([(p.type, p.data) for p in FLAC(path).pictures], [(kind, read(picture))])
 
 
+# ---- cue sheets
+
+FORMATS = [(44100, 2, 16, 588 * 400), (44100, 1, 16, 588 * 90), (44100, 2, 16, 588 * 400 + 1), (44100, 2, 24, 588 * 400),
+           (48000, 2, 16, 100000), (8000, 1, 8, 44444), (96000, 6, 24, 50000)]
+
+
+def song(folder, sound, name="song.flac"):
+    """A stream of zeros by the reference."""
+    rate, channels, bits, total = sound
+    path = os.path.join(folder, name)
+    subprocess.run(["flac", "-s", "-f", "--force-raw-format", "--sign=signed", "--endian=little", f"--channels={channels}", f"--bps={bits}",
+                    f"--sample-rate={rate}", "--lax", "-o", path, "-"], input=bytes(total * channels * bits // 8), check=True)
+    return path
+
+
+def is_like_cd(sound):
+    """It has the format of a CD; so metaflac takes only times."""
+    return sound[0] == 44100 and sound[1] <= 2 and sound[2] == 16
+
+
+def is_cd(sound):
+    return is_like_cd(sound) and sound[3] % 588 == 0
+
+
+def time_of(frames):
+    return f"{frames // 4500:02d}:{frames // 75 % 60:02d}:{frames % 75:02d}"
+
+
+def sheet_text(rng, sound):
+    """A cue sheet of this audio, as CD tools write it."""
+    rate, _, _, total = sound
+    timed = is_like_cd(sound) or rate % 75 == 0 and rng.random() < 0.5
+    unit = rate // 75 if timed else 1
+    end, lines = "\r\n" if rng.random() < 0.3 else "\n", []
+    tracks = [(1 if rng.random() < 0.5 else rng.randrange(1, 4), rng.random() < 0.5) for _ in range(rng.randrange(1, 20))]
+    points = sorted(rng.sample(range(1, total // unit), sum(n + pre for n, pre in tracks) - 1))
+    places = iter([0] + points)
+    if rng.random() < 0.5:
+        lines.append(rng.choice(["REM GENRE x", "PERFORMER \"a b\"", "TITLE \"INDEX 01\"", ""]))
+    if rng.random() < 0.5:
+        lines.append(rng.choice(["CATALOG 1234567890123", "catalog \"0000000000000\""]))
+    lines.append('FILE "x y.wav" WAVE')
+    for number, (count, pregap) in enumerate(tracks, 1):
+        lines.append(f"  TRACK {number:02d} " + rng.choice(["AUDIO", "AUDIO", "MODE1/2352", "CDG"]))
+        if rng.random() < 0.3:
+            lines.append('    TITLE "x"')
+        if rng.random() < 0.3:
+            lines.append("    FLAGS " + rng.choice(["PRE", "DCP", "DCP PRE", "4CH SCMS"]))
+        if rng.random() < 0.3:
+            lines.append("    ISRC ABCDE" + "".join(rng.choice("0123456789") for _ in range(7)))
+        if rng.random() < 0.2:
+            lines.append("    PREGAP 00:02:00")
+        for index in range(0 if pregap else 1, count + 1):
+            at = next(places)
+            lines.append(f"    INDEX {index:02d} " + (time_of(at) if timed else str(at)))
+    return end.join(lines) + end
+
+
+def without_sheets(path):
+    return [block for block in blocks_of(read(path))[0] if block[0] != CUESHEET]
+
+
+def sheets_in(path):
+    return [body for kind, body in blocks_of(read(path))[0] if kind == CUESHEET]
+
+
+def of_no_disc(body):
+    """What metaflac makes of a stream with the format of a CD that is no whole number of frames, as a sheet of no CD."""
+    at = 396
+    for _ in range(body[395] - 1):
+        at += 36 + 12 * body[at + 35]
+    return body[:128] + bytes(8) + body[136:at + 8] + b"\xff" + body[at + 9:]
+
+
+def one_sheet(rng, folder, path, sound):
+    """A sheet goes in as metaflac puts it in, and comes out as metaflac writes it."""
+    cue, other = os.path.join(folder, "s.cue"), os.path.join(folder, "other.flac")
+    with open(cue, "w", newline="") as file:
+        file.write(sheet_text(rng, sound))
+    shutil.copyfile(path, other)
+    before = read(path)
+    done = subprocess.run(["metaflac", f"--import-cuesheet-from={cue}", other], capture_output=True, check=False)
+    if done.returncode != 0:
+        raise Wrong(f"metaflac refuses {read(cue)!r}: {done.stderr!r}")
+    due = sheets_in(other)
+    is_odd = is_like_cd(sound) and not is_cd(sound)
+    if is_odd:
+        due = [of_no_disc(body) for body in due]
+    expect(run("edit", "-v", "--cuesheet", cue, path), (0, f"{path}: rewritten\n".encode(), b""))
+    expect(sheets_in(path), due)
+    expect((without_sheets(path), blocks_of(read(path))[1]), blocks_of(before))
+    blocks = [kind for kind, _ in blocks_of(read(path))[0]]
+    expect(blocks[blocks.index(CUESHEET) + 1] in (COMMENTS, PADDING), True)
+    expect(run("edit", "-v", "--cuesheet", cue, path), (0, f"{path}: same\n".encode(), b""))
+    if rng.random() < 0.3:
+        expect(subprocess.run(["flac", "-s", "-t", path], capture_output=True, check=False).returncode, 0)
+    written = subprocess.run(["metaflac", "--export-cuesheet-to=-", path], capture_output=True, check=True).stdout
+    expect(run("export", path, "cuesheet", "-"), (0, written, b""))
+    text = os.path.join(folder, "exported.cue")
+    expect(run("export", path, "cuesheet", text), (0, b"", b""))
+    expect(run("edit", "-v", "--cuesheet", text, path), (0, f"{path}: same\n".encode(), b""))
+    if not is_odd:
+        with open(other, "wb") as file:
+            file.write(before)
+        subprocess.run(["metaflac", f"--import-cuesheet-from={text}", other], capture_output=True, check=True)
+        expect(sheets_in(other), due)
+    with open(path, "wb") as file:
+        file.write(before)
+
+
+WRONG_SHEETS = [
+    ("CATALOG 123", 1, "80 CueCatalogue"), ("CATALOG 1234567890123\nCATALOG 1234567890123", 2, "80 CueCatalogue"),
+    ("TRACK 01", 1, "81 CueTrack"), ("TRACK 00 AUDIO", 1, "81 CueTrack"), ("TRACK 100 AUDIO", 1, "81 CueTrack"),
+    ("TRACK 01 AUDIO\nINDEX 01 00:00:00\nTRACK 03 AUDIO", 3, "81 CueTrack"), ("TRACK 01 AUDIO\nTRACK 02 AUDIO", 2, "82 CueNoIndex"),
+    ("TRACK 01 AUDIO\n", 2, "82 CueNoIndex"), ("FLAGS PRE", 1, "83 CueFlags"), ("TRACK 01 AUDIO\nINDEX 01 00:00:00\nFLAGS PRE", 3, "83 CueFlags"),
+    ("TRACK 01 AUDIO\nISRC abc", 2, "84 CueIsrc"), ("TRACK 01 AUDIO\nISRC ABCDE1234567\nISRC ABCDE1234567", 3, "84 CueIsrc"),
+    ("INDEX 01 00:00:00", 1, "85 CueIndex"), ("TRACK 01 AUDIO\nINDEX 02 00:00:00", 2, "85 CueIndex"),
+    ("TRACK 01 AUDIO\nINDEX 01 00:00:00\nINDEX 03 00:00:01", 3, "85 CueIndex"), ("TRACK 01 AUDIO\nINDEX 01", 2, "86 CueOffset"),
+    ("TRACK 01 AUDIO\nINDEX 01 588", 2, "86 CueOffset"), ("TRACK 01 AUDIO\nINDEX 01 00:05:25", 2, "86 CueOffset"),
+    ("TRACK 01 AUDIO\nINDEX 00 00:00:01\nINDEX 01 00:00:01", 3, "86 CueOffset"), ("TRACK 01 AUDIO\nINDEX 01 00:60:00", 2, "86 CueOffset"),
+    ("REM FLAC__lead-in x", 1, "87 CueLeadIn"), ("REM FLAC__lead-out 170 5", 1, "88 CueLeadOut"), ("", 1, "89 CueNoTrack"),
+    ("REM x\nTITLE y\n", 3, "89 CueNoTrack"),
+]
+
+
+def cue_sheets(rng, folder, rounds):
+    """Sheets that are taken, and sheets and streams that are refused."""
+    songs = [(song(folder, sound, f"song{i}.flac"), sound) for i, sound in enumerate(FORMATS)]
+    for number in range(rounds):
+        path, sound = songs[number % len(songs)]
+        try:
+            one_sheet(rng, folder, path, sound)
+        except Wrong as wrong:
+            raise Wrong(f"cue sheet {number}, {sound}: {wrong}") from None
+    path, cue, cd = os.path.join(folder, "refused.flac"), os.path.join(folder, "wrong.cue"), read(songs[0][0])
+
+    def put(where, data):
+        with open(where, "wb") as file:
+            file.write(data)
+
+    put(path, cd)
+    for text, line, name in WRONG_SHEETS:
+        put(cue, text.encode())
+        expect(run("edit", "-v", "--cuesheet", cue, path), (1, b"", f"flac: {cue}: line {line}: {name}\n".encode()))
+        expect(read(path), cd)
+    # the sheet fits one of two streams
+    good = b"\xef\xbb\xbfTRACK 01 AUDIO\nINDEX 01 00:00:00\nTRACK 02 AUDIO\nINDEX 01 00:05:24\n"
+    put(cue, good)
+    short = songs[1][0]
+    status, out, err = run("edit", "-v", "--cuesheet", cue, short, path)
+    expect((status, out), (1, f"{path}: rewritten\n".encode()))
+    expect(err, f"flac: {cue}: line 4: 86 CueOffset\n".encode())
+    # other sheets go, by themselves or with what else is edited
+    blocks, frames = blocks_of(read(path))
+    sheet = next(body for kind, body in blocks if kind == CUESHEET)
+    rest = [block for block in blocks if block[0] != CUESHEET]
+    put(path, stream_of([rest[0], (CUESHEET, sheet[:128] + bytes(8) + sheet[136:]), *rest[1:], (CUESHEET, sheet)], frames))
+    expect(run("edit", "--cuesheet", cue, path), (0, b"", b""))
+    expect(read(path), stream_of(edited(rest, [], [], None, [sheet]), frames))
+    body = picture_body(3, b"image/x", (1, 2, 3, 4), b"data")
+    put(os.path.join(folder, "any.bin"), b"data")
+    done = subprocess.run([PROGRAM, "edit", "--remove-block", "cuesheet", "--cuesheet", "-", "--picture", f"3:image/x:1x2x3/4:{folder}/any.bin",
+                           "--padding", "9", path], input=good, capture_output=True, check=False)
+    expect((done.returncode, done.stdout, done.stderr), (0, b"", b""))
+    expect(read(path), stream_of(edited(rest, [], [body], 9, [sheet]), frames))
+    # a stream that does not say how long it is, and a file that is not there
+    info = rest[0][1]
+    put(path, stream_of([(0, info[:13] + bytes([info[13] & 0xF0]) + bytes(4) + info[18:]), *rest[1:]], frames))
+    unknown = read(path)
+    expect(run("edit", "--cuesheet", cue, path), (1, b"", f"flac: {path}: 90 NoTotal\n".encode()))
+    for bad, what in ((os.path.join(folder, "absent.cue"), "opened"), (folder, "read")):
+        expect(run("edit", "--cuesheet", bad, path), (1, b"", f"flac: {bad}: cannot be {what}\n".encode()))
+    put(cue, good + b"REM\n" * 4194304)
+    expect(run("edit", "--cuesheet", cue, path), (1, b"", f"flac: {cue}: cannot be read\n".encode()))
+    expect(run("export", path, "cuesheet", "-"), (1, b"", f"flac: {path}: 91 NoCueSheet\n".encode()))
+    expect(read(path), unknown)
+
+
 # ---- words and files
 
 def fixed(folder, info, frames):
@@ -236,7 +417,7 @@ def fixed(folder, info, frames):
         expect(run("edit", f"--remove-block={word}", path), (2, b"", name))
     for word in ("21:cover.png", "4294967295:x"):
         expect(run("edit", "--picture", word, path), (2, b"", b"flac: command: --picture takes [TYPE:]FILE, the type 0 to 20\n"))
-    expect(run("edit", path), (2, b"", b"flac: command: edit needs --padding, --remove-block or --picture\n"))
+    expect(run("edit", path), (2, b"", b"flac: command: edit needs --remove-block, --picture, --cuesheet or --padding\n"))
     expect(run("edit", "--padding", "1")[0], 2)
     expect(run("edit", "--padding", "x", path)[0], 2)
     expect(read(path), stream)
@@ -314,7 +495,8 @@ def exports(put, folder, stream, blocks):
         expect(run("export", path, str(number), "-"), (0, body, b""))
     expect(run("export", path, "4", "-"), (1, b"", f"flac: {path}: block 4: 57 NoBlock\n".encode()))
     expect(run("export", path, "picture", "-"), (1, b"", f"flac: {path}: 59 NoPicture\n".encode()))
-    for word in ("", "pictures", "-1", "tag"):
+    expect(run("export", path, "cuesheet", "-"), (1, b"", f"flac: {path}: 91 NoCueSheet\n".encode()))
+    for word in ("", "pictures", "-1", "tag", "cue"):
         expect(run("export", path, word, "-")[0], 2)
     before = read(path)
     expect(run("export", path, "tags", path), (1, b"", f"flac: {path}: cannot be created\n".encode()))
@@ -345,12 +527,13 @@ def main():
         blocks, frames = blocks_of(read(path))
         fixed(folder, blocks[0][1], frames)
         count = pictures(folder, read(path))
+        cue_sheets(rng, folder, rounds // 2)
         for number in range(rounds):
             try:
                 one(rng, folder, blocks[0][1], frames, number)
             except Wrong as wrong:
                 raise Wrong(f"layout {number}: {wrong}") from None
-    print(f"edit: {rounds} layouts, {count} pictures, words, files and exports are right")
+    print(f"edit: {rounds} layouts, {count} pictures, {rounds // 2} cue sheets, words, files and exports are right")
 
 
 if __name__ == "__main__":

@@ -1,9 +1,9 @@
 //! `flac edit`: edits the metadata blocks of files.
 
 use flac_bits::Counted;
-use flac_cli::{edit_changes, edit_file, picture_of, removals_of};
+use flac_cli::{EditPaths, edit_changes, edit_file, picture_of, removals_of};
 use flac_edit::{BlockEdits, Removal};
-use flac_files::{FileRefused, TagFile, read_picture};
+use flac_files::{FileRefused, TagFile, read_cue_sheet, read_picture};
 use flac_jobs::{Editing, PictureWord};
 use flac_meta::Picture;
 
@@ -22,7 +22,32 @@ pub(crate) fn edit_files(rt: &HostRuntime, editing: &Editing<'_>) -> u8 {
         None => Ok(Vec::new(rt.alloc())),
     };
     match found {
-        Ok(pictures) => edit_each(rt, editing, &removals, &pictures),
+        Ok(pictures) => edit_with_sheet(rt, editing, &removals, &pictures),
+        Err(refused) => refused.tell(rt),
+    }
+}
+
+/// Reads the cue sheet, if there is to be one, and edits each file. Returns the status.
+fn edit_with_sheet(
+    rt: &HostRuntime,
+    editing: &Editing<'_>,
+    removals: &[Removal],
+    pictures: &[Picture],
+) -> u8 {
+    let mut edits = BlockEdits {
+        removals,
+        cue: None,
+        pictures,
+        padding: editing.padding,
+    };
+    let Some(path) = editing.sheet else {
+        return edit_each(rt, editing, &edits);
+    };
+    match read_cue_sheet(rt, path) {
+        Ok(text) => {
+            edits.cue = Some(&text);
+            edit_each(rt, editing, &edits)
+        }
         Err(refused) => refused.tell(rt),
     }
 }
@@ -60,20 +85,10 @@ fn picture_in<'a>(rt: &HostRuntime, word: &PictureWord<'a>) -> Result<Picture, F
 }
 
 /// Edits each file. Returns the status.
-fn edit_each(
-    rt: &HostRuntime,
-    editing: &Editing<'_>,
-    removals: &[Removal],
-    pictures: &[Picture],
-) -> u8 {
-    let edits = BlockEdits {
-        removals,
-        pictures,
-        padding: editing.padding,
-    };
+fn edit_each(rt: &HostRuntime, editing: &Editing<'_>, edits: &BlockEdits<'_>) -> u8 {
     let mut status = 0;
     for path in &editing.inputs {
-        if edit_one(rt, editing, path, &edits) != 0 {
+        if edit_one(rt, editing, path, edits) != 0 {
             status = 1;
         }
     }
@@ -114,8 +129,12 @@ fn edit_opened<'a>(
 ) -> Result<Option<&'static str>, FileRefused<'a>> {
     let mut source = Counted::new(file.reader()?);
     let mut err = Counted::new(rt.stderr());
-    match edit_changes(rt.alloc(), path, edits, &mut source, &mut err) {
-        Some(true) => rewrite_opened(rt, editing, path, file, edits),
+    let paths = EditPaths {
+        stream: path,
+        sheet: editing.sheet,
+    };
+    match edit_changes(rt.alloc(), &paths, edits, &mut source, &mut err) {
+        Some(true) => rewrite_opened(rt, editing, &paths, file, edits),
         Some(false) => Ok(Some("same")),
         None => Ok(None),
     }
@@ -125,7 +144,7 @@ fn edit_opened<'a>(
 fn rewrite_opened<'a>(
     rt: &HostRuntime,
     editing: &Editing<'_>,
-    path: &str,
+    paths: &EditPaths<'_>,
     file: &TagFile<'a>,
     edits: &BlockEdits<'_>,
 ) -> Result<Option<&'static str>, FileRefused<'a>> {
@@ -133,7 +152,7 @@ fn rewrite_opened<'a>(
     let (output, ending) = file.beside(rt)?;
     let mut target = Counted::new(output);
     let mut err = Counted::new(rt.stderr());
-    let status = edit_file(rt.alloc(), path, edits, &mut source, &mut target, &mut err);
+    let status = edit_file(rt.alloc(), paths, edits, &mut source, &mut target, &mut err);
     let output = target.into_inner();
     let kept = if editing.keep_times {
         file.keep_time_of(&output)

@@ -6,19 +6,27 @@ ghost use Rattle.flac_native.specs.Decoding.{source_start};
 ghost use Rattle.flac_edit.specs.Changed.{KeepsBlocksAt};
 ghost use Rattle.flac_edit.specs.Rewritten.{RewritesBlocksAt};
 ghost use Rattle.flac_cli.specs.Calls.{IfServed};
-ghost use Rattle.flac_cli.specs.Lined.{text_at};
-ghost use Rattle.flac_cli.specs.Reports.{fault_line};
-ghost use Rattle.flac_cli.specs.Editing.{removal_of, form_given, form_of, picture_of, edit_place, edit_name};
+ghost use Rattle.flac_cli.specs.Editing.{removal_of, form_given, form_of, picture_of, edit_place, cue_name, edit_name, edit_path, edit_line};
 
 use crate::lines::{At, write_line};
 use crate::report::refuse;
 use flac_bits::{Source, Target};
+use flac_cue::CueWhy;
 use flac_edit::{BlockEdits, BlockFault, EditFault, Removal, blocks_change, rewrite_blocks};
 use flac_image::image_of;
 use flac_jobs::{BlockName, PictureForm, PictureWord};
 use flac_meta::{Bytes, Picture};
 use flac_native::Place;
 use std::alloc::{AllocError, Global};
+
+/// The paths that the lines of an edit or an export name.
+#[derive(Clone, Copy, Debug, PartialEq, Eq)]
+pub struct EditPaths<'a> {
+    /// The path of the stream.
+    pub stream: &'a str,
+    /// The path of the cue sheet that the stream gets; `None` if it gets none.
+    pub sheet: Option<&'a str>,
+}
 
 /// The removal that a word gives.
 fn removal_of(name: &BlockName) -> Removal
@@ -99,7 +107,28 @@ fn place_of(fault: BlockFault) -> At
     match fault {
         BlockFault::NoBlock(number) => At::Place(Place::Block(u64::from(number))),
         BlockFault::NoPicture => At::Whole,
+        BlockFault::NoCueSheet => At::Whole,
+        BlockFault::NoTotal => At::Whole,
+        BlockFault::CueLine(line, _) => At::Line(line),
         BlockFault::SecondPicture(_) => At::Whole,
+    }
+}
+
+/// The number and the name of the rule of cue sheets that a line breaks (RFC 9639, section 8.7).
+fn cue_name(why: CueWhy) -> &'static str
+    ensures { result.now ≡ cue_name why }
+{
+    match why {
+        CueWhy::Catalogue => "80 CueCatalogue",
+        CueWhy::Track => "81 CueTrack",
+        CueWhy::NoIndex => "82 CueNoIndex",
+        CueWhy::Flags => "83 CueFlags",
+        CueWhy::Isrc => "84 CueIsrc",
+        CueWhy::Index => "85 CueIndex",
+        CueWhy::Offset => "86 CueOffset",
+        CueWhy::LeadIn => "87 CueLeadIn",
+        CueWhy::LeadOut => "88 CueLeadOut",
+        CueWhy::NoTrack => "89 CueNoTrack",
     }
 }
 
@@ -110,16 +139,30 @@ fn name_of(fault: BlockFault) -> &'static str
     match fault {
         BlockFault::NoBlock(_) => "57 NoBlock",
         BlockFault::NoPicture => "59 NoPicture",
+        BlockFault::NoCueSheet => "91 NoCueSheet",
+        BlockFault::NoTotal => "90 NoTotal",
+        BlockFault::CueLine(_, why) => cue_name(why),
         BlockFault::SecondPicture(_) => "58 SecondPicture",
     }
 }
 
+/// The path of the file that such a fault is in: that of the cue sheet if a line of it is wrong.
+fn path_of<'a>(paths: &EditPaths<'a>, fault: BlockFault) -> &'a str
+    ensures { result.now ≡ edit_path paths.now fault }
+{
+    match fault {
+        BlockFault::CueLine(_, _) => paths.sheet.unwrap_or(paths.stream),
+        _ => paths.stream,
+    }
+}
+
 /// Writes the line that edits do not fit the blocks of a file, or that it lacks a part, and returns the status 1.
-pub(crate) fn refuse_edits<E: Target>(err: &mut E, path: &str, fault: BlockFault) -> u8
+pub(crate) fn refuse_edits<E: Target>(err: &mut E, paths: &EditPaths<'_>, fault: BlockFault) -> u8
     ensures status { result ≡ 1 }
     ensures line { IfServed E.Target err.old err.new
-        (λ before after. after ≡ before ++ fault_line path.now (text_at (edit_place fault) (edit_name fault))) }
+        (λ before after. after ≡ before ++ edit_line paths.now fault) }
 {
+    let path = path_of(paths, fault);
     let at = place_of(fault);
     let name = name_of(fault);
     // If it cannot be written, there is no one left to report it to.
@@ -131,7 +174,7 @@ pub(crate) fn refuse_edits<E: Target>(err: &mut E, path: &str, fault: BlockFault
 /// line of the error was written to `err`, if that could be written.
 pub fn edit_changes<R: Source, E: Target>(
     alloc: Global,
-    path: &str,
+    paths: &EditPaths<'_>,
     edits: &BlockEdits<'_>,
     source: &mut R,
     err: &mut E,
@@ -145,11 +188,11 @@ pub fn edit_changes<R: Source, E: Target>(
     match blocks_change(alloc, source, edits) {
         Ok(changes) => Some(changes),
         Err(EditFault::Stream(fault)) => {
-            let _status = refuse(err, path, fault.at, fault.why);
+            let _status = refuse(err, paths.stream, fault.at, fault.why);
             None
         }
         Err(EditFault::Blocks(fault)) => {
-            let _status = refuse_edits(err, path, fault);
+            let _status = refuse_edits(err, paths, fault);
             None
         }
     }
@@ -159,7 +202,7 @@ pub fn edit_changes<R: Source, E: Target>(
 /// and the line of the error was written to `err`, if that could be written.
 pub fn edit_file<R: Source, W: Target, E: Target>(
     alloc: Global,
-    path: &str,
+    paths: &EditPaths<'_>,
     edits: &BlockEdits<'_>,
     source: &mut R,
     target: &mut W,
@@ -175,7 +218,7 @@ pub fn edit_file<R: Source, W: Target, E: Target>(
 {
     match rewrite_blocks(alloc, source, edits, target) {
         Ok(()) => 0,
-        Err(EditFault::Stream(fault)) => refuse(err, path, fault.at, fault.why),
-        Err(EditFault::Blocks(fault)) => refuse_edits(err, path, fault),
+        Err(EditFault::Stream(fault)) => refuse(err, paths.stream, fault.at, fault.why),
+        Err(EditFault::Blocks(fault)) => refuse_edits(err, paths, fault),
     }
 }

@@ -5,7 +5,7 @@ ghost use Rattle.flac_native.specs.Decoding.{source_start};
 ghost use Rattle.flac_edit.specs.Parts.{ExportsAt};
 ghost use Rattle.flac_cli.specs.Editing.{part_of};
 
-use crate::edit::refuse_edits;
+use crate::edit::{EditPaths, refuse_edits};
 use crate::report::refuse;
 use crate::retag::is_of_target;
 use flac_bits::{Source, Target};
@@ -13,13 +13,14 @@ use flac_edit::{EditFault, Part, export_part};
 use flac_jobs::{ExportPart, Exporting};
 use std::alloc::Global;
 
-/// The part that a word names.
-fn part_of(part: ExportPart) -> Part
-    ensures { result ≡ part_of part }
+/// The part that a word names; a cue sheet is that of the file at the input's path.
+fn part_of<'a>(exporting: &Exporting<'a>, part: ExportPart) -> Part<'a>
+    ensures { result ≡ part_of exporting.now part }
 {
     match part {
         ExportPart::Tags => Part::Tags,
         ExportPart::Picture => Part::Picture,
+        ExportPart::CueSheet => Part::CueSheet(exporting.input),
         ExportPart::Block(number) => Part::Block(number),
     }
 }
@@ -37,13 +38,19 @@ pub fn export_file<R: Source, W: Target, E: Target>(
     ensures status { result ≤ 1 }
     // After status 0 that part of the input was written.
     ensures exported { result ≡ 0 → R.known source.old ≡ true → W.known target.old ≡ true
-        → ExportsAt (source_start R.Source source.old) (part_of part) (W.sent target.old) (W.sent target.new) }
+        → ExportsAt (source_start R.Source source.old) (part_of exporting.now part) (W.sent target.old) (W.sent target.new) }
     // After status 0 nothing was written to standard error.
     ensures silent { result ≡ 0 → err.new ≡ err.old }
 {
-    match export_part(alloc, source, part_of(part), target) {
+    match export_part(alloc, source, part_of(exporting, part), target) {
         Ok(()) => 0,
-        Err(EditFault::Blocks(fault)) => refuse_edits(err, exporting.input, fault),
+        Err(EditFault::Blocks(fault)) => {
+            let paths = EditPaths {
+                stream: exporting.input,
+                sheet: None,
+            };
+            refuse_edits(err, &paths, fault)
+        }
         Err(EditFault::Stream(fault)) => {
             let path = if is_of_target(fault) {
                 exporting.output

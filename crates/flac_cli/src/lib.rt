@@ -45,7 +45,7 @@ mod wave_samples;
 
 pub use chosen::ListedFile;
 pub use dispatch::{Task, run};
-pub use edit::{edit_changes, edit_file, picture_of, removals_of};
+pub use edit::{EditPaths, edit_changes, edit_file, picture_of, removals_of};
 pub use excerpt::decode_excerpt;
 pub use export::export_file;
 pub use flac_jobs::{ContainerKind, Job, LineFault, RawFormat, SearchEffort};

@@ -17,6 +17,7 @@ pub mod Tied
 pub mod WholeStreams
 pub mod Crashes
 pub mod Settled
+pub mod SheetsBack
 pub mod SameComments
 pub mod TaggedFiles
 pub mod BlockContents

@@ -1,5 +1,6 @@
 -- What is exported of the metadata blocks of a stream.
 use Rattle.std.specs.Prelude.{◌≡◌, ℕ, ◌+◌, ◌/◌, ◌%◌, Bool, ◌&&◌, not, cond, nat_eq, nat_lt, nat_le, List, [], ◌∷◌, ◌++◌, flat_map, Option, Some, None}
+use Rattle.flac_meta.specs.declared.cue_sheet.CueSheet.{CueSheet}
 use Rattle.flac_meta.specs.declared.picture.Picture.{Picture}
 use Rattle.flac_meta.specs.declared.block.Block.{Block}
 use Rattle.flac_meta.specs.declared.block.Block.TheVariants as block_of
@@ -34,3 +35,10 @@ abbrev pub first_picture : List Block → Option Picture
 first_picture [] = None
 first_picture (block_of.Picture p ∷ bs) = Some p
 first_picture (b ∷ bs) = first_picture bs
+
+-- ---- cue sheets
+
+abbrev pub first_sheet : List Block → Option CueSheet
+first_sheet [] = None
+first_sheet (block_of.CueSheet s ∷ bs) = Some s
+first_sheet (b ∷ bs) = first_sheet bs

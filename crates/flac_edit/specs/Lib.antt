@@ -7,6 +7,7 @@ pub mod Changed
 pub mod Exported
 pub mod Lines
 pub mod Parts
+pub mod CueSheets
 pub mod Rewritten
 pub mod Faults
 pub mod Crashes

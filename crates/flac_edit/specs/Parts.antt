@@ -4,12 +4,14 @@ use Rattle.flac_bits.specs.Bits.{bits_of}
 use Rattle.flac_bits.specs.State.{Mark, Cursor}
 use Rattle.flac_info.specs.Info.{Info}
 use Rattle.flac_meta.specs.Spelling.{content_spelling}
+use Rattle.flac_meta.specs.declared.cue_sheet.CueSheet.{CueSheet}
 use Rattle.flac_meta.specs.declared.picture.Picture.{Picture}
 use Rattle.flac_meta.specs.declared.block.Block.{Block}
 use Rattle.flac_meta.specs.declared.block.Block.TheVariants as block_of
 use Rattle.flac_native.specs.Retag.{BeginsWith}
+use Rattle.flac_cue.specs.Text.{cue_text}
 use Rattle.flac_edit.specs.Tagged.{comments_among}
-use Rattle.flac_edit.specs.Exported.{comment_lines, first_picture}
+use Rattle.flac_edit.specs.Exported.{comment_lines, first_picture, first_sheet}
 use Rattle.flac_edit.specs.declared.block_edits.BlockFault.{BlockFault}
 use Rattle.flac_edit.specs.declared.block_edits.BlockFault.TheVariants as fault
 use Rattle.flac_edit.specs.declared.exporting_parts.Part.{Part}
@@ -20,16 +22,18 @@ abbrev pub IsBlock : ℕ → List Block → Block → Type 0
 IsBlock n list b = (n < length list) × (b ≡ slice_index_or list n b)
 
 -- These bytes are that part of blocks, STREAMINFO the first: the lines of the comments, none without a comment block; the
--- data of the first picture; the content of a block (RFC 9639, section 8.1).
+-- data of the first picture; the text of the first cue sheet, of a file of this name; the content of a block (RFC 9639, section 8.1).
 abbrev pub IsPart : Part → List Block → (bytes : List ℕ) → Type 0
 IsPart part.Tags list bytes = bytes ≡ comment_lines (comments_among list).list
 IsPart part.Picture list bytes = (p : Picture) × (first_picture list ≡ Some p) × (bytes ≡ p.bytes)
+IsPart (part.CueSheet name) list bytes = (s : CueSheet) × (first_sheet list ≡ Some s) × (bytes ≡ cue_text name.now s)
 IsPart (part.Block n) list bytes = (b : Block) × IsBlock n list b × (bits_of bytes ≡ content_spelling b)
 
--- The blocks have no such part: no picture, or no block of this number.
+-- The blocks have no such part: no picture, no cue sheet, or no block of this number.
 abbrev pub Lacks : Part → List Block → BlockFault → Type 0
 Lacks part.Tags list why = ⊥
 Lacks part.Picture list why = (first_picture list ≡ None) × (why ≡ fault.NoPicture)
+Lacks (part.CueSheet name) list why = (first_sheet list ≡ None) × (why ≡ fault.NoCueSheet)
 Lacks (part.Block n) list why = (length list ≤ n) × (why ≡ fault.NoBlock n)
 
 -- After the bytes that were there, that part of the input was written.

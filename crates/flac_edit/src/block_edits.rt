@@ -1,9 +1,10 @@
 //! Edits of the metadata blocks of a stream.
 
 ghost use Rattle.std.specs.Prelude.{◌≡◌, ◌≤◌, ◌++◌, ◌∷◌, [], take, drop, length, map, IfOk, OnOk, IfErr};
-ghost use Rattle.flac_edit.specs.BlockEdits.{is_info, is_padding, is_application, is_meant, is_named, is_removed, left_of, remaining, is_tail, front_len, picture_block, with_pictures, padding_of, edited_blocks, removal_fault, missing, adds, is_picture, count_of, second, pictures_fault};
+ghost use Rattle.flac_edit.specs.BlockEdits.{is_info, is_padding, is_sheet, is_application, is_meant, is_named, is_removed, left_of, remaining, is_tail, front_len, picture_block, sheet_blocks, with_new, padding_of, arranged, removal_fault, missing, adds, is_picture, count_of, second, pictures_fault};
 
-use flac_meta::{Block, Picture};
+use flac_cue::CueWhy;
+use flac_meta::{Block, CueSheet, Picture};
 use std::alloc::{AllocError, Global};
 
 /// Which metadata blocks are removed. STREAMINFO is never one of them.
@@ -22,6 +23,9 @@ pub enum Removal {
 pub struct BlockEdits<'a> {
     /// Which blocks are removed, by their numbers and types before the edit.
     pub removals: &'a [Removal],
+    /// The text of a cue sheet ([`flac_cue::cue_sheet`]), which takes the place of all cue sheets (section 8.7), before the
+    /// comments and the padding; `None` to keep them.
+    pub cue: Option<&'a [u8]>,
     /// Pictures that are added, before the comments and the padding.
     pub pictures: &'a [Picture],
     /// How many bytes of padding come last in place of all other padding, 0 for none; `None` to keep the padding.
@@ -35,6 +39,12 @@ pub enum BlockFault {
     NoBlock(u32),
     /// The stream has no picture.
     NoPicture,
+    /// The stream has no cue sheet.
+    NoCueSheet,
+    /// STREAMINFO does not say how many samples there are, so that a cue sheet has no lead-out.
+    NoTotal,
+    /// The line of this number of the text, counted from 1, breaks a rule of cue sheets (RFC 9639, section 8.7).
+    CueLine(u64, CueWhy),
     /// There would be two pictures of this type, 1 or 2 (RFC 9639, section 8.8).
     SecondPicture(u32),
 }
@@ -51,6 +61,13 @@ fn is_padding(block: &Block) -> bool
     ensures { result ≡ is_padding block.now }
 {
     matches!(block, Block::Padding(_))
+}
+
+/// Whether a block is a cue sheet.
+fn is_sheet(block: &Block) -> bool
+    ensures { result ≡ is_sheet block.now }
+{
+    matches!(block, Block::CueSheet(_))
 }
 
 /// Whether a block is that of an application of this identifier.
@@ -95,7 +112,8 @@ fn is_removed(edits: &BlockEdits<'_>, number: usize, block: &Block) -> bool
 {
     !is_info(block)
         && ((edits.padding.is_some() && is_padding(block))
-            || is_named(edits.removals, number, block))
+            || ((edits.cue.is_some() && is_sheet(block))
+                || is_named(edits.removals, number, block)))
 }
 
 /// Keeps a copy of the block of this number, unless it is removed.
@@ -187,17 +205,29 @@ fn add_pictures(list: &mut Vec<Block>, pictures: &[Picture]) -> Result<(), Alloc
     Ok(())
 }
 
-/// The blocks with these pictures before the comments and the padding.
-fn with_pictures(
+/// Adds the block of a cue sheet, if there is one.
+fn add_sheet(list: &mut Vec<Block>, sheet: Option<CueSheet>) -> Result<(), AllocError>
+    ensures { OnOk result (list.new.items ≡ list.old.items ++ sheet_blocks sheet) }
+{
+    if let Some(sheet) = sheet {
+        list.push(Block::CueSheet(sheet))?;
+    }
+    Ok(())
+}
+
+/// The blocks with this cue sheet and these pictures before the comments and the padding.
+fn with_new(
     alloc: Global,
+    sheet: Option<CueSheet>,
     pictures: &[Picture],
     blocks: &[Block],
 ) -> Result<Vec<Block>, AllocError>
-    ensures { IfOk result (λ list. list.items ≡ with_pictures (map picture_block pictures.now) blocks.now) }
+    ensures { IfOk result (λ list. list.items ≡ with_new (sheet_blocks sheet ++ map picture_block pictures.now) blocks.now) }
 {
     let (front, tail) = blocks.split_at(front_len(blocks));
     let mut list = Vec::new(alloc);
     add_blocks(&mut list, front)?;
+    add_sheet(&mut list, sheet)?;
     add_pictures(&mut list, pictures)?;
     add_blocks(&mut list, tail)?;
     Ok(list)
@@ -213,20 +243,20 @@ fn add_padding(list: &mut Vec<Block>, size: u32) -> Result<(), AllocError>
     Ok(())
 }
 
-/// The blocks after these edits, STREAMINFO the first: those that are not removed, with the new pictures before the
-/// comments and the padding, and the new padding last.
+/// The blocks after edits whose cue sheet is this one.
 ///
 /// # Errors
 /// `AllocError` if an allocation fails.
-pub fn edited_blocks(
+pub(crate) fn arranged(
     alloc: Global,
     edits: &BlockEdits<'_>,
+    sheet: Option<CueSheet>,
     blocks: &[Block],
 ) -> Result<Vec<Block>, AllocError>
-    ensures { IfOk result (λ list. list.items ≡ edited_blocks edits.now blocks.now) }
+    ensures { IfOk result (λ list. list.items ≡ arranged edits.now sheet blocks.now) }
 {
     let left = remaining(alloc, edits, blocks)?;
-    let mut list = with_pictures(alloc, edits.pictures, &left)?;
+    let mut list = with_new(alloc, sheet, edits.pictures, &left)?;
     add_padding(&mut list, edits.padding.unwrap_or(0))?;
     Ok(list)
 }

@@ -10,7 +10,7 @@ ghost use Rattle.flac_edit.specs.Changed.{AreAlike, KeepsBlocksAt};
 
 use crate::block_edits::BlockEdits;
 use crate::exporting::block_bytes;
-use crate::rewriting_blocks::{EditFault, changed_blocks};
+use crate::rewriting_blocks::{EditFault, edited_blocks};
 use flac_bits::{BitReader, Source, Why};
 use flac_meta::Block;
 use flac_native::{RetagFault, read_blocks};
@@ -45,7 +45,7 @@ fn change_in(alloc: Global, edits: &BlockEdits<'_>, blocks: &[Block]) -> Result<
     ensures kept { IfOk result (λ changes. changes ≡ false → AreAlike (edited_blocks edits.now blocks.now) blocks.now) }
     ensures judged { Judges result (block_fault edits.now blocks.now) }
 {
-    let list = changed_blocks(alloc, edits, blocks)?;
+    let list = edited_blocks(alloc, edits, blocks)?;
     let outcome = are_alike(alloc, &list, blocks);
     drop(list);
     match outcome {

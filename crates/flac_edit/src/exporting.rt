@@ -3,10 +3,10 @@
 ghost use Rattle.std.specs.Prelude.{◌≡◌, ◌≤◌, ◌<◌, ◌++◌, false, length, option_map, IfOk, OnOk};
 ghost use Rattle.flac_bits.specs.Bits.{bits_of};
 ghost use Rattle.flac_meta.specs.Spelling.{block_spelling, content_spelling};
-ghost use Rattle.flac_edit.specs.Exported.{hex_digit, escaped_byte, escaped, comment_line, comment_lines, first_picture};
+ghost use Rattle.flac_edit.specs.Exported.{hex_digit, escaped_byte, escaped, comment_line, comment_lines, first_picture, first_sheet};
 
 use flac_bits::{BitWriter, Collected, Why};
-use flac_meta::{Block, Bytes, Picture, write_block};
+use flac_meta::{Block, Bytes, CueSheet, Picture, write_block};
 use std::alloc::{AllocError, Global};
 
 /// A hexadecimal digit, a small letter from 10 on.
@@ -74,6 +74,18 @@ pub fn first_picture(blocks: &[Block]) -> Option<&Picture>
     for block in blocks {
         if let Block::Picture(picture) = block {
             return Some(picture);
+        }
+    }
+    None
+}
+
+/// The first cue sheet among blocks (RFC 9639, section 8.7).
+pub fn first_sheet(blocks: &[Block]) -> Option<&CueSheet>
+    ensures { option_map (λ s. s.now) result ≡ first_sheet blocks.now }
+{
+    for block in blocks {
+        if let Block::CueSheet(sheet) = block {
+            return Some(sheet);
         }
     }
     None

@@ -8,27 +8,30 @@ ghost use Rattle.flac_meta.specs.Spelling.{content_spelling};
 ghost use Rattle.flac_native.specs.Decoding.{source_start};
 ghost use Rattle.flac_native.specs.Retag.{not_written};
 ghost use Rattle.flac_edit.specs.Tagged.{comments_among};
-ghost use Rattle.flac_edit.specs.Exported.{comment_lines, first_picture};
+ghost use Rattle.flac_edit.specs.Exported.{comment_lines, first_picture, first_sheet};
 ghost use Rattle.flac_edit.specs.Rewritten.{IfRefused};
 ghost use Rattle.flac_edit.specs.Parts.{IsPart, Lacks, ExportsAt, LacksAt};
 ghost use Rattle.flac_edit.specs.declared.rewriting_blocks.EditFault.TheVariants as fault;
 
 use crate::block_edits::BlockFault;
-use crate::exporting::{comment_lines, content_of, first_picture};
+use crate::exporting::{comment_lines, content_of, first_picture, first_sheet};
 use crate::rewriting_blocks::EditFault;
 use crate::tagging::comments_among;
 use flac_bits::{BitReader, Source, Target, Why, send_all};
+use flac_cue::cue_text;
 use flac_meta::Block;
 use flac_native::{RetagFault, read_blocks};
 use std::alloc::{AllocError, Global};
 
 /// A part of the metadata of a stream.
 #[derive(Clone, Copy, Debug, PartialEq, Eq)]
-pub enum Part {
+pub enum Part<'a> {
     /// The comments, a line each ([`comment_lines`]).
     Tags,
     /// The data of the first picture.
     Picture,
+    /// The text of the first cue sheet, of the file of this name ([`cue_text`]).
+    CueSheet(&'a str),
     /// The content of the block of this number ([`content_of`]); STREAMINFO is block 0.
     Block(u32),
 }
@@ -73,6 +76,20 @@ fn picture_part(alloc: Global, blocks: &[Block]) -> Result<Vec<u8>, EditFault>
     }
 }
 
+/// The text of the first cue sheet.
+fn sheet_part(alloc: Global, name: &str, blocks: &[Block]) -> Result<Vec<u8>, EditFault>
+    ensures found { IfOk result (λ v. IsPart (Part.CueSheet name.entry) blocks.now v.items) }
+    ensures lacks { IfErr result (IfRefused (Lacks (Part.CueSheet name.entry) blocks.now)) }
+{
+    let Some(sheet) = first_sheet(blocks) else {
+        return Err(EditFault::Blocks(BlockFault::NoCueSheet));
+    };
+    match cue_text(alloc, name, sheet) {
+        Ok(text) => Ok(text),
+        Err(_) => Err(whole(Why::Memory)),
+    }
+}
+
 /// The content of the block of this number.
 fn block_part(alloc: Global, number: u32, blocks: &[Block]) -> Result<Vec<u8>, EditFault>
     ensures found { IfOk result (λ v. IsPart (Part.Block number) blocks.now v.items) }
@@ -88,13 +105,14 @@ fn block_part(alloc: Global, number: u32, blocks: &[Block]) -> Result<Vec<u8>, E
 }
 
 /// The bytes of a part of blocks.
-fn part_of(alloc: Global, part: Part, blocks: &[Block]) -> Result<Vec<u8>, EditFault>
-    ensures found { IfOk result (λ v. IsPart part blocks.now v.items) }
-    ensures lacks { IfErr result (IfRefused (Lacks part blocks.now)) }
+fn part_of(alloc: Global, part: Part<'_>, blocks: &[Block]) -> Result<Vec<u8>, EditFault>
+    ensures found { IfOk result (λ v. IsPart part.entry blocks.now v.items) }
+    ensures lacks { IfErr result (IfRefused (Lacks part.entry blocks.now)) }
 {
     match part {
         Part::Tags => tags_part(alloc, blocks),
         Part::Picture => picture_part(alloc, blocks),
+        Part::CueSheet(name) => sheet_part(alloc, name, blocks),
         Part::Block(number) => block_part(alloc, number, blocks),
     }
 }
@@ -106,7 +124,7 @@ fn part_of(alloc: Global, part: Part, blocks: &[Block]) -> Result<Vec<u8>, EditF
 /// ```
 ///
 /// # Errors
-/// - [`EditFault::Blocks`]: the stream has no such block, or no picture. Nothing was written.
+/// - [`EditFault::Blocks`]: the stream has no such block, no picture or no cue sheet. Nothing was written.
 /// - [`EditFault::Stream`] with a reason of the marker or of a metadata block, at its place, as [`flac_native::decode`]
 ///   refuses it; [`Why::Read`] there if the source returned an error; [`Why::Memory`] at a block or without a place if an
 ///   allocation failed. Nothing was written.
@@ -114,15 +132,15 @@ fn part_of(alloc: Global, part: Part, blocks: &[Block]) -> Result<Vec<u8>, EditF
 pub fn export_part<R: Source, W: Target>(
     alloc: Global,
     source: &mut R,
-    part: Part,
+    part: Part<'_>,
     target: &mut W,
 ) -> Result<(), EditFault>
     // What was written is that part of the input.
     ensures written { OnOk result (R.known source.old ≡ true → W.known target.old ≡ true
-        → ExportsAt (source_start R.Source source.old) part (W.sent target.old) (W.sent target.new)) }
+        → ExportsAt (source_start R.Source source.old) part.entry (W.sent target.old) (W.sent target.new)) }
     // A part is refused only if the input has none, for that reason.
     ensures refused { IfErr result (IfRefused (λ why. R.known source.old ≡ true
-        → LacksAt (source_start R.Source source.old) part why)) }
+        → LacksAt (source_start R.Source source.old) part.entry why)) }
     // Unless the target failed, nothing was written.
     ensures nothing { IfErr result (λ f. f ≢ fault.Stream not_written → target.new ≡ target.old) }
 {
@@ -145,13 +163,13 @@ pub fn export_part<R: Source, W: Target>(
 fn part_from<R: Source>(
     alloc: Global,
     reader: &mut BitReader<R>,
-    part: Part,
+    part: Part<'_>,
 ) -> Result<Vec<u8>, EditFault>
     requires { reader.old.cursor.mark.unread ≡ 0 }
     ensures found { IfOk result (λ v. reader.old.known ≡ true
-        → (before : List ℕ) → ExportsAt (lifted reader.old).cursor part before (before ++ v.items)) }
+        → (before : List ℕ) → ExportsAt (lifted reader.old).cursor part.entry before (before ++ v.items)) }
     ensures lacks { IfErr result (IfRefused (λ why. reader.old.known ≡ true
-        → LacksAt (lifted reader.old).cursor part why)) }
+        → LacksAt (lifted reader.old).cursor part.entry why)) }
 {
     let blocks = match read_blocks(alloc, reader) {
         Ok(blocks) => blocks,

@@ -1,8 +1,19 @@
 //! Laws: what holds of the definitions. Calling them does nothing; a proof may name them.
 
+ghost use Rattle.flac_edit.specs.CueSheets.{CueSheetsComeBack};
 ghost use Rattle.flac_edit.specs.Edited.{EditsSettle};
 ghost use Rattle.flac_edit.specs.Lines.{LinesAreRead};
 ghost use Rattle.flac_edit.specs.Streams.{StreamsStay};
+
+use flac_cue::cue_comes_back;
+
+/// A cue sheet that keeps the rules of the audio of its stream, as STREAMINFO says it, is exported as a text that gives
+/// the same cue sheet for that stream, whatever the file's name (RFC 9639, section 8.7).
+pub fn cue_sheets_come_back()
+    ensures { CueSheetsComeBack }
+{
+    cue_comes_back();
+}
 
 /// If a file is a stream, then what an edit in place and a crash leave of it is a stream of the old items, or of the
 /// same STREAMINFO, edited blocks and the same frames (RFC 9639, section 6).

@@ -9,7 +9,8 @@ ghost use Rattle.flac_edit.specs.BlockEdits.{edited_blocks, block_fault};
 ghost use Rattle.flac_edit.specs.Rewritten.{Judges, IfRefused, RewritesBlocksAt, RefusesBlocksAt};
 ghost use Rattle.flac_edit.specs.declared.rewriting_blocks.EditFault.TheVariants as fault;
 
-use crate::block_edits::{BlockEdits, BlockFault, edited_blocks, missing, pictures_fault};
+use crate::block_edits::{BlockEdits, BlockFault, arranged, missing, pictures_fault};
+use crate::cue_sheets::new_sheet;
 use flac_bits::{BitReader, Source, Target, Why};
 use flac_meta::Block;
 use flac_native::{RetagFault, read_blocks, send_with_blocks};
@@ -24,11 +25,13 @@ pub enum EditFault {
     Stream(RetagFault),
 }
 
-/// The blocks after these edits.
+/// The blocks after these edits, STREAMINFO the first: those that are not removed, with the new cue sheet and then the new
+/// pictures before the comments and the padding, and the new padding last. A cue sheet is that of the audio that
+/// STREAMINFO says, and of a CD if its format is that of one and it is a whole number of frames of 588 samples.
 ///
 /// # Errors
-/// The edits do not fit the blocks, or an allocation failed ([`Why::Memory`], without a place).
-pub(crate) fn changed_blocks(
+/// The edits do not fit the blocks, as [`rewrite_blocks`] says, or an allocation failed ([`Why::Memory`], without a place).
+pub fn edited_blocks(
     alloc: Global,
     edits: &BlockEdits<'_>,
     blocks: &[Block],
@@ -39,7 +42,8 @@ pub(crate) fn changed_blocks(
     if let Some(fault) = missing(blocks.len(), edits.removals) {
         return Err(EditFault::Blocks(fault));
     }
-    let Ok(list) = edited_blocks(alloc, edits, blocks) else {
+    let sheet = new_sheet(alloc, edits, blocks)?;
+    let Ok(list) = arranged(alloc, edits, sheet, blocks) else {
         return Err(EditFault::Stream(RetagFault {
             at: None,
             why: Why::Memory,
@@ -52,17 +56,18 @@ pub(crate) fn changed_blocks(
 }
 
 /// Writes a native stream with edited metadata blocks (RFC 9639, sections 6 and 8): the marker, the blocks that are not
-/// removed, with new pictures before the comments and the padding, new padding last, and then all bytes that follow the
+/// removed, with a new cue sheet and new pictures before the comments and the padding, new padding last, and then all bytes that follow the
 /// metadata. These are copied as they are, and not verified; so the offsets of a seek table stay right.
 ///
 /// ```
-/// let edits = BlockEdits { removals: &[Removal::Kind(6)], pictures: &[], padding: Some(8192) };
+/// let edits = BlockEdits { removals: &[Removal::Kind(6)], cue: None, pictures: &[], padding: Some(8192) };
 /// rewrite_blocks(rt.alloc(), &mut source, &edits, &mut target)?; // without its pictures
 /// ```
 ///
 /// # Errors
-/// - [`EditFault::Blocks`]: a removal names a block that is not there, or STREAMINFO; or there would be two pictures of
-///   type 1, or of type 2, one of them new (section 8.8). Nothing was written.
+/// - [`EditFault::Blocks`]: a removal names a block that is not there, or STREAMINFO; STREAMINFO does not say how many
+///   samples a cue sheet is of, or a line of its text is wrong (section 8.7); or there would be two pictures of type 1, or
+///   of type 2, one of them new (section 8.8). Nothing was written.
 /// - [`EditFault::Stream`] with a reason of the marker or of a metadata block, at its place, as [`flac_native::decode`]
 ///   refuses it; [`Why::Read`] there if the source returned an error. Nothing was written.
 /// - The same with [`Why::BlockLength`] without a place: a picture or the padding is longer than 16777215 bytes; with
@@ -117,7 +122,7 @@ fn rewrite_blocks_from<R: Source, W: Target>(
             }));
         }
     };
-    let made = changed_blocks(alloc, edits, &blocks);
+    let made = edited_blocks(alloc, edits, &blocks);
     drop(blocks);
     let list = match made {
         Ok(list) => list,

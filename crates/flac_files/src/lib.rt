@@ -1,11 +1,12 @@
 //! The files of a job of the program `flac`: what it reads, and what it writes to.
 //!
-//! What a system does with files cannot be claimed. So but for [`List::of`], [`may_replace`], [`read_picture`] and
-//! [`read_comment_lines`] the calls of this library have few clauses: they are proved to be safe and to return. What the
+//! What a system does with files cannot be claimed. So but for [`List::of`], [`may_replace`], [`read_picture`],
+//! [`read_comment_lines`] and [`read_cue_sheet`] the calls of this library have few clauses: they are proved to be safe and to return. What the
 //! program does with the bytes is stated by `flac_cli`.
 #![tactic(auto)]
 
 mod comment_lines;
+mod cue_sheets;
 mod files;
 mod job_files;
 mod list;
@@ -20,6 +21,7 @@ mod tag_files;
 mod walk;
 
 pub use comment_lines::read_comment_lines;
+pub use cue_sheets::read_cue_sheet;
 pub use files::{Input, Known, Output};
 pub use job_files::{Ending, FileRefused, JobFiles};
 pub use list::List;

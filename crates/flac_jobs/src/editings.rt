@@ -46,6 +46,9 @@ pub struct Editing<'a> {
     pub removals: Option<Vec<BlockName>>,
     /// The pictures that are added; `None` if a word is no picture.
     pub pictures: Option<Vec<PictureWord<'a>>>,
+    /// The path of the file of the cue sheet that each stream gets in place of its own, `-` for standard input; `None` if it
+    /// keeps its own.
+    pub sheet: Option<&'a str>,
     /// How many bytes of padding come in place of the old padding, 0 for none; `None` if it stays.
     pub padding: Option<u32>,
     /// Whether each file keeps the time at which it was changed.

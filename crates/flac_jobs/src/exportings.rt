@@ -7,6 +7,8 @@ pub enum ExportPart {
     Tags,
     /// The data of the first picture.
     Picture,
+    /// The first cue sheet as text.
+    CueSheet,
     /// The content of the block of this number; STREAMINFO is block 0.
     Block(u32),
 }

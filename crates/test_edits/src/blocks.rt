@@ -1,9 +1,10 @@
 //! Edited metadata blocks in a new file, and parts that are exported.
 
 use flac_bits::{Collected, Memory, Why};
+use flac_cue::CueWhy;
 use flac_edit::{
     BlockEdits, BlockFault, EditFault, Part, Removal, blocks_change, comment_lines, content_of,
-    edited_blocks, export_part, first_picture, rewrite_blocks,
+    edited_blocks, export_part, first_picture, first_sheet, rewrite_blocks,
 };
 use flac_meta::{Block, Bytes, Picture};
 use flac_native::RetagFault;
@@ -69,6 +70,7 @@ fn blocks_are_edited(rt: HostRuntime) -> Result<(), Fail> {
     let cover = [picture(rt.alloc())?];
     let edits = BlockEdits {
         removals: &[Removal::Application(*b"test")],
+        cue: None,
         pictures: &cover,
         padding: Some(3),
     };
@@ -80,6 +82,7 @@ fn blocks_are_edited(rt: HostRuntime) -> Result<(), Fail> {
 fn blocks_stay(rt: HostRuntime) -> Result<(), Fail> {
     let edits = BlockEdits {
         removals: &[Removal::Kind(0), Removal::Kind(5)],
+        cue: None,
         pictures: &[],
         padding: None,
     };
@@ -91,6 +94,7 @@ fn blocks_stay(rt: HostRuntime) -> Result<(), Fail> {
 fn edits_are_refused(rt: HostRuntime) -> Result<(), Fail> {
     let mut edits = BlockEdits {
         removals: &[Removal::Number(3), Removal::Number(4)],
+        cue: None,
         pictures: &[],
         padding: Some(1),
     };
@@ -107,6 +111,7 @@ fn a_second_icon_is_refused(rt: HostRuntime) -> Result<(), Fail> {
     icons[1].kind = 2;
     let edits = BlockEdits {
         removals: &[],
+        cue: None,
         pictures: &icons,
         padding: None,
     };
@@ -118,6 +123,7 @@ fn a_second_icon_is_refused(rt: HostRuntime) -> Result<(), Fail> {
 fn padding_that_is_too_long(rt: HostRuntime) -> Result<(), Fail> {
     let edits = BlockEdits {
         removals: &[],
+        cue: None,
         pictures: &[],
         padding: Some(16_777_216),
     };
@@ -130,14 +136,14 @@ fn padding_that_is_too_long(rt: HostRuntime) -> Result<(), Fail> {
 }
 
 /// What is exported of a stream.
-fn exported(alloc: Global, old: &[u8], part: Part) -> Result<Vec<u8>, EditFault> {
+fn exported(alloc: Global, old: &[u8], part: Part<'_>) -> Result<Vec<u8>, EditFault> {
     let mut target = Collected::new(alloc);
     export_part(alloc, &mut Memory::new(old), part, &mut target)?;
     Ok(target.into_bytes())
 }
 
 /// Whether these bytes are exported of the new stream.
-fn exports(alloc: Global, part: Part, due: &[u8]) -> bool {
+fn exports(alloc: Global, part: Part<'_>, due: &[u8]) -> bool {
     match exported(alloc, &NEW, part) {
         Ok(bytes) => bytes.as_slice() == due,
         Err(_) => false,
@@ -160,10 +166,13 @@ fn lists_of_blocks(rt: HostRuntime) -> Result<(), Fail> {
     let blocks = [Block::Padding(4), Block::Picture(picture(rt.alloc())?)];
     let edits = BlockEdits {
         removals: &[Removal::Number(1)],
+        cue: None,
         pictures: &[],
         padding: Some(0),
     };
-    let news = edited_blocks(rt.alloc(), &edits, &blocks)?;
+    let Ok(news) = edited_blocks(rt.alloc(), &edits, &blocks) else {
+        return Err(Fail::new("no blocks"));
+    };
     assert!(rt; news.is_empty());
     let Some(found) = first_picture(&blocks) else {
         return Err(Fail::new("no picture"));
@@ -189,6 +198,7 @@ fn comments_are_lines(rt: HostRuntime) -> Result<(), Fail> {
 fn changes(alloc: Global, old: &[u8], removals: &[Removal], padding: Option<u32>) -> Option<bool> {
     let edits = BlockEdits {
         removals,
+        cue: None,
         pictures: &[],
         padding,
     };
@@ -203,5 +213,67 @@ fn edits_that_change_nothing_are_told(rt: HostRuntime) -> Result<(), Fail> {
     assert!(rt; changes(rt.alloc(), &NEW, &[], Some(3)) == Some(false));
     assert!(rt; changes(rt.alloc(), &NEW, &[], Some(4)) == Some(true));
     assert!(rt; changes(rt.alloc(), &NEW, &[Removal::Number(9)], None).is_none());
+    Ok(())
+}
+
+/// The old stream, with 1176 samples: two frames of a CD.
+fn with_total() -> [u8; 90] {
+    let mut stream = OLD;
+    stream[24] = 4;
+    stream[25] = 152;
+    stream
+}
+
+/// Edits that put in a cue sheet alone.
+fn cue_edits(text: &[u8]) -> BlockEdits<'_> {
+    BlockEdits {
+        removals: &[],
+        cue: Some(text),
+        pictures: &[],
+        padding: None,
+    }
+}
+
+/// The text that is exported of the stream after a cue sheet was put in twice.
+fn sheet_again(alloc: Global, text: &[u8]) -> Result<Vec<u8>, EditFault> {
+    let once = rewritten(alloc, &with_total(), &cue_edits(text))?;
+    let twice = rewritten(alloc, &once, &cue_edits(text))?;
+    if once.as_slice() != twice.as_slice() {
+        return Err(EditFault::Blocks(BlockFault::NoCueSheet));
+    }
+    exported(alloc, &twice, Part::CueSheet("a.flac"))
+}
+
+/// The text is that of `metaflac --export-cuesheet-to=-` after `metaflac --import-cuesheet-from`.
+#[test]
+fn cue_sheets_go_in_and_out(rt: HostRuntime) -> Result<(), Fail> {
+    let text =
+        b"FILE x WAVE\r\n TRACK 01 AUDIO\r\n  INDEX 01 00:00:00\r\n TRACK 02 AUDIO\r\n  INDEX 01 00:00:01";
+    let due =
+        b"FILE \"a.flac\" FLAC\n  TRACK 01 AUDIO\n    INDEX 01 00:00:00\n  TRACK 02 AUDIO\n    INDEX 01 00:00:01\nREM FLAC__lead-in 88200\nREM FLAC__lead-out 170 1176\n";
+    let Ok(written) = sheet_again(rt.alloc(), text) else {
+        return Err(Fail::new("no sheet"));
+    };
+    assert!(rt; written.as_slice() == due.as_slice());
+    Ok(())
+}
+
+/// Why a cue sheet is not put into a stream.
+fn cue_fault(alloc: Global, stream: &[u8], text: &[u8]) -> Option<BlockFault> {
+    match rewritten(alloc, stream, &cue_edits(text)) {
+        Err(EditFault::Blocks(fault)) => Some(fault),
+        _ => None,
+    }
+}
+
+#[test]
+fn cue_sheets_are_refused(rt: HostRuntime) -> Result<(), Fail> {
+    let text = b"TRACK 01 AUDIO\nINDEX 01 00:00:02\n";
+    let fault = BlockFault::CueLine(2, CueWhy::Offset);
+    assert!(rt; cue_fault(rt.alloc(), &with_total(), text) == Some(fault));
+    assert!(rt; cue_fault(rt.alloc(), &OLD, text) == Some(BlockFault::NoTotal));
+    let fault = EditFault::Blocks(BlockFault::NoCueSheet);
+    assert!(rt; exported(rt.alloc(), &OLD, Part::CueSheet("a.flac")) == Err(fault));
+    assert!(rt; first_sheet(&[Block::Padding(4)]).is_none());
     Ok(())
 }

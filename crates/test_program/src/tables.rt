@@ -738,11 +738,12 @@ flac tag a.flac --from a.txt --add =x | 2 flac: command: 55 FieldName;
 flac tag a.flac --from a.txt --from b.txt | 2 error: the argument '--from <LINES>' cannot be used multiple times*
 flac tag a.flac | 2 flac: command: tag needs --clear, --from, --remove, --set, --add or --rewrite;
 flac tag a.flac --padding 0 | 2 flac: command: tag needs --clear, --from, --remove, --set, --add or --rewrite;
-flac edit a.flac | 2 flac: command: edit needs --padding, --remove-block or --picture;
+flac edit a.flac | 2 flac: command: edit needs --remove-block, --picture, --cuesheet or --padding;
+flac edit a.flac --cuesheet a.cue --cuesheet b.cue | 2 error: the argument '--cuesheet <SHEET>' cannot be used multiple times*
 flac edit a.flac --remove-block 0 | 2 flac: command: --remove-block takes a number from 1 on, or a type other than STREAMINFO;
 flac edit a.flac --remove-block streaminfo | 2 flac: command: --remove-block takes a number from 1 on, or a type other than STREAMINFO;
 flac edit a.flac --picture 21:b.png | 2 flac: command: --picture takes [TYPE:]FILE, the type 0 to 20;
-flac export a.flac pictures b | 2 flac: command: export takes tags, picture or the number of a block;
+flac export a.flac pictures b | 2 flac: command: export takes tags, picture, cuesheet or the number of a block;
 flac play a.flac | 2 error: unrecognized subcommand 'play';;Usage: flac <COMMAND>;;For more information, try '--help'.;
 flac --help | 0 Tests*
 flac test --help | 0 Decodes a stream, and prints how many frames*

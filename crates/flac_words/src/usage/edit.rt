@@ -11,6 +11,7 @@ use std::alloc::{AllocError, Global};
 const EDIT_EXAMPLE: &str = "Examples:
   $ flac edit --picture cover.jpg song.flac                adds a front cover
   $ flac edit --remove-block picture --padding 4096 *.flac
+  $ flac edit --cuesheet album.cue album.flac              puts in a cue sheet
 
 A block is named by its number, as list has it, or by its type: padding, application,
 application:ID, seektable, vorbis_comment, cuesheet, picture, or type_7 to type_126. ID is
@@ -21,6 +22,12 @@ TYPE:MEDIA:WIDTHxHEIGHTxDEPTH:FILE or TYPE:MEDIA:WIDTHxHEIGHTxDEPTH/COLOURS:FILE
 to 20: 3 is the front cover, 4 the back cover, 8 the artist; without it, it is 3. Of types
 1 and 2 there is one picture at most. Pictures are put before comments and padding.
 
+SHEET is a cue sheet, as programs for CDs and export write it. It takes the place of all that
+are there, and is put before comments and padding. What it says besides CATALOG, TRACK,
+FLAGS, ISRC and INDEX is not kept. It is that of a CD if the stream has 44100 Hz, 16 bits, one
+or two channels and a whole number of frames of 588 samples: then places are mm:ss:ff, else
+also numbers of samples. A stream for which a line breaks a rule is refused.
+
 With --padding all old padding is replaced by one block at the end. A file whose blocks are
 so already is not written; a new file takes the place of any other. Frames are copied as
 they are and not verified. A file that is refused stays as it was, and a line says why; the
@@ -28,13 +35,13 @@ exit status is then 1. Ogg streams are refused.";
 
 pub(crate) static EDIT: Usage = Usage {
     name: "edit",
-    about: "Removes metadata blocks of streams, adds pictures, sets the padding",
+    about: "Removes metadata blocks of streams, adds pictures and cue sheets, sets the padding",
     words: &EDIT_WORDS,
     example: EDIT_EXAMPLE,
 };
 
 /// The arguments of `edit`.
-const EDIT_WORDS: [Word; 6] = [
+const EDIT_WORDS: [Word; 7] = [
     Word {
         name: "FILE",
         kind: WordKind::Files,
@@ -49,6 +56,11 @@ const EDIT_WORDS: [Word; 6] = [
         name: "picture",
         kind: WordKind::Texts("[TYPE:]FILE"),
         help: "Adds a picture",
+    },
+    Word {
+        name: "cuesheet",
+        kind: WordKind::Text("SHEET"),
+        help: "Puts in a cue sheet in place of the old; - for standard input",
     },
     Word {
         name: "padding",
@@ -81,6 +93,7 @@ pub(crate) fn edit_request<'a>(
         inputs,
         removals: removals_of(alloc, given.get_strs("remove-block").unwrap_or(&[]))?,
         pictures: pictures_of(alloc, given.get_strs("picture").unwrap_or(&[]))?,
+        sheet: given.get_str("cuesheet"),
         padding: given.get_one("padding"),
         keep_times: given.get_flag("keep-times"),
         verbose: given.get_flag("verbose"),
@@ -175,9 +188,10 @@ pub(crate) fn fault_of_editing(editing: &Editing<'_>) -> Option<LineFault>
             "flac: command: --picture takes [TYPE:]FILE, the type 0 to 20\n",
         ));
     };
-    if removals.is_empty() && pictures.is_empty() && editing.padding.is_none() {
+    let is_idle = editing.padding.is_none() && editing.sheet.is_none();
+    if removals.is_empty() && pictures.is_empty() && is_idle {
         return Some(LineFault::refused(
-            "flac: command: edit needs --padding, --remove-block or --picture\n",
+            "flac: command: edit needs --remove-block, --picture, --cuesheet or --padding\n",
         ));
     }
     None

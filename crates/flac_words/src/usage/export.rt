@@ -10,18 +10,20 @@ use std::alloc::Global;
 const EXPORT_EXAMPLE: &str = "Examples:
   $ flac export song.flac picture cover.jpg
   $ flac export song.flac tags - | sort
+  $ flac export album.flac cuesheet album.cue
 
-PART is tags, picture, or the number of a block, as list has it. Tags are a line each,
-escaped as list has them: bytes outside 20 to 7E (hexadecimal) and the backslash are \\x and
-two digits. Of a picture it is the data of the first one, of a block the content without its
-header; that of padding is zeros. No frame is read.
+PART is tags, picture, cuesheet, or the number of a block, as list has it. Tags are a line
+each, escaped as list has them: bytes outside 20 to 7E (hexadecimal) and the backslash are
+\\x and two digits. Of a picture it is the data of the first one, of a cue sheet the text of
+the first one, which edit --cuesheet takes; of a block the content without its header; that
+of padding is zeros. No frame is read.
 
 A file OUT that is a stream or a WAV file is not replaced without --force; any other that has
 bytes is replaced once the new one is whole.";
 
 pub(crate) static EXPORT: Usage = Usage {
     name: "export",
-    about: "Writes tags, a picture or the content of a block to a file",
+    about: "Writes tags, a picture, a cue sheet or the content of a block to a file",
     words: &EXPORT_WORDS,
     example: EXPORT_EXAMPLE,
 };
@@ -36,7 +38,7 @@ const EXPORT_WORDS: [Word; 4] = [
     Word {
         name: "PART",
         kind: WordKind::File,
-        help: "What is written: tags, picture, or the number of a block",
+        help: "What is written: tags, picture, cuesheet, or the number of a block",
     },
     Word {
         name: "OUT",
@@ -63,6 +65,7 @@ fn part_of(word: &str) -> Option<ExportPart> {
     match word {
         "tags" => Some(ExportPart::Tags),
         "picture" => Some(ExportPart::Picture),
+        "cuesheet" => Some(ExportPart::CueSheet),
         _ => Some(ExportPart::Block(word.parse::<u32>().ok()?)),
     }
 }
@@ -73,7 +76,7 @@ pub(crate) fn fault_of_exporting(exporting: &Exporting<'_>) -> Option<LineFault>
 {
     if exporting.part.is_none() {
         return Some(LineFault::refused(
-            "flac: command: export takes tags, picture or the number of a block\n",
+            "flac: command: export takes tags, picture, cuesheet or the number of a block\n",
         ));
     }
     None
