@@ -1,1 +1,3 @@
 pub mod Rewriting
+pub mod Draft
+pub mod inner

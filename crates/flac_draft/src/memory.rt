@@ -47,7 +47,8 @@ impl DraftMemory {
     pub fn into_bytes(self) -> Vec<u8>
         ensures { result ≡ self.bytes }
     {
-        self.bytes
+        let DraftMemory { bytes, .. } = self;
+        bytes
     }
 }
 

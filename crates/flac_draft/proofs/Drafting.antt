@@ -1,0 +1,259 @@
+-- A draft, from the first block to the last.
+use Rattle.std.proofs.Common.{◌≡◌, ℕ, zero, suc, ◌+◌, ◌*◌, ◌^◌, ◌<◌, ◌≤◌, min, max, ℤ, Bool, true, false, cond, nat_eq, Option, None, Result, Ok, Err, List, [], ◌∷◌, ◌++◌, length, append_assoc, refl, sym, ap, subst, ◌∙◌, arith}
+use Rattle.std.specs.Prelude.{OnOk}
+use Rattle.std.proofs.lemmas.Bool.Decides.{nat_tests}
+use Rattle.std.proofs.lemmas.List.{append-nil}
+use Rattle.std.proofs.Math.Nat.{mul-suc}
+use Rattle.flac_bits.specs.Bits.{unsigned, bits_of}
+use Rattle.flac_bits.specs.Forms.{joined}
+use Rattle.flac_bits.specs.Items.{Stream}
+use Rattle.flac_bits.specs.declared.target.Target as target
+use Rattle.flac_bits.specs.declared.why.Why.TheVariants.{Truncated}
+use Rattle.flac_bits.proofs.Holding.{length-bits_of, bits_of-append}
+use Rattle.flac_meta.specs.Listed.{list_fault, info_seen}
+use Rattle.flac_meta.specs.Valid.{AllAre, FitsFields}
+use Rattle.flac_meta.specs.declared.block.Block.{Block}
+use Rattle.flac_meta.specs.declared.block.Block.TheVariants as blocks
+use Rattle.flac_meta.proofs.Steps.{joined_two}
+use Rattle.flac_subframe.specs.declared.format.linear.LinearPredictor.{LinearPredictor}
+use Rattle.flac_frame.specs.Audio.{Sound, samples_each}
+use Rattle.flac_frame.specs.Frame.{Frame}
+use Rattle.flac_native.specs.Decoding.{beginning}
+use Rattle.flac_native.specs.Given.{cut_in, blocks_in, size_of, frame_of, info_of, given, sound_message}
+use Rattle.flac_native.specs.Message.{sample_width, rows_bytes, Feeds}
+use Rattle.flac_native.specs.Seeking.{points_of, table_of}
+use Rattle.flac_native.specs.Stream.{grammar, opening}
+use Rattle.flac_native.specs.Writing.{SpellsFrame, AreFrames, AreSizes, blocks_spelling, head_spelling, stream_spelling}
+use Rattle.flac_native.proofs.Digests.{digest_is_bytes}
+use Rattle.flac_native.proofs.Encoded.{part_rows, all_parts}
+use Rattle.flac_native.proofs.Gathered.{no_sizes, snoc, length-snoc, each_more, sizes_with}
+use Rattle.flac_native.proofs.Messages.{fed_more, fed_all}
+use Rattle.flac_native.proofs.Streams.{encoded_are_streams}
+use Rattle.flac_native.proofs.Tables.{no_points}
+use Rattle.flac_predict.specs.declared.search.Search.{Search}
+use Rattle.flac_encoder.specs.Pushing.{Shape, Pushed, unpushed, after_block, with_target, trying, searching, shape_fault, open_info, sound_of, frame_with, SpellsLeastFound}
+use Rattle.flac_encoder.proofs.Pushing.{shaped}
+use Rattle.md5.specs.Md5.{Holds, md5}
+use Rattle.md5.specs.declared.Md5.{Md5}
+use Rattle.flac_draft.specs.Rewriting.{IsWrittenOver}
+use Rattle.flac_draft.specs.Draft.{Draft, Drafts, IsNextBlock, HasAll, StaysDraft, EncodesFound, DraftsAreEncoded, sound_for, plan_for}
+use Rattle.flac_draft.specs.inner.Gathering.{info_with, least_after}
+use Rattle.flac_draft.proofs.Heads.{heads_alike, written_bits}
+use Rattle.flac_draft.proofs.Planned.{planned_for, fits_for}
+use Rattle.flac_draft.proofs.Moved.{spells_moved, found_moved, block_long, frame_is}
+
+-- ---- an encoder of these parts
+
+abbrev pub draft_of : {R S : Type 0} → Pushed R → S → List Block → Md5 → (least greatest start : ℕ) → Draft S
+draft_of b t list h least greatest start = record { pushed = with_target b t; list = list; hasher = h; least = least; greatest = greatest; start = start }
+
+-- a result that is Ok says less
+pub on_ok : {X E P Q : Type 0} (r : Result X E) → (P → Q) → OnOk r P → OnOk r Q
+on_ok (Ok x) f p = f p
+on_ok (Err e) f p = tt
+
+-- ---- at first
+
+pub draft_none : {S : Type 0} (g : target.Ghosts S) (samples : List (List ℤ)) (before : List Bool) (s : Shape) (t : S) (list : List Block) (h : Md5) (start : ℕ) → shape_fault s ≡ None → list_fault info_seen list ≡ None → AllAre FitsFields list
+    → length samples ≡ s.channels → Holds h [] → length before ≡ 8 * start → bits_of (g.sent t) ≡ before ++ head_spelling (open_info s) list
+    → Drafts g samples before (record { pushed = unpushed s t; list = list; hasher = h; least = 0; greatest = 0; start = start })
+unfolding rows_bytes
+draft_none g samples before s t list h start shape listed fields channels held far sent = record {
+  shape = shape;
+  listed = listed;
+  fields = fields;
+  channels = channels;
+  frames = [];
+  many = refl;
+  few = omega arith;
+  each = λ i lt. absurd (omega (arith, lt));
+  least = λ i lt. absurd (omega (arith, lt));
+  sizes = no_sizes;
+  count = omega arith;
+  digest = held;
+  start = far;
+  sent = sent ∙ ap (λ l. before ++ l) (sym (append-nil (head_spelling (open_info s) list)));
+}
+
+-- ---- what is tried
+
+module _ {S : Type 0} (g : target.Ghosts S) (d : Draft S) where
+  pub stays_trying : (ps : List LinearPredictor) → StaysDraft g d (record d { pushed = trying d.pushed ps })
+  stays_trying ps none samples before h = record {
+    shape = h.shape;
+    listed = h.listed;
+    fields = h.fields;
+    channels = h.channels;
+    frames = h.frames;
+    many = h.many;
+    few = h.few;
+    each = h.each;
+    least = λ i lt. absurd (omega (arith, lt, h.many, none));
+    sizes = h.sizes;
+    count = h.count;
+    digest = h.digest;
+    start = h.start;
+    sent = h.sent;
+  }
+
+  pub stays_searching : (search : Option Search) → StaysDraft g d (record d { pushed = searching d.pushed search })
+  stays_searching search none samples before h = record {
+    shape = h.shape;
+    listed = h.listed;
+    fields = h.fields;
+    channels = h.channels;
+    frames = h.frames;
+    many = h.many;
+    few = h.few;
+    each = h.each;
+    least = λ i lt. absurd (omega (arith, lt, h.many, none));
+    sizes = h.sizes;
+    count = h.count;
+    digest = h.digest;
+    start = h.start;
+    sent = h.sent;
+  }
+
+-- ---- one more block
+
+zero_alike : (b n x : ℕ) → 16 ≤ b → x ≡ b * n → nat_eq x 0 ≡ nat_eq n 0
+zero_alike b zero x some e = let z : x ≡ 0 = omega (arith, e) in ap (λ k. nat_eq k 0) z
+zero_alike b (suc n) x some e = let p : 0 < x = omega (arith, some, e, mul-suc b n) in grind (arith, nat_tests)
+
+pub least_alike : (b n x least bytes : ℕ) → 16 ≤ b → x ≡ b * n → least_after x least bytes ≡ cond (nat_eq n 0) bytes (min least bytes)
+least_alike b n x least bytes some e = ap (λ k. cond k bytes (min least bytes)) (zero_alike b n x some e)
+
+abbrev pub drafted : {S : Type 0} → Draft S → S → Md5 → (block : List (List ℤ)) (bytes : List ℕ) → Draft S
+drafted d t h block bytes = record {
+  pushed = after_block d.pushed (samples_each block) t;
+  list = d.list;
+  hasher = h;
+  least = least_after d.pushed.samples d.least (length bytes);
+  greatest = max d.greatest (length bytes);
+  start = d.start;
+}
+
+sent_more : (before head : List Bool) (frames : List (List Bool)) (text all : List Bool) → all ≡ before ++ (head ++ joined frames) → all ++ text ≡ before ++ (head ++ joined (snoc frames text))
+sent_more before head frames text all e =
+    ap (λ l. l ++ text) e ∙ append_assoc before (head ++ joined frames) text ∙ ap (λ l. before ++ l) (append_assoc head (joined frames) text
+    ∙ ap (λ l. head ++ l) (ap (λ l. joined frames ++ l) (sym (append-nil text)) ∙ sym (joined_two frames (text ∷ []))))
+
+pub draft_more : {S : Type 0} (g : target.Ghosts S) (samples block : List (List ℤ)) (before : List Bool) (d : Draft S) (t : S) (h : Md5) (bytes : List ℕ) → Drafts g samples before d → IsNextBlock d samples block → d.pushed.number < 2 ^ 31
+    → SpellsFrame (sound_of d.pushed.shape block) (frame_with d.pushed.number block) (bits_of bytes)
+    → SpellsLeastFound d.pushed.search d.pushed.predictors (sound_of d.pushed.shape block) (frame_with d.pushed.number block) (bits_of bytes)
+    → Feeds d.hasher (rows_bytes (sample_width d.pushed.shape.bits) block (samples_each block) 0) h → g.sent t ≡ g.sent d.pushed.target ++ bytes → Drafts g samples before (drafted d t h block bytes)
+draft_more g samples block before d t h bytes o next few spells least feeds sent =
+    let s = d.pushed.shape in
+    let q = shaped s o.shape in
+    let b = s.block_size in
+    let n = d.pushed.number in
+    let a = sound_of s samples in
+    let total = samples_each samples in
+    let size = size_of b total n in
+    let w = sample_width s.bits in
+    let text = bits_of bytes in
+    let so_far : d.pushed.samples ≡ b * n = omega (arith, o.count, next.some) in
+    let long : samples_each block ≡ size = ap samples_each next.is ∙ block_long (b * n) size samples next.some (omega arith) in
+    let same = frame_is b n s samples block next.some next.is in
+    let here : SpellsFrame a (frame_of b a n) text = subst (λ f. SpellsFrame a f text) same (spells_moved s block samples (frame_with n block) text spells) in
+    let here_least : SpellsLeastFound d.pushed.search d.pushed.predictors a (frame_of b a n) text = subst (λ f. SpellsLeastFound d.pushed.search d.pushed.predictors a f text) same (found_moved s block samples d.pushed.search d.pushed.predictors (frame_with n block) text least) in
+    let rows : rows_bytes w block (samples_each block) 0 ≡ rows_bytes w samples size d.pushed.samples =
+    ap (λ k. rows_bytes w block k 0) long ∙ ap (λ k. rows_bytes w k size 0) next.is ∙ part_rows w (b * n) size size 0 samples (omega arith) ∙ ap (λ j. rows_bytes w samples size j) (let e : b * n + 0 ≡ d.pushed.samples = omega (arith, so_far) in e) in
+    record {
+      shape = o.shape;
+      listed = o.listed;
+      fields = o.fields;
+      channels = o.channels;
+      frames = snoc o.frames text;
+      many = omega (arith, length-snoc o.frames text, o.many);
+      few = omega (arith, few);
+      each = each_more (λ i k. SpellsFrame a (frame_of b a i) k) o.frames text o.each (subst (λ i. SpellsFrame a (frame_of b a i) text) (sym o.many) here);
+      least = each_more (λ i k. SpellsLeastFound d.pushed.search d.pushed.predictors a (frame_of b a i) k) o.frames text o.least (subst (λ i. SpellsLeastFound d.pushed.search d.pushed.predictors a (frame_of b a i) text) (sym o.many) here_least);
+      sizes = subst (λ k. AreSizes (snoc o.frames text) k (max d.greatest (length bytes))) (sym (least_alike b n d.pushed.samples d.least (length bytes) q.least so_far))
+          (sizes_with o.frames text n d.least d.greatest (length bytes) o.many (length-bits_of bytes) o.sizes);
+      count = omega (arith, so_far, long, next.some, mul-suc b n);
+      digest = fed_more a d.hasher h d.pushed.samples (samples_each block) size (sym long) (λ m held. subst (λ l. Holds h (m ++ l)) rows (feeds m held)) o.digest;
+      start = o.start;
+      sent = ap bits_of sent ∙ bits_of-append (g.sent d.pushed.target) bytes ∙ sent_more before (head_spelling (open_info s) d.list) o.frames text (bits_of (g.sent d.pushed.target)) o.sent;
+    }
+
+-- the same, as the encoder is left
+pub draft_next : {S : Type 0} (g : target.Ghosts S) (samples block : List (List ℤ)) (before : List Bool) (d : Draft S) (t : S) (h : Md5) (bytes : List ℕ) (p : Pushed S) (w n least greatest : ℕ) → Drafts g samples before d → IsNextBlock d samples block
+    → d.pushed.number < 2 ^ 31 → SpellsFrame (sound_of d.pushed.shape block) (frame_with d.pushed.number block) (bits_of bytes)
+    → SpellsLeastFound d.pushed.search d.pushed.predictors (sound_of d.pushed.shape block) (frame_with d.pushed.number block) (bits_of bytes) → Feeds d.hasher (rows_bytes w block n 0) h → g.sent t ≡ g.sent d.pushed.target ++ bytes
+    → w ≡ sample_width d.pushed.shape.bits → n ≡ samples_each block → p ≡ after_block d.pushed (samples_each block) t → least ≡ least_after d.pushed.samples d.least (length bytes) → greatest ≡ max d.greatest (length bytes)
+    → Drafts g samples before (record { pushed = p; list = d.list; hasher = h; least = least; greatest = greatest; start = d.start })
+draft_next g samples block before d t h bytes p w n least greatest o next few spells shortest feeds sent w_is n_is p_is least_is greatest_is =
+    let fed : Feeds d.hasher (rows_bytes (sample_width d.pushed.shape.bits) block (samples_each block) 0) h = subst (λ k. Feeds d.hasher (rows_bytes k block (samples_each block) 0) h) w_is (subst (λ k. Feeds d.hasher (rows_bytes w block k 0) h) n_is feeds) in
+    let one = draft_more g samples block before d t h bytes o next few spells shortest fed sent in
+    let two = subst (λ k. Drafts g samples before (record { pushed = after_block d.pushed (samples_each block) t; list = d.list; hasher = h; least = least_after d.pushed.samples d.least (length bytes); greatest = k; start = d.start })) (sym greatest_is) one in
+    let three = subst (λ k. Drafts g samples before (record { pushed = after_block d.pushed (samples_each block) t; list = d.list; hasher = h; least = k; greatest = greatest; start = d.start })) (sym least_is) two in
+    subst (λ k. Drafts g samples before (record { pushed = k; list = d.list; hasher = h; least = least; greatest = greatest; start = d.start })) (sym p_is) three
+
+-- a frame is short, and so are the sizes with one more
+pub short_frame : (a : Sound) (f : Frame) (bytes : List ℕ) → SpellsFrame a f (bits_of bytes) → length bytes < 2 ^ 24
+short_frame a f bytes k = omega (arith, k.short, length-bits_of bytes)
+
+pub least_small : (x least bytes : ℕ) → least < 2 ^ 24 → bytes < 2 ^ 24 → least_after x least bytes < 2 ^ 24
+least_small x least bytes l b = go (nat_eq x 0)
+  where
+    go : (c : Bool) → cond c bytes (min least bytes) < 2 ^ 24
+    go true = b
+    go false = omega (arith, l)
+
+-- ---- at the end
+
+stated : (s : Shape) (least greatest m n total : ℕ) (x y : List ℕ) → m ≡ s.channels → n ≡ total → x ≡ y
+    → info_with s least greatest n x ≡ record { least_block = s.block_size; greatest_block = s.block_size; least_frame = least; greatest_frame = greatest; rate = s.rate; channels = m; depth = s.bits; total = total; digest = y }
+stated s least greatest m n total x y channels count digest = rw (channels, count, digest) refl
+
+pub draft_whole : {S : Type 0} (g : target.Ghosts S) (samples : List (List ℤ)) (before : List Bool) (d : Draft S) (new : S) (digest head : List ℕ) → Drafts g samples before d → HasAll d samples → d.pushed.samples < 2 ^ 36
+    → ((m : List ℕ) → Holds d.hasher m → digest ≡ md5 m) → bits_of head ≡ head_spelling (info_with d.pushed.shape d.least d.greatest d.pushed.samples digest) d.list → IsWrittenOver d.start head (g.sent d.pushed.target) (g.sent new)
+    → EncodesFound d.pushed.search (plan_for d samples) d.list (sound_for d samples) before (bits_of (g.sent new))
+draft_whole g samples before d new digest head o all few md is over =
+    let s = d.pushed.shape in
+    let q = shaped s o.shape in
+    let b = s.block_size in
+    let a = sound_of s samples in
+    let total = samples_each samples in
+    let p = plan_for d samples in
+    let p0 = cut_in s.profile b a 0 in
+    let far : b * d.pushed.number ≡ b * blocks_in b total = ap (λ k. b * k) all in
+    let count : d.pushed.samples ≡ total = omega (arith, o.count, far, all_parts b total q.least) in
+    let digest_is : digest ≡ md5 (sound_message a) = md (sound_message a) (fed_all a d.hasher d.pushed.samples count o.digest) in
+    let info : info_with s d.least d.greatest d.pushed.samples digest ≡ info_of p a d.least d.greatest = stated s d.least d.greatest (length samples) d.pushed.samples total digest (md5 (sound_message a)) o.channels count digest_is in
+    let head_is : bits_of head ≡ head_spelling (info_of p a d.least d.greatest) d.list = is ∙ ap (λ i. head_spelling i d.list) info in
+    let long : length (head_spelling (open_info s) d.list) ≡ length (bits_of head) =
+    heads_alike (open_info s) (info_of p a d.least d.greatest) d.list refl (digest_is_bytes (sound_message a)).many ∙ sym (ap (λ (l : List Bool). length l) head_is) in
+    let are : AreFrames p0 a o.frames = record { many = o.many ∙ all; each = o.each } in
+    let none : points_of p o.frames ≡ [] = no_points p 0 0 o.frames refl in
+    let list : d.list ++ table_of (points_of p o.frames) ≡ d.list = ap (λ x. d.list ++ table_of x) none ∙ append-nil d.list in
+    let fault = planned_for s samples o.shape o.channels (omega (arith, few, count)) (omega (arith, o.few, all)) in
+    let stream = encoded_are_streams p0 d.list a d.least d.greatest o.frames fault (fits_for s samples) o.listed o.fields are o.sizes in
+    let written : bits_of (g.sent new) ≡ before ++ stream_spelling p d.list a d.least d.greatest o.frames =
+    written_bits d.start head (g.sent d.pushed.target) (g.sent new) before (head_spelling (open_info s) d.list) (joined o.frames) over o.sent o.start long
+    ∙ ap (λ l. before ++ l) (ap (λ l. l ++ joined o.frames) head_is ∙ append_assoc (unsigned 32 0x664C6143) (blocks_spelling (blocks.StreamInfo (info_of p a d.least d.greatest) ∷ d.list)) (joined o.frames)) in
+    record {
+      least = d.least;
+      greatest = d.greatest;
+      frames = o.frames;
+      are = record { many = o.many ∙ all; each = o.each };
+      are_least = o.least;
+      sizes = o.sizes;
+      written = written ∙ ap (λ l. before ++ stream_spelling p l a d.least d.greatest o.frames) (sym list);
+      stream = subst (λ l. Stream grammar (opening s.profile) (beginning Truncated) (given p l a d.least d.greatest) (stream_spelling p l a d.least d.greatest o.frames)) (sym list) stream;
+    }
+
+-- ---- without a search
+
+pub drafts_are_encoded : DraftsAreEncoded
+drafts_are_encoded p ps list a before after e = record {
+  least = e.least;
+  greatest = e.greatest;
+  frames = e.frames;
+  are = e.are;
+  are_least = e.are_least;
+  sizes = e.sizes;
+  written = e.written;
+  stream = e.stream;
+}

@@ -1,0 +1,8 @@
+-- how long the head is, and what is left after it is written over
+pub mod Heads
+-- a plan for what is pushed
+pub mod Planned
+-- the frames of blocks as those of all samples
+pub mod Moved
+-- a draft, from the first block to the last
+pub mod Drafting

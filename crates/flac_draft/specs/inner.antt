@@ -1,0 +1,2 @@
+-- What private contracts and proofs need, and no contract of an exported function.
+pub mod Gathering

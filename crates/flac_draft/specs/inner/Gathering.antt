@@ -1,0 +1,23 @@
+-- What is gathered of frames.
+use Rattle.std.specs.Prelude.{ℕ, List, min, cond, nat_eq}
+use Rattle.flac_info.specs.Info.{Info}
+use Rattle.flac_encoder.specs.Pushing.{Shape}
+
+-- STREAMINFO of a format with the smallest and the largest frame in bytes, the samples of each channel, and the digest
+-- (RFC 9639, section 8.2)
+abbrev pub info_with : Shape → (least greatest total : ℕ) → (digest : List ℕ) → Info
+info_with s least greatest total digest = record {
+  least_block = s.block_size;
+  greatest_block = s.block_size;
+  least_frame = least;
+  greatest_frame = greatest;
+  rate = s.rate;
+  channels = s.channels;
+  depth = s.bits;
+  total = total;
+  digest = digest;
+}
+
+-- the smallest size with one more frame; that of this frame if no sample was encoded before
+abbrev pub least_after : (samples least bytes : ℕ) → ℕ
+least_after samples least bytes = cond (nat_eq samples 0) bytes (min least bytes)
