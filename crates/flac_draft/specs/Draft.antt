@@ -35,10 +35,6 @@ pub record Draft (S : Type 0) : Type 0 where
   pub greatest : ℕ
   pub start : ℕ
 
--- the encoder is as it was, but for what is tried for the next frames
-pub record OnlyTries {S : Type 0} (old new : Draft S) : Type 0 where
-  pub rest : new ≡ record old { pushed = new.pushed }
-
 -- ---- the samples
 
 -- samples of the format of an encoder, channel by channel
