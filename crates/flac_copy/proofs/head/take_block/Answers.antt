@@ -1,0 +1,8 @@
+use Rattle.flac_copy.proofs.head.take_block.Goals as goal
+
+pub returns-clause-taken : goal.returns-clause-taken
+returns-clause-taken g c = record {
+  part = record { last = c.in_ok-_last._last; block = c.in_ok-_last.block };
+  read = c.in_ok-_last.ensures.next;
+  added = c.in_ok-push.ensures.items;
+}
