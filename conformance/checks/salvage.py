@@ -8,7 +8,8 @@ and put in, runs of zeros, parts swapped, the end cut off. A search of its own f
 the damaged one, by its CRC-8 and CRC-16, and chooses the frames with the most samples whose numbers rise. What has to hold: status
 0; the reference decodes OUT to just the samples of these frames, each at its place with silence for the others, or with --gap
 without them; OUT has their number and digest, and the blocks of IN but for the seek table; the lines tell each range of missing
-samples, and nothing if none is missing. `flac -F` of the reference restores no frame that is not among them. Streams whose metadata
+samples, and nothing if none is missing. A stream that keeps a WAV file is decoded to one whose header states its samples, also with
+--gap. `flac -F` of the reference restores no frame that is not among them. Streams whose metadata
 is damaged are refused with the line of `flac test`. FLAC names the program. Status 1 if an answer is not the one that is due.
 """
 import argparse
@@ -18,6 +19,7 @@ import random
 import subprocess
 import sys
 import tempfile
+import wave
 
 import folders  # noqa: F401  (the path of the modules below)
 import model
@@ -283,7 +285,7 @@ def refused(data, chance):
             file.write(b"fLaC old")
         expect(call("salvage", "bad.flac", "out.flac", "--force"), (1, b"", line))
         expect(read("out.flac"), b"fLaC old")
-        expect(call("salvage", "bad.flac", "out.flac"), (1, b"", b"flac: out.flac: cannot be created\n"))
+        expect(call("salvage", "bad.flac", "out.flac"), (1, b"", b"flac: out.flac: cannot be created: it may be another song, which --force replaces\n"))
         expect(read("out.flac"), b"fLaC old")
     for name in ("out.flac", "out.flac.part"):
         if os.path.exists(name):
@@ -300,6 +302,37 @@ def too_long(data):
     status, _, _ = call("salvage", "bad.flac", "out.flac", "--gap", "--force")
     expect(status, 0)
     expect(hashlib.md5(decoded("out.flac")).digest(), hashlib.md5(decoded("good.flac")).digest())
+
+
+def kept_wave(chance):
+    """A stream that keeps a WAV file, whole and damaged: what OUT is decoded to has the frames that its header states."""
+    with wave.open("in.wav", "wb") as file:
+        file.setparams((2, 2, 44100, 0, "NONE", ""))
+        file.writeframes(noise(chance, 2, 16, 20000))
+    with open("in.wav", "ab") as file:
+        file.write(b"LIST\4\0\0\0INFO")
+    length = os.path.getsize("in.wav")
+    with open("in.wav", "r+b") as file:
+        file.seek(4)
+        file.write((length - 8).to_bytes(4, "little"))
+    expect(call("encode", "in.wav", "good.flac", "--force")[0], 0)
+    good = read("good.flac")
+    bad = bytearray(good)
+    bad[len(bad) * 2 // 3] ^= 0x10
+    for data, gap, left in [(good, False, 20000), (good, True, 20000), (bad, False, 20000), (bad, True, 20000 - 4096)]:
+        with open("bad.flac", "wb") as file:
+            file.write(data)
+        for name in ("out.flac", "out.wav"):
+            if os.path.exists(name):
+                os.remove(name)
+        expect(call("salvage", "bad.flac", "out.flac", *(["--gap"] if gap else []))[0], 0)
+        expect(call("decode", "out.flac", "out.wav"), (0, b"", b""))
+        with wave.open("out.wav", "rb") as file:
+            expect((file.getnframes(), len(file.readframes(1 << 20)) // 4), (left, left))
+        expect(b"LIST" in read("out.wav"), left == 20000)
+        if data == good:
+            expect(read("out.wav"), read("in.wav"))
+        subprocess.run(["flac", "-s", "-t", "out.flac"], check=True, stderr=subprocess.DEVNULL)
 
 
 def main():
@@ -336,6 +369,7 @@ def main():
                 counts["reference"] += restored
             refused(data, chance)
             too_long(data)
+        kept_wave(chance)
     print(f"salvage: {counts['files']} damaged files of {counts['frames']} frames; {counts['kept']} kept, {counts['reference']} restored by flac -F")
     return 0
 

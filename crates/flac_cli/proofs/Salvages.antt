@@ -1,12 +1,14 @@
 -- What is made of what is left of a damaged stream.
-use Rattle.std.proofs.Common.{◌≡◌, ◌⊎◌, ◌∙◌, ◌++◌, ◌∷◌, ◌<◌, ℕ, ℤ, Bool, true, List, [], Option, Some, None, Result, Ok, Err, refl, ap, sym, subst, inl, inr, append-nil, arith}
+use Rattle.std.proofs.Common.{◌≡◌, ◌⊎◌, ◌∙◌, ◌++◌, ◌∷◌, ◌<◌, ℕ, ℤ, Bool, true, false, List, [], Option, Some, None, Result, Ok, Err, refl, ap, sym, subst, inl, inr, append-nil, arith}
 use Rattle.std.specs.Prelude.{option_map}
 use Rattle.flac_bits.specs.Sending.{Sends}
 use Rattle.flac_bits.specs.declared.why.Why.{Why}
 use Rattle.flac_bits.specs.declared.why.Why.TheVariants as why
 use Rattle.flac_bits.specs.declared.target.Target as target
 use Rattle.flac_frame.specs.Audio.{Sound}
+use Rattle.flac_info.specs.Info.{Info}
 use Rattle.flac_meta.specs.declared.block.Block.{Block}
+use Rattle.flac_meta.specs.declared.block.Block.TheVariants as block_of
 use Rattle.flac_native.specs.Given.{Cut}
 use Rattle.flac_native.specs.declared.fault.EncodeFault.{EncodeFault}
 use Rattle.flac_native.specs.declared.fault.EncodeFault.TheVariants as encode
@@ -21,12 +23,12 @@ use Rattle.flac_rescue.specs.declared.survey.SurveyFault.{SurveyFault}
 use Rattle.flac_rescue.specs.declared.survey.SurveyFault.TheVariants as surveying
 use Rattle.flac_cli.specs.Asked.{Asked}
 use Rattle.flac_cli.specs.Encoded.{cut_found, EncodesIn, BeginsIn}
-use Rattle.flac_cli.specs.Recoded.{blocks_in}
+use Rattle.flac_cli.specs.Recoded.{blocks_in, carried}
 use Rattle.flac_cli.specs.Outcomes.{reason_text}
 use Rattle.flac_cli.specs.RecodeRefusals.{held_refusal, IsOutside, recode_path, recode_text}
 use Rattle.flac_cli.specs.Refusals.{stream_fault, IsOutside as IsOutsideOf}
 use Rattle.flac_cli.specs.Reports.{Files, fault_line}
-use Rattle.flac_cli.specs.Salvages.{IsLeft, Salvages, HasBegunSalvaged, IsSalvageReason, IsSalvageRefusal, survey_refusal, salvage_refusal}
+use Rattle.flac_cli.specs.Salvages.{fitting, IsLeft, Salvages, HasBegunSalvaged, IsSalvageReason, IsSalvageRefusal, survey_refusal, salvage_refusal}
 use Rattle.flac_cli.specs.declared.encode.Refusal.{Refusal}
 use Rattle.flac_cli.specs.declared.encode.Refusal.TheVariants.{Input, Output}
 use Rattle.flac_cli.specs.declared.recode.RecodeRefusal.{RecodeRefusal}
@@ -44,6 +46,11 @@ pub moved : (P : Bool → List ℕ → Type 0) (b d : Bool) (xs ys : List ℕ) �
 moved P b d xs ys is same held = subst (λ l. P d l) same (subst (λ k. P k xs) is held)
 
 -- ---- what is written
+
+-- STREAMINFO is not among the blocks that are carried on
+pub begun_fits : (shorter : Bool) (i : Info) (list : List Block) → carried (fitting shorter (block_of.StreamInfo i ∷ list)) ≡ carried (fitting shorter list)
+begun_fits true i list = refl
+begun_fits false i list = refl
 
 module _ (asked : Asked) (silence : Bool) (bytes : List ℕ) (s : Survey) (list : List Block) (channels : List (List ℤ)) (left : IsLeft silence bytes s list channels)
     (p : Cut) (bs : List Block) (a : Sound) (is : IsReady asked [] s.info list channels p bs a) (q : Cut) (tried : IsSearched asked.effort p q) (before after : List Bool) where

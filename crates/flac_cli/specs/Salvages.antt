@@ -1,5 +1,6 @@
 -- What `flac salvage` writes of what is left of a native stream, and what it reports.
-use Rattle.std.specs.Prelude.{◌≡◌, ◌⊎◌, ℕ, ℤ, Bool, true, false, List, [], ◌∷◌, ◌++◌, Option, Some, None, option_map}
+use Rattle.std.specs.Prelude.{◌≡◌, ◌⊎◌, ◌&&◌, ℕ, ℤ, Bool, true, false, not, nat_lt, cond, List, [], ◌∷◌, ◌++◌, Option, Some, None, option_map}
+use Rattle.std.specs.List.{filter}
 use Rattle.flac_bits.specs.State.{After}
 use Rattle.flac_bits.specs.declared.why.Why.TheVariants as why
 use Rattle.flac_frame.specs.declared.setup.SetupFault.TheVariants as setup
@@ -9,6 +10,7 @@ use Rattle.flac_native.specs.declared.fault.Place.{Place}
 use Rattle.flac_rescue.specs.Report.{report_text}
 use Rattle.flac_rescue.specs.Salvaged.{AreSalvaged, is_too_long}
 use Rattle.flac_rescue.specs.Survey.{IsSurvey, IsSurveyFault}
+use Rattle.flac_rescue.specs.declared.missing.Gap.{Gap}
 use Rattle.flac_rescue.specs.declared.salvage.SalvageFault.{SalvageFault}
 use Rattle.flac_rescue.specs.declared.salvage.SalvageFault.TheVariants as salvaging
 use Rattle.flac_rescue.specs.declared.survey.Survey.{Survey}
@@ -25,6 +27,7 @@ use Rattle.flac_cli.specs.Outcomes.{reason_text}
 use Rattle.flac_cli.specs.Recoded.{blocks_in, sound_of}
 use Rattle.flac_cli.specs.RecodeRefusals.{asked_for, files_for, held_refusal, recode_path, recode_text}
 use Rattle.flac_cli.specs.Reports.{Files, fault_line}
+use Rattle.flac_cli.specs.Waves.{is_riff}
 use Rattle.flac_cli.specs.declared.encode.Refusal.TheVariants as refusal
 use Rattle.flac_cli.specs.declared.recode.RecodeRefusal.{RecodeRefusal}
 use Rattle.flac_cli.specs.declared.recode.RecodeRefusal.TheVariants.{Unread, Refused}
@@ -45,10 +48,31 @@ fills Nothing = false
 
 -- ---- what is written
 
--- what was found in these bytes: the blocks after STREAMINFO, and the samples that are made of the frames that are kept
+-- a piece of the WAV file that a stream keeps: with its head, which states how many samples it has
+abbrev pub keeps_wave : Block → Bool
+keeps_wave (block_of.Application id bytes) = is_riff id
+keeps_wave other = false
+
+-- samples are missing in one of these gaps
+abbrev pub lack : List Gap → Bool
+lack [] = false
+lack (g ∷ more) = cond (nat_lt g.first g.next) true (lack more)
+
+-- fewer samples are written than there were
+abbrev pub is_shorter : (silence : Bool) → Survey → Bool
+is_shorter silence s = not silence && lack s.gaps.items
+
+-- the blocks that fit what is written: of fewer samples, no WAV file is kept
+abbrev pub fitting : (shorter : Bool) → List Block → List Block
+fitting shorter list = filter (λ b. not (shorter && keeps_wave b)) list
+
+-- what was found in these bytes: the blocks after STREAMINFO that fit what is written, and the samples that are made of
+-- the frames that are kept
 pub record IsLeft (silence : Bool) (bytes : List ℕ) (s : Survey) (list : List Block) (channels : List (List ℤ)) : Type 0 where
   pub survey : IsSurvey bytes s
-  pub blocks : s.blocks.items ≡ block_of.StreamInfo s.info ∷ list
+  pub more : List Block
+  pub blocks : s.blocks.items ≡ block_of.StreamInfo s.info ∷ more
+  pub fit : list ≡ fitting (is_shorter silence s) more
   pub samples : AreSalvaged bytes s silence channels
   pub bounded : is_too_long silence s ≡ false
 
@@ -106,9 +130,9 @@ IsSalvageRefusal asked silence files bytes before after =
     ((e : RecodeRefusal) × IsSalvageReason asked silence bytes (Some e) × (after ≡ before ++ fault_line (recode_path files e) (recode_text e)))
     ⊎ ((at : Option Place) × (after ≡ before ++ fault_line files.input (reason_text at why.Memory)))
 
--- the same, in the order in which calls name it
-abbrev pub RefusesSalvage : Asked → (silence : Bool) → Files → List ℕ → After → (before after : List ℕ) → Type 0
-RefusesSalvage asked silence files bytes follows before after = IsSalvageRefusal asked silence files bytes before after
+-- the same of what is asked for, in the order in which calls name it
+abbrev pub RefusesSalvage : Salvage → List ℕ → After → (before after : List ℕ) → Type 0
+RefusesSalvage s bytes follows before after = IsSalvageRefusal (salvage_asks s) (fills s.filling) (salvage_files s) bytes before after
 
 -- the lines of what is missing, and nothing else
 pub record TellsLeft (path bytes before after : List ℕ) : Type 0 where

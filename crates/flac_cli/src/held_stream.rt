@@ -1,10 +1,9 @@
 //! What is held of a stream that is encoded anew.
 
-ghost use Rattle.std.specs.Prelude.{◌≡◌, ◌∷◌, [], ◌++◌, nat_lt, IfOk, IfErr, OnOk};
+ghost use Rattle.std.specs.Prelude.{◌≡◌, ◌∷◌, [], ◌++◌, nat_lt, OnOk};
 ghost use Rattle.flac_cli.specs.Recoded.{is_of_frames, carried};
 ghost use Rattle.flac_cli.specs.inner.Holding.{nothing, view_of, with_block, with_info, held_after};
 
-use flac_bits::Why;
 use flac_frame::FrameView;
 use flac_meta::{Block, StreamInfo};
 use flac_native::{Failures, Sink, SinkFault};
@@ -30,7 +29,7 @@ fn is_of_frames(block: &Block) -> bool
 }
 
 /// Keeps a copy of a block, unless it is STREAMINFO or a seek table.
-fn keep_block(blocks: &mut Vec<Block>, block: &Block) -> Result<(), AllocError>
+pub(crate) fn keep_block(blocks: &mut Vec<Block>, block: &Block) -> Result<(), AllocError>
     ensures { OnOk result (blocks.new.items ≡ blocks.old.items ++ carried (block.now ∷ [])) }
 {
     if !is_of_frames(block) {
@@ -38,21 +37,6 @@ fn keep_block(blocks: &mut Vec<Block>, block: &Block) -> Result<(), AllocError>
         blocks.push(copy)?;
     }
     Ok(())
-}
-
-/// Copies of the blocks but for STREAMINFO and the seek table, in their order.
-///
-/// # Errors
-/// [`Why::Memory`] if an allocation fails.
-pub(crate) fn kept_blocks(alloc: Global, blocks: &[Block]) -> Result<Vec<Block>, Why>
-    ensures kept { IfOk result (λ kept. kept.items ≡ carried blocks.now) }
-    ensures memory { IfErr result (λ e. e ≡ Why.Memory) }
-{
-    let mut kept = Vec::new(alloc);
-    for block in blocks {
-        keep_block(&mut kept, block)?;
-    }
-    Ok(kept)
 }
 
 impl HeldStream {

@@ -84,7 +84,7 @@ fn is_head(piece: &[u8]) -> bool
 }
 
 /// Whether the identifier of an application is `riff`.
-fn is_riff(id: &[u8]) -> bool
+pub(crate) fn is_riff(id: &[u8]) -> bool
     requires { 4 ≤ length id.now }
     ensures { result ≡ is_riff id.now }
 {

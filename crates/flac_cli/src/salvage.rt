@@ -1,6 +1,6 @@
 //! `flac salvage`: a stream of what is left of a damaged one.
 
-ghost use Rattle.std.specs.Prelude.{◌≡◌, ◌≢◌, ◌≤◌, ◌⊎◌, ℤ, List, true, Some, None, IfOk, IfErr, OnOk, OnErr};
+ghost use Rattle.std.specs.Prelude.{◌≡◌, ◌≢◌, ◌≤◌, ◌⊎◌, ◌∷◌, ◌++◌, [], ℤ, List, true, Some, None, IfOk, IfErr, OnOk, OnErr};
 ghost use Rattle.flac_bits.specs.Bits.{bits_of};
 ghost use Rattle.flac_meta.specs.declared.block.Block.{Block};
 ghost use Rattle.flac_native.specs.Sent.{TargetFailed};
@@ -11,23 +11,26 @@ ghost use Rattle.flac_rescue.specs.declared.survey.Survey.{Survey};
 ghost use Rattle.flac_cli.specs.Asked.{asked_of};
 ghost use Rattle.flac_cli.specs.Calls.{HasWritten, IfServed, IfAllServe};
 ghost use Rattle.flac_cli.specs.Streams.{Tells};
+ghost use Rattle.flac_cli.specs.Recoded.{carried};
 ghost use Rattle.flac_cli.specs.RecodeRefusals.{IsOutside, NamesRecoding};
-ghost use Rattle.flac_cli.specs.Salvages.{salvage_asks, salvage_files, fills, IsLeft, Salvages, HasBegunSalvaged, salvage_refusal, IsSalvageReason, RefusesSalvage, TellsLeft};
+ghost use Rattle.flac_cli.specs.Salvages.{salvage_asks, salvage_files, fills, keeps_wave, lack, is_shorter, fitting, IsLeft, Salvages, HasBegunSalvaged, salvage_refusal, IsSalvageReason, RefusesSalvage, TellsLeft};
 ghost use Rattle.flac_cli.specs.inner.Holding.{view_of, IsHeld};
 ghost use Rattle.flac_cli.specs.declared.encode.Refusal.TheVariants as refusal;
 ghost use Rattle.flac_cli.specs.declared.recode.RecodeRefusal.TheVariants.{Refused};
 
 use crate::encode::{Encoding, Refusal, write_stream};
-use crate::held_stream::{HeldStream, kept_blocks};
+use crate::held_stream::{HeldStream, keep_block};
+use crate::held_wave::is_riff;
 use crate::recode::{RecodeRefusal, encoding_of, ready_of, refuse_recoding};
 use crate::searching::searched;
 use flac_bits::{Source, Target, Why, send_all};
 use flac_frame::SetupFault;
 use flac_jobs::{Filling, Salvage};
+use flac_meta::Block;
 use flac_native::EncodeFault;
-use flac_rescue::{SalvageFault, Survey, SurveyFault, report, salvage_samples, survey_bytes};
+use flac_rescue::{Gap, SalvageFault, Survey, SurveyFault, report, salvage_samples, survey_bytes};
 use flac_wave::read_all;
-use std::alloc::Global;
+use std::alloc::{AllocError, Global};
 
 impl From<SurveyFault> for RecodeRefusal {
     ghost use Rattle.flac_cli.specs.Salvages.{survey_refusal};
@@ -65,6 +68,61 @@ fn lines_of(alloc: Global, path: &str, survey: &Survey) -> Result<Vec<u8>, Why>
     Ok(text)
 }
 
+/// Whether a block keeps a piece of a WAV file.
+fn keeps_wave(block: &Block) -> bool
+    ensures { result ≡ keeps_wave block.now }
+{
+    match block {
+        Block::Application { id, bytes: _ } => is_riff(id),
+        _ => false,
+    }
+}
+
+/// Whether samples are missing in one of these gaps.
+fn lack(gaps: &[Gap]) -> bool
+    ensures { result ≡ lack gaps.now }
+{
+    for gap in gaps {
+        if gap.first < gap.next {
+            return true;
+        }
+    }
+    false
+}
+
+/// Whether fewer samples are written than there were.
+fn is_shorter(silence: bool, survey: &Survey) -> bool
+    ensures shorter { result ≡ is_shorter silence survey.now }
+{
+    !silence && lack(&survey.gaps)
+}
+
+/// Keeps a copy of a block that fits what is written, unless it is STREAMINFO or a seek table.
+fn keep_fitting(blocks: &mut Vec<Block>, block: &Block, shorter: bool) -> Result<(), AllocError>
+    ensures { OnOk result (blocks.new.items ≡ blocks.old.items ++ carried (fitting shorter (block.now ∷ []))) }
+{
+    if shorter && keeps_wave(block) {
+        return Ok(());
+    }
+    keep_block(blocks, block)
+}
+
+/// Copies of the blocks that fit what is written but for STREAMINFO and the seek table, in their order. A WAV file that is
+/// kept states how many samples it has: it does not fit fewer.
+///
+/// # Errors
+/// [`Why::Memory`] if an allocation fails.
+fn fitting_blocks(alloc: Global, blocks: &[Block], shorter: bool) -> Result<Vec<Block>, Why>
+    ensures kept { IfOk result (λ kept. kept.items ≡ carried (fitting shorter blocks.now)) }
+    ensures memory { IfErr result (λ e. e ≡ Why.Memory) }
+{
+    let mut kept = Vec::new(alloc);
+    for block in blocks {
+        keep_fitting(&mut kept, block, shorter)?;
+    }
+    Ok(kept)
+}
+
 /// Holds what was found of a stream: the samples of the frames that are kept, with what fills the gaps.
 fn held_of(
     alloc: Global,
@@ -80,7 +138,8 @@ fn held_of(
     ensures unwritten { IfErr result (λ e. e ≢ Refused (refusal.Output EncodeFault.Write)) }
 {
     let channels = salvage_samples(alloc, bytes, survey, silence)?;
-    let blocks = kept_blocks(alloc, &survey.blocks)?;
+    let shorter = is_shorter(silence, survey);
+    let blocks = fitting_blocks(alloc, &survey.blocks, shorter)?;
     Ok(HeldStream {
         info: Some(survey.info),
         blocks,
@@ -191,8 +250,8 @@ fn salvage_source<R: Source, W: Target>(
 
 /// Reads a native stream, damaged or not, also outside the streamable subset, and holds all of its bytes; finds the frames
 /// that stand whole in it, and encodes the samples of those that belong together anew, with the same metadata blocks but
-/// for STREAMINFO and the seek table. What is missing is silence, or is left out. Returns the exit status: 0 if the new
-/// stream is written, whatever is missing, else 1.
+/// for STREAMINFO and the seek table. What is missing is silence, or is left out, and then the blocks that keep a WAV file
+/// are left out too. Returns the exit status: 0 if the new stream is written, whatever is missing, else 1.
 ///
 /// `source` is the stream, `target` the file that is written, `err` is standard error. After status 0 the lines of
 /// [`report`] were written to `err`: what is missing, none if nothing is. After status 1 it was the line of the error: the
@@ -222,7 +281,7 @@ pub fn salvage_file<R: Source, W: Target, E: Target>(
     // After status 1, if no device failed, the line of the first reason to refuse it was added to standard error; or memory
     // ran out, and the line says that.
     ensures refused { result ≡ 1 → IfAllServe R.Source W.Target E.Target source.old source.new target.old target.new err.old err.new
-        (RefusesSalvage (salvage_asks salvage.now) (fills salvage.now.filling) (salvage_files salvage.now)) }
+        (RefusesSalvage salvage.now) }
     // After status 1, whatever failed, its line was added to standard error, if that did not fail. It names the output if
     // that could not be written (39), and else the input.
     ensures named { result ≡ 1 → IfServed E.Target err.old err.new (NamesRecoding (salvage_files salvage.now)) }

@@ -1,17 +1,20 @@
 use Rattle.std.proofs.Common.{◌∙◌, ℤ, List, Vec, Global, map, refl, ap}
 use Rattle.std.proofs.lemmas.Result.{err_from_is_err_and}
 use Rattle.flac_cli.specs.Recoded.{carried}
-use Rattle.flac_cli.proofs.Salvages.{unmade, no_memory, not_salvage, not_input}
+use Rattle.flac_cli.specs.Salvages.{is_shorter, fitting}
+use Rattle.flac_cli.proofs.Salvages.{unmade, no_memory, not_salvage, not_input, begun_fits}
 use Rattle.flac_cli.proofs.salvage.held_of.Goals as goal
 
 pub returns-clause-held : goal.returns-clause-held
 returns-clause-held c =
     let made = c.in_ok-channels.ensures in
-    let info = c.requires.info in (
-      info.more,
+    let info = c.requires.info in
+    let blocks = c.in_ok-blocks.ensures.kept ∙ ap (λ bs. carried (fitting c.is_shorter-shorter.result bs)) (c.deref.ensures.value ∙ info.is)
+    ∙ begun_fits c.is_shorter-shorter.result _ info.more ∙ ap (λ k. carried (fitting k info.more)) c.is_shorter-shorter.ensures.shorter in (
+      fitting (is_shorter c.args.silence c.args.survey.now) info.more,
       map (λ (v : Vec ℤ Global). v.items) c.in_ok-channels.channels.items,
-      record { survey = c.requires; blocks = info.is; samples = made.made; bounded = made.accepted },
-      record { stated = refl; kept = c.in_ok-blocks.ensures.kept ∙ ap carried (c.deref.ensures.value ∙ info.is); heard = refl },
+      record { survey = c.requires; more = info.more; blocks = info.is; fit = refl; samples = made.made; bounded = made.accepted },
+      record { stated = refl; kept = blocks; heard = refl },
     )
 
 pub returns-in_err-channels-clause-refused : goal.returns-in_err-channels-clause-refused
