@@ -40,3 +40,8 @@ IfBothServe g k from to before after Says = Tells g from to → Serves k before 
 abbrev pub IfAllServe : {S T E : Type 0} (g : source.Ghosts S) (h : target.Ghosts T) (k : target.Ghosts E) (from to : S) (old new : T) (before after : E) → (List ℕ → After → (before after : List ℕ) → Type 0) → Type 0
 IfAllServe g h k from to old new before after Says =
     Tells g from to → Serves h old new → Serves k before after → Says (g.coming from) (g.after from) (k.sent before) (k.sent after)
+
+-- If neither standard output nor standard error failed, this holds of the bytes that each had got before the call, and has
+-- got after it.
+abbrev pub IfPrinted : {O E : Type 0} (h : target.Ghosts O) (k : target.Ghosts E) (old new : O) (before after : E) → ((out printed err told : List ℕ) → Type 0) → Type 0
+IfPrinted h k old new before after Says = Serves h old new → Serves k before after → Says (h.sent old) (h.sent new) (k.sent before) (k.sent after)

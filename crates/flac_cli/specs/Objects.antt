@@ -95,3 +95,7 @@ abbrev pub known_members : List (Option Given) → List Member
 known_members [] = []
 known_members (None ∷ ms) = known_members ms
 known_members (Some m ∷ ms) = member_of m ∷ known_members ms
+
+-- the line of the first of them and those of the others that there are
+abbrev pub given_line : (first : Given) → List (Option Given) → List ℕ
+given_line first members = object_line (member_of first ∷ known_members members)

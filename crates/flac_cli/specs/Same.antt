@@ -6,16 +6,21 @@ use Rattle.flac_header.specs.declared.subset.Profile.TheVariants.{Lax}
 use Rattle.flac_native.specs.Stream.{Piece}
 use Rattle.flac_native.specs.Places.{fault_text}
 use Rattle.flac_native.specs.declared.fault.Place.{Place}
-use Rattle.flac_compare.specs.Streams.{ComparesInputs, input_of}
+use Rattle.flac_compare.specs.Streams.{ComparesInputs, ToldAll, input_of}
 use Rattle.flac_compare.specs.declared.difference.Difference.{Difference}
 use Rattle.flac_compare.specs.declared.difference.Difference.TheVariants.{Rate, Channels, Depth, Sample, Length}
 use Rattle.flac_compare.specs.declared.difference.Unread.{Unread}
 use Rattle.flac_compare.specs.declared.difference.Unread.TheVariants.{First, Second}
+use Rattle.flac_jobs.specs.declared.comparisons.Comparison.{Comparison}
 use Rattle.flac_cli.specs.Reports.{fault_line}
 
 -- the bytes of a source as a native stream or an Ogg stream, also outside the streamable subset
 abbrev pub lax_input : {S : Type 0} → source.Ghosts S → S → InputReading Piece Place
 lax_input g s = input_of g Lax s
+
+-- If all bytes of both sources are told, this holds of the two inputs.
+abbrev pub IfBothTold : {S T : Type 0} (g : source.Ghosts S) (h : source.Ghosts T) (old new : S) (from to : T) → (InputReading Piece Place → InputReading Piece Place → Type 0) → Type 0
+IfBothTold g h old new from to Says = ToldAll g old new → ToldAll h from to → Says (lax_input g old) (lax_input h from)
 
 -- a line of two numbers, each after a text
 abbrev pub two_numbers : (what : List ℕ) (first : ℕ) (between : List ℕ) (second : ℕ) → List ℕ
@@ -38,7 +43,7 @@ IsComparison (Err (First f)) path other status out printed err told = (status �
 IsComparison (Err (Second f)) path other status out printed err told = (status ≡ 1) × (printed ≡ out) × (told ≡ err ++ fault_line other (fault_text f))
 
 -- The status and the lines are those of what a comparison says of the two inputs.
-pub record ReportsComparison (r s : InputReading Piece Place) (path other : List ℕ) (status : ℕ) (out printed err told : List ℕ) : Type 0 where
+pub record ReportsComparison (r s : InputReading Piece Place) (paths : Comparison) (status : ℕ) (out printed err told : List ℕ) : Type 0 where
   pub result : Result (Option Difference) Unread
   pub compares : ComparesInputs r s result
-  pub answer : IsComparison result path other status out printed err told
+  pub answer : IsComparison result paths.first.now paths.second.now status out printed err told

@@ -1,7 +1,8 @@
 //! Lines of JSON (RFC 8259).
 
-ghost use Rattle.std.specs.Prelude.{◌≡◌, ◌<◌, ◌≤◌, ◌∷◌, ◌++◌, true, [], take, codes, OnOk, OnErr};
-ghost use Rattle.flac_cli.specs.Objects.{is_special, hex_digit, hex_digits, escape, escapes, quoted, all_digits, truth, value_text, member_text, more_text, object_line, value_of, member_of, known_members};
+ghost use Rattle.std.specs.Prelude.{◌≡◌, ◌<◌, ◌≤◌, ◌++◌, true, [], codes, OnOk, OnErr};
+ghost use Rattle.flac_cli.specs.Objects.{is_special, hex_digit, hex_digits, escape, escapes, quoted, all_digits, truth, value_text, member_text, more_text, given_line, value_of, member_of, known_members};
+ghost use Rattle.flac_cli.specs.Calls.{HasSent};
 ghost use Rattle.flac_cli.specs.inner.Lined.{Adds};
 ghost use Rattle.flac_cli.specs.inner.Objects.{next_text};
 
@@ -55,18 +56,18 @@ fn truth_text(holds: bool) -> &'static str
 }
 
 impl<W: Target> Lines<W> {
+    ghost use Rattle.flac_cli.specs.inner.Lines.{AddsTo};
+
     /// Adds the hexadecimal digits of a byte.
     fn put_digits(&mut self, byte: u8) -> Result<(), Why>
-        ensures { Adds W.Target (hex_digits byte) self.old.target self.new.target
-            (take self.old.held self.old.bytes) (take self.new.held self.new.bytes) result }
+        ensures { AddsTo W.Target (hex_digits byte) self.old self.new result }
     {
         self.put_bytes(&[hex_digit(byte / 16), hex_digit(byte % 16)])
     }
 
     /// Adds a byte that is not written as itself.
     fn put_special(&mut self, byte: u8) -> Result<(), Why>
-        ensures { Adds W.Target (codes "\\u00" ++ hex_digits byte) self.old.target self.new.target
-            (take self.old.held self.old.bytes) (take self.new.held self.new.bytes) result }
+        ensures { AddsTo W.Target (codes "\\u00" ++ hex_digits byte) self.old self.new result }
     {
         self.put("\\u00")?;
         self.put_digits(byte)
@@ -74,8 +75,7 @@ impl<W: Target> Lines<W> {
 
     /// Adds a byte of a text.
     fn put_escape(&mut self, byte: u8) -> Result<(), Why>
-        ensures { Adds W.Target (escape byte) self.old.target self.new.target
-            (take self.old.held self.old.bytes) (take self.new.held self.new.bytes) result }
+        ensures { AddsTo W.Target (escape byte) self.old self.new result }
     {
         if is_special(byte) {
             return self.put_special(byte);
@@ -85,8 +85,7 @@ impl<W: Target> Lines<W> {
 
     /// Adds the bytes of a text.
     fn put_escapes(&mut self, text: &[u8]) -> Result<(), Why>
-        ensures { Adds W.Target (escapes text.now) self.old.target self.new.target
-            (take self.old.held self.old.bytes) (take self.new.held self.new.bytes) result }
+        ensures { AddsTo W.Target (escapes text.now) self.old self.new result }
     {
         for byte in text {
             self.put_escape(*byte)?;
@@ -96,8 +95,7 @@ impl<W: Target> Lines<W> {
 
     /// Adds a text between quotation marks.
     fn put_quoted(&mut self, text: &[u8]) -> Result<(), Why>
-        ensures { Adds W.Target (quoted text.now) self.old.target self.new.target
-            (take self.old.held self.old.bytes) (take self.new.held self.new.bytes) result }
+        ensures { AddsTo W.Target (quoted text.now) self.old self.new result }
     {
         self.put("\"")?;
         self.put_escapes(text)?;
@@ -106,8 +104,7 @@ impl<W: Target> Lines<W> {
 
     /// Adds the hexadecimal digits of bytes.
     fn put_all_digits(&mut self, bytes: &[u8]) -> Result<(), Why>
-        ensures { Adds W.Target (all_digits bytes.now) self.old.target self.new.target
-            (take self.old.held self.old.bytes) (take self.new.held self.new.bytes) result }
+        ensures { AddsTo W.Target (all_digits bytes.now) self.old self.new result }
     {
         for byte in bytes {
             self.put_digits(*byte)?;
@@ -117,8 +114,7 @@ impl<W: Target> Lines<W> {
 
     /// Adds the hexadecimal digits of bytes between quotation marks.
     fn put_quoted_digits(&mut self, bytes: &[u8]) -> Result<(), Why>
-        ensures { Adds W.Target (quoted (all_digits bytes.now)) self.old.target self.new.target
-            (take self.old.held self.old.bytes) (take self.new.held self.new.bytes) result }
+        ensures { AddsTo W.Target (quoted (all_digits bytes.now)) self.old self.new result }
     {
         self.put("\"")?;
         self.put_all_digits(bytes)?;
@@ -127,8 +123,7 @@ impl<W: Target> Lines<W> {
 
     /// Adds a value.
     fn put_value(&mut self, value: Value<'_>) -> Result<(), Why>
-        ensures { Adds W.Target (value_text (value_of value.entry)) self.old.target self.new.target
-            (take self.old.held self.old.bytes) (take self.new.held self.new.bytes) result }
+        ensures { AddsTo W.Target (value_text (value_of value.entry)) self.old self.new result }
     {
         match value {
             Value::Number(number) => self.put_number(number),
@@ -140,8 +135,7 @@ impl<W: Target> Lines<W> {
 
     /// Adds a member.
     fn put_member(&mut self, member: Member<'_>) -> Result<(), Why>
-        ensures { Adds W.Target (member_text (member_of member.entry)) self.old.target self.new.target
-            (take self.old.held self.old.bytes) (take self.new.held self.new.bytes) result }
+        ensures { AddsTo W.Target (member_text (member_of member.entry)) self.old self.new result }
     {
         self.put_quoted(member.name.as_bytes())?;
         self.put(":")?;
@@ -150,8 +144,7 @@ impl<W: Target> Lines<W> {
 
     /// Adds a member after a comma, if there is one.
     fn put_next(&mut self, member: Option<Member<'_>>) -> Result<(), Why>
-        ensures { Adds W.Target (next_text member.entry) self.old.target self.new.target
-            (take self.old.held self.old.bytes) (take self.new.held self.new.bytes) result }
+        ensures { AddsTo W.Target (next_text member.entry) self.old self.new result }
     {
         match member {
             Some(member) => {
@@ -164,8 +157,7 @@ impl<W: Target> Lines<W> {
 
     /// Adds those members that there are, each after a comma.
     fn put_more(&mut self, members: &[Option<Member<'_>>]) -> Result<(), Why>
-        ensures { Adds W.Target (more_text (known_members members.now)) self.old.target self.new.target
-            (take self.old.held self.old.bytes) (take self.new.held self.new.bytes) result }
+        ensures { AddsTo W.Target (more_text (known_members members.now)) self.old self.new result }
     {
         for member in members {
             self.put_next(*member)?;
@@ -179,8 +171,7 @@ impl<W: Target> Lines<W> {
     /// [`Why::Write`] if the target fails.
     fn put_object(&mut self, first: Member<'_>, members: &[Option<Member<'_>>]) -> Result<(), Why>
         requires { self.old.held ≡ 0 }
-        ensures { Adds W.Target (object_line (member_of first.entry ∷ known_members members.now))
-            self.old.target self.new.target [] [] result }
+        ensures { Adds W.Target (given_line first.entry members.now) self.old.target self.new.target [] [] result }
     {
         self.put("{")?;
         self.put_member(first)?;
@@ -201,8 +192,7 @@ pub(crate) fn write_object<W: Target>(
 ) -> Result<(), Why>
     ensures kept { W.errors target.old ≤ W.errors target.new }
     ensures known { OnOk result (W.known target.old ≡ true → W.known target.new ≡ true) }
-    ensures sent { OnOk result (W.known target.old ≡ true →
-        W.sent target.new ≡ W.sent target.old ++ object_line (member_of first.entry ∷ known_members members.now)) }
+    ensures sent { HasSent W.Target target.old target.new (given_line first.entry members.now) result }
     ensures failed { OnErr result (W.known target.old ≡ true → W.errors target.old < W.errors target.new) }
 {
     let mut lines = Lines::new(target);

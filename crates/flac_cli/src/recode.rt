@@ -2,20 +2,18 @@
 
 ghost use Rattle.std.specs.Prelude.{◌≡◌, ◌≢◌, ◌≤◌, ◌⊎◌, ◌++◌, ◌∷◌, ℤ, List, [], true, not, map, IfOk, IfErr, OnOk, OnErr, Some, None};
 ghost use Rattle.std.specs.List.{filter};
-ghost use Rattle.flac_info.specs.Info.{Info};
 ghost use Rattle.flac_meta.specs.declared.block.Block.{Block};
 ghost use Rattle.flac_frame.specs.Audio.{audio_fault, MakesAudio};
-ghost use Rattle.flac_frame.specs.Frame.{Frame};
 ghost use Rattle.flac_native.specs.Given.{fits_plan};
 ghost use Rattle.flac_native.specs.Sent.{TargetFailed};
 ghost use Rattle.flac_cli.specs.Asked.{asked_of};
 ghost use Rattle.flac_cli.specs.Calls.{HasWritten, IfServed, IfAllServe};
-ghost use Rattle.flac_cli.specs.Recoded.{is_comment, no_comments, comments_first, in_order, heard_in, IsStreamOf, Recodes, HasBegunRecoded};
-ghost use Rattle.flac_cli.specs.RecodeRefusals.{asked_for, files_for, held_refusal, IsInputReason, IsRecodeReason, IsOutside, ReportsRecoding, NamesRecoding, recode_path, recode_text};
-ghost use Rattle.flac_cli.specs.Refusals.{refusal_of, IsOutside as IsOutsideOf};
+ghost use Rattle.flac_cli.specs.Recoded.{is_comment, no_comments, comments_first, in_order, Recodes, HasBegunRecoded};
+ghost use Rattle.flac_cli.specs.RecodeRefusals.{asked_for, files_for, IsInputReason, IsRecodeReason, IsOutside, ReportsRecoding, NamesRecoding, recode_path, recode_text};
+ghost use Rattle.flac_cli.specs.Refusals.{refusal_of};
 ghost use Rattle.flac_cli.specs.Reports.{AddsLine};
 ghost use Rattle.flac_cli.specs.Streams.{Tells};
-ghost use Rattle.flac_cli.specs.inner.Holding.{view_of, IsHeld, IsReady, IsFaultOf};
+ghost use Rattle.flac_cli.specs.inner.Holding.{view_of, HoldsStream, IsReadyIn, IsReadyOf, IsHeldReason, IsFaultOf};
 ghost use Rattle.flac_cli.specs.inner.WaveOutcomes.{fault_by};
 ghost use Rattle.flac_cli.specs.declared.encode.Refusal.TheVariants as refusal;
 ghost use Rattle.flac_cli.specs.declared.recode.RecodeRefusal.TheVariants.{Unread, Refused};
@@ -190,14 +188,11 @@ pub(crate) fn ready_of(
     predictors: Vec<LinearPredictor>,
     held: HeldStream,
 ) -> Result<Ready, Refusal>
-    ensures found { IfOk result (λ r. (info : Info) (list : List Block) (channels : List (List ℤ)) →
-        IsHeld (view_of held) info list channels →
-        IsReady (asked_of encoding.now) predictors.items info list channels r.plan r.list r.audio) }
+    ensures found { IfOk result (λ r.
+        IsReadyOf (asked_of encoding.now) predictors.items (view_of held) r.plan r.list r.audio) }
     ensures fits { IfOk result (λ r. fits_plan r.plan r.audio ≡ true) }
     ensures none { IfOk result (λ r. r.plan.found ≡ []) }
-    ensures refused { IfErr result (λ e. (info : Info) (list : List Block) (channels : List (List ℤ)) →
-        IsHeld (view_of held) info list channels → IsOutsideOf e ⊎
-        (held_refusal (asked_of encoding.now) predictors.items info list channels ≡ Some e)) }
+    ensures refused { IfErr result (λ e. IsHeldReason (asked_of encoding.now) predictors.items (view_of held) e) }
     ensures unwritten { IfErr result (λ e. e ≢ refusal.Output EncodeFault.Write) }
 {
     let HeldStream {
@@ -233,8 +228,8 @@ pub(crate) fn fault_of(fault: Fault) -> Fault
 /// # Errors
 /// The place and the reason. The stream is refused; an error of the source, or out of memory.
 fn read_stream<R: Source>(alloc: Global, source: &mut R) -> Result<HeldStream, Fault>
-    ensures held { IfOk result (λ held. R.known source.old ≡ true → (info : Info) × (list : List Block) × (frames : List Frame) ×
-        IsStreamOf (R.coming source.old) (R.after source.old) info list frames × IsHeld (view_of held) info list (heard_in info frames)) }
+    ensures held { IfOk result (λ held. R.known source.old ≡ true →
+        HoldsStream (R.coming source.old) (R.after source.old) (view_of held)) }
     ensures refused { IfErr result (λ f. Tells R.Source source.old source.new → (f.why ≡ Why.Memory) ⊎
         IsFaultOf (R.coming source.old) (R.after source.old) f) }
 {
@@ -262,9 +257,9 @@ fn prepared<R: Source>(
     predictors: Vec<LinearPredictor>,
     source: &mut R,
 ) -> Result<Ready, RecodeRefusal>
-    ensures found { IfOk result (λ r. R.known source.old ≡ true → (info : Info) × (list : List Block) × (frames : List Frame) ×
-        IsStreamOf (R.coming source.old) (R.after source.old) info list frames ×
-        IsReady (asked_of encoding.now) predictors.items info list (heard_in info frames) r.plan r.list r.audio) }
+    ensures found { IfOk result (λ r. R.known source.old ≡ true →
+        IsReadyIn (asked_of encoding.now) predictors.items (R.coming source.old) (R.after source.old)
+        r.plan r.list r.audio) }
     ensures fits { IfOk result (λ r. fits_plan r.plan r.audio ≡ true) }
     ensures none { IfOk result (λ r. r.plan.found ≡ []) }
     ensures refused { IfErr result (λ e. Tells R.Source source.old source.new → IsOutside e ⊎

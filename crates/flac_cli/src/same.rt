@@ -1,9 +1,9 @@
 //! `flac same`: compares the samples of two streams.
 
 ghost use Rattle.std.specs.Prelude.{◌≡◌, ◌≤◌, ◌<◌, ◌++◌, true, [], OnOk, OnErr};
-ghost use Rattle.flac_compare.specs.Streams.{ToldAll, AreSame};
-ghost use Rattle.flac_cli.specs.Reports.{Serves};
-ghost use Rattle.flac_cli.specs.Same.{two_numbers, difference_line, ReportsComparison, lax_input};
+ghost use Rattle.flac_compare.specs.Streams.{AreSame};
+ghost use Rattle.flac_cli.specs.Calls.{IfPrinted};
+ghost use Rattle.flac_cli.specs.Same.{two_numbers, difference_line, IfBothTold, ReportsComparison};
 ghost use Rattle.flac_cli.specs.inner.Lined.{Adds};
 
 use crate::lines::Lines;
@@ -63,8 +63,8 @@ fn write_difference<O: Target>(out: &mut O, difference: Difference) -> Result<()
 /// Prints the line of a difference, and returns the status 1.
 fn tell_difference<O: Target, E: Target>(out: &mut O, err: &mut E, difference: Difference) -> u8
     ensures status { result ≡ 1 }
-    ensures told { Serves O.Target out.old out.new → Serves E.Target err.old err.new →
-        (O.sent out.new ≡ O.sent out.old ++ difference_line difference) × (E.sent err.new ≡ E.sent err.old) }
+    ensures told { IfPrinted O.Target E.Target out.old out.new err.old err.new
+        (λ out printed err told. (printed ≡ out ++ difference_line difference) × (told ≡ err)) }
 {
     match write_difference(out, difference) {
         Ok(()) => 1,
@@ -90,13 +90,12 @@ pub fn compare_files<R: Source, S: Source, O: Target, E: Target>(
     // The status is 0 or 1.
     ensures status { result ≤ 1 }
     // After status 0 both inputs are streams of the same format and the same samples.
-    ensures same { result ≡ 0 → ToldAll R.Source first.old first.new → ToldAll S.Source second.old second.new →
-        AreSame (lax_input R.Source first.old) (lax_input S.Source second.old) }
+    ensures same { result ≡ 0 →
+        IfBothTold R.Source S.Source first.old first.new second.old second.new AreSame }
     // If no device fails, the status and the line are those of what the two inputs are: nothing if they are the same,
     // the first difference, or the refusal of one of them. Or memory ran out: then the line says that.
-    ensures reported { ToldAll R.Source first.old first.new → ToldAll S.Source second.old second.new →
-        Serves O.Target out.old out.new → Serves E.Target err.old err.new →
-        ReportsComparison (lax_input R.Source first.old) (lax_input S.Source second.old) paths.now.first.now paths.now.second.now result (O.sent out.old) (O.sent out.new) (E.sent err.old) (E.sent err.new) }
+    ensures reported { IfBothTold R.Source S.Source first.old first.new second.old second.new
+        (λ r s. IfPrinted O.Target E.Target out.old out.new err.old err.new (ReportsComparison r s paths.now result)) }
 {
     match compare_streams(alloc, first, second, Profile::Lax) {
         Ok(found) => match found {

@@ -33,6 +33,10 @@ salvaged silence block_size total from channels (f ∷ more) =
     salvaged silence block_size total (first_sample block_size f + f.size)
     (extended (with_missing silence (first_sample block_size f - from) channels) f.channels) more
 
+-- to these channels the samples of the frames that are kept were added, and what is missing
+abbrev pub AddsFrames : Info → (bytes : List ℕ) → (silence : Bool) → List WholeFrame → (old new : List (List ℤ)) → Type 0
+AddsFrames i bytes silence kept old new = (frames : List Frame) → AllZip (IsKept i bytes) kept frames → new ≡ salvaged silence i.greatest_block i.total 0 old frames
+
 -- These are the samples of each channel that are made of what was found of a stream: of the frames that are kept.
 pub record AreSalvaged (bytes : List ℕ) (s : Survey) (silence : Bool) (channels : List (List ℤ)) : Type 0 where
   pub frames : List Frame

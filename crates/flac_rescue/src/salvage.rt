@@ -1,13 +1,12 @@
 //! The samples that are made of what is left of a damaged stream.
 
-ghost use Rattle.std.specs.Prelude.{◌≡◌, ◌⊎◌, ◌≤◌, ℕ, List, [], map, true, false, OnOk, IfOk, IfErr};
-ghost use Rattle.std.specs.List.{AllZip};
+ghost use Rattle.std.specs.Prelude.{◌≡◌, ◌⊎◌, ◌≤◌, ℕ, map, true, false, OnOk, IfOk, IfErr};
 ghost use Rattle.flac_frame.specs.Frame.{Frame};
 ghost use Rattle.flac_salvage.specs.Chain.{Rise};
 ghost use Rattle.flac_salvage.specs.Standing.{Stands};
 ghost use Rattle.flac_rescue.specs.Channels.{extended};
 ghost use Rattle.flac_rescue.specs.Gaps.{limit_of};
-ghost use Rattle.flac_rescue.specs.Salvaged.{IsKept, AreSalvaged, and_missing, is_too_long, salvaged, with_missing};
+ghost use Rattle.flac_rescue.specs.Salvaged.{AddsFrames, AreSalvaged, and_missing, is_too_long, with_missing};
 ghost use Rattle.flac_rescue.specs.Survey.{IsSurvey};
 
 use crate::channels::{add_silence, empty_channels, extend_channels};
@@ -107,9 +106,8 @@ fn add_frames(
     requires rise { Rise (limit_of info.now.total) 0 kept.now }
     requires channels { info.now.channels ≤ buffers.old.channels }
     requires block { info.now.greatest_block ≤ buffers.old.max_block }
-    ensures { OnOk result ((frames : List Frame) → AllZip (IsKept info.now bytes.now) kept.now frames →
-        map (λ c. c.items) channels.new ≡
-        salvaged silence info.now.greatest_block info.now.total 0 (map (λ c. c.items) channels.old) frames) }
+    ensures { OnOk result (AddsFrames info.now bytes.now silence kept.now
+        (map (λ c. c.items) channels.old) (map (λ c. c.items) channels.new)) }
 {
     let total = info.total();
     let mut from: u64 = 0;

@@ -1,5 +1,5 @@
 -- For proofs of encoding a stream anew: what is held of it while it is read, and what is made of that.
-use Rattle.std.specs.Prelude.{◌≡◌, ℕ, ℤ, List, [], ◌∷◌, ◌++◌, map, replicate, option_map, Option, Some, None}
+use Rattle.std.specs.Prelude.{◌≡◌, ◌⊎◌, ℕ, ℤ, List, [], ◌∷◌, ◌++◌, map, replicate, option_map, Option, Some, None}
 use Rattle.flac_bits.specs.State.{After}
 use Rattle.flac_info.specs.Info.{Info}
 use Rattle.flac_meta.specs.declared.block.Block.{Block}
@@ -15,9 +15,10 @@ use Rattle.flac_subframe.specs.declared.format.linear.LinearPredictor.{LinearPre
 use Rattle.flac_cli.specs.Asked.{Asked}
 use Rattle.flac_cli.specs.Encoded.{cut_as}
 use Rattle.flac_cli.specs.Outcomes.{input_reading}
-use Rattle.flac_cli.specs.Recoded.{extended, carried, blocks_in, sound_of}
+use Rattle.flac_cli.specs.Recoded.{extended, carried, blocks_in, sound_of, heard_in, IsStreamOf}
 use Rattle.flac_cli.specs.RecodeRefusals.{held_refusal}
-use Rattle.flac_cli.specs.Refusals.{stream_fault}
+use Rattle.flac_cli.specs.Refusals.{stream_fault, IsOutside}
+use Rattle.flac_cli.specs.declared.encode.Refusal.{Refusal}
 use Rattle.flac_cli.specs.declared.encode.Refusal.TheVariants.{Output}
 use Rattle.flac_cli.specs.declared.held_stream.HeldStream.{HeldStream}
 
@@ -61,6 +62,26 @@ pub record IsReady (asked : Asked) (ps : List LinearPredictor) (info : Info) (li
   pub listed : blocks ≡ blocks_in asked.container list
   pub good : plan_fault plan ≡ None
   pub refusal : held_refusal asked ps info list channels ≡ option_map Output (stream_fault asked.container plan blocks)
+
+-- these bytes are a stream, and this is held of it
+abbrev pub HoldsStream : (bytes : List ℕ) → After → Held → Type 0
+HoldsStream bytes follows h =
+    (info : Info) × (list : List Block) × (frames : List Frame) × IsStreamOf bytes follows info list frames × IsHeld h info list (heard_in info frames)
+
+-- these bytes are a stream, and this is ready of it
+abbrev pub IsReadyIn : Asked → (ps : List LinearPredictor) → (bytes : List ℕ) → After → (plan : Cut) → (blocks : List Block) → (audio : Sound) → Type 0
+IsReadyIn asked ps bytes follows plan blocks audio =
+    (info : Info) × (list : List Block) × (frames : List Frame) × IsStreamOf bytes follows info list frames × IsReady asked ps info list (heard_in info frames) plan blocks audio
+
+-- of which stream it is held, of that this is ready
+abbrev pub IsReadyOf : Asked → (ps : List LinearPredictor) → Held → (plan : Cut) → (blocks : List Block) → (audio : Sound) → Type 0
+IsReadyOf asked ps h plan blocks audio =
+    (info : Info) (list : List Block) (channels : List (List ℤ)) → IsHeld h info list channels → IsReady asked ps info list channels plan blocks audio
+
+-- of which stream it is held, this is the reason to refuse that, or something outside failed
+abbrev pub IsHeldReason : Asked → (ps : List LinearPredictor) → Held → Refusal → Type 0
+IsHeldReason asked ps h e =
+    (info : Info) (list : List Block) (channels : List (List ℤ)) → IsHeld h info list channels → IsOutside e ⊎ (held_refusal asked ps info list channels ≡ Some e)
 
 -- the bytes are refused at the place of this fault, for its reason
 abbrev pub IsFaultOf : (bytes : List ℕ) → After → Fault → Type 0
