@@ -61,7 +61,8 @@ def kept(place, words, old, source=None, name="out", before=(), **more):
     """OUT is not replaced: it and IN have their bytes, and no other file is there."""
     names = {"IN": place.put("in", source_of(place, words) if source is None else source), "OUT": place.put(name, old)}
     given, found = read(names["IN"]), set(os.listdir(place.folder))
-    place.refused(words, names, f"{names['OUT']}: cannot be created", before, **more)
+    more_of_it = ": it may be another song, which --force replaces" if words[0] in ("recode", "salvage") else ""
+    place.refused(words, names, f"{names['OUT']}: cannot be created{more_of_it}", before, **more)
     expect((read(names["IN"]), read(names["OUT"]), set(os.listdir(place.folder))), (given, old, found))
 
 
@@ -330,6 +331,32 @@ def whole_cases(library):
         yield f"{name}: OUT is -", lambda p, w=words: expect(p.call(w, {"IN": p.put("in", NATIVE), "OUT": "-"})[::2], (0, ""))
 
 
+def held_file(place, words, source, later, begun):
+    """While a job writes a new OUT, another job with that OUT is refused; the first one ends as if it were alone."""
+    names = {"IN": place.put("in", later), "OUT": place.path("out")}
+    called = [place.binary, *({"IN": "-", "OUT": names["OUT"]}.get(word, word) for word in words)]
+    first = subprocess.Popen(called, stdin=subprocess.PIPE, stdout=subprocess.DEVNULL, stderr=subprocess.PIPE)
+    with first:
+        first.stdin.write(source[:begun])
+        first.stdin.flush()
+        ends = time.time() + 20
+        while not os.path.exists(names["OUT"]) and time.time() < ends:
+            time.sleep(0.01)
+        place.refused(words, names, f"{names['OUT']}: cannot be created")
+        first.stdin.write(source[begun:])
+        first.stdin.close()
+        expect((first.wait(60), first.stderr.read()), (0, b""))
+    alone = {"IN": place.put("alone.in", source), "OUT": place.path("alone")}
+    expect(place.call(words, alone)[::2], (0, ""))
+    expect(read(names["OUT"]), read(alone["OUT"]))
+
+
+def held_cases():
+    """Two jobs with one new OUT."""
+    for name, words, source in (("decode", DECODE, NATIVE), ("encode", ["encode", "IN", "OUT", *ENCODE], RAW), ("encode of a WAV file", ["encode", "IN", "OUT"], WAVE)):
+        yield f"{name}: another job writes to OUT", lambda p, w=words, s=source: held_file(p, w, s, s, 8)
+
+
 def recoded_cases():
     """A stream that is encoded anew replaces no other song, whatever the container; --force lets it."""
     other, unknown = NATIVE[:26] + bytes([NATIVE[26] ^ 1]) + NATIVE[27:], NATIVE[:26] + bytes(16) + NATIVE[42:]
@@ -515,7 +542,7 @@ def main():
         os.chmod(folder, 0o755)
         binary, library = shutil.copy(program.BINARY, os.path.join(folder, "flac")), os.path.join(folder, "failing.so")
         subprocess.run(["cc", "-O1", "-shared", "-fPIC", "-o", library, os.path.join(HERE, "failing.c")], check=True)
-        groups = (kind_cases(), retag_cases(), forced_cases(), raw_cases(), word_cases(), long_name_cases(), whole_cases(library), recoded_cases(), stored_cases(library))
+        groups = (kind_cases(), retag_cases(), forced_cases(), raw_cases(), word_cases(), long_name_cases(), whole_cases(library), held_cases(), recoded_cases(), stored_cases(library))
         every = [case for group in groups for case in group if words.only in case[0]]
         found = list(pool.map(lambda case: devices.outcome(case, folder, binary), every))
     for _, line in found:

@@ -261,7 +261,7 @@ def kept_files(path):
     for old in (b"RIFF\x24\0\0\0WAVE", b"ID3\x03 and more", b"FORM"):
         with open("kept", "wb") as file:
             file.write(old)
-        expect(call("recode", path, "kept"), (1, b"", b"flac: kept: cannot be created\n"))
+        expect(call("recode", path, "kept"), (1, b"", b"flac: kept: cannot be created: it may be another song, which --force replaces\n"))
         expect(read("kept"), old)
     expect(call("recode", path, "kept", "--force"), (0, b"", b""))
     expect(call("same", path, "kept"), (0, b"", b""))

@@ -133,10 +133,14 @@ def report_of(files, subset=False):
     return b"".join(entry_of(path, data, subset) for path, data in files)
 
 
+OTHERS = b"\1vorbis", b"OpusHead", b"Speex   ", b"\x80theora", b"fishead\0", b"PCM     "
+"""With what the first packet of another stream in Ogg begins."""
+
+
 def is_chosen(name, data):
     name = name.lower()
-    if name.endswith(b".ogg"):
-        return data is None or data[:4] == b"OggS" and data[27 + data[26]:][:5] == b"\x7fFLAC"
+    if name.endswith((b".ogg", b".oga")):
+        return data is None or len(data) < 27 or data[:4] != b"OggS" or not data[27 + data[26]:].startswith(OTHERS)
     return name.endswith(ENDINGS)
 
 
@@ -173,6 +177,8 @@ def make_tree(folder):
         "one/01.flac": native, "one/02 no md5.flac": changed(native, 26, bytes(16)),
         "one/03 no total.FLAC": changed(native, 21, bytes([native[21] & 0xF0]) + bytes(4)),
         "one/04.fla": native[:len(native) // 2], "one/05.Oga": ogg, "one/06.ogg": ogg, "one/07.ogg": b"OggS" + bytes(60),
+        "one/06 vorbis.ogg": b"OggS" + bytes(22) + b"\1\x1e\1vorbis" + bytes(60), "one/06 opus.oga": b"OggS" + bytes(22) + b"\1\x13OpusHead" + bytes(60),
+        "one/06 zeros.ogg": bytes(100), "one/06 empty.oga": b"", "one/06 native.ogg": native,
         "one/08.txt": native, "one/09": native, "one/10.flac": b"", "one/11.flac": changed(native, len(native) - 3000, b"\0\0\0\0\0\0"),
         "one/12\nline end.flac": native, "one/12\nok b.flac: frames 1 samples 1\x1b[2J\x7f\\.flac": native, "one/13.flac": lax, "one/.hidden.flac": native, "one/\u00e9.flac": native,
         "two/deep/deeper/x.flac": changed(native, 26, bytes(range(16))), "two/deep.flac": native, "z.flac": ogg[:300],
@@ -401,6 +407,42 @@ def check_parallel(folder, count):
     lines = b"".join(read(os.path.join(place, name)) for name in os.listdir(place) if name.endswith(".jsonl")).splitlines(True)
     expect(sorted(lines), sorted(report_of(files).splitlines(True)))
     expect(run.returncode > 0, True)
+
+
+def check_held_reports(folder, good):
+    """While a verification writes a report, another one with that report is refused."""
+    for word in ("--report", "--resume"):
+        report = os.path.join(folder, "held.jsonl").encode()
+        called = [program.PROGRAM, "verify", word, report, "-"]
+        with subprocess.Popen(called, stdin=subprocess.PIPE, stdout=subprocess.PIPE, stderr=subprocess.PIPE) as first:
+            ends = time.time() + 20
+            while not os.path.exists(report) and time.time() < ends:
+                time.sleep(0.01)
+            time.sleep(0.1)
+            compare(["--report", report, good], (1, b"", b"flac: " + report + b": cannot be created\n"))
+            compare(["--resume", report, good], (1, b"", b"flac: " + report + b": cannot be resumed\n"))
+            out, err = first.communicate(read(good), 60)
+            expect((first.returncode, out, err), due_of([(b"-", read(good))]))
+        expect(read(report).count(b"\n"), 1)
+        os.remove(report)
+
+
+def check_unlooked(folder, good):
+    """A folder whose files and folders cannot be looked at: each has a line."""
+    if os.getuid() != 0:
+        print("verify: not root: no other user is asked")
+        return
+    with tempfile.TemporaryDirectory(prefix="flac-unlooked-") as place:
+        os.chmod(place, 0o755)
+        music = os.path.join(place.encode(), b"music")
+        for name in (b"one", b"two"):
+            os.makedirs(os.path.join(music, name))
+            shutil.copy(good, os.path.join(music, name, b"a.flac"))
+        shutil.copy(good, os.path.join(music, b"b.flac"))
+        os.chmod(music, 0o644)
+        due = due_of([(os.path.join(music, name), None) for name in (b"b.flac", b"one", b"two")])
+        found = subprocess.run([program.PROGRAM, "verify", music], capture_output=True, timeout=60, check=False, user=65534, group=65534, extra_groups=[])
+        expect((found.returncode, found.stdout, found.stderr), due)
 
 
 def check_failing_reports(folder, good):
@@ -654,6 +696,8 @@ def tries(folder, count):
     yield "older reports that are none", lambda: check_bad_against(folder, good)
     yield "many files by GNU parallel", lambda: check_parallel(folder, 5 * count)
     yield "reports that fail", lambda: check_failing_reports(folder, good)
+    yield "reports that are written", lambda: check_held_reports(folder, good)
+    yield "a folder that cannot be searched", lambda: check_unlooked(folder, good)
     yield "standard input", lambda: check_standard_input(folder, good)
 
 

@@ -4,7 +4,7 @@ ghost use Rattle.std.specs.Prelude.{◌≤◌, length, IfOk};
 
 use crate::replacing::{FRONT, begins_native, may_replace, may_replace_recoded};
 use flac_jobs::Job;
-use std::fs::{File, Metadata, OpenOptions};
+use std::fs::{File, Metadata, OpenOptions, TryLockError};
 use std::io;
 use std::io::{ErrorKind, Read, Stdin, Stdout, Write};
 use std::os::unix::fs::{FileExt, MetadataExt, OpenOptionsExt};
@@ -277,8 +277,8 @@ impl Rule<'_> {
     /// if a retagging reads no native stream, which the job reports: nothing is replaced then.
     ///
     /// # Errors
-    /// `AlreadyExists` if it may not. The file cannot be read; or a retagging reads a pipe, which has no first bytes to
-    /// compare.
+    /// `AlreadyExists` if it may not, `InvalidData` if a stream that is encoded anew may not. The file cannot be read; or a
+    /// retagging reads a pipe, which has no first bytes to compare.
     fn allows(&self, rt: &HostRuntime, path: &str) -> io::Result<bool> {
         if self.force {
             return Ok(true);
@@ -307,15 +307,15 @@ impl Rule<'_> {
     }
 }
 
-/// Refuses to replace a file that may not be replaced.
+/// Refuses to replace another song.
 ///
 /// # Errors
-/// `AlreadyExists` if it may not.
+/// `InvalidData`, which no call that opens a file returns.
 fn refused_unless(may: bool) -> io::Result<bool> {
     if may {
         return Ok(true);
     }
-    Err(io::Error::from(ErrorKind::AlreadyExists))
+    Err(io::Error::from(ErrorKind::InvalidData))
 }
 
 /// Reads the first bytes of what a job reads, and returns how many: none if it cannot be read, which the job reports.
@@ -399,7 +399,7 @@ pub(crate) fn create(
     create_over(rt, path, input, list, rule)
 }
 
-/// Opens what a job writes to, a path that may have a file already.
+/// Opens what a job writes to, a path that may have a file already. A file that another job writes to is refused.
 ///
 /// # Errors
 /// Those of [`create`].
@@ -416,7 +416,8 @@ fn create_over(
     if !found.is_file() {
         return Ok((Output::Device(file), None));
     }
-    if found.len() == 0 {
+    lock(&file)?;
+    if file.metadata()?.len() == 0 {
         return Ok((Output::File(file), None));
     }
     let before = rule.before_at(rt, path)?;
@@ -424,6 +425,17 @@ fn create_over(
     replacement.before = before;
     replacement.is_whole = rule.is_whole;
     Ok((Output::File(file), Some(replacement)))
+}
+
+/// Locks a file for as long as it is open. File systems without locks let every program in.
+///
+/// # Errors
+/// `ResourceBusy` if another program has locked it.
+pub(crate) fn lock(file: &File) -> io::Result<()> {
+    match file.try_lock() {
+        Err(TryLockError::WouldBlock) => Err(io::Error::from(ErrorKind::ResourceBusy)),
+        _ => Ok(()),
+    }
 }
 
 /// Creates a new file for a path at which there is none, beside that path.

@@ -8,6 +8,7 @@ use crate::files::{Input, Known, Output, Replacement, Rule, create};
 use crate::list::List;
 use flac_jobs::Job;
 use std::fs::File;
+use std::io::ErrorKind;
 
 /// The files of a job, opened.
 #[derive(Drop)]
@@ -117,16 +118,26 @@ fn created<'a>(
     let Some(path) = job.output() else {
         return Ok((Output::None, None));
     };
-    let refused = FileRefused {
-        path,
-        what: "created",
-    };
     let Ok(input) = Known::of_input(rt, job.input(), rule.input) else {
-        return Err(refused);
+        return Err(FileRefused {
+            path,
+            what: "created",
+        });
     };
     match create(rt, path, &input, list.file.as_ref(), rule) {
         Ok(made) => Ok(made),
-        Err(_) => Err(refused),
+        Err(error) => Err(FileRefused {
+            path,
+            what: what_of(error.kind()),
+        }),
+    }
+}
+
+/// What cannot be done with a file that is not created because of this error of [`create`].
+fn what_of(error: ErrorKind) -> &'static str {
+    match error {
+        ErrorKind::InvalidData => "created: it may be another song, which --force replaces",
+        _ => "created",
     }
 }
 
@@ -195,7 +206,7 @@ fn stand_in(rt: &HostRuntime) -> Option<File> {
 pub struct FileRefused<'a> {
     /// The path of the file.
     pub path: &'a str,
-    /// What cannot be done with it: `opened`, `read`, `created`, `stored` or `replaced`.
+    /// What cannot be done with it, as `opened`, `read`, `created`, `stored` or `replaced`.
     pub what: &'static str,
 }
 

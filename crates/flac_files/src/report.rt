@@ -1,6 +1,6 @@
 //! The report of a verification.
 
-use crate::files::{Output, create_beside};
+use crate::files::{Output, create_beside, lock};
 use crate::job_files::FileRefused;
 use crate::recorded::{Recorded, is_line, recorded_of};
 use flac_jobs::Verification;
@@ -9,6 +9,7 @@ use std::alloc::{AllocError, Global};
 use std::fs::{File, Metadata, OpenOptions};
 use std::io;
 use std::io::{ErrorKind, Read, Write};
+use std::os::unix::fs::MetadataExt;
 
 /// The report of a verification, opened.
 #[derive(Drop)]
@@ -27,7 +28,7 @@ impl ReportFile {
     /// is stored first. A file that has other lines than those of a report is refused, and stays as it was.
     ///
     /// # Errors
-    /// The report cannot be created, or cannot be read or replaced.
+    /// The report cannot be created, or cannot be read or replaced, or another verification writes to it.
     pub fn open<'a>(
         rt: &HostRuntime,
         asked: &Verification<'a>,
@@ -87,7 +88,8 @@ fn created(rt: &HostRuntime, path: &str) -> io::Result<ReportFile> {
     if !found.is_file() {
         return Ok(ReportFile::over(rt, Output::Device(file)));
     }
-    if found.len() > 0 {
+    held_alone(rt, path, &file)?;
+    if file.metadata()?.len() > 0 {
         return Err(io::Error::from(ErrorKind::AlreadyExists));
     }
     Ok(ReportFile::over(rt, Output::File(file)))
@@ -107,6 +109,7 @@ fn resumed(rt: &HostRuntime, path: &str) -> io::Result<ReportFile> {
     if !found.is_file() {
         return Ok(ReportFile::over(rt, Output::Device(file)));
     }
+    held_alone(rt, path, &file)?;
     let mut text = Vec::new(rt.alloc());
     file.read_to_end(&mut text)?;
     let (good, kept) = good_lines(rt.alloc(), text.as_slice())?;
@@ -121,7 +124,21 @@ fn resumed(rt: &HostRuntime, path: &str) -> io::Result<ReportFile> {
     })
 }
 
-/// Puts a new file with these lines in the place of a report, and opens it, to add lines.
+/// Locks a report for as long as it is open, so that no other verification writes to it.
+///
+/// # Errors
+/// `ResourceBusy` if another one has locked it, or has put a new file at its path after it was opened.
+fn held_alone(rt: &HostRuntime, path: &str, file: &File) -> io::Result<()> {
+    lock(file)?;
+    let found = file.metadata()?;
+    let now = std::fs::metadata(rt, path)?;
+    if now.dev() == found.dev() && now.ino() == found.ino() {
+        return Ok(());
+    }
+    Err(io::Error::from(ErrorKind::ResourceBusy))
+}
+
+/// Puts a new file with these lines in the place of a report, and opens it, locked, to add lines.
 ///
 /// # Errors
 /// That of the system. The report stays as it was until its place is taken.
@@ -134,7 +151,9 @@ fn replaced(rt: &HostRuntime, path: &str, found: &Metadata, lines: &[u8]) -> io:
             return Err(error);
         }
     }
-    OpenOptions::new().append(true).open(rt, path)
+    let file = OpenOptions::new().append(true).open(rt, path)?;
+    held_alone(rt, path, &file)?;
+    Ok(file)
 }
 
 /// The good files of a report, and their lines.

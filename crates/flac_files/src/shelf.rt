@@ -19,12 +19,13 @@ struct Pending {
 }
 
 /// Files of the system, one after another: those that are named, whatever their names, and those of the named folders
-/// and of the folders in them whose names end in `.flac`, `.fla` or `.oga`, in any case, or in `.ogg` if the first
-/// packet is FLAC's. The names of a folder come in the order of their bytes. Links to folders are not followed, unless
-/// they are named. `-` is standard input.
+/// and of the folders in them whose names end in `.flac`, `.fla`, `.oga` or `.ogg`, in any case, but Ogg files whose first
+/// packet is that of another codec. The names of a folder come in the order of their bytes. Links to folders are not
+/// followed, unless they are named. `-` is standard input.
 ///
 /// A folder that cannot be read, and one with a name that is no UTF-8, come as files that cannot be opened; so does a
-/// pipe or a device that is found in a folder. The names of the folders that are under way are held in memory.
+/// pipe or a device that is found in a folder, and whatever the system tells nothing of. The names of the folders that
+/// are under way are held in memory.
 #[derive(Drop)]
 pub struct FileShelf {
     rt: HostRuntime,

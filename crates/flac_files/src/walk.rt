@@ -3,7 +3,7 @@
 use flac_shelf::Stamp;
 use std::fs::{File, Metadata};
 use std::io;
-use std::io::Read;
+use std::io::{ErrorKind, Read};
 use std::os::unix::fs::MetadataExt;
 
 /// The path that stands for standard input.
@@ -31,26 +31,36 @@ fn ends_with(path: &str, ending: &str) -> bool {
 
 /// Whether a path ends as that of a stream.
 fn is_stream_path(path: &str) -> bool {
-    ends_with(path, ".flac") || ends_with(path, ".fla") || ends_with(path, ".oga")
+    ends_with(path, ".flac") || ends_with(path, ".fla")
 }
 
 /// Whether a path ends as that of an Ogg stream, of FLAC or of something else.
 fn is_ogg_path(path: &str) -> bool {
-    ends_with(path, ".ogg")
+    ends_with(path, ".oga") || ends_with(path, ".ogg")
 }
 
 /// How many bytes of an Ogg file show what its first packet is: a page header of 27 bytes and the lengths of up to 255
-/// parts (RFC 3533, section 6), and the first 5 bytes of the packet.
-const FRONT: usize = 287;
+/// parts (RFC 3533, section 6), and the first 8 bytes of the packet.
+const FRONT: usize = 290;
 
-/// Whether these first bytes of an Ogg file are a page whose first packet is FLAC's: `7F 46 4C 41 43` (RFC 9639,
-/// section 10.1).
-fn begins_with_flac(front: &[u8]) -> bool {
+/// Whether a packet is the first of another stream than FLAC's: of Vorbis, Opus, Speex, Theora, a skeleton, or PCM.
+fn is_of_another(packet: &[u8]) -> bool {
+    packet.starts_with(b"\x01vorbis")
+        || packet.starts_with(b"OpusHead")
+        || packet.starts_with(b"Speex   ")
+        || packet.starts_with(b"\x80theora")
+        || packet.starts_with(b"fishead\0")
+        || packet.starts_with(b"PCM     ")
+}
+
+/// Whether these first bytes of a file are an Ogg page whose first packet is not FLAC's, but that of another stream which
+/// is known.
+fn begins_otherwise(front: &[u8]) -> bool {
     let Some(parts) = front.get(26) else {
         return false;
     };
     let start = 27 + usize::from(*parts);
-    front.starts_with(b"OggS") && front[start.min(front.len())..].starts_with(b"\x7FFLAC")
+    front.starts_with(b"OggS") && is_of_another(&front[start.min(front.len())..])
 }
 
 /// Reads the first bytes of a file.
@@ -97,13 +107,16 @@ pub(crate) fn look_at_named(rt: &HostRuntime, path: &str) -> Look {
 }
 
 /// What is to be done with a path of a folder. A file is read if its name says that it is a stream. A link to a folder
-/// is passed over, so that a walk ends.
+/// is passed over, so that a walk ends. What is not known to be no folder is refused.
 pub(crate) fn look_at_found(rt: &HostRuntime, path: &str) -> Look {
     match std::fs::symlink_metadata(rt, path) {
         Ok(found) if found.is_dir() => Look::Folder,
         _ if is_stream_path(path) => look_at_stream(rt, path),
         _ if is_ogg_path(path) => look_at_ogg(rt, path),
-        _ => Look::Pass,
+        Ok(_) => Look::Pass,
+        // (it was removed meanwhile)
+        Err(error) if error.kind() == ErrorKind::NotFound => Look::Pass,
+        Err(_) => Look::Refused,
     }
 }
 
@@ -119,12 +132,12 @@ fn look_at_stream(rt: &HostRuntime, path: &str) -> Look {
     }
 }
 
-/// The same of one whose name is that of an Ogg stream: it is read if its first packet is FLAC's.
+/// The same of one whose name is that of an Ogg stream: it is passed over if it is one of something else.
 fn look_at_ogg(rt: &HostRuntime, path: &str) -> Look {
     match look_at_stream(rt, path) {
         Look::Read { again, stamp } => match front_of(rt, path) {
-            Ok(front) if begins_with_flac(front.as_slice()) => Look::Read { again, stamp },
-            Ok(_) => Look::Pass,
+            Ok(front) if begins_otherwise(front.as_slice()) => Look::Pass,
+            Ok(_) => Look::Read { again, stamp },
             Err(_) => Look::Refused,
         },
         other => other,

@@ -33,9 +33,9 @@ With --all a bad file is read again, whole into memory, and lines after its own 
 is lost: for each damaged part its samples, their time and their bytes, and then how much
 was found. This is of native streams: of an Ogg stream a line says that it is not listed.
 
-In a folder, and in the folders in it, files are read whose names end in .flac, .fla or
-.oga, and in .ogg if they are FLAC. Links to folders are not followed. The exit status is 0
-if all files are good.";
+In a folder, and in the folders in it, files are read whose names end in .flac, .fla, .oga
+or .ogg, but not Ogg files of Vorbis, Opus and other codecs. Links to folders are not
+followed. The exit status is 0 if all files are good.";
 
 pub(crate) static VERIFY: Usage = Usage {
     name: "verify",
