@@ -34,22 +34,30 @@ fn edit_with_sheet(
     removals: &[Removal],
     pictures: &[Picture],
 ) -> u8 {
-    let mut edits = BlockEdits {
+    let Some(path) = editing.sheet else {
+        return edit_by(rt, editing, removals, None, pictures);
+    };
+    match read_cue_sheet(rt, path) {
+        Ok(text) => edit_by(rt, editing, removals, Some(text.as_slice()), pictures),
+        Err(refused) => refused.tell(rt),
+    }
+}
+
+/// Edits each file by these removals, the text of this cue sheet, and these pictures. Returns the status.
+fn edit_by<'a>(
+    rt: &HostRuntime,
+    editing: &Editing<'_>,
+    removals: &'a [Removal],
+    cue: Option<&'a [u8]>,
+    pictures: &'a [Picture],
+) -> u8 {
+    let edits = BlockEdits {
         removals,
-        cue: None,
+        cue,
         pictures,
         padding: editing.padding,
     };
-    let Some(path) = editing.sheet else {
-        return edit_each(rt, editing, &edits);
-    };
-    match read_cue_sheet(rt, path) {
-        Ok(text) => {
-            edits.cue = Some(&text);
-            edit_each(rt, editing, &edits)
-        }
-        Err(refused) => refused.tell(rt),
-    }
+    edit_each(rt, editing, &edits)
 }
 
 /// Reads the pictures.

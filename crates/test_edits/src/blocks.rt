@@ -65,15 +65,25 @@ fn refuses(alloc: Global, edits: &BlockEdits<'_>, due: BlockFault) -> bool {
     }
 }
 
+fn edits_of<'a>(
+    removals: &'a [Removal],
+    cue: Option<&'a [u8]>,
+    pictures: &'a [Picture],
+    padding: Option<u32>,
+) -> BlockEdits<'a> {
+    BlockEdits {
+        removals,
+        cue,
+        pictures,
+        padding,
+    }
+}
+
 #[test]
 fn blocks_are_edited(rt: HostRuntime) -> Result<(), Fail> {
     let cover = [picture(rt.alloc())?];
-    let edits = BlockEdits {
-        removals: &[Removal::Application(*b"test")],
-        cue: None,
-        pictures: &cover,
-        padding: Some(3),
-    };
+    let removals = [Removal::Application(*b"test")];
+    let edits = edits_of(&removals, None, &cover, Some(3));
     assert!(rt; gives(rt.alloc(), &OLD, &edits, &NEW));
     Ok(())
 }
