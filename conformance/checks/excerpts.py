@@ -7,12 +7,15 @@ The streams are made by the reference encoder and by the program, native and in 
 without the number of samples in STREAMINFO. Parts at the bounds of frames, over them, of one sample, up to the end, and some at
 random are decoded to raw samples and to WAV files, and compared with cuts of the samples that were put in; those that the reference
 decoder takes, with what it decodes by --skip and --until. Parts that are none, and parts of streams that are damaged before, in or
-after the part are judged by the decoded samples and by the line of `flac test`. FLAC names the program. Status 1 if an answer is not
-the one that is due.
+after the part are judged by the decoded samples and by the line of `flac test`. Streams that are long enough for a search among their
+frames come with right and wrong seek tables, and none, with variable block sizes, without their first frames, cut off, damaged, and
+through a pipe. FLAC names the program. Status 1 if an answer is not the one that is due.
 """
 import argparse
 import os
 import random
+import re
+import struct
 import subprocess
 import sys
 import tempfile
@@ -188,6 +191,220 @@ def pipes(path, sound):
     expect((ran.returncode, ran.stderr, ran.stdout), (0, b"", sound.raw()[2 * row:9 * row]))
 
 
+# ---- streams that are longer than what a search looks through at once
+
+def blocks_end(data):
+    """Where the first frame begins, and each metadata block: its offset, kind and length (RFC 9639, section 8.1)."""
+    at, found = 4, []
+    while True:
+        kind, length = data[at] & 127, int.from_bytes(data[at + 1:at + 4], "big")
+        found.append((at, kind, length))
+        last, at = data[at] >> 7, at + 4 + length
+        if last:
+            return at, found
+
+
+def frames_of(path):
+    """Where the frames begin, and how many bytes they have, as the reference decoder analyses the stream."""
+    subprocess.run(["flac", "-s", "-a", "-f", "--lax", "-o", "long.ana", path], check=True, stderr=subprocess.DEVNULL)
+    with open("long.ana", encoding="ascii") as file:
+        found = [re.match(r"frame=\d+\toffset=(\d+)\tbits=(\d+)", line) for line in file]
+    return [(int(one[1]), int(one[2]) // 8) for one in found if one]
+
+
+def with_table(data, points):
+    """The stream with these points in its seek table: sample, offset from the first frame, block size (section 8.5)."""
+    data, (_, blocks) = bytearray(data), blocks_end(data)
+    at, _, length = next(one for one in blocks if one[1] == 3)
+    text = b"".join(struct.pack(">QQH", *point) for point in points[:length // 18])
+    data[at + 4:at + 4 + length] = text + (b"\xff" * 8 + bytes(10)) * (length // 18 - len(text) // 18)
+    return bytes(data)
+
+
+def check_value(data, bits, polynomial):
+    value, top = 0, 1 << (bits - 1)
+    table = []
+    for byte in range(256):
+        one = byte << (bits - 8)
+        for _ in range(8):
+            one = (one << 1) ^ (polynomial if one & top else 0)
+        table.append(one & (1 << bits) - 1)
+    for byte in data:
+        value = (value << 8) & (1 << bits) - 1 ^ table[value >> (bits - 8) ^ byte]
+    return value
+
+
+def coded(number):
+    """A number as a header has it (section 9.1.5)."""
+    if number < 128:
+        return bytes([number])
+    rest = []
+    while number >= 1 << 6 - len(rest):
+        rest.insert(0, 128 | number & 63)
+        number >>= 6
+    return bytes([(0xff80 >> len(rest)) & 0xff | number, *rest])
+
+
+def renumbered(data, frames, number_of, variable):
+    """The stream with other numbers in its frames: those of their first samples, with variable block sizes."""
+    pieces = [data[:frames[0][0]]]
+    for k, (at, size) in enumerate(frames):
+        frame = data[at:at + size]
+        old = 1 if frame[4] < 128 else 8 - (frame[4] ^ 255).bit_length()
+        ends = {6: 1, 7: 2}.get(frame[2] >> 4, 0) + {12: 1, 13: 2, 14: 2}.get(frame[2] & 15, 0)
+        head = frame[:1] + bytes([frame[1] & 0xfe | variable]) + frame[2:4] + coded(number_of(k)) + frame[4 + old:4 + old + ends]
+        body = head + bytes([check_value(head, 8, 0x07)]) + frame[4 + old + ends + 1:-2]
+        pieces.append(body + check_value(body, 16, 0x8005).to_bytes(2, "big"))
+    return b"".join(pieces)
+
+
+class Long:
+    """A stream that is longer than what a search looks through at once."""
+
+    def __init__(self, runs, sound, size):
+        self.runs, self.chance, self.sound, self.size = runs, runs.chance, sound, size
+        self.raw, self.row = sound.raw(), sound.channels * ((sound.bits + 7) // 8)
+        parts.by_reference("long.flac", sound, size, 2, False)
+        subprocess.run(["metaflac", "--add-seekpoint=40x", "long.flac"], check=True)
+        self.data, self.frames = read("long.flac"), frames_of("long.flac")
+        self.count = len(sound.rows)
+
+    def due(self, first, last, before=0):
+        return self.raw[(before + first) * self.row:(self.count if last is None else before + last) * self.row]
+
+    def spans(self, many):
+        yield from ((self.count - 1, None), (self.count - 1, self.count), (self.count // 2, self.count // 2 + 1), (self.count // 3, None), (5, None))
+        for _ in range(many):
+            first = self.chance.randrange(self.count - 1)
+            yield first, self.chance.choice((None, min(self.count, first + 1 + self.chance.randrange(4 * self.size))))
+
+    def same(self, name, data, many, before=0):
+        """Parts of these bytes: those of the samples from a number on."""
+        with open(name, "wb") as file:
+            file.write(data)
+        for first, last in self.spans(many):
+            first, last = first - before, None if last is None else last - before
+            if first >= 0:
+                words = words_of(self.chance, first, last, self.sound.rate)
+                expect(call("decode", "--lax", *words, name, "part.raw", "--force"), (0, b"", b""))
+                expect(read("part.raw"), self.due(first, last, before))
+                self.runs.written += 1
+        self.runs.none(name, ["--lax", "--from", str(self.count - before)], "74 RangeEnd")
+
+    def tables(self, many):
+        data, chance = self.data, self.chance
+        start, ends = blocks_end(data)[0], len(data)
+        points = [(k * self.size, at - start, self.size) for k, (at, _) in enumerate(self.frames)]
+        chosen = sorted(chance.sample(points, min(39, len(points))))
+        self.same("long.flac", data, many)
+        self.same("placeholders.flac", with_table(data, []), many)
+        with open("zero.flac", "wb") as file:
+            file.write(with_table(data, [(0, at, self.size) for _, at, _ in chosen]))
+        # points at one sample break a rule of the table (RFC 9639, section 8.5), which is part of the stream
+        status, _, err = call("decode", "--lax", "--to", "1", "zero.flac", "part.raw", "--force")
+        expect((status, err.endswith(b": 10 SeekOrder\n")), (1, True))
+        self.same("wild.flac", with_table(data, [(sample, chance.randrange(2 ** 64), self.size) for sample, _, _ in chosen]), many)
+        self.same("within.flac", with_table(data, [(sample, chance.randrange(ends), self.size) for sample, _, _ in chosen]), many)
+        self.same("later.flac", with_table(data, [(sample, other, self.size) for (sample, _, _), (_, other, _) in zip(chosen, chosen[5:])]), many)
+        subprocess.run(["metaflac", "--remove", "--block-type=SEEKTABLE", "--dont-use-padding", "long.flac"], check=True)
+        self.same("none.flac", read("long.flac"), many)
+        if self.sound.bits == 16:
+            parts.by_ffmpeg("ffmpeg.flac", self.sound, self.size)
+            self.same("ffmpeg.flac", read("ffmpeg.flac"), many)
+
+    def numbers(self, many):
+        """Variable block sizes; a stream from a later frame on; one whose STREAMINFO states another block size."""
+        start, frames = self.frames[0][0], self.frames
+        self.same("variable.flac", renumbered(self.data, frames, lambda k: k * self.size, 1), many)
+        cut = self.chance.randrange(1, len(frames) // 2)
+        later = without_total(self.data[:start]) + self.data[frames[cut][0]:]
+        with open("cut.flac", "wb") as file:
+            file.write(later)
+        for first, last in self.spans(many):
+            if first >= cut * self.size:
+                first, last = first - cut * self.size, None if last is None else last - cut * self.size
+                expect(call("decode", "--lax", *words_of(self.chance, first, last, self.sound.rate), "cut.flac", "part.raw", "--force"), (0, b"", b""))
+                expect(read("part.raw"), self.due(first, last, cut * self.size))
+                self.runs.written += 1
+        wide = bytearray(self.data)
+        wide[10:12] = (self.size * 2).to_bytes(2, "big")
+        self.same("wide.flac", bytes(wide), many)
+
+    def refused(self, name, data, first, last, due, line):
+        """The samples up to a fault, and its line."""
+        with open(name, "wb") as file:
+            file.write(data)
+        if os.path.exists("part.raw"):
+            os.remove("part.raw")
+        words = ["--from", str(first), *(["--to", str(last)] if last is not None else [])]
+        expect(call("decode", "--lax", *words, name, "part.raw"), (1, b"", f"flac: {name}: {line}\n".encode()))
+        expect(read("part.raw"), due)
+        self.runs.refused += 1
+
+    def damage(self, tries):
+        """A frame that is damaged before the part, in it and after it; a stream that is cut off."""
+        size, frames = self.size, self.frames
+        for _ in range(tries):
+            hit = self.chance.randrange(1, len(frames) - 1)
+            at, length = frames[hit]
+            data = bytearray(self.data)
+            data[at + self.chance.randrange(length)] ^= 1 << self.chance.randrange(8)
+            with open("bad.flac", "wb") as file:
+                file.write(data)
+            status, _, err = call("test", "--lax", "bad.flac")
+            expect((status, err.startswith(f"flac: bad.flac: frame {hit}: ".encode())), (1, True))
+            line = err.decode().split(": ", 2)[2].rstrip("\n")
+            last = self.chance.randrange(1, hit * size + 1)
+            first = max(0, last - 1 - self.chance.randrange(3 * size))
+            expect(call("decode", "--lax", "--from", str(first), "--to", str(last), "bad.flac", "part.raw", "--force"), (0, b"", b""))
+            expect(read("part.raw"), self.due(first, last))
+            first = self.chance.randrange(max(0, hit * size - 3 * size), hit * size)
+            self.refused("bad.flac", data, first, (hit + 1) * size, self.due(first, hit * size), line)
+            # a frame before the part: not read if it is far away
+            first = (hit + 1) * size + self.chance.randrange(4)
+            status, _, told = call("decode", "--lax", "--from", str(first), "--to", str(min(self.count, first + 9)), "bad.flac", "part.raw", "--force")
+            expect((status, told), (0, b"") if status == 0 else (1, err))
+            if status == 0:
+                expect(read("part.raw"), self.due(first, min(self.count, first + 9)))
+            self.runs.written += 1
+        hit = len(frames) - 2
+        first = (hit - 1) * size + 3
+        for end in (frames[hit][0], frames[hit][0] + 9):
+            with open("short.flac", "wb") as file:
+                file.write(self.data[:end])
+            _, _, err = call("test", "--lax", "short.flac")
+            self.refused("short.flac", self.data[:end], first, None, self.due(first, hit * size), err.decode().split(": ", 2)[2].rstrip("\n"))
+
+    def streams(self):
+        """Standard input; between the tags of other programs."""
+        first = self.count // 2
+        for source in (["long.flac"], None):
+            words = [program.PROGRAM, "decode", "--lax", "--from", str(first), "--to", str(first + 9), "-", "-"]
+            with open("long.flac", "rb") as file:
+                data = None if source else file.read()
+                ran = subprocess.run(words, **({"stdin": file} if source else {"input": data}), stdout=subprocess.PIPE, stderr=subprocess.PIPE, check=False)
+            expect((ran.returncode, ran.stderr, ran.stdout), (0, b"", self.due(first, first + 9)))
+        with open("tagged.flac", "wb") as file:
+            file.write(b"ID3\x03\0\0\0\0\0\x0a" + bytes(10) + self.data + b"TAG" + bytes(125))
+        expect(call("decode", "--any", "--from", str(first), "--to", str(first + 9), "tagged.flac", "part.raw", "--force"), (0, b"", b""))
+        expect(read("part.raw"), self.due(first, first + 9))
+        self.runs.written += 3
+
+
+def long_streams(runs, quick):
+    chance = runs.chance
+    for channels, bits, rate, size in ((2, 16, 44100, 1152), (1, 24, 96000, 4096)) if quick else ((2, 16, 44100, 4096), (2, 24, 96000, 1152), (6, 16, 48000, 4608), (1, 8, 8000, 192)):
+        count = 3_000_000 // (channels * ((bits + 7) // 8)) + chance.randrange(size)
+        rows = parts.made(chance, 100_000, channels, bits, rate).rows
+        rows = [rows[(i * 7919 + i // 100_000) % len(rows)] if i // 40_000 % 2 else rows[i % len(rows)] for i in range(count)]
+        stream = Long(runs, parts.Sound(rate, bits, rows), size)
+        many = 2 if quick else 6
+        stream.tables(many)
+        stream.numbers(many)
+        stream.damage(4 if quick else 20)
+        stream.streams()
+
+
 def main():
     parser = argparse.ArgumentParser()
     parser.add_argument("--quick", action="store_true")
@@ -218,6 +435,7 @@ def main():
             if number == 0:
                 around(runs, "0.flac", sound)
                 pipes("0.flac", sound)
+        long_streams(runs, words.quick)
     print(f"{runs.written} parts as due, {runs.refused} refused")
     return 0
 

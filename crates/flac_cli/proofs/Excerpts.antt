@@ -368,14 +368,14 @@ module _ {C W : Type 0} {g : container.Ghosts C} (h : target.Ghosts W) (text : L
 
 -- ---- the part of a stream
 
-span_wanted : (from : ℕ) (to : Option ℕ) (s : Span) (rows : List (List ℤ)) → IsSpanOf from to s → wanted s rows ≡ part_of from to rows
+pub span_wanted : (from : ℕ) (to : Option ℕ) (s : Span) (rows : List (List ℤ)) → IsSpanOf from to s → wanted s rows ≡ part_of from to rows
 span_wanted from to s rows is = ap (λ k. first_of s.unbounded s.least (drop k rows)) is.skip ∙ ap (λ n. first_of s.unbounded n (drop from rows)) is.least ∙ ap (λ u. first_of u (least_of from to) (drop from rows)) is.unbounded ∙ by_end to
   where
     by_end : (to : Option ℕ) → first_of (is_none to) (least_of from to) (drop from rows) ≡ part_of from to rows
     by_end None = refl
     by_end (Some n) = refl
 
-whole_for : (from : ℕ) (to : Option ℕ) (s : Span) (end : Option (Place × Why)) → IsSpanOf from to s → (s.unbounded ≡ true → end ≡ None) → IsWholeFor to end
+pub whole_for : (from : ℕ) (to : Option ℕ) (s : Span) (end : Option (Place × Why)) → IsSpanOf from to s → (s.unbounded ≡ true → end ≡ None) → IsWholeFor to end
 whole_for from None s end is whole = whole is.unbounded
 whole_for from (Some n) s end is whole = tt
 
@@ -383,7 +383,7 @@ short_of : (from : ℕ) (to : Option ℕ) (s : Span) (rows : List (List ℤ)) �
 short_of from None s rows is short = tt
 short_of from (Some n) s rows is short = subst (λ k. length rows < k) is.needs (short is.unbounded)
 
-stated_is : (from : ℕ) (to : Option ℕ) (s : Span) (total : ℕ) → IsSpanOf from to s → stated_in s total ≡ stated_length from to total
+pub stated_is : (from : ℕ) (to : Option ℕ) (s : Span) (total : ℕ) → IsSpanOf from to s → stated_in s total ≡ stated_length from to total
 stated_is from to s total is =
     ap (λ k. cond s.unbounded (total - k) (cond (nat_lt s.least 68719476736) s.least 0)) is.skip ∙ ap (λ n. cond s.unbounded (total - from) (cond (nat_lt n 68719476736) n 0)) is.least
     ∙ ap (λ u. cond u (total - from) (cond (nat_lt (least_of from to) 68719476736) (least_of from to) 0)) is.unbounded ∙ by_end to
@@ -476,16 +476,14 @@ wave_over K k text head tail s rows end before begun sent after (Ok done) front 
 wave_over K k text head tail s rows end before begun sent after (Err e) front says back only = subst (λ f. SaysSpan (λ r. head ++ (text r ++ tail)) s rows end before after (Err f)) (sym only) tt
 
 pub wave_said : (K : Type 0) → K → (f : WaveFormat) (total depth row : ℕ) (info : Info) (comments : Option Comments) (s : Span) (rows : List (List ℤ)) (end : Option (Place × Why)) (before begun sent after : List ℕ) (result : Result ⊤ ExcerptFault)
-    → f ≡ format_for info comments → total ≡ stated_in s info.total → depth ≡ info.depth → row ≡ row_of f → begun ≡ before ++ plain_head f total → SaysSpan (samples_text true depth) s rows end begun sent (Ok tt)
-    → OnOk result (K → after ≡ sent ++ zero_after (total * row)) → IfErr result (λ e. e ≡ Write) → SaysSpan (file_text true info comments (stated_in s info.total)) s rows end before after result
-wave_said K k f total depth row info comments s rows end before begun sent after result is states deep wide front says back only =
-    let n = stated_in s info.total in
+    → f ≡ format_for info comments → depth ≡ info.depth → row ≡ row_of f → begun ≡ before ++ plain_head f total → SaysSpan (samples_text true depth) s rows end begun sent (Ok tt)
+    → OnOk result (K → after ≡ sent ++ zero_after (total * row)) → IfErr result (λ e. e ≡ Write) → SaysSpan (file_text true info comments total) s rows end before after result
+wave_said K k f total depth row info comments s rows end before begun sent after result is deep wide front says back only =
     let form = format_for info comments in
     let one = wave_over K k (samples_text true depth) (plain_head f total) (zero_after (total * row)) s rows end before begun sent after result front says back only in
     let two = subst (λ w. SaysSpan (λ r. plain_head f total ++ (samples_text true depth r ++ zero_after (total * w))) s rows end before after result) wide one in
     let three = subst (λ g. SaysSpan (λ r. plain_head g total ++ (samples_text true depth r ++ zero_after (total * row_of g))) s rows end before after result) is two in
-    let four = subst (λ m. SaysSpan (λ r. plain_head form m ++ (samples_text true depth r ++ zero_after (m * row_of form))) s rows end before after result) states three in
-    subst (λ d. SaysSpan (λ r. plain_head form n ++ (samples_text true d r ++ zero_after (n * row_of form))) s rows end before after result) deep four
+    subst (λ d. SaysSpan (λ r. plain_head form total ++ (samples_text true d r ++ zero_after (total * row_of form))) s rows end before after result) deep three
 
 pub zero_failed : (K L : Type 0) (result : Result ⊤ ExcerptFault) (a b c : ℕ) → (K → L) → a ≤ b → IfErr result (λ e. L → b < c) → IfErr result (λ e. e ≡ Write → K → a < c)
 zero_failed K L (Ok done) a b c known kept failed = tt

@@ -27,6 +27,7 @@ pub mod TwosComplement
 -- Parts of streams.
 pub mod Excerpts
 pub mod Opened
+pub mod PartsFound
 -- Encoding: lists of predictors, plans, and why an encoding is refused.
 pub mod Back
 pub mod Failed

@@ -49,7 +49,7 @@ kept_info (b ∷ bs) = go b (kept_info bs)
     go (of_block.Picture found) later = later
     go (of_block.Other kind bytes) later = later
 
-info_of : {C : Type 0} {g : container.Ghosts C} (reader : Reader C g) (r : InputReading Piece Place) (blocks : List Block) (frames : List Frame) (end : Option (Place × Why)) → Opens r Tags reader → IsReadAs r blocks frames end → first_info blocks ≡ Some reader.info
+pub info_of : {C : Type 0} {g : container.Ghosts C} (reader : Reader C g) (r : InputReading Piece Place) (blocks : List Block) (frames : List Frame) (end : Option (Place × Why)) → Opens r Tags reader → IsReadAs r blocks frames end → first_info blocks ≡ Some reader.info
 info_of reader r blocks frames end opens is = sym (kept_info blocks) ∙ ap first_info (sym (opens.blocks blocks frames end is)) ∙ opens.info
 
 kept_comments : (bs : List Block) → first_comments (filter (keeps Tags) bs) ≡ first_comments bs
@@ -67,12 +67,12 @@ kept_comments (b ∷ bs) = go b (kept_comments bs)
     go (of_block.Picture found) later = later
     go (of_block.Other kind bytes) later = later
 
-comments_of : {C : Type 0} {g : container.Ghosts C} (reader : Reader C g) (r : InputReading Piece Place) (blocks : List Block) (frames : List Frame) (end : Option (Place × Why)) → Opens r Tags reader → IsReadAs r blocks frames end → first_comments reader.blocks.items ≡ first_comments blocks
+pub comments_of : {C : Type 0} {g : container.Ghosts C} (reader : Reader C g) (r : InputReading Piece Place) (blocks : List Block) (frames : List Frame) (end : Option (Place × Why)) → Opens r Tags reader → IsReadAs r blocks frames end → first_comments reader.blocks.items ≡ first_comments blocks
 comments_of reader r blocks frames end opens is = ap first_comments (opens.blocks blocks frames end is) ∙ kept_comments blocks
 
 -- ---- an input
 
-rows_come : {C : Type 0} {g : container.Ghosts C} (reader : Reader C g) (frames : List Frame) (end : Option (Place × Why)) → FramesCome g reader.ahead (stage_of reader.decoder) frames end → RowsCome reader (samples_of frames) end
+pub rows_come : {C : Type 0} {g : container.Ghosts C} (reader : Reader C g) (frames : List Frame) (end : Option (Place × Why)) → FramesCome g reader.ahead (stage_of reader.decoder) frames end → RowsCome reader (samples_of frames) end
 rows_come reader frames end come = record { frames = frames; split = ap (λ l. l ++ samples_of frames) (sym (left_none (last_frame reader))); come = come }
 
 stream_said : (e : Excerpt) (blocks : List Block) (frames : List Frame) (end : Option (Place × Why)) (before after : List ℕ) (result : Result ⊤ ExcerptFault) → SaysAsked e blocks frames end before after result → SaysStream e blocks frames end before after result

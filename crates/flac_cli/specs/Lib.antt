@@ -23,6 +23,7 @@ pub mod Retagged
 pub mod Salvages
 pub mod Same
 pub mod Samples
+pub mod Sought
 pub mod Speakers
 pub mod Streams
 pub mod TagLines

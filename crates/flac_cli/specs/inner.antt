@@ -14,6 +14,7 @@ pub mod Preparing
 pub mod Reported
 pub mod Raw
 pub mod Searching
+pub mod Sought
 pub mod Sources
 pub mod Taking
 pub mod Verifying

@@ -166,8 +166,18 @@ impl Span {
         }
     }
 
+    /// What is wanted of the samples from the one of a number on, which is not after the first that is wanted.
+    pub(crate) fn after(self, number: u64) -> Span
+        ensures { result ≡ record self { skip = self.skip - number } }
+    {
+        Span {
+            skip: self.skip.saturating_sub(number),
+            ..self
+        }
+    }
+
     /// The length that the head of a file states, of a stream with this number of samples; 0 if it is not known.
-    fn stated(self, total: u64) -> u64
+    pub(crate) fn stated(self, total: u64) -> u64
         ensures stated { result ≡ stated_in self total }
         ensures few { total < 68719476736 → result < 68719476736 }
     {
@@ -300,6 +310,7 @@ fn send_span<C: Container, W: Target>(
 ) -> Result<(), ExcerptFault>
     requires { (4 ≤ form.depth) × (form.depth ≤ 32) }
     ensures stays { Stays reader.old reader.new }
+    ensures met { OnOk result (MeetsNone reader.old reader.new) }
     ensures says { SendsSpan W.Target (samples_text form.wave form.depth)
         reader.old reader.new span target.old target.new result }
     ensures known { OnOk result (W.known target.old ≡ true → W.known target.new ≡ true) }
@@ -329,7 +340,11 @@ fn send_span<C: Container, W: Target>(
 ///
 /// # Errors
 /// The stream has no such part.
-fn span_of(info: &StreamInfo, from: Moment, to: Option<Moment>) -> Result<Span, RangeFault>
+pub(crate) fn span_of(
+    info: &StreamInfo,
+    from: Moment,
+    to: Option<Moment>,
+) -> Result<Span, RangeFault>
     ensures made { IfOk result (IsSpanOf (start_of from info.now) (stop_of to info.now)) }
     ensures right { OnOk result (range_fault (start_of from info.now) (stop_of to info.now) info.now.total ≡ None) }
     ensures refused { IfErr result (λ e.
@@ -412,19 +427,21 @@ fn send_zero<W: Target>(total: u64, row: u64, target: &mut W) -> Result<(), Exce
     }
 }
 
-/// Sends a plain WAV file of what is wanted of the frames that a reader has not read yet.
+/// Sends a plain WAV file, whose head states this length, of what is wanted of the frames that a reader has not read yet.
 fn send_wave<C: Container, W: Target>(
     alloc: Global,
     reader: &mut Reader<C>,
     span: Span,
+    total: u64,
     target: &mut W,
 ) -> Result<(), ExcerptFault>
+    requires { total < 68719476736 }
     ensures stays { Stays reader.old reader.new }
-    ensures says { SendsFile W.Target true reader.old reader.new span target.old target.new result }
+    ensures met { OnOk result (MeetsNone reader.old reader.new) }
+    ensures says { SendsFile W.Target true total reader.old reader.new span target.old target.new result }
     ensures failed { IfErr result (λ e. e ≡ ExcerptFault.Write → W.known target.old ≡ true →
         W.errors target.old < W.errors target.new) }
 {
-    let total = span.stated(reader.info().total());
     let depth = reader.info().depth();
     let format = format_for(reader.info(), reader.comments());
     match send_head(alloc, &format, total, target) {
@@ -438,21 +455,25 @@ fn send_wave<C: Container, W: Target>(
     send_zero(total, format.row(), target)
 }
 
-/// Sends the file of what is wanted of the frames that a reader has not read yet.
-fn send_file<C: Container, W: Target>(
+/// Sends the file of what is wanted of the frames that a reader has not read yet. If it is a WAV file, its head states
+/// the length `total`.
+pub(crate) fn send_file<C: Container, W: Target>(
     alloc: Global,
     reader: &mut Reader<C>,
     span: Span,
+    total: u64,
     wave: bool,
     target: &mut W,
 ) -> Result<(), ExcerptFault>
+    requires { total < 68719476736 }
     ensures stays { Stays reader.old reader.new }
-    ensures says { SendsFile W.Target wave reader.old reader.new span target.old target.new result }
+    ensures met { OnOk result (MeetsNone reader.old reader.new) }
+    ensures says { SendsFile W.Target wave total reader.old reader.new span target.old target.new result }
     ensures failed { IfErr result (λ e. e ≡ ExcerptFault.Write → W.known target.old ≡ true →
         W.errors target.old < W.errors target.new) }
 {
     if wave {
-        return send_wave(alloc, reader, span, target);
+        return send_wave(alloc, reader, span, total, target);
     }
     let depth = reader.info().depth();
     send_span(reader, span, Form { depth, wave: false }, target)
@@ -475,7 +496,8 @@ fn send_part<C: Container, W: Target>(
         Ok(span) => span,
         Err(fault) => return Err(ExcerptFault::Range(fault)),
     };
-    send_file(alloc, reader, span, excerpt.wave, target)
+    let total = span.stated(reader.info().total());
+    send_file(alloc, reader, span, total, excerpt.wave, target)
 }
 
 /// Opens a stream, native or Ogg, and sends the part of it that is asked for.
@@ -526,7 +548,11 @@ fn send_excerpt<R: Source, W: Target>(
 }
 
 /// Writes the line of an excerpt that failed, and returns the status 1.
-fn refuse_excerpt<E: Target>(err: &mut E, excerpt: &Excerpt<'_>, fault: ExcerptFault) -> u8
+pub(crate) fn refuse_excerpt<E: Target>(
+    err: &mut E,
+    excerpt: &Excerpt<'_>,
+    fault: ExcerptFault,
+) -> u8
     ensures status { result ≡ 1 }
     ensures line { IfServed E.Target err.old err.new
         (AddsLine (excerpt_path excerpt.now fault) (excerpt_text fault)) }

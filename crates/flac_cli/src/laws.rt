@@ -2,6 +2,7 @@
 
 ghost use Rattle.flac_cli.specs.Objects.{LinesHaveOneReading};
 ghost use Rattle.flac_cli.specs.Outcomes.{KeptFilesAreRead, KeptFilesAreDecoded};
+ghost use Rattle.flac_cli.specs.Sought.{SoughtIsPart};
 ghost use Rattle.flac_cli.specs.Waves.{KeptFilesComeBack};
 
 /// The WAV file of a stream that was encoded of a WAV file, and keeps it, is that file, byte for byte, however the stream is
@@ -21,4 +22,10 @@ pub fn kept_files_are_read()
 /// otherwise.
 pub fn lines_have_one_reading()
     ensures { LinesHaveOneReading }
+{}
+
+/// What [`crate::seek_excerpt`] writes is the part that [`crate::decode_excerpt`] writes: if the device has a native stream,
+/// it was moved to one of its frames, and the frames are numbered from 0 on (RFC 9639, section 9.1.5).
+pub fn sought_parts_are_parts()
+    ensures { SoughtIsPart }
 {}

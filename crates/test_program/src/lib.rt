@@ -21,6 +21,8 @@ mod salvaging;
 #[cfg(test)]
 mod same;
 #[cfg(test)]
+mod sought;
+#[cfg(test)]
 mod strange;
 #[cfg(test)]
 mod tables;

@@ -127,9 +127,9 @@ SendsSpan h text old new span from to result = IsCalmIn old new → h.known from
 abbrev pub stated_in : Span → (total : ℕ) → ℕ
 stated_in s total = cond s.unbounded (total - s.skip) (cond (nat_lt s.least 68719476736) s.least 0)
 
--- what is said of the file of all that is wanted
-abbrev pub SendsFile : {C W : Type 0} {g : container.Ghosts C} → target.Ghosts W → (wave : Bool) → (old new : Reader C g) → Span → (from to : W) → Result ⊤ ExcerptFault → Type 0
-SendsFile h wave old new span from to result = SendsSpan h (file_text wave old.info (first_comments old.blocks.items) (stated_in span old.info.total)) old new span from to result
+-- what is said of the file of all that is wanted, whose head states this length
+abbrev pub SendsFile : {C W : Type 0} {g : container.Ghosts C} → target.Ghosts W → (wave : Bool) (total : ℕ) → (old new : Reader C g) → Span → (from to : W) → Result ⊤ ExcerptFault → Type 0
+SendsFile h wave total old new span from to result = SendsSpan h (file_text wave old.info (first_comments old.blocks.items) total) old new span from to result
 
 abbrev pub SendsPart : {C W : Type 0} {g : container.Ghosts C} → target.Ghosts W → (wave : Bool) → (old new : Reader C g) → Moment → Option Moment → (from to : W) → Result ⊤ ExcerptFault → Type 0
 SendsPart h wave old new start stop from to result =

@@ -20,7 +20,8 @@ Example, the part between two times, and the first 44100 samples:
 
 --from and --to take the number of a sample, counted per channel from 0 on, or a time m:ss
 or h:mm:ss, also with a fraction of a second of up to nine digits. The sample at --to is
-not in the part. A part is written as a plain WAV file or as raw samples.
+not in the part. A part is written as a plain WAV file or as raw samples. Of a native stream
+in a file only the part is read and judged, of standard input all up to its end.
 
 OUT has to be another file than IN: else it cannot be created, and IN stays as it is. If
 decoding fails, the samples written before stay in OUT. But if OUT was a file with
