@@ -1,0 +1,5 @@
+//! Tests of copies between native streams and Ogg, through the public calls of `flac_copy`.
+#![tactic(auto)]
+
+#[cfg(test)]
+mod to_ogg;
