@@ -51,8 +51,19 @@ fn noise(alloc: Global) -> Result<Vec<u8>, Fail> {
     Ok(bytes)
 }
 
+/// What a job writes that reads these bytes.
+fn written(alloc: Global, job: &Job<'_>, bytes: &[u8]) -> Vec<u8> {
+    let task = Task { job, list: &[] };
+    let mut source = Memory::new(bytes);
+    let mut file = Collected::new(alloc);
+    let mut out = Collected::new(alloc);
+    let mut err = Collected::new(alloc);
+    run(alloc, &task, &mut source, &mut file, &mut out, &mut err);
+    file.into_bytes()
+}
+
 /// The stream of these samples.
-fn stream_of(alloc: Global, samples: &[u8]) -> Result<Vec<u8>, Fail> {
+fn stream_of(alloc: Global, samples: &[u8]) -> Vec<u8> {
     let job = Job::Encode {
         input: "a.raw",
         output: "a.flac",
@@ -70,18 +81,7 @@ fn stream_of(alloc: Global, samples: &[u8]) -> Result<Vec<u8>, Fail> {
         effort: SearchEffort::None,
         raw: true,
     };
-    let task = Task {
-        job: &job,
-        list: &[],
-    };
-    let mut source = Memory::new(samples);
-    let mut file = Collected::new(alloc);
-    let mut out = Collected::new(alloc);
-    let mut err = Collected::new(alloc);
-    run(alloc, &task, &mut source, &mut file, &mut out, &mut err);
-    let mut stream = Vec::new(alloc);
-    stream.extend_from_slice(file.bytes())?;
-    Ok(stream)
+    written(alloc, &job, samples)
 }
 
 /// The status of a part of a stream, and whether just these bytes were written.
@@ -115,14 +115,14 @@ fn part(
 #[test]
 fn parts_are_sought(rt: HostRuntime) -> Result<(), Fail> {
     let samples = noise(rt.alloc())?;
-    let mut stream = stream_of(rt.alloc(), &samples)?;
+    let mut stream = stream_of(rt.alloc(), &samples);
     for from in [290_000usize, 200_001, 299_999] {
         let to = COUNT.min(from + 5000);
-        let due = &samples[2 * from..2 * to];
+        let due = samples.get(2 * from..2 * to).unwrap_or(&[]);
         assert!(rt;
             part(rt.alloc(), &stream, from as u64, Some(to as u64), due) == (Some(0), true)
         );
-        let due = &samples[2 * from..];
+        let due = samples.get(2 * from..).unwrap_or(&[]);
         assert!(rt; part(rt.alloc(), &stream, from as u64, None, due) == (Some(0), true));
     }
     // Near the beginning; after the end.
@@ -131,8 +131,10 @@ fn parts_are_sought(rt: HostRuntime) -> Result<(), Fail> {
     // A part without samples; a frame of it that is damaged, and one before it.
     assert!(rt; part(rt.alloc(), &stream, 290_000, Some(290_000), &[]) == (Some(1), true));
     let middle = stream.len() / 2;
-    stream[middle] ^= 1;
-    let due = &samples[580_000..];
+    if let Some(byte) = stream.get_mut(middle) {
+        *byte ^= 1;
+    }
+    let due = samples.get(580_000..).unwrap_or(&[]);
     assert!(rt; part(rt.alloc(), &stream, 290_000, None, due) == (Some(0), true));
     assert!(rt; part(rt.alloc(), &stream, 150_000, None, &[]).0 != Some(0));
     Ok(())
