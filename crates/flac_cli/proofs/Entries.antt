@@ -1,7 +1,8 @@
 -- Members of the lines of a report, as a program has them and as they are said.
 use Rattle.std.proofs.Common.{◌≡◌, ◌≤◌, ◌<◌, ℕ, true, List, [], ◌∷◌, ◌++◌, codes, Option, Some, None, Result, Ok, Err, OnOk, OnErr, ap, refl, subst, ◌∙◌}
 use Rattle.flac_bits.specs.declared.target.Target as target
-use Rattle.flac_cli.specs.Objects.{Member, text, object_line, member_of, known_members}
+use Rattle.flac_json.specs.Json.{text}
+use Rattle.flac_cli.specs.Objects.{Member, object_line, member_of, known_members}
 use Rattle.flac_cli.specs.Reported.{present, entry_line}
 use Rattle.flac_cli.specs.declared.json.Member.{Member as Given}
 use Rattle.flac_cli.specs.declared.verify.Finding.{Finding}

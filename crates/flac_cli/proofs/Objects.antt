@@ -4,10 +4,11 @@ use Rattle.std.proofs.lemmas.List.{take_more, take_all}
 use Rattle.flac_bits.specs.declared.target.Target as target
 use Rattle.flac_bits.specs.declared.why.Why.{Why}
 use Rattle.flac_shelf.specs.Shown.{shown_byte, shown}
-use Rattle.flac_cli.specs.Objects.{escape, escapes, hex_digit, hex_digits, all_digits, member_text, member_of, more_text, known_members}
+use Rattle.flac_json.specs.Texts.{escape, escapes, hex_digit, hex_digits, all_digits}
+use Rattle.flac_cli.specs.Objects.{known_members}
 use Rattle.flac_cli.specs.declared.json.Member.{Member}
 use Rattle.flac_cli.specs.inner.Lined.{Adds}
-use Rattle.flac_cli.specs.inner.Objects.{next_text}
+use Rattle.flac_cli.specs.inner.Objects.{more_text, next_text}
 use Rattle.flac_cli.proofs.Lined.{adds_then, adds_same, lost, lost_then, adds_lost}
 
 -- a text that is put together of one for each item

@@ -9,14 +9,16 @@ use Rattle.flac_native.specs.declared.fault.Place.{Place}
 use Rattle.flac_native.specs.declared.fault.Place.TheVariants as place
 use Rattle.flac_shelf.specs.Listed.{Contents, Listed}
 use Rattle.flac_shelf.specs.declared.stamp.Stamp.{Stamp}
-use Rattle.flac_cli.specs.Objects.{Value, number, text, truth, Member, object_line, all_digits}
+use Rattle.flac_json.specs.Texts.{all_digits}
+use Rattle.flac_json.specs.Json.{Json, number, text, truth}
+use Rattle.flac_cli.specs.Objects.{Member, object_line}
 use Rattle.flac_cli.specs.Verified.{lacks_digest}
 use Rattle.flac_cli.specs.declared.verify_facts.Facts.{Facts}
 use Rattle.flac_cli.specs.declared.verify.Finding.{Finding}
 use Rattle.flac_cli.specs.declared.verify.Finding.TheVariants.{Good, Bad, Unopened}
 
 -- a member of this name; none if its value is not known
-abbrev pub valued : (name : List ℕ) → Value → Option Member
+abbrev pub valued : (name : List ℕ) → Json → Option Member
 valued name value = Some (record { name = name; value = value })
 
 abbrev pub counted : (name : List ℕ) → Option ℕ → Option Member

@@ -1,10 +1,12 @@
 //! Lines of JSON (RFC 8259).
 
 ghost use Rattle.std.specs.Prelude.{◌≡◌, ◌<◌, ◌≤◌, ◌++◌, true, [], codes, OnOk, OnErr};
-ghost use Rattle.flac_cli.specs.Objects.{is_special, hex_digit, hex_digits, escape, escapes, quoted, all_digits, truth, value_text, member_text, more_text, given_line, value_of, member_of, known_members};
+ghost use Rattle.flac_json.specs.Texts.{is_special, hex_digit, hex_digits, escape, escapes, quoted, all_digits};
+ghost use Rattle.flac_json.specs.Json.{truth, json_text};
+ghost use Rattle.flac_cli.specs.Objects.{given_line, value_of, member_of, known_members};
 ghost use Rattle.flac_cli.specs.Calls.{HasSent};
 ghost use Rattle.flac_cli.specs.inner.Lined.{Adds};
-ghost use Rattle.flac_cli.specs.inner.Objects.{next_text};
+ghost use Rattle.flac_cli.specs.inner.Objects.{text_of, more_text, next_text};
 
 use crate::lines::Lines;
 use flac_bits::{Target, Why};
@@ -50,7 +52,7 @@ fn is_special(byte: u8) -> bool
 
 /// The word for a truth value.
 fn truth_text(holds: bool) -> &'static str
-    ensures { result.now ≡ value_text (truth holds) }
+    ensures { result.now ≡ json_text (truth holds) }
 {
     if holds { "true" } else { "false" }
 }
@@ -123,7 +125,7 @@ impl<W: Target> Lines<W> {
 
     /// Adds a value.
     fn put_value(&mut self, value: Value<'_>) -> Result<(), Why>
-        ensures { AddsTo W.Target (value_text (value_of value.entry)) self.old self.new result }
+        ensures { AddsTo W.Target (json_text (value_of value.entry)) self.old self.new result }
     {
         match value {
             Value::Number(number) => self.put_number(number),
@@ -135,7 +137,7 @@ impl<W: Target> Lines<W> {
 
     /// Adds a member.
     fn put_member(&mut self, member: Member<'_>) -> Result<(), Why>
-        ensures { AddsTo W.Target (member_text (member_of member.entry)) self.old self.new result }
+        ensures { AddsTo W.Target (text_of (member_of member.entry)) self.old self.new result }
     {
         self.put_quoted(member.name.as_bytes())?;
         self.put(":")?;

@@ -1,7 +1,8 @@
 //! The lines of the report of `flac verify`.
 
 ghost use Rattle.std.specs.Prelude.{◌≡◌, codes};
-ghost use Rattle.flac_cli.specs.Objects.{number, text, truth, member_of};
+ghost use Rattle.flac_json.specs.Json.{number, text, truth};
+ghost use Rattle.flac_cli.specs.Objects.{member_of};
 ghost use Rattle.flac_cli.specs.Reported.{valued, counted, rate_of, channels_of, depth_of, digest_member, subset_member, index_of, name_of, entry_line};
 ghost use Rattle.flac_cli.specs.declared.verify.Finding.TheVariants.{Good, Bad, Unopened};
 ghost use Rattle.flac_cli.specs.inner.Objects.{given_member};

@@ -1,5 +1,5 @@
 use Rattle.std.proofs.Common.{◌≡◌, ◌∙◌, codes, ap, Some}
-use Rattle.flac_cli.specs.Objects.{number, text}
+use Rattle.flac_json.specs.Json.{number, text}
 use Rattle.flac_cli.specs.Reported.{valued, counted}
 use Rattle.flac_cli.proofs.Entries.{none_known, one_known, line_of, sent_as}
 use Rattle.flac_cli.proofs.verify_report.write_bad.Goals as goal

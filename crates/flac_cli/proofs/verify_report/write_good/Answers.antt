@@ -1,5 +1,5 @@
 use Rattle.std.proofs.Common.{◌≡◌, ◌∙◌, not, codes, ap}
-use Rattle.flac_cli.specs.Objects.{truth}
+use Rattle.flac_json.specs.Json.{truth}
 use Rattle.flac_cli.specs.Reported.{valued, counted}
 use Rattle.flac_cli.specs.declared.verify.Finding.TheVariants.{Good}
 use Rattle.flac_cli.proofs.Entries.{none_known, one_known, line_of, sent_as}

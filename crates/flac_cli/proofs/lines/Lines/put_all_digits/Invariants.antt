@@ -1,5 +1,5 @@
 use Rattle.std.proofs.Common.{take}
-use Rattle.flac_cli.specs.Objects.{all_digits}
+use Rattle.flac_json.specs.Texts.{all_digits}
 use Rattle.flac_cli.proofs.Objects.{HasJoined}
 use Rattle.flac_cli.proofs.lines.Lines.put_all_digits.Given as goal
 

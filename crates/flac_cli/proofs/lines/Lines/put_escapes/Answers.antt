@@ -1,5 +1,5 @@
 use Rattle.std.proofs.lemmas.Result.{err_from_is_err_and}
-use Rattle.flac_cli.specs.Objects.{escapes}
+use Rattle.flac_json.specs.Texts.{escapes}
 use Rattle.flac_cli.proofs.Lined.{lost, lost_then, adds_lost}
 use Rattle.flac_cli.proofs.Objects.{escapes_joined, none_joined, one_joined, all_joined}
 use Rattle.flac_cli.proofs.lines.Lines.put_escapes.Goals as goal

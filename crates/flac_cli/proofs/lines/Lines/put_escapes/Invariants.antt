@@ -1,5 +1,5 @@
 use Rattle.std.proofs.Common.{take}
-use Rattle.flac_cli.specs.Objects.{escapes}
+use Rattle.flac_json.specs.Texts.{escapes}
 use Rattle.flac_cli.proofs.Objects.{HasJoined}
 use Rattle.flac_cli.proofs.lines.Lines.put_escapes.Given as goal
 
