@@ -60,10 +60,14 @@ abbrev pub HasNoMemory : Finding → Type 0
 HasNoMemory (Bad fault) = fault.why ≡ why.Memory
 HasNoMemory other = ⊥
 
+-- the same, and nothing else is, unless memory ran out
+abbrev pub IsFound : (subset : Bool) → Option Contents → Finding → Type 0
+IsFound subset contents finding = Fits HasNoMemory (IsFinding subset contents) finding
+
 -- each file was found to be what its own bytes are, and that alone, unless memory ran out
 abbrev pub AreFound : (subset : Bool) → List Listed → List Finding → Type 0
 AreFound subset [] [] = Unit {0}
-AreFound subset (file ∷ files) (finding ∷ findings) = Fits HasNoMemory (IsFinding subset file.contents) finding × AreFound subset files findings
+AreFound subset (file ∷ files) (finding ∷ findings) = IsFound subset file.contents finding × AreFound subset files findings
 AreFound subset files findings = ⊥
 
 -- a file is a stream
@@ -75,6 +79,10 @@ IsWhole subset (Some of) = Reads (asked_profile subset) of.bytes of.after None
 abbrev pub AreWhole : (subset : Bool) → List Listed → Type 0
 AreWhole subset [] = Unit {0}
 AreWhole subset (file ∷ files) = IsWhole subset file.contents × AreWhole subset files
+
+-- If the files of a list are known, and none was given back after its device had failed, this holds.
+abbrev pub IfNoneFails : {S : Type 0} (known : S → Bool) (faults : S → ℕ) (old new : S) → Type 0 → Type 0
+IfNoneFails known faults old new Says = known old ≡ true → faults new ≡ faults old → Says
 
 -- All files of a list have come: none is left, and what is gone of an older report is what was to be gone of it.
 pub record HaveCome {S : Type 0} (files : S → List Listed) (gone : S → List (List ℕ)) (old new : S) : Type 0 where

@@ -1,10 +1,8 @@
 //! `flac edit`: metadata blocks of a native file, in a new file.
 
 ghost use Rattle.std.specs.Prelude.{◌≡◌, ◌≤◌, ◌++◌, true, false, map, option_map, Some, IfOk, IfSome};
-ghost use Rattle.flac_bits.specs.Bits.{bits_of};
-ghost use Rattle.flac_native.specs.Decoding.{source_start};
-ghost use Rattle.flac_edit.specs.Changed.{KeepsBlocksAt};
-ghost use Rattle.flac_edit.specs.Rewritten.{RewritesBlocksAt};
+ghost use Rattle.flac_edit.specs.Changed.{KeepsBlocksOf};
+ghost use Rattle.flac_edit.specs.Rewritten.{SendsBlocks};
 ghost use Rattle.flac_cli.specs.Calls.{IfServed};
 ghost use Rattle.flac_cli.specs.Editing.{removal_of, form_given, form_of, picture_of, edit_place, cue_name, edit_name, edit_path, edit_line};
 
@@ -180,8 +178,7 @@ pub fn edit_changes<R: Source, E: Target>(
     err: &mut E,
 ) -> Option<bool>
     // `false`: the edited blocks are written as the old ones are.
-    ensures kept { result ≡ Some false → R.known source.old ≡ true
-        → KeepsBlocksAt (source_start R.Source source.old) edits.now }
+    ensures kept { result ≡ Some false → KeepsBlocksOf R.Source source.old edits.now }
     // Nothing was written to standard error unless it is refused.
     ensures silent { IfSome result (λ _. err.new ≡ err.old) }
 {
@@ -210,9 +207,7 @@ pub fn edit_file<R: Source, W: Target, E: Target>(
 ) -> u8
     ensures status { result ≤ 1 }
     // After status 0 the input was written with its blocks edited so, and its frames as they are.
-    ensures edited { result ≡ 0 → R.known source.old ≡ true → W.known target.old ≡ true
-        → RewritesBlocksAt (source_start R.Source source.old) edits.now (bits_of (W.sent target.old))
-        (bits_of (W.sent target.new)) }
+    ensures edited { result ≡ 0 → SendsBlocks R.Source W.Target source.old edits.now target.old target.new }
     // After status 0 nothing was written to standard error.
     ensures silent { result ≡ 0 → err.new ≡ err.old }
 {

@@ -3,6 +3,7 @@
 ghost use Rattle.std.specs.Prelude.{◌≡◌, ◌≤◌, ◌<◌, ◌-◌, ◌*◌, ◌%◌, ◌⊎◌, true, nat_eq, option_copied, length, IfOk, IfErr, OnOk, OnErr, MatchResult, Ok, Err, Some, None};
 ghost use Rattle.flac_frame.specs.Viewed.{frame_of};
 ghost use Rattle.flac_native.specs.Message.{sample_width};
+ghost use Rattle.flac_native.specs.Sent.{TargetFailed};
 ghost use Rattle.flac_wave.specs.Plain.{CanBeWritten, plain_head};
 ghost use Rattle.flac_compare.specs.Samples.{samples_from};
 ghost use Rattle.flac_compare.specs.inner.Stepping.{Stays, MeetsNone};
@@ -280,8 +281,7 @@ fn send_next<C: Container, W: Target>(
     ensures turns { W.known target.old ≡ true → Turns (samples_text form.wave form.depth)
         reader.old reader.new span.old span.new (W.sent target.old) (W.sent target.new) result }
     ensures kept { W.errors target.old ≤ W.errors target.new }
-    ensures failed { IfErr result (λ e. e ≡ ExcerptFault.Write → W.known target.old ≡ true →
-        W.errors target.old < W.errors target.new) }
+    ensures failed { IfErr result (λ e. e ≡ ExcerptFault.Write → TargetFailed W.Target target.old target.new) }
 {
     match reader.step() {
         Ok(()) => {}
@@ -315,8 +315,7 @@ fn send_span<C: Container, W: Target>(
         reader.old reader.new span target.old target.new result }
     ensures known { OnOk result (W.known target.old ≡ true → W.known target.new ≡ true) }
     ensures kept { W.errors target.old ≤ W.errors target.new }
-    ensures failed { IfErr result (λ e. e ≡ ExcerptFault.Write → W.known target.old ≡ true →
-        W.errors target.old < W.errors target.new) }
+    ensures failed { IfErr result (λ e. e ≡ ExcerptFault.Write → TargetFailed W.Target target.old target.new) }
 {
     let mut bytes = [0u8; ROOM];
     let mut span = span;
@@ -396,8 +395,7 @@ fn send_head<W: Target>(
     ensures sent { HasSent W.Target target.old target.new (plain_head format.now total) result }
     ensures kept { W.errors target.old ≤ W.errors target.new }
     ensures outside { IfErr result IsOutside }
-    ensures failed { IfErr result (λ e. e ≡ ExcerptFault.Write → W.known target.old ≡ true →
-        W.errors target.old < W.errors target.new) }
+    ensures failed { IfErr result (λ e. e ≡ ExcerptFault.Write → TargetFailed W.Target target.old target.new) }
 {
     let Ok(pieces) = plain_pieces(alloc, format, total) else {
         return Err(ExcerptFault::Unread(Fault {
@@ -439,8 +437,7 @@ fn send_wave<C: Container, W: Target>(
     ensures stays { Stays reader.old reader.new }
     ensures met { OnOk result (MeetsNone reader.old reader.new) }
     ensures says { SendsFile W.Target true total reader.old reader.new span target.old target.new result }
-    ensures failed { IfErr result (λ e. e ≡ ExcerptFault.Write → W.known target.old ≡ true →
-        W.errors target.old < W.errors target.new) }
+    ensures failed { IfErr result (λ e. e ≡ ExcerptFault.Write → TargetFailed W.Target target.old target.new) }
 {
     let depth = reader.info().depth();
     let format = format_for(reader.info(), reader.comments());
@@ -469,8 +466,7 @@ pub(crate) fn send_file<C: Container, W: Target>(
     ensures stays { Stays reader.old reader.new }
     ensures met { OnOk result (MeetsNone reader.old reader.new) }
     ensures says { SendsFile W.Target wave total reader.old reader.new span target.old target.new result }
-    ensures failed { IfErr result (λ e. e ≡ ExcerptFault.Write → W.known target.old ≡ true →
-        W.errors target.old < W.errors target.new) }
+    ensures failed { IfErr result (λ e. e ≡ ExcerptFault.Write → TargetFailed W.Target target.old target.new) }
 {
     if wave {
         return send_wave(alloc, reader, span, total, target);
@@ -489,8 +485,7 @@ fn send_part<C: Container, W: Target>(
     ensures stays { Stays reader.old reader.new }
     ensures says { SendsPart W.Target excerpt.now.wave reader.old reader.new excerpt.now.from excerpt.now.to
         target.old target.new result }
-    ensures failed { IfErr result (λ e. e ≡ ExcerptFault.Write → W.known target.old ≡ true →
-        W.errors target.old < W.errors target.new) }
+    ensures failed { IfErr result (λ e. e ≡ ExcerptFault.Write → TargetFailed W.Target target.old target.new) }
 {
     let span = match span_of(reader.info(), excerpt.from, excerpt.to) {
         Ok(span) => span,
@@ -513,8 +508,7 @@ fn send_excerpt<R: Source, W: Target>(
     ensures says { Tells R.Source source.old source.new → W.known target.old ≡ true →
         SaysInput excerpt.now (excerpt_input excerpt.now (R.coming source.old) (R.after source.old))
         (W.sent target.old) (W.sent target.new) result }
-    ensures failed { IfErr result (λ e. e ≡ ExcerptFault.Write → W.known target.old ≡ true →
-        W.errors target.old < W.errors target.new) }
+    ensures failed { IfErr result (λ e. e ≡ ExcerptFault.Write → TargetFailed W.Target target.old target.new) }
 {
     let opened = match open(alloc, source, profile_of(excerpt.lax), Keep::Tags) {
         Ok(opened) => opened,

@@ -1,8 +1,7 @@
 //! `flac export`: a part of the metadata of a native stream.
 
-ghost use Rattle.std.specs.Prelude.{◌≡◌, ◌≤◌, true};
-ghost use Rattle.flac_native.specs.Decoding.{source_start};
-ghost use Rattle.flac_edit.specs.Parts.{ExportsAt};
+ghost use Rattle.std.specs.Prelude.{◌≡◌, ◌≤◌};
+ghost use Rattle.flac_edit.specs.Parts.{SendsPart};
 ghost use Rattle.flac_cli.specs.Editing.{part_of};
 
 use crate::edit::{EditPaths, refuse_edits};
@@ -37,8 +36,8 @@ pub fn export_file<R: Source, W: Target, E: Target>(
 ) -> u8
     ensures status { result ≤ 1 }
     // After status 0 that part of the input was written.
-    ensures exported { result ≡ 0 → R.known source.old ≡ true → W.known target.old ≡ true
-        → ExportsAt (source_start R.Source source.old) (part_of exporting.now part) (W.sent target.old) (W.sent target.new) }
+    ensures exported { result ≡ 0 →
+        SendsPart R.Source W.Target source.old (part_of exporting.now part) target.old target.new }
     // After status 0 nothing was written to standard error.
     ensures silent { result ≡ 0 → err.new ≡ err.old }
 {

@@ -1,10 +1,8 @@
 //! `flac tag`: the comments of a native file, in place or in a new file.
 
 ghost use Rattle.std.specs.Prelude.{◌≡◌, ◌≢◌, ◌≤◌, ◌++◌, true, length, codes, Some, IfOk, IfSome};
-ghost use Rattle.flac_bits.specs.Bits.{bits_of};
-ghost use Rattle.flac_native.specs.Decoding.{source_start};
 ghost use Rattle.flac_edit.specs.Device.{Only};
-ghost use Rattle.flac_edit.specs.Tagged.{LeavesOldOrTagged, ReadsOldOrTagged, IsTagged, ChangesNothing, RewritesAt};
+ghost use Rattle.flac_edit.specs.Tagged.{LeavesTagged, ReadsTagged, HasTagged, KeepsComments, IfNothingChanges, SendsRewritten};
 ghost use Rattle.flac_cli.specs.Calls.{IfServed};
 ghost use Rattle.flac_cli.specs.Reports.{fault_line};
 
@@ -85,22 +83,18 @@ pub fn tag_file<R: Source, D: Device, E: Target>(
     requires durable { D.known device.old ≡ true → Only (D.seen device.old) (D.time device.old) }
     // A crash at any moment leaves a file that is read as the old blocks, or as those with the edited comments, before the
     // same frames.
-    ensures any_moment { D.known device.old ≡ true → LeavesOldOrTagged (source_start R.Source source.old).mark edits.now
-        (D.seen device.old) (D.time device.old) (D.time device.new) }
+    ensures any_moment { LeavesTagged R.Source D.Device source.old edits.now device.old device.new }
     // Whatever is returned, a read finds the old blocks, or those with the edited comments.
-    ensures reads { D.known device.old ≡ true → ReadsOldOrTagged (source_start R.Source source.old).mark edits.now
-        (D.seen device.old) (D.seen device.new) }
+    ensures reads { ReadsTagged R.Source D.Device source.old edits.now device.old device.new }
     // `Flipped`: it has the edited comments, and they are stored.
-    ensures flipped { result ≡ Some Tagged.Flipped → D.known device.old ≡ true
-        → IsTagged (source_start R.Source source.old).mark edits.now (D.seen device.old) (D.seen device.new) }
+    ensures flipped { result ≡ Some Tagged.Flipped →
+        HasTagged R.Source D.Device source.old edits.now device.old device.new }
     ensures stored { IfSome result (λ _. D.known device.old ≡ true → Only (D.seen device.new) (D.time device.new)) }
     // `Same` and `NoRoom`: nothing was written.
     ensures untouched { IfSome result (λ done. done ≢ Tagged.Flipped → device.new ≡ device.old) }
     // `Same` if the edits change none of its comments, and only then.
-    ensures same { result ≡ Some Tagged.Same → R.known source.old ≡ true
-        → ChangesNothing (source_start R.Source source.old).mark edits.now (R.coming source.old) }
-    ensures idle { IfSome result (λ done. R.known source.old ≡ true
-        → ChangesNothing (source_start R.Source source.old).mark edits.now (R.coming source.old) → done ≡ Tagged.Same) }
+    ensures same { result ≡ Some Tagged.Same → KeepsComments R.Source source.old edits.now }
+    ensures idle { IfSome result (λ done. IfNothingChanges R.Source source.old edits.now (done ≡ Tagged.Same)) }
     // Nothing was written to standard error unless it is refused.
     ensures silent { IfSome result (λ _. err.new ≡ err.old) }
 {
@@ -137,9 +131,8 @@ pub fn rewrite_file<R: Source, W: Target, E: Target>(
 ) -> u8
     ensures status { result ≤ 1 }
     // After status 0 the input was written with its blocks arranged so, and its frames as they are.
-    ensures rewritten { result ≡ 0 → R.known source.old ≡ true → W.known target.old ≡ true
-        → RewritesAt (source_start R.Source source.old) edits.now padding (bits_of (W.sent target.old))
-        (bits_of (W.sent target.new)) }
+    ensures rewritten { result ≡ 0 →
+        SendsRewritten R.Source W.Target source.old edits.now padding target.old target.new }
     // After status 0 nothing was written to standard error.
     ensures silent { result ≡ 0 → err.new ≡ err.old }
 {

@@ -2,9 +2,9 @@
 
 ghost use Rattle.std.specs.Prelude.{◌≡◌, ◌≤◌, ◌↔◌, ◌||◌, true, false, IfSome};
 ghost use Rattle.flac_cli.specs.Outcomes.{Fits};
-ghost use Rattle.flac_cli.specs.Verified.{IsFinding, HasNoMemory, AreWhole, HaveCome};
+ghost use Rattle.flac_cli.specs.Verified.{IsFound, AreWhole, HaveCome, IfNoneFails};
 ghost use Rattle.flac_cli.specs.Verifies.{Verifies};
-ghost use Rattle.flac_cli.specs.inner.Verifying.{IsReading, IsReadingOutside, IsCounted, Stays};
+ghost use Rattle.flac_cli.specs.inner.Verifying.{IsReading, IsReadingOutside, IsFoundAgain, IsCounted, Stays};
 
 use crate::verify_change::{Change, compare};
 use crate::verify_facts::{Facts, read_facts};
@@ -71,8 +71,8 @@ impl Tally {
 
 /// Reads the current file in this profile.
 fn read_in<S: Shelf>(alloc: Global, shelf: &mut S, profile: Profile) -> Finding
-    ensures found { S.known shelf.old ≡ true → S.faults shelf.new ≡ S.faults shelf.old →
-        IsReading profile (S.current shelf.old).contents result }
+    ensures found { IfNoneFails S.known S.faults shelf.old shelf.new
+        (IsReading profile (S.current shelf.old).contents result) }
     ensures stays { Stays S.known S.current S.files S.gone S.faults S.most shelf.old shelf.new }
 {
     match shelf.open() {
@@ -92,8 +92,8 @@ fn read_in<S: Shelf>(alloc: Global, shelf: &mut S, profile: Profile) -> Finding
 
 /// Reads the current file without the limits of the streamable subset, which it does not keep.
 fn read_outside<S: Shelf>(alloc: Global, shelf: &mut S) -> Finding
-    ensures found { S.known shelf.old ≡ true → S.faults shelf.new ≡ S.faults shelf.old →
-        IsReadingOutside (S.current shelf.old).contents result }
+    ensures found { IfNoneFails S.known S.faults shelf.old shelf.new
+        (IsReadingOutside (S.current shelf.old).contents result) }
     ensures stays { Stays S.known S.current S.files S.gone S.faults S.most shelf.old shelf.new }
 {
     match read_in(alloc, shelf, Profile::Lax) {
@@ -116,9 +116,8 @@ pub(crate) fn is_memory(why: Why) -> bool
 /// Finds out what the current file is, which can be read again: first in the streamable subset, so that only a file
 /// outside of it is read twice.
 fn find_again<S: Shelf>(alloc: Global, shelf: &mut S) -> Finding
-    ensures found { S.known shelf.old ≡ true → S.faults shelf.new ≡ S.faults shelf.old →
-        IfSome (S.current shelf.old).contents (λ of. of.again ≡ true) →
-        Fits HasNoMemory (IsFinding false (S.current shelf.old).contents) result }
+    ensures found { IfNoneFails S.known S.faults shelf.old shelf.new
+        (IsFoundAgain (S.current shelf.old).contents result) }
     ensures stays { Stays S.known S.current S.files S.gone S.faults S.most shelf.old shelf.new }
 {
     match read_in(alloc, shelf, Profile::Subset) {
@@ -135,8 +134,8 @@ fn find_again<S: Shelf>(alloc: Global, shelf: &mut S) -> Finding
 
 /// Finds out what the current file is.
 fn find<S: Shelf>(alloc: Global, shelf: &mut S, subset: bool) -> Finding
-    ensures found { S.known shelf.old ≡ true → S.faults shelf.new ≡ S.faults shelf.old →
-        Fits HasNoMemory (IsFinding subset (S.current shelf.old).contents) result }
+    ensures found { IfNoneFails S.known S.faults shelf.old shelf.new
+        (IsFound subset (S.current shelf.old).contents result) }
     ensures stays { Stays S.known S.current S.files S.gone S.faults S.most shelf.old shelf.new }
 {
     if subset {
@@ -207,15 +206,14 @@ pub fn verify_files<S: Shelf, O: Target, E: Target, P: Target>(
     // If no file's device fails: the lines are those of what each file is, by its own bytes, in order, also those of the
     // report, and the status is 0 exactly if all of them are streams and every line was written. Or memory ran out: then
     // a line says that. After the line of a file that is refused come those of a survey of its bytes, if that is asked for.
-    ensures verified { S.known shelf.old ≡ true → S.faults shelf.new ≡ S.faults shelf.old →
-        Verifies O.Target E.Target P.Target checks (S.files shelf.old) result
-        out.old out.new err.old err.new report_to.old report_to.new }
+    ensures verified { IfNoneFails S.known S.faults shelf.old shelf.new (Verifies O.Target E.Target P.Target
+        checks (S.files shelf.old) result out.old out.new err.old err.new report_to.old report_to.new) }
     // So after status 0 each file is a stream.
-    ensures streams { result ≡ 0 → S.known shelf.old ≡ true → S.faults shelf.new ≡ S.faults shelf.old →
-        AreWhole checks.subset (S.files shelf.old) }
+    ensures streams { result ≡ 0 → IfNoneFails S.known S.faults shelf.old shelf.new
+        (AreWhole checks.subset (S.files shelf.old)) }
     // All files have come. So the paths that are left of an older report are those that no file of the list has.
-    ensures gone { S.known shelf.old ≡ true → S.faults shelf.new ≡ S.faults shelf.old →
-        HaveCome S.files S.gone shelf.old shelf.new }
+    ensures gone { IfNoneFails S.known S.faults shelf.old shelf.new
+        (HaveCome S.files S.gone shelf.old shelf.new) }
 {
     let mut tally = Tally {
         files: 0,

@@ -4,8 +4,9 @@ ghost use Rattle.std.specs.Prelude.{◌≡◌, ◌⊎◌, ◌↔◌, true, IfOk,
 ghost use Rattle.flac_rescue.specs.Report.{report_text};
 ghost use Rattle.flac_rescue.specs.Survey.{IsSurvey};
 ghost use Rattle.flac_shelf.specs.Shown.{shown};
-ghost use Rattle.flac_cli.specs.Missing.{IsOutOfMemory, AreUnlisted, IsSaidOf, IsListing, asks_missing};
-ghost use Rattle.flac_cli.specs.inner.Missing.{IsContents, IsUnread, line_for, IsSaidAgain};
+ghost use Rattle.flac_cli.specs.Missing.{IsOutOfMemory, AreUnlisted, IsSaidOf, asks_missing};
+ghost use Rattle.flac_cli.specs.Verified.{IfNoneFails};
+ghost use Rattle.flac_cli.specs.inner.Missing.{IsContents, IsUnread, line_for, AreSaidAgain, IsUnsaidAgain, AreListed, IsUnlisted};
 ghost use Rattle.flac_cli.specs.inner.Verifying.{IsListed, IsTold, Stays};
 
 use crate::lines::At;
@@ -96,10 +97,10 @@ fn lines_about(alloc: Global, path: &str, bytes: &[u8]) -> Result<Vec<u8>, Unlis
 
 /// The bytes of the current file, read again.
 fn bytes_of<S: Shelf>(alloc: Global, shelf: &mut S) -> Result<Vec<u8>, Unlisted>
-    ensures read { S.known shelf.old ≡ true → S.faults shelf.new ≡ S.faults shelf.old →
-        IfOk result (λ bytes. IsContents (S.current shelf.old).contents bytes.items) }
-    ensures unread { S.known shelf.old ≡ true → S.faults shelf.new ≡ S.faults shelf.old →
-        IfErr result (λ e. IsUnread (S.current shelf.old).contents e) }
+    ensures read { IfNoneFails S.known S.faults shelf.old shelf.new
+        (IfOk result (λ bytes. IsContents (S.current shelf.old).contents bytes.items)) }
+    ensures unread { IfNoneFails S.known S.faults shelf.old shelf.new
+        (IfErr result (IsUnread (S.current shelf.old).contents)) }
     ensures stays { Stays S.known S.current S.files S.gone S.faults S.most shelf.old shelf.new }
 {
     match shelf.open() {
@@ -119,11 +120,10 @@ fn bytes_of<S: Shelf>(alloc: Global, shelf: &mut S) -> Result<Vec<u8>, Unlisted>
 
 /// The lines about the current file, which is read again.
 fn survey_again<S: Shelf>(alloc: Global, shelf: &mut S) -> Result<Vec<u8>, Unlisted>
-    ensures lines { S.known shelf.old ≡ true → S.faults shelf.new ≡ S.faults shelf.old →
-        IfOk result (λ text. IsSaidAgain (S.current shelf.old).path (S.current shelf.old).contents text.items) }
-    ensures unlisted { S.known shelf.old ≡ true → S.faults shelf.new ≡ S.faults shelf.old →
-        IfErr result (λ e. IsSaidAgain (S.current shelf.old).path (S.current shelf.old).contents
-        (line_for (S.current shelf.old).path e)) }
+    ensures lines { IfNoneFails S.known S.faults shelf.old shelf.new
+        (IfOk result (λ text. AreSaidAgain (S.current shelf.old) text.items)) }
+    ensures unlisted { IfNoneFails S.known S.faults shelf.old shelf.new
+        (IfErr result (IsUnsaidAgain (S.current shelf.old))) }
     ensures stays { Stays S.known S.current S.files S.gone S.faults S.most shelf.old shelf.new }
 {
     match bytes_of(alloc, shelf) {
@@ -134,11 +134,10 @@ fn survey_again<S: Shelf>(alloc: Global, shelf: &mut S) -> Result<Vec<u8>, Unlis
 
 /// The lines about the current file, if it can be read again.
 fn survey<S: Shelf>(alloc: Global, shelf: &mut S) -> Result<Vec<u8>, Unlisted>
-    ensures lines { S.known shelf.old ≡ true → S.faults shelf.new ≡ S.faults shelf.old →
-        IfOk result (λ text. IsListing (S.current shelf.old).path (S.current shelf.old).contents text.items) }
-    ensures unlisted { S.known shelf.old ≡ true → S.faults shelf.new ≡ S.faults shelf.old →
-        IfErr result (λ e. IsListing (S.current shelf.old).path (S.current shelf.old).contents
-        (line_for (S.current shelf.old).path e)) }
+    ensures lines { IfNoneFails S.known S.faults shelf.old shelf.new
+        (IfOk result (λ text. AreListed (S.current shelf.old) text.items)) }
+    ensures unlisted { IfNoneFails S.known S.faults shelf.old shelf.new
+        (IfErr result (IsUnlisted (S.current shelf.old))) }
     ensures stays { Stays S.known S.current S.files S.gone S.faults S.most shelf.old shelf.new }
 {
     let again = shelf.reads_again();
@@ -158,8 +157,8 @@ fn tell_all<E: Target>(err: &mut E, text: &[u8])
 
 /// Prints what is missing of the current file.
 fn tell_missing<S: Shelf, E: Target>(alloc: Global, shelf: &mut S, err: &mut E)
-    ensures told { S.known shelf.old ≡ true → S.faults shelf.new ≡ S.faults shelf.old →
-        IsListed E.Target true (S.current shelf.old) err.old err.new }
+    ensures told { IfNoneFails S.known S.faults shelf.old shelf.new
+        (IsListed E.Target true (S.current shelf.old) err.old err.new) }
     ensures stays { Stays S.known S.current S.files S.gone S.faults S.most shelf.old shelf.new }
 {
     match survey(alloc, shelf) {
@@ -187,8 +186,8 @@ pub(crate) fn list_missing<S: Shelf, E: Target>(
     finding: &Finding,
     err: &mut E,
 )
-    ensures told { S.known shelf.old ≡ true → S.faults shelf.new ≡ S.faults shelf.old →
-        IsListed E.Target (asks_missing all finding.now) (S.current shelf.old) err.old err.new }
+    ensures told { IfNoneFails S.known S.faults shelf.old shelf.new
+        (IsListed E.Target (asks_missing all finding.now) (S.current shelf.old) err.old err.new) }
     ensures stays { Stays S.known S.current S.files S.gone S.faults S.most shelf.old shelf.new }
 {
     if asks_missing(all, finding) {

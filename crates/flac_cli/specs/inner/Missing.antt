@@ -1,7 +1,7 @@
 -- For proofs of `flac verify --all`: a file that is read again.
 use Rattle.std.specs.Prelude.{◌≡◌, ℕ, List, Option, Some, None}
-use Rattle.flac_shelf.specs.Listed.{Contents}
-use Rattle.flac_cli.specs.Missing.{IsSaidOf, unlisted_line, memory_line}
+use Rattle.flac_shelf.specs.Listed.{Contents, Listed}
+use Rattle.flac_cli.specs.Missing.{IsSaidOf, IsListing, unlisted_line, memory_line}
 use Rattle.flac_cli.specs.declared.verify_missing.Unlisted.{Unlisted}
 use Rattle.flac_cli.specs.declared.verify_missing.Unlisted.TheVariants.{Unsurveyed, Memory}
 
@@ -25,3 +25,17 @@ line_for path Memory = memory_line path
 abbrev pub IsSaidAgain : (path : List ℕ) → Option Contents → (text : List ℕ) → Type 0
 IsSaidAgain path None text = text ≡ unlisted_line path
 IsSaidAgain path (Some of) text = IsSaidOf path of.bytes text
+
+-- the same of the current file, and of the line in its place
+abbrev pub AreSaidAgain : Listed → (text : List ℕ) → Type 0
+AreSaidAgain file text = IsSaidAgain file.path file.contents text
+
+abbrev pub IsUnsaidAgain : Listed → Unlisted → Type 0
+IsUnsaidAgain file e = AreSaidAgain file (line_for file.path e)
+
+-- what is said of it, if it can be read again
+abbrev pub AreListed : Listed → (text : List ℕ) → Type 0
+AreListed file text = IsListing file.path file.contents text
+
+abbrev pub IsUnlisted : Listed → Unlisted → Type 0
+IsUnlisted file e = AreListed file (line_for file.path e)

@@ -1,5 +1,5 @@
 -- For proofs of `flac verify`: what calls did to the list of files and to the targets, and how a file is read.
-use Rattle.std.specs.Prelude.{◌≡◌, ◌≤◌, ◌<◌, ℕ, ◌+◌, Bool, true, false, ◌&&◌, List, ◌++◌, length, Option, Some, None}
+use Rattle.std.specs.Prelude.{◌≡◌, ◌≤◌, ◌<◌, ℕ, ◌+◌, Bool, true, false, ◌&&◌, List, ◌++◌, length, Option, Some, None, IfSome}
 use Rattle.flac_bits.specs.declared.target.Target as target
 use Rattle.flac_header.specs.declared.subset.Profile.{Profile}
 use Rattle.flac_header.specs.declared.subset.Profile.TheVariants.{Lax}
@@ -9,7 +9,7 @@ use Rattle.flac_cli.specs.Counted.{printed}
 use Rattle.flac_cli.specs.Outcomes.{Fits, Reads, IsOutOfMemory}
 use Rattle.flac_cli.specs.Reported.{report_lines}
 use Rattle.flac_cli.specs.Missing.{IsMissingIf, asks_missing, AreMissing, told_lines}
-use Rattle.flac_cli.specs.Verified.{IsStreamOf, AreFound, ok_lines, last_line, good_count, bad_count, all_kept}
+use Rattle.flac_cli.specs.Verified.{IsStreamOf, IsFound, AreFound, ok_lines, last_line, good_count, bad_count, all_kept}
 use Rattle.flac_cli.specs.declared.verify.Checks.{Checks}
 use Rattle.flac_cli.specs.declared.verify.Finding.{Finding}
 use Rattle.flac_cli.specs.declared.verify.Finding.TheVariants.{Good, Bad, Unopened}
@@ -62,6 +62,10 @@ IsReadingOutside None Unopened = Unit {0}
 IsReadingOutside (Some of) (Good facts) = IsStreamOf Lax of facts × (facts.outside ≡ true)
 IsReadingOutside (Some of) (Bad fault) = Fits IsOutOfMemory (Reads Lax of.bytes of.after) (Some (Some fault.at, fault.why))
 IsReadingOutside contents finding = ⊥
+
+-- what a file was found to be that can be read again
+abbrev pub IsFoundAgain : Option Contents → Finding → Type 0
+IsFoundAgain contents finding = IfSome contents (λ of. of.again ≡ true) → IsFound false contents finding
 
 -- one more of the files that are streams, and of the others
 abbrev pub good_after : ℕ → Finding → ℕ
