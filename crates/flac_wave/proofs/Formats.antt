@@ -5,7 +5,7 @@ use Rattle.std.proofs.Math.Nat.{mul_assoc, mul-mod_left}
 use Rattle.std.proofs.lemmas.Bool.{ltb-true, ltb-false, lt-ltb, and_parts, eqb-true}
 use Rattle.std.proofs.lemmas.List.{get_or-take, get_or-drop, length-take-le, length-drop}
 use Rattle.std.proofs.lemmas.Nat.{div-add-mod'}
-use Rattle.flac_wave.specs.Chunks.{Leads, seen_first, fault_at, is_data, is_format, after_chunk, chunk_len, data_len, data_fault, samples_fault, chunk_fault, content_fault}
+use Rattle.flac_wave.specs.Chunks.{Leads, seen_first, fault_at, is_data, is_format, after_chunk, chunk_len, is_unstated, data_size, data_len, data_fault, samples_fault, chunk_fault, content_fault}
 use Rattle.flac_wave.specs.Format.{short_at, long_at, is_pcm, fields_fit, format_fault, format_of, IsInRange, row_of}
 use Rattle.flac_wave.specs.Kept.{has_head, bits_after, bits_in}
 use Rattle.flac_wave.specs.Wave.{Parts, IsWave, is_head}
@@ -199,7 +199,12 @@ data_good s bytes good here = ap (λ b. cond b (data_fault s bytes) (chunk_fault
 
 samples_good : (s : Seen) (f : WaveFormat) (bytes : List ℕ) → s.format ≡ Some f → data_fault s bytes ≡ None → samples_fault f (data_len s bytes) (length bytes - 8) ≡ None
 unfolding data_fault
-samples_good s f bytes is good = ap (λ (o : Option WaveFormat). elim o [ None ↦ Some why.NoFormat | Some g ↦ samples_fault g (data_len s bytes) (length bytes - 8) ]) (sym is) ∙ good
+samples_good s f bytes is good =
+    (past (is_unstated (data_size s bytes) (drop 8 bytes)) _ _
+    (ap (λ (o : Option WaveFormat). elim o [
+      | None ↦ Some why.NoFormat
+      | Some g ↦ cond (is_unstated (data_size s bytes) (drop 8 bytes)) (Some why.DataUnstated) (samples_fault g (data_len s bytes) (length bytes - 8))
+    ]) (sym is) ∙ good)).1
 
 all_there : (f : WaveFormat) (size room : ℕ) → samples_fault f size room ≡ None → (size ≤ room) × (size % row_of f ≡ 0)
 unfolding samples_fault

@@ -23,6 +23,7 @@ mod seen;
 mod shift;
 #[cfg(test)]
 mod tests;
+mod unstated;
 mod waves;
 mod why;
 
@@ -34,5 +35,6 @@ pub use limited::Limited;
 pub use plain::plain_pieces;
 pub use reading::{fill, read_all, read_at_most};
 pub use shift::{lower, raise};
+pub use unstated::{is_unstated, size_in};
 pub use waves::{Wave, WaveError, WaveFault, wave_of};
 pub use why::WaveWhy;
