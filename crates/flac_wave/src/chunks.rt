@@ -1,6 +1,6 @@
 //! The chunks of a WAV file.
 
-ghost use Rattle.std.specs.Prelude.{◌≡◌, ◌≤◌, ◌<◌, ◌+◌, ◌-◌, ◌%◌, length, None, Some, IfOk, IfErr, OnOk};
+ghost use Rattle.std.specs.Prelude.{◌≡◌, ◌≤◌, ◌<◌, ◌+◌, ◌-◌, ◌%◌, length, None, Some, is_none, IfOk, IfErr, OnOk};
 ghost use Rattle.flac_wave.specs.Chunks.{id_of, is_data, is_format, is_long_sizes, size_of, chunk_len, header_fault, seen_first, after_chunk, format_after, stated, data_size, data_len, samples_fault, data_fault, content_fault, chunk_fault, most_kept};
 
 use crate::format::{WaveFormat, format_at, long_at};
@@ -76,6 +76,13 @@ pub(crate) fn header_fault(bytes: &[u8]) -> Option<WaveWhy>
         return None;
     }
     Some(WaveWhy::NotWave)
+}
+
+/// Whether bytes begin as a WAV file does: with `RIFF`, `RF64` or `BW64`, a length and `WAVE`.
+pub fn begins_wave(bytes: &[u8]) -> bool
+    ensures { result ≡ is_none (header_fault bytes.now) }
+{
+    header_fault(bytes).is_none()
 }
 
 /// How many bytes the samples have, or `None` if they go to the end of the file.

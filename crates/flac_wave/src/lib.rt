@@ -27,6 +27,7 @@ mod unstated;
 mod waves;
 mod why;
 
+pub use chunks::begins_wave;
 pub use cuts::{cut, cut_after};
 pub use format::WaveFormat;
 pub use front::{WaveFront, front_fault, read_front};

@@ -4,8 +4,8 @@ ghost use Rattle.std.specs.Prelude.{◌<◌, ◌≤◌};
 ghost use Rattle.flac_wave.specs.Plain.{CanBeWritten};
 
 use crate::{
-    Limited, WaveError, WaveFault, WaveFormat, WaveWhy, cut, cut_after, front_fault, is_unstated,
-    lower, plain_pieces, raise, read_all, read_at_most, read_front, size_in, wave_of,
+    Limited, WaveError, WaveFault, WaveFormat, WaveWhy, begins_wave, cut, cut_after, front_fault,
+    is_unstated, lower, plain_pieces, raise, read_all, read_at_most, read_front, size_in, wave_of,
 };
 use flac_bits::{Memory, Pieces};
 use std::alloc::Global;
@@ -43,6 +43,9 @@ fn files_are_taken_apart(rt: HostRuntime) -> Result<(), Fail> {
     let front = joined(rt.alloc(), wave.pieces.as_slice())?;
     assert!(rt; wave.format == FORMAT && wave.format.row() == 4);
     assert!(rt; wave.pieces.len() == 3 && front.as_slice() == &STEREO[..44]);
+    assert!(rt;
+        begins_wave(&STEREO[..12]) && !begins_wave(&STEREO[..11]) && !begins_wave(&STEREO[12..])
+    );
     assert!(rt; wave.samples == &STEREO[44..] && wave.back.is_empty());
     Ok(())
 }
