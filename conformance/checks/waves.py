@@ -8,8 +8,8 @@ The made files have names; N more are generated (default 500, with --quick 100, 
 the rules, file K from the seed K. Which file is refused, at which chunk and for which reason, is told by `wave_files.judge`. Of the made
 files, and of every tenth generated one, also: `flac -t` of the reference accepts our streams; if `flac --keep-foreign-metadata` makes a
 stream of which `flac -d --keep-foreign-metadata` makes the same file, it does so of our stream too; and we make the same file of each
-stream of the reference. With `--to-end` files that are cut inside their samples come back as they are, made ones and every fifth
-generated one. What the program cannot do yet is said in a line each, and skipped. FLAC names the program, JOBS how many
+stream of the reference. With `--to-end` files that are cut inside their samples, or state none though they are there, come back as they are,
+made ones and every fifth generated one. What the program cannot do yet is said in a line each, and skipped. FLAC names the program, JOBS how many
 processes run at once. Status 1 if an answer is not the one that is due.
 """
 import argparse
@@ -155,8 +155,8 @@ def cuts(file, name):
 
 
 def check_cut(bench, name, able):
-    """A file that is cut inside its samples is refused with 69, or with --to-end goes to its end and comes back as it is. Any other
-    file is answered as without the option."""
+    """A file that is cut inside its samples is refused with 69, one that states none though they are there with 92. With --to-end they go
+    to its end, and it comes back as it is. Any other file is answered as without the option."""
     file = made()[name] if isinstance(name, str) else generated(name)
     for part in (file, *cuts(file, name)):
         path, due = bench.put(part, ".wav"), judge(part, True)
@@ -173,7 +173,7 @@ def check_cut(bench, name, able):
                 expect(depth_of(read(stream)), due.depth())
         refused = judge(part)
         if isinstance(due, Found) and not isinstance(refused, Found):
-            expect(refused.endswith("69 DataCut"), True)
+            expect(refused.endswith(("69 DataCut", "92 DataUnstated")), True)
             status, _, error = program.call("encode", path, bench.path(".flac"))
             expect((status, error.decode()), (1, f"flac: {path}: {refused}\n"))
 
