@@ -144,7 +144,13 @@ fn read_unsized<R: Source>(
             why: WaveWhy::DataUnstated,
         }));
     }
-    read_parts(alloc, front, size, to_end, &mut Memory::new(rest.as_slice()))
+    read_parts(
+        alloc,
+        front,
+        size,
+        to_end,
+        &mut Memory::new(rest.as_slice()),
+    )
 }
 
 /// Reads a WAV file. Its samples are held as those of a stream, its other bytes in pieces.
