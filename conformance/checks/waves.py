@@ -8,8 +8,8 @@ The made files have names; N more are generated (default 500, with --quick 100, 
 the rules, file K from the seed K. Which file is refused, at which chunk and for which reason, is told by `wave_files.judge`. Of the made
 files, and of every tenth generated one, also: `flac -t` of the reference accepts our streams; if `flac --keep-foreign-metadata` makes a
 stream of which `flac -d --keep-foreign-metadata` makes the same file, it does so of our stream too; and we make the same file of each
-stream of the reference. With `--to-end` files that are cut inside their samples come back as they are, made ones and every fifth
-generated one. What the program cannot do yet is said in a line each, and skipped. FLAC names the program, JOBS how many
+stream of the reference. Of some made files each block that keeps a piece is removed in turn. With `--to-end` files that are cut inside their samples, or state none though they are there, come back as they are,
+made ones and every fifth generated one. What the program cannot do yet is said in a line each, and skipped. FLAC names the program, JOBS how many
 processes run at once. Status 1 if an answer is not the one that is due.
 """
 import argparse
@@ -155,8 +155,8 @@ def cuts(file, name):
 
 
 def check_cut(bench, name, able):
-    """A file that is cut inside its samples is refused with 69, or with --to-end goes to its end and comes back as it is. Any other
-    file is answered as without the option."""
+    """A file that is cut inside its samples is refused with 69, one that states none though they are there with 92. With --to-end they go
+    to its end, and it comes back as it is. Any other file is answered as without the option."""
     file = made()[name] if isinstance(name, str) else generated(name)
     for part in (file, *cuts(file, name)):
         path, due = bench.put(part, ".wav"), judge(part, True)
@@ -173,9 +173,48 @@ def check_cut(bench, name, able):
                 expect(depth_of(read(stream)), due.depth())
         refused = judge(part)
         if isinstance(due, Found) and not isinstance(refused, Found):
-            expect(refused.endswith("69 DataCut"), True)
+            expect(refused.endswith(("69 DataCut", "92 DataUnstated")), True)
             status, _, error = program.call("encode", path, bench.path(".flac"))
             expect((status, error.decode()), (1, f"flac: {path}: {refused}\n"))
+
+
+# ---- blocks that are removed
+
+def blocks_of(stream):
+    """The blocks of a native stream, each its kind and its content, and the frames."""
+    at, blocks, last = 4, [], False
+    while not last:
+        last, kind, size = stream[at] >= 128, stream[at] % 128, int.from_bytes(stream[at + 1:at + 4], "big")
+        blocks.append((kind, stream[at + 4:at + 4 + size]))
+        at += 4 + size
+    return blocks, stream[at:]
+
+
+def stream_of(blocks, frames):
+    parts = [bytes([kind + 128 * (i == len(blocks) - 1)]) + len(body).to_bytes(3, "big") + body for i, (kind, body) in enumerate(blocks)]
+    return b"fLaC" + b"".join(parts) + frames
+
+
+def check_removed(bench, name, able):
+    """Without a block that keeps a piece the file is the rest of it; but without its header, its format or the header of its samples it
+    is plain. `name` is a file of samples of 8 or 16 bits, all of which count."""
+    file = made()[name]
+    due, path = judge(file), bench.path(".flac")
+    expect(program.call("encode", bench.put(file, ".wav"), path), (0, b"", b""))
+    blocks, frames = blocks_of(read(path))
+    kept = [number for number, (kind, body) in enumerate(blocks) if kind == 2 and body[:4] == b"riff"]
+    for gone in kept if able.plain else []:
+        pieces = [blocks[number][1][4:] for number in kept if number != gone]
+        piece, again = blocks[gone][1][4:], bench.path(".wav")
+        stream = bench.put(stream_of([block for number, block in enumerate(blocks) if number != gone], frames), ".flac")
+        expect(program.call("decode", stream, again), (0, b"", b""))
+        if gone == kept[0] or piece[:4] in (b"fmt ", b"data"):
+            raw = bytes(byte ^ 128 for byte in due.samples) if due.width == 1 else due.samples
+            expect(read(again) == plain(due.rate, due.channels, due.bits, len(raw) // due.row, raw), True)
+        else:
+            head = next(at for at, part in enumerate(pieces) if part[:4] == b"data" and len(part) == 8) + 1
+            pad = b"\0" * (len(due.samples) % 2)
+            expect(read(again) == b"".join(pieces[:head]) + due.samples + pad + b"".join(pieces[head:]), True)
 
 
 # ---- plain files
@@ -278,6 +317,8 @@ def rows(words):
     for name in made():
         if not (words.quick and name.startswith("long_")):
             yield f"made {name}", check_kept, name
+    for name in ("pcm16", "pcm8mono_odd_padded_then_list", "ext16", "list_between", "many", "pipe_ffmpeg", "rf64_list_after"):
+        yield f"removed {name}", check_removed, name
     for number, (channels, bits) in enumerate(itertools.product(range(1, 9), (4, 7, 8, 12, 15, 16, 20, 24, 32))):
         if not words.quick or number % 7 == 0:
             yield f"plain {channels} channels, {bits} bits", check_plain, (number, channels, bits)

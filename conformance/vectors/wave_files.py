@@ -114,6 +114,11 @@ def made():
         "truncated": riff(fmt, data)[:-1001], "truncated_whole": riff(fmt, data)[:-1000],
         "data_not_whole": riff(fmt, chunk(b"data", stereo[:-1])), "data_not_whole2": riff(fmt, chunk(b"data", stereo[:-2])),
         "data_empty": riff(fmt, chunk(b"data", b"")), "data_empty_list": riff(fmt, chunk(b"data", b""), info),
+        "data_empty_cut_list": riff(fmt, chunk(b"data", b""), artist)[:-2], "data_empty_zeros": riff(fmt, chunk(b"data", b""), tail=bytes(12)),
+        "data_empty_no_name": riff(fmt, chunk(b"data", b""), chunk(b"\x1fIST", b"INFO")), "data_empty_few": riff(fmt, chunk(b"data", b""), tail=b"LIST"),
+        "unended": riff(fmt, chunk(b"data", stereo, size=0), size=36), "unended_silence": riff(fmt, chunk(b"data", bytes(4000) + stereo, size=0), size=36),
+        "unended_part": riff(fmt, chunk(b"data", stereo[:-2], size=0), size=36), "unended_byte": riff(chunk(b"fmt ", byte), chunk(b"data", odd, size=0)),
+        "unended_rf64": rf64(fmt, unknown, long=0, count=0), "unended_later": riff(fmt, chunk(b"data", stereo, size=4000), size=4036),
         "two_data": riff(fmt, data, chunk(b"data", stereo[:400])), "two_fmt": riff(fmt, fmt, data),
         "no_fmt": riff(data), "no_data": riff(fmt), "fmt_after_data": riff(data, fmt), "fmt14": of(basic[:14], stereo),
         "bad_block_align": of(form(1, 2, 44100, 16, align=8), stereo), "bad_byte_rate": of(form(1, 2, 44100, 16, speed=12345), stereo),
@@ -253,9 +258,14 @@ class Found:
         return 8 * self.width if any(value % 2**low for value in values) else self.valid
 
 
+def is_chunk(rest):
+    """Whether these bytes begin with a whole chunk, whose name is four printing characters."""
+    return len(rest) >= 8 and all(32 <= byte <= 126 for byte in rest[:4]) and struct.unpack_from("<I", rest, 4)[0] <= len(rest) - 8
+
+
 def judge(file, to_end=False):
     """The line that is due of a file that is refused; or what it has, if it is one of the streamable subset. With `to_end`, samples
-    that are longer than the file go to its end."""
+    that are longer than the file go to its end, and so do those of which 0 bytes are stated, if no chunk follows."""
     if len(file) < 12 or file[:4] not in (b"RIFF", b"RF64", b"BW64") or file[8:12] != b"WAVE":
         return "60 NotWave"
     whole, at, number, found, long = struct.unpack_from("<I", file, 4)[0], 12, 0, None, None
@@ -284,6 +294,10 @@ def judge(file, to_end=False):
     if size == FULL:
         size = room if long is None else long
     elif size == 0x7FFFF000 or (size == 0 and whole in (0, FULL)):
+        size = room
+    if size == 0 and room > 0 and not is_chunk(file[at + 8:]):
+        if not to_end:
+            return f"chunk {number}: 92 DataUnstated"
         size = room
     if to_end and size > room:
         size = room

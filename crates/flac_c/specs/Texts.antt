@@ -1,5 +1,5 @@
 -- The texts of numbers.
-use Rattle.std.specs.Prelude.{◌≡◌, ◌<◌, ◌⊎◌, ℕ, List}
+use Rattle.std.specs.Prelude.{◌≡◌, ◌≢◌, ◌<◌, ◌⊎◌, ℕ, List}
 use Rattle.flac_bits.specs.Reasons as reasons
 use Rattle.flac_bits.specs.declared.why.Why.{Why}
 use Rattle.flac_frame.specs.Setup as setup
@@ -22,4 +22,4 @@ CopiesWave number out new len = (why : WaveWhy) → wave.number_of why ≡ numbe
 
 -- a number of no reason
 abbrev pub IsNoReason : ℕ → Type 0
-IsNoReason number = (number ≡ 0) ⊎ (((47 < number) × (number < 51)) ⊎ (((52 < number) × (number < 60)) ⊎ (70 < number)))
+IsNoReason number = (number ≡ 0) ⊎ (((47 < number) × (number < 51)) ⊎ (((52 < number) × (number < 60)) ⊎ ((70 < number) × (number ≢ 92))))

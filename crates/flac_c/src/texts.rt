@@ -1,6 +1,6 @@
 //! The texts of numbers.
 
-ghost use Rattle.std.specs.Prelude.{◌≡◌, ◌<◌, ◌⊎◌, [], Some, None};
+ghost use Rattle.std.specs.Prelude.{◌≡◌, ◌≢◌, ◌<◌, ◌⊎◌, [], Some, None};
 ghost use Rattle.flac_bits.specs.Reasons.{number_of};
 ghost use Rattle.flac_frame.specs.Setup.{number_of as setup_number};
 ghost use Rattle.flac_c.specs.Answers.{place_text, IsCopied};
@@ -95,7 +95,7 @@ fn setup_of(number: u32) -> Option<SetupFault>
     }
 }
 
-/// The reasons for which bytes are no WAV file, in the order of their numbers, which begin at 60.
+/// The reasons for which bytes are no WAV file that have the numbers 60 to 70, in their order.
 const WAVE_REASONS: [WaveWhy; 11] = [
     WaveWhy::NotWave,
     WaveWhy::ChunkCut,
@@ -110,11 +110,14 @@ const WAVE_REASONS: [WaveWhy; 11] = [
     WaveWhy::PartSample,
 ];
 
-/// The reason with this number, 60 to 70.
+/// The reason with this number, 60 to 70 or 92.
 fn wave_of(number: u32) -> Option<WaveWhy>
     ensures each { (why : WaveWhy) → wave_number why ≡ number → result ≡ Some why }
-    ensures other { (number < 60) ⊎ (70 < number) → result ≡ None }
+    ensures other { (number < 60) ⊎ ((70 < number) × (number ≢ 92)) → result ≡ None }
 {
+    if number == 92 {
+        return Some(WaveWhy::DataUnstated);
+    }
     if number < 60 || number > 70 {
         return None;
     }
@@ -123,7 +126,7 @@ fn wave_of(number: u32) -> Option<WaveWhy>
 
 /// Copies the number and the name of a reason, as `26 FrameCheck`, to the front of `out`, as far as there is room, and
 /// returns the length of this text in bytes. The rest of `out` is unchanged. The text is empty for numbers
-/// of no reason: 0, 48 to 50, 53 to 59, and those above 70.
+/// of no reason: 0, 48 to 50, 53 to 59, and those above 70 but 92.
 #[unsafe(no_mangle)]
 pub extern "C" fn flac_proved_strerror(number: u32, out: &mut [u8]) -> usize
     ensures reason { CopiesReason number out.old out.new result }

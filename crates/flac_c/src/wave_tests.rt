@@ -83,6 +83,8 @@ fn wave_texts_copied(rt: HostRuntime) -> Result<(), Fail> {
     let mut text = *b"................";
     assert!(rt; flac_proved_strerror(70, &mut text) == 13);
     assert!(rt; text == *b"70 PartSample...");
+    assert!(rt; flac_proved_strerror(92, &mut text) == 15);
+    assert!(rt; text == *b"92 DataUnstated.");
     assert!(rt; flac_proved_strerror(59, &mut text) == 0);
     assert!(rt; flac_proved_strerror(71, &mut text) == 0);
     Ok(())

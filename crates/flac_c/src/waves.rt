@@ -60,7 +60,7 @@ fn number_of(error: WaveError) -> u32
 /// Takes a WAV file apart that is in memory: RIFF, RF64 or BW64, of PCM samples of 1 to 32 bits in 1 to 8 channels. Its
 /// samples are the `len` bytes from `offset` on.
 ///
-/// Returns 0, or the number of the reason for which the bytes are no such file, 60 to 70 as
+/// Returns 0, or the number of the reason for which the bytes are no such file, 60 to 70 or 92 as
 /// [`flac_wave::WaveWhy::number`], or 2 if an allocation fails; `wave` is unchanged then.
 #[unsafe(no_mangle)]
 pub extern "C" fn flac_proved_wave(alloc: Global, bytes: &[u8], wave: &mut FlacProvedWave) -> u32

@@ -456,8 +456,8 @@ over_failed X (Err e) n ended = λ is. other (sym ended.0 ∙ is)
 -- ---- a WAV file
 
 -- the zero after samples of odd length
-pub even_zero : (total row : ℕ) → total % 2 * (row % 2) ≡ 0 → zero_after (total * row) ≡ []
-even_zero total row none = ap (λ k. cond (nat_eq k 0) [] (0 ∷ [])) (mul-mod total row 2 ∙ ap (λ k. k % 2) none)
+pub even_zero : (total width : ℕ) → total % 2 * (width % 2) ≡ 0 → zero_after (total * width) ≡ []
+even_zero total width none = ap (λ k. cond (nat_eq k 0) [] (0 ∷ [])) (mul-mod total width 2 ∙ ap (λ k. k % 2) none)
 
 odd_both : (a b : ℕ) → a < 2 → b < 2 → (a * b ≡ 0 → ⊥) → (a * b) % 2 ≡ 1
 odd_both zero b few less some = absurd (some (zero-mul b))
@@ -466,8 +466,8 @@ odd_both (suc zero) (suc zero) few less some = refl
 odd_both (suc zero) (suc (suc b)) few less some = absurd (omega (arith, less))
 odd_both (suc (suc a)) b few less some = absurd (omega (arith, few))
 
-pub odd_zero : (total row : ℕ) → (total % 2 * (row % 2) ≡ 0 → ⊥) → zero_after (total * row) ≡ 0 ∷ []
-odd_zero total row some = ap (λ k. cond (nat_eq k 0) [] (0 ∷ [])) (mul-mod total row 2 ∙ odd_both (total % 2) (row % 2) (mod-lt total {m = 2} (omega arith)) (mod-lt row {m = 2} (omega arith)) some)
+pub odd_zero : (total width : ℕ) → (total % 2 * (width % 2) ≡ 0 → ⊥) → zero_after (total * width) ≡ 0 ∷ []
+odd_zero total width some = ap (λ k. cond (nat_eq k 0) [] (0 ∷ [])) (mul-mod total width 2 ∙ odd_both (total % 2) (width % 2) (mod-lt total {m = 2} (omega arith)) (mod-lt width {m = 2} (omega arith)) some)
 
 -- the samples were sent after the head, and then the end
 wave_over : (K : Type 0) → K → (text : List (List ℤ) → List ℕ) (head tail : List ℕ) (s : Span) (rows : List (List ℤ)) (end : Option (Place × Why)) (before begun sent after : List ℕ) (result : Result ⊤ ExcerptFault) → begun ≡ before ++ head → SaysSpan text s rows end begun sent (Ok tt)

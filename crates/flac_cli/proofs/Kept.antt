@@ -30,7 +30,7 @@ use Rattle.flac_jobs.specs.declared.formats.RawFormat.{RawFormat}
 use Rattle.flac_subframe.specs.declared.format.linear.LinearPredictor.{LinearPredictor}
 use Rattle.flac_wave.specs.Wave.{Parts, restored}
 use Rattle.flac_wave.specs.Plain.{other_mask}
-use Rattle.flac_wave.specs.Kept.{has_head, bits_in}
+use Rattle.flac_wave.specs.Kept.{bits_in, are_file}
 use Rattle.flac_wave.proofs.Files.{comes_back}
 use Rattle.flac_wave.proofs.Formats.{wave_tells, wave_whole}
 use Rattle.flac_wave.proofs.Shifts.{samples_back, lowered_long, depth_cases, stated_some}
@@ -114,7 +114,7 @@ parts_told (container.Ogg serial) p a list words qs h before after e =
     record { pieces = t.pieces; depth = t.depth }
 
 -- the file of what is given
-given_wave : (p : Cut) (a : Sound) (words qs : List (List ℕ)) (points : List SeekPoint) (least greatest : ℕ) → has_head qs ≡ true → plan_fault p ≡ None
+given_wave : (p : Cut) (a : Sound) (words qs : List (List ℕ)) (points : List SeekPoint) (least greatest : ℕ) → are_file qs ≡ true → plan_fault p ≡ None
     → wave_in (given p (kept_list words qs ++ table_of points) a least greatest) ≡ restored qs (file_samples ((bits_in 0 qs + 7) / 8) a.bits (sound_message a))
 given_wave p a words qs points least greatest head good =
     let fs = map framed (frames_of p.block_size a) in
@@ -126,13 +126,13 @@ given_wave p a words qs points least greatest head good =
     let plain = (plain_of no_plain (given p (kept_list words qs ++ ts) a least greatest)).made in
     let end = depth_of a.bits (closing (map riff_block qs ++ ts) ++ fs) in
     let text = samples_from 0 a.bits (closing (map riff_block qs ++ ts) ++ fs) in
-    ap (λ l. restored (file_pieces l plain) (file_samples (wave_width_by (has_head l) (bits_in 0 l) end) end text)) pieces
+    ap (λ l. restored (file_pieces l plain) (file_samples (wave_width_by (are_file l) (bits_in 0 l) end) end text)) pieces
     ∙ (ap (λ c. restored (cond c qs plain) (file_samples (wave_width_by c (bits_in 0 qs) end) end text)) head
     ∙ (ap (λ d. restored qs (file_samples ((bits_in 0 qs + 7) / 8) d text)) depth
     ∙ ap (λ l. restored qs (file_samples ((bits_in 0 qs + 7) / 8) a.bits l)) samples))
 
 -- native or in Ogg, where no seek table stands
-parts_wave : (c : ContainerKind) (p : Cut) (a : Sound) (list : List Block) (words qs : List (List ℕ)) → list ≡ kept_list words qs → has_head qs ≡ true → (before after : List Bool) (e : EncodesIn c p list a before after)
+parts_wave : (c : ContainerKind) (p : Cut) (a : Sound) (list : List Block) (words qs : List (List ℕ)) → list ≡ kept_list words qs → are_file qs ≡ true → (before after : List Bool) (e : EncodesIn c p list a before after)
     → plan_fault p ≡ None → wave_in (parts_in c p list a before after e) ≡ restored qs (file_samples ((bits_in 0 qs + 7) / 8) a.bits (sound_message a))
 parts_wave container.Native p a list words qs h head before after e good =
     ap (λ l. wave_in (given p (l ++ table_of (points_of p e.frames)) a e.least e.greatest)) h ∙ given_wave p a words qs (points_of p e.frames) e.least e.greatest head good
@@ -194,7 +194,7 @@ kept_back asked bytes format a list p before after k e keep good =
     let qs = k.file.pieces ++ k.pieces in
     let raw = k.raw in
     let w = wave_tells bytes k.file k.pieces k.wave in
-    parts_wave asked.container p a list (words_of asked k.file) qs (all_kept asked format a list bytes k keep) w.head before after e good
+    parts_wave asked.container p a list (words_of asked k.file) qs (all_kept asked format a list bytes k keep) w.file before after e good
     ∙ (ap (λ n. restored qs (file_samples ((n + 7) / 8) a.bits (sound_message a))) w.bits
     ∙ (ap (λ d. restored qs (file_samples (wave_width_of k.file.format) d (sound_message a))) raw.bits
     ∙ (ap (λ l. restored qs (file_samples (wave_width_of k.file.format) (depth_for k.file) l)) raw.samples
@@ -206,8 +206,8 @@ room_is wide depth few some room =
     ap (λ b. b && (nat_lt 0 depth && not (nat_lt (8 * wide) depth))) (lt-ltb wide 5 (omega (arith, few)))
     ∙ (ap (λ b. b && not (nat_lt (8 * wide) depth)) (lt-ltb 0 depth some) ∙ ap not (le-ltb (8 * wide) depth room))
 
-fits_by : (head : Bool) (bits depth : ℕ) (f : WaveFormat) (xs : List ℕ) → head ≡ true → bits ≡ f.bits → depth ≡ depth_in f xs → IsInRange f → piece_fault head bits depth ≡ None
-fits_by head bits depth f xs h b d r =
+fits_by : (file : Bool) (bits depth : ℕ) (f : WaveFormat) (xs : List ℕ) → file ≡ true → bits ≡ f.bits → depth ≡ depth_in f xs → IsInRange f → piece_fault file bits depth ≡ None
+fits_by file bits depth f xs h b d r =
     let deep = depth_some f xs r in
     let narrow = r.narrow in
     ap (λ c. piece_fault c bits depth) h ∙ (ap (λ n. piece_fault true n depth) b ∙ (ap (λ n. piece_fault true f.bits n) d
@@ -220,9 +220,9 @@ kept_fits asked bytes format a list p before after k e keep =
     let qs = k.file.pieces ++ k.pieces in
     let t = parts_told asked.container p a list (words_of asked k.file) qs (all_kept asked format a list bytes k keep) before after e in
     let w = wave_tells bytes k.file k.pieces k.wave in
-    ap (λ l. piece_fault (has_head l) (bits_in 0 l) (depth_of 0 (parts_in asked.container p list a before after e))) t.pieces
-    ∙ (ap (λ d. piece_fault (has_head qs) (bits_in 0 qs) d) t.depth
-    ∙ fits_by (has_head qs) (bits_in 0 qs) a.bits k.file.format k.file.samples w.head w.bits k.raw.bits w.range)
+    ap (λ l. piece_fault (are_file l) (bits_in 0 l) (depth_of 0 (parts_in asked.container p list a before after e))) t.pieces
+    ∙ (ap (λ d. piece_fault (are_file qs) (bits_in 0 qs) d) t.depth
+    ∙ fits_by (are_file qs) (bits_in 0 qs) a.bits k.file.format k.file.samples w.file w.bits k.raw.bits w.range)
 
 -- what a call that writes a stream has begun, it has begun of the file that these bytes are
 pub begun_wave : {X : Type 0} (asked : Asked) (ps : List LinearPredictor) (bytes all : List ℕ) (format : RawFormat) (p q : Cut) (l : List Block) (a : Sound) (before after : List Bool)

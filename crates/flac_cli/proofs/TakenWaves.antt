@@ -13,16 +13,19 @@ use Rattle.flac_wave.specs.Format.{IsInRange, row_of}
 use Rattle.flac_wave.specs.Shift.{lowered, AreBytes, wave_width_of, depth_in}
 use Rattle.flac_wave.specs.declared.format.WaveFormat.{WaveFormat}
 use Rattle.flac_wave.proofs.Shifts.{lowered_long, depth_cases, stated_some}
-use Rattle.flac_cli.specs.Waves.{turned, wave_samples, low_samples, stream_samples}
+use Rattle.flac_cli.specs.Waves.{turned, wave_samples, low_samples, stream_samples, contents}
 use Rattle.flac_cli.specs.inner.Raw.{AreChannels}
-use Rattle.flac_cli.specs.inner.WaveSamples.{AreTaken, IsTaken, IsJudged, IsSamplesError, samples_fault}
+use Rattle.flac_cli.specs.inner.WaveSamples.{AreTaken, IsTaken, IsPart, IsJudged, IsSamplesError, samples_fault}
 use Rattle.flac_cli.specs.declared.wave_samples.WaveSamples.{WaveSamples}
-use Rattle.flac_wave.specs.Front.{BeginsWith, front_fault, are_whole}
+use Rattle.flac_cli.specs.declared.wave_file.WaveFile.{WaveFile}
+use Rattle.flac_wave.specs.Chunks.{begins_chunk, is_unstated, size_in}
+use Rattle.flac_wave.specs.Front.{BeginsWith, front_fault, are_whole, rest_fault}
 use Rattle.flac_wave.specs.Parts.{given, beyond, is_cut}
-use Rattle.flac_wave.specs.Wave.{IsErrorOf, IsNoWave, ArePiecesBy, begins_zero}
+use Rattle.flac_wave.specs.Wave.{IsWave, IsErrorOf, IsNoWave, ArePiecesBy, begins_zero}
 use Rattle.flac_wave.specs.declared.front.WaveFront.{WaveFront}
 use Rattle.flac_wave.specs.declared.waves.WaveError.{WaveError}
 use Rattle.flac_wave.specs.declared.waves.WaveError.TheVariants as error
+use Rattle.flac_wave.specs.declared.why.WaveWhy.TheVariants.{DataUnstated}
 use Rattle.flac_wave.proofs.Fronts.{front_file, front_none}
 
 -- ---- bytes
@@ -191,29 +194,70 @@ pub whole_by : (read : Option WaveSamples) (f : WaveFormat) (part : List ℕ) (K
 whole_by None f part K taken none k = sym (ne_eqb (length part % row_of f) 0 (none refl k))
 whole_by (Some s) f part K taken none k = let t = taken k in sym (eq-eqb (length part % row_of f) 0 t.whole)
 
-pub fault_by : (r : Result WaveSamples WaveError) (read : Option WaveSamples) (front : WaveFront) (to_end cut : Bool) (bytes : List ℕ) (K S : Type 0) → IsJudged read front.count to_end cut r → (K → cut ≡ is_cut front.size bytes)
-    → (K → is_some read ≡ are_whole front.format front.size bytes) → IfErr r (λ e. K → S → IsSamplesError to_end front bytes e)
-fault_by (Ok s) read front to_end cut bytes K S j same whole = tt
-fault_by (Err e) read front to_end cut bytes K S j same whole = λ k s.
-    subst (IsSamplesError to_end front bytes) (sym j.1)
-    (refl, ap (λ b. front_fault to_end b (are_whole front.format front.size bytes)) (sym (same k)) ∙ (ap (λ b. front_fault to_end cut b) (sym (whole k)) ∙ j.2))
+pub fault_by : (r : Result WaveSamples WaveError) (read : Option WaveSamples) (front : WaveFront) (size : Option ℕ) (to_end cut : Bool) (bytes : List ℕ) (K S : Type 0) → IsJudged read front.count to_end cut r → (K → cut ≡ is_cut size bytes)
+    → (K → is_some read ≡ are_whole front.format size bytes) → IfErr r (λ e. K → S → IsSamplesError to_end front size bytes e)
+fault_by (Ok s) read front size to_end cut bytes K S j same whole = tt
+fault_by (Err e) read front size to_end cut bytes K S j same whole = λ k s.
+    subst (IsSamplesError to_end front size bytes) (sym j.1)
+    (refl, ap (λ b. front_fault to_end b (are_whole front.format size bytes)) (sym (same k)) ∙ (ap (λ b. front_fault to_end cut b) (sym (whole k)) ∙ j.2))
 
 -- ---- the file
 
-pub samples_error : (to_end : Bool) (bytes rest : List ℕ) (f : WaveFront) (e : WaveError) → BeginsWith to_end bytes f rest → IsSamplesError to_end f rest e → IsErrorOf to_end bytes e
-samples_error to_end bytes rest f error.Memory b h = tt
-samples_error to_end bytes rest f error.Read b h = absurd h
-samples_error to_end bytes rest f (error.Fault x) b h = subst (λ o. IsNoWave to_end bytes o x.why) (sym h.0) (front_none to_end bytes f.format (map (λ p. p.items) f.pieces.items) f.size f.count rest b x.why h.1)
+-- this is how many bytes the samples have, by what follows their header, which does not lack their length
+pub record IsSize (to_end : Bool) (f : WaveFront) (size : Option ℕ) (rest : List ℕ) : Type 0 where
+  pub is : size_in to_end f.size rest ≡ size
+  pub said : is_unstated size rest ≡ false
+
+-- a length that is not 0 is not lacking
+pub other_size : (to_end : Bool) (f : WaveFront) (rest : List ℕ) → (f.size ≡ Some 0 → ⊥) → IsSize to_end f f.size rest
+other_size to_end f rest other = let said = said_by f.size other in record { is = size_by to_end said; said = said }
+  where
+    said_by : (size : Option ℕ) → (size ≡ Some 0 → ⊥) → is_unstated size rest ≡ false
+    said_by None no = refl
+    said_by (Some n) no = ap (λ b. b && (nat_lt 0 (length rest) && not (begins_chunk rest))) (ne_eqb n 0 (λ e. no (ap Some e)))
+
+    size_by : (ends : Bool) → is_unstated f.size rest ≡ false → size_in ends f.size rest ≡ f.size
+    size_by true said = ap (λ b. cond b None f.size) said
+    size_by false said = refl
+
+-- then what is judged of the rest is judged of the samples
+rest_judged : (to_end : Bool) (f : WaveFront) (size : Option ℕ) (rest : List ℕ) → IsSize to_end f size rest → rest_fault to_end f.format (size_in to_end f.size rest) rest ≡ samples_fault to_end f size rest
+rest_judged to_end f size rest s = ap (λ o. rest_fault to_end f.format o rest) s.is ∙ ap (λ b. cond b (Some DataUnstated) (samples_fault to_end f size rest)) s.said
+
+pub samples_error : (to_end : Bool) (bytes rest : List ℕ) (f : WaveFront) (size : Option ℕ) (e : WaveError) → BeginsWith to_end bytes f rest → IsSize to_end f size rest → IsSamplesError to_end f size rest e → IsErrorOf to_end bytes e
+samples_error to_end bytes rest f size error.Memory b s h = tt
+samples_error to_end bytes rest f size error.Read b s h = absurd h
+samples_error to_end bytes rest f size (error.Fault x) b s h =
+    subst (λ o. IsNoWave to_end bytes o x.why) (sym h.0)
+    (front_none to_end bytes f.format (map (λ p. p.items) f.pieces.items) f.size f.count rest b x.why (rest_judged to_end f size rest s ∙ h.1))
+
+-- the length is lacking
+pub unstated_error : (to_end : Bool) (bytes rest : List ℕ) (f : WaveFront) → BeginsWith to_end bytes f rest → is_unstated (size_in to_end f.size rest) rest ≡ true → IsNoWave to_end bytes (Some f.count) DataUnstated
+unstated_error to_end bytes rest f b lacks =
+    front_none to_end bytes f.format (map (λ p. p.items) f.pieces.items) f.size f.count rest b DataUnstated
+    (ap (λ k. cond k (Some DataUnstated) (front_fault to_end (is_cut (size_in to_end f.size rest) rest) (are_whole f.format (size_in to_end f.size rest) rest))) lacks)
 
 cut_by : (even other : Bool) (xs ys : List ℕ) (ps : List (List ℕ)) → even ≡ other → xs ≡ ys → ArePiecesBy even (begins_zero xs) xs ps → ArePiecesBy other (begins_zero ys) ys ps
 cut_by even other xs ys ps same is h = subst (λ l. ArePiecesBy other (begins_zero l) l ps) is (subst (λ b. ArePiecesBy b (begins_zero xs) xs ps) same h)
 
-pub file_taken : (to_end : Bool) (bytes rest back : List ℕ) (f : WaveFront) (s : WaveSamples) (after : Vec (Vec ℕ Global) Global) → BeginsWith to_end bytes f rest → samples_fault to_end f rest ≡ None → AreTaken f.format (given f.size rest) s
-    → back ≡ beyond f.size rest → ArePiecesBy (not s.odd) (begins_zero back) back (map (λ p. p.items) after.items) → IsTaken to_end bytes (record { format = f.format; pieces = f.pieces; samples = s; after = after })
-file_taken to_end bytes rest back f s after b good t is pieces = record {
-  samples = given f.size rest;
-  back = beyond f.size rest;
-  wave = front_file to_end bytes f.format (map (λ p. p.items) f.pieces.items) f.size f.count rest b good;
-  cut = cut_by (not s.odd) (nat_eq (length (given f.size rest) % 2) 0) back (beyond f.size rest) (map (λ p. p.items) after.items) t.odd is pieces;
+pub part_taken : (to_end : Bool) (rest back : List ℕ) (f : WaveFront) (size : Option ℕ) (s : WaveSamples) (after : Vec (Vec ℕ Global) Global) → samples_fault to_end f size rest ≡ None → AreTaken f.format (given size rest) s
+    → back ≡ beyond size rest → ArePiecesBy (not s.odd) (begins_zero back) back (map (λ p. p.items) after.items) → IsPart to_end f size rest (record { format = f.format; pieces = f.pieces; samples = s; after = after })
+part_taken to_end rest back f size s after good t is pieces = record {
+  form = refl;
+  pieces = refl;
+  good = good;
   taken = t;
+  cut = cut_by (not s.odd) (nat_eq (length (given size rest) % 2) 0) back (beyond size rest) (map (λ p. p.items) after.items) t.odd is pieces;
+}
+
+pub file_taken : (to_end : Bool) (bytes rest : List ℕ) (f : WaveFront) (size : Option ℕ) (file : WaveFile) → BeginsWith to_end bytes f rest → IsSize to_end f size rest → IsPart to_end f size rest file → IsTaken to_end bytes file
+file_taken to_end bytes rest f size file b s p = record {
+  samples = given size rest;
+  back = beyond size rest;
+  wave = subst (λ v. IsWave to_end bytes (record { format = file.format; pieces = contents v.items; samples = given size rest; back = beyond size rest })) (sym p.pieces)
+      (subst (λ w. IsWave to_end bytes (record { format = w; pieces = contents f.pieces.items; samples = given size rest; back = beyond size rest })) (sym p.form)
+      (subst (λ o. IsWave to_end bytes (record { format = f.format; pieces = contents f.pieces.items; samples = given o rest; back = beyond o rest })) s.is
+      (front_file to_end bytes f.format (map (λ p. p.items) f.pieces.items) f.size f.count rest b (rest_judged to_end f size rest s ∙ p.good))));
+  cut = p.cut;
+  taken = subst (λ w. AreTaken w (given size rest) file.samples) (sym p.form) p.taken;
 }

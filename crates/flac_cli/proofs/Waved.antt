@@ -31,13 +31,11 @@ map_dropped f (suc n) [] = refl
 map_dropped f (suc n) (x ∷ xs) = map_dropped f n xs
 
 -- the pieces of a file that is kept, or else those of a plain one
-pub none_kept : {A : Type 0} (head : ℕ) (kept plain : A) → head ≡ 0 → plain ≡ cond (nat_lt 0 head) kept plain
-none_kept zero kept plain none = refl
-none_kept (suc n) kept plain none = absurd (omega (arith, none))
+pub none_kept : {A : Type 0} (kept : Bool) (file plain : A) → kept ≡ false → plain ≡ cond kept file plain
+none_kept kept file plain e = ap (λ b. cond b file plain) (sym e)
 
-pub some_kept : {A : Type 0} (head : ℕ) (kept plain : A) → (head ≡ 0 → ⊥) → kept ≡ cond (nat_lt 0 head) kept plain
-some_kept zero kept plain some = absurd (some refl)
-some_kept (suc n) kept plain some = ap (λ b. cond b kept plain) (sym (lt-ltb 0 (suc n) (omega arith)))
+pub some_kept : {A : Type 0} (kept : Bool) (file plain : A) → kept ≡ true → file ≡ cond kept file plain
+some_kept kept file plain e = ap (λ b. cond b file plain) (sym e)
 
 -- one byte more is turned
 pub turn_next : (xs : List ℕ) (i : ℕ) → i < length xs → slice_set (map turned (take i xs) ++ drop i xs) i (turned (get_or (map turned (take i xs) ++ drop i xs) i 0)) ≡ map turned (take (suc i) xs) ++ drop (suc i) xs

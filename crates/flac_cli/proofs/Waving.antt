@@ -2,7 +2,7 @@
 use Rattle.std.proofs.Common.{◌≡◌, ◌≤◌, ◌<◌, ◌+◌, ◌-◌, ◌/◌, ◌%◌, ℕ, zero, suc, Bool, true, false, cond, List, [], ◌∷◌, ◌++◌, length, take, drop, refl, ap, sym, ◌∙◌, subst, append_assoc, append-nil, arith, length-append}
 use Rattle.std.specs.Prelude.{nat_lt, nat_eq, ◌&&◌, Option, Some, None, is_none}
 use Rattle.std.proofs.Math.Nat.{mod-lt}
-use Rattle.std.proofs.lemmas.Bool.{false≢true, ltb-true, ltb-false, eqb-true, eqb-false}
+use Rattle.std.proofs.lemmas.Bool.{false≢true, ltb-true, ltb-false, eqb-true, eqb-false, and_parts}
 use Rattle.std.proofs.lemmas.List.{take_all, take-append-le, drop-append-le}
 use Rattle.flac_bits.specs.Handing.{TakesAll}
 use Rattle.flac_meta.specs.declared.block.Block.{Block}
@@ -13,7 +13,7 @@ use Rattle.flac_native.specs.Item.{Item, metadata, frame}
 use Rattle.flac_native.specs.Decoding.{taken}
 use Rattle.flac_native.specs.Message.{sample_width}
 use Rattle.flac_native.specs.Samples.{samples_from, frame_bytes, depth_after}
-use Rattle.flac_wave.specs.Kept.{has_head, bits_after, bits_in}
+use Rattle.flac_wave.specs.Kept.{has_head, bits_after, bits_in, begins_file, are_file}
 use Rattle.flac_wave.specs.Plain.{plain_format, plain_front, plain_back, plain_pieces}
 use Rattle.flac_wave.specs.Wave.{is_head, front_of, pieces_after, all_of, restored}
 use Rattle.flac_wave.specs.declared.format.WaveFormat.{WaveFormat}
@@ -21,7 +21,7 @@ use Rattle.flac_wave.proofs.PlainFiles.{plain_made}
 use Rattle.flac_cli.specs.Waves.{is_riff, file_samples, piece_of, pieces_in, depth_of, plain_after, plain_of, no_plain, Plain, plain_for, piece_fault, kept_fault, wave_width_by, wave_width_in, file_pieces, wave_in}
 use Rattle.flac_cli.specs.declared.held_wave.KeptFault.TheVariants as kept
 use Rattle.flac_cli.specs.Speakers.{mask_in}
-use Rattle.flac_cli.specs.inner.Waving.{Held, Holds, nothing_held, with_piece, with_plain, with_block, with_speakers, with_samples, with_frame, held_after, held_fault, held_wave_width, frame_text, writes, front_pieces, back_pieces, front_left, adds, end_pad, ending}
+use Rattle.flac_cli.specs.inner.Waving.{Held, Holds, nothing_held, with_piece, with_plain, with_block, with_speakers, with_samples, with_frame, held_after, held_fault, held_wave_width, frame_text, writes, is_kept, front_pieces, back_pieces, front_left, adds, end_pad, ending}
 use Rattle.flac_cli.proofs.Waved.{joined_push, Whole, whole_append, rows_whole, room_holds, file_append, file_none}
 
 -- ---- runs
@@ -287,36 +287,36 @@ odd_twice o n m = omega arith
 
 -- what the header of the samples says, with the depth
 abbrev by_header : {X : Type 0} → (Bool → ℕ → ℕ → X) → Held → X
-by_header says s = says (nat_lt 0 s.head) s.bits s.depth
+by_header says s = says (is_kept s) s.bits s.depth
 
 -- what frames leave as it was
 record Quiet (t u : Held) (xs : List Piece) : Type 0 where
   none : pieces_in xs ≡ []
   same : (d : ℕ) → depth_of d xs ≡ d
-  head : u.head ≡ t.head
+  kept : is_kept u ≡ is_kept t
   bits : u.bits ≡ t.bits
   depth : u.depth ≡ t.depth
 
 frame_leaves : (b : Bool) (t : Held) (n : ℕ) → Quiet t (with_frame b t n) []
-frame_leaves true t n = record { none = refl; same = λ d. refl; head = refl; bits = refl; depth = refl }
-frame_leaves false t n = record { none = refl; same = λ d. refl; head = refl; bits = refl; depth = refl }
+frame_leaves true t n = record { none = refl; same = λ d. refl; kept = refl; bits = refl; depth = refl }
+frame_leaves false t n = record { none = refl; same = λ d. refl; kept = refl; bits = refl; depth = refl }
 
 quiet : (t : Held) (xs : List Piece) → Ordered true xs → Quiet t (after_parts t xs) xs
-quiet t [] o = record { none = refl; same = λ d. refl; head = refl; bits = refl; depth = refl }
-quiet t (marked ∷ xs) o = let k = quiet t xs o in record { none = k.none; same = k.same; head = k.head; bits = k.bits; depth = k.depth }
+quiet t [] o = record { none = refl; same = λ d. refl; kept = refl; bits = refl; depth = refl }
+quiet t (marked ∷ xs) o = let k = quiet t xs o in record { none = k.none; same = k.same; kept = k.kept; bits = k.bits; depth = k.depth }
 quiet t (block last x ∷ xs) o = absurd (false≢true (sym o.0))
 quiet t (framed f ∷ xs) o =
     let n = length (frame_text t f) in
     let k = quiet (with_frame (writes t) t n) xs o in
     let one = frame_leaves (writes t) t n in
-    record { none = k.none; same = k.same; head = k.head ∙ one.head; bits = k.bits ∙ one.bits; depth = k.depth ∙ one.depth }
+    record { none = k.none; same = k.same; kept = k.kept ∙ one.kept; bits = k.bits ∙ one.bits; depth = k.depth ∙ one.depth }
 
 same_header : {X : Type 0} (says : Bool → ℕ → ℕ → X) (t u : Held) (xs : List Piece) → Quiet t u xs → by_header says u ≡ by_header says t
 same_header says t u xs q =
-    ap (λ k. says (nat_lt 0 k) u.bits u.depth) q.head ∙ (ap (λ k. says (nat_lt 0 t.head) k u.depth) q.bits ∙ ap (λ k. says (nat_lt 0 t.head) t.bits k) q.depth)
+    ap (λ k. says k u.bits u.depth) q.kept ∙ (ap (λ k. says (is_kept t) k u.depth) q.bits ∙ ap (λ k. says (is_kept t) t.bits k) q.depth)
 
 -- samples have room in the file, if there is no fault
-holds_by : (head : Bool) (bits depth : ℕ) → depth ≤ 32 → piece_fault head bits depth ≡ None → Holds (wave_width_by head bits depth) depth
+holds_by : (file : Bool) (bits depth : ℕ) → depth ≤ 32 → piece_fault file bits depth ≡ None → Holds (wave_width_by file bits depth) depth
 holds_by true bits depth deep good = room_holds ((bits + 7) / 8) depth (room_by _ good)
   where
     room_by : (b : Bool) → cond b None (Some kept.OtherBits) ≡ None → b ≡ true
@@ -325,7 +325,7 @@ holds_by true bits depth deep good = room_holds ((bits + 7) / 8) depth (room_by 
 holds_by false bits depth deep good = record { few = omega (arith, deep); room = omega arith; some = λ wider. omega (arith, wider) }
 
 pub held_holds : (s : Held) → s.depth ≤ 32 → held_fault s ≡ None → Holds (held_wave_width s) s.depth
-held_holds s deep good = holds_by (nat_lt 0 s.head) s.bits s.depth deep good
+held_holds s deep good = holds_by (is_kept s) s.bits s.depth deep good
 
 framed_only : (t : Held) (xs : List Piece) → t.depth ≤ 32 → Holds (held_wave_width t) t.depth → t.begun ≡ true → t.odd < 2 → writes t ≡ true → Ordered true xs → Framed t (after_parts t xs) xs (added t xs)
 framed_only t [] deep h b few w o =
@@ -370,6 +370,42 @@ framed_only t (framed f ∷ xs) deep h b few w o =
 
 -- what comes before the samples, these, and what follows them
 kept_closed : (s : Held) (h : Headed s) (samples : List ℕ) (odd : ℕ) → 0 < s.head → odd ≡ length samples % 2
+    → all_of (take s.head s.pieces) ++ (samples ++ (end_pad odd (drop s.head s.pieces) ++ all_of (drop s.head s.pieces))) ≡ restored (s.pieces ++ []) samples
+kept_closed s h samples odd some is =
+    let after : drop s.head s.pieces ≡ pieces_after (s.pieces ++ []) = sym (append-nil (drop s.head s.pieces)) ∙ sym (h.after_some some []) in
+    ap (λ l. l ++ (samples ++ (end_pad odd (drop s.head s.pieces) ++ all_of (drop s.head s.pieces)))) (sym (h.front_some some []))
+    ∙ (ap (λ qs. front_of (s.pieces ++ []) ++ (samples ++ (end_pad odd qs ++ all_of qs))) after
+    ∙ ap (λ o. front_of (s.pieces ++ []) ++ (samples ++ (end_pad o (pieces_after (s.pieces ++ [])) ++ all_of (pieces_after (s.pieces ++ []))))) is)
+
+-- ---- whether the pieces make a file
+
+-- the header of the samples came if they do
+kept_headed : (s : Held) → is_kept s ≡ true → 0 < s.head
+kept_headed s e = ltb-true 0 s.head (and_parts (nat_lt 0 s.head) _ e).0
+
+-- they do at the end if they do so far
+kept_at_end : (s : Held) → Headed s → is_kept s ≡ are_file (s.pieces ++ [])
+kept_at_end s h = by_head (nat_lt 0 s.head) refl
+  where
+    by_head : (b : Bool) → nat_lt 0 s.head ≡ b → (b && (begins_file s.pieces && nat_lt 0 s.bits)) ≡ are_file (s.pieces ++ [])
+    by_head true e =
+        let some = ltb-true 0 s.head e in
+        sym (ap (λ b. b && (begins_file (s.pieces ++ []) && nat_lt 0 (bits_in 0 (s.pieces ++ [])))) (h.has_some some [])
+        ∙ (ap (λ n. begins_file (s.pieces ++ []) && nat_lt 0 n) (h.bits_some some []) ∙ ap (λ ps. begins_file ps && nat_lt 0 s.bits) (append-nil s.pieces)))
+    by_head false e =
+        let none : s.head ≡ 0 = omega (arith, ltb-false 0 s.head e) in
+        sym (ap (λ b. b && (begins_file (s.pieces ++ []) && nat_lt 0 (bits_in 0 (s.pieces ++ [])))) (h.has_none none []))
+
+closed_by : (s : Held) (b : Bool) → is_kept s ≡ b → (h : Headed s) (samples : List ℕ) (odd : ℕ) → odd ≡ length samples % 2
+    → all_of (cond b (take s.head s.pieces) (take s.cut s.plain.made))
+    ++ (samples ++ (end_pad odd (cond b (drop s.head s.pieces) (drop s.cut s.plain.made)) ++ all_of (cond b (drop s.head s.pieces) (drop s.cut s.plain.made))))
+    ≡ restored (file_pieces (s.pieces ++ []) s.plain.made) samples
+closed_by s true e h samples odd is =
+    kept_closed s h samples odd (kept_headed s e) is ∙ ap (λ c. restored (cond c (s.pieces ++ []) s.plain.made) samples) (sym e ∙ kept_at_end s h)
+closed_by s false e h samples odd is =
+    h.plain samples odd is ∙ ap (λ c. restored (cond c (s.pieces ++ []) s.plain.made) samples) (sym e ∙ kept_at_end s h)
+
+closed : (s : Held) (h : Headed s) (samples : List ℕ) (odd : ℕ) → 0 < s.head → odd ≡ length samples % 2
     → all_of (take s.head s.pieces) ++ (samples ++ (end_pad odd (drop s.head s.pieces) ++ all_of (drop s.head s.pieces))) ≡ restored (s.pieces ++ []) samples
 kept_closed s h samples odd some is =
     let after : drop s.head s.pieces ≡ pieces_after (s.pieces ++ []) = sym (append-nil (drop s.head s.pieces)) ∙ sym (h.after_some some []) in
@@ -453,35 +489,33 @@ whole_wave s (framed f ∷ xs) deep b o h order good =
 
 -- ---- what the header of the samples says at the end
 
-said_at_end : {X : Type 0} (says : Bool → ℕ → ℕ → X) → ((b c d : ℕ) → says false b d ≡ says false c d) → (s : Held) (b : Bool) → nat_lt 0 s.head ≡ b → Headed s
-    → says b s.bits s.depth ≡ says (has_head (s.pieces ++ [])) (bits_in 0 (s.pieces ++ [])) s.depth
+said_at_end : {X : Type 0} (says : Bool → ℕ → ℕ → X) → ((b c d : ℕ) → says false b d ≡ says false c d) → (s : Held) (b : Bool) → is_kept s ≡ b → Headed s
+    → says b s.bits s.depth ≡ says (are_file (s.pieces ++ [])) (bits_in 0 (s.pieces ++ [])) s.depth
 said_at_end says free s true e h =
-    let some = ltb-true 0 s.head e in
-    sym (ap (λ c. says c (bits_in 0 (s.pieces ++ [])) s.depth) (h.has_some some []) ∙ ap (λ n. says true n s.depth) (h.bits_some some []))
+    ap (λ n. says true n s.depth) (sym (h.bits_some (kept_headed s e) [])) ∙ ap (λ c. says c (bits_in 0 (s.pieces ++ [])) s.depth) (sym e ∙ kept_at_end s h)
 said_at_end says free s false e h =
-    let none : s.head ≡ 0 = omega (arith, ltb-false 0 s.head e) in
-    sym (ap (λ c. says c (bits_in 0 (s.pieces ++ [])) s.depth) (h.has_none none []) ∙ free (bits_in 0 (s.pieces ++ [])) s.bits s.depth)
+    free s.bits (bits_in 0 (s.pieces ++ [])) s.depth ∙ ap (λ c. says c (bits_in 0 (s.pieces ++ [])) s.depth) (sym e ∙ kept_at_end s h)
 
 judged : {X : Type 0} (says : Bool → ℕ → ℕ → X) → ((b c d : ℕ) → says false b d ≡ says false c d) → (s : Held) (xs : List Piece) → s.begun ≡ false → Headed s → Ordered false xs
-    → by_header says (after_parts s xs) ≡ says (has_head (s.pieces ++ pieces_in xs)) (bits_in 0 (s.pieces ++ pieces_in xs)) (depth_of s.depth xs)
+    → by_header says (after_parts s xs) ≡ says (are_file (s.pieces ++ pieces_in xs)) (bits_in 0 (s.pieces ++ pieces_in xs)) (depth_of s.depth xs)
 judged says free s [] b h order = said_at_end says free s _ refl h
 judged says free s (marked ∷ xs) b h order = judged says free s xs b h order
 judged says free s (block last x ∷ xs) b h order =
     let k = blocked s x in
     let ps = s.pieces ++ (piece_of x ++ pieces_in xs) in
-    let end = says (has_head ps) (bits_in 0 ps) (depth_of (depth_after s.depth x) xs) in
+    let end = says (are_file ps) (bits_in 0 ps) (depth_of (depth_after s.depth x) xs) in
     let all : by_header says (after_parts (with_block s x) xs) ≡ end =
     judged says free (with_block s x) xs (k.begun ∙ b) (k.headed h) order.1
-    ∙ (ap (λ qs. says (has_head (qs ++ pieces_in xs)) (bits_in 0 (qs ++ pieces_in xs)) (depth_of (with_block s x).depth xs)) k.pieces
-    ∙ (ap (λ qs. says (has_head qs) (bits_in 0 qs) (depth_of (with_block s x).depth xs)) (append_assoc s.pieces (piece_of x) (pieces_in xs))
-    ∙ ap (λ d. says (has_head ps) (bits_in 0 ps) (depth_of d xs)) k.depth)) in
+    ∙ (ap (λ qs. says (are_file (qs ++ pieces_in xs)) (bits_in 0 (qs ++ pieces_in xs)) (depth_of (with_block s x).depth xs)) k.pieces
+    ∙ (ap (λ qs. says (are_file qs) (bits_in 0 qs) (depth_of (with_block s x).depth xs)) (append_assoc s.pieces (piece_of x) (pieces_in xs))
+    ∙ ap (λ d. says (are_file ps) (bits_in 0 ps) (depth_of d xs)) k.depth)) in
     subst (λ c. by_header says (after_parts (cond c s (with_block s x)) xs) ≡ end) (sym b) all
 judged says free s (framed f ∷ xs) b h order =
     let n = length (frame_text s f) in
     let q = quiet (with_frame (writes s) s n) xs order in
     same_header says (with_frame (writes s) s n) _ xs q ∙ (same_header says s (with_frame (writes s) s n) [] (frame_leaves (writes s) s n) ∙ (said_at_end says free s _ refl h
-    ∙ (ap (λ ps. says (has_head (s.pieces ++ ps)) (bits_in 0 (s.pieces ++ ps)) s.depth) (sym q.none)
-    ∙ ap (λ d. says (has_head (s.pieces ++ pieces_in xs)) (bits_in 0 (s.pieces ++ pieces_in xs)) d) (sym (q.same s.depth)))))
+    ∙ (ap (λ ps. says (are_file (s.pieces ++ ps)) (bits_in 0 (s.pieces ++ ps)) s.depth) (sym q.none)
+    ∙ ap (λ d. says (are_file (s.pieces ++ pieces_in xs)) (bits_in 0 (s.pieces ++ pieces_in xs)) d) (sym (q.same s.depth)))))
 
 pub wave_judged : (xs : List Piece) → Ordered false xs → held_fault (after_parts nothing_held xs) ≡ kept_fault xs
 wave_judged xs order = judged piece_fault (λ b c d. refl) nothing_held xs refl headed_nothing order

@@ -12,7 +12,7 @@ use Rattle.flac_native.specs.Message.{sample_width}
 use Rattle.flac_native.specs.Samples.{depth_after}
 use Rattle.flac_native.specs.Stream.{Piece, marked, block, framed}
 use Rattle.flac_ogg.specs.Verifying.{bytes_reading}
-use Rattle.flac_wave.specs.Kept.{has_head, bits_in}
+use Rattle.flac_wave.specs.Kept.{bits_in, are_file}
 use Rattle.flac_wave.specs.Plain.{plain_format, plain_pieces, other_mask}
 use Rattle.flac_wave.specs.Shift.{raised, lowered, wave_width_of, depth_in, AreBytes as AreSmall}
 use Rattle.flac_wave.specs.Wave.{Parts, IsWave, ArePiecesAfter, restored}
@@ -132,26 +132,26 @@ plain_of p (framed f ∷ xs) = plain_of p xs
 abbrev pub has_room : (wide depth : ℕ) → Bool
 has_room wide depth = nat_lt wide 5 && (nat_lt 0 depth && not (nat_lt (8 * wide) depth))
 
--- Why there is no WAV file of samples of this depth: the header of the samples is kept, and the bytes of a sample of the
--- file have no room for them.
-abbrev pub piece_fault : (head : Bool) (bits depth : ℕ) → Option KeptFault
-piece_fault head bits depth = cond head (cond (has_room ((bits + 7) / 8) depth) None (Some kept.OtherBits)) None
+-- Why there is no WAV file of samples of this depth: a file is kept, and the bytes of its samples have no room for them.
+abbrev pub piece_fault : (whole : Bool) (bits depth : ℕ) → Option KeptFault
+piece_fault whole bits depth = cond whole (cond (has_room ((bits + 7) / 8) depth) None (Some kept.OtherBits)) None
 
 -- how many bytes a sample of the file has: those of the kept file's bits, or in a plain file those of the stream's depth
-abbrev pub wave_width_by : (head : Bool) (bits depth : ℕ) → ℕ
-wave_width_by head bits depth = cond head ((bits + 7) / 8) (sample_width depth)
+abbrev pub wave_width_by : (whole : Bool) (bits depth : ℕ) → ℕ
+wave_width_by whole bits depth = cond whole ((bits + 7) / 8) (sample_width depth)
 
 -- why a stream becomes no WAV file of its samples
 abbrev pub kept_fault : List Piece → Option KeptFault
-kept_fault parts = piece_fault (has_head (pieces_in parts)) (bits_in 0 (pieces_in parts)) (depth_of 0 parts)
+kept_fault parts = piece_fault (are_file (pieces_in parts)) (bits_in 0 (pieces_in parts)) (depth_of 0 parts)
 
--- the pieces of a file: those that are kept, if the header of the samples is one of them, else those of a plain file
+-- The pieces of a file: those that are kept, if they make one, else those of a plain file. They do not if another program
+-- removed the block of the file's header, of its format or of the header of its samples.
 abbrev pub file_pieces : (kept plain : List (List ℕ)) → List (List ℕ)
-file_pieces kept plain = cond (has_head kept) kept plain
+file_pieces kept plain = cond (are_file kept) kept plain
 
 -- how many bytes a sample of the WAV file of a stream has
 abbrev pub wave_width_in : List Piece → ℕ
-wave_width_in parts = wave_width_by (has_head (pieces_in parts)) (bits_in 0 (pieces_in parts)) (depth_of 0 parts)
+wave_width_in parts = wave_width_by (are_file (pieces_in parts)) (bits_in 0 (pieces_in parts)) (depth_of 0 parts)
 
 -- the WAV file of a stream: these pieces, and its samples
 abbrev pub wave_in : List Piece → List ℕ

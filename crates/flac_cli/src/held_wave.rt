@@ -1,18 +1,18 @@
 //! What is held of a WAV file while its stream is decoded.
 
 ghost use Rattle.std.specs.Prelude.{◌≡◌, ◌<◌, ◌≤◌, ◌%◌, ◌+◌, ℕ, length, map, OnOk};
-ghost use Rattle.flac_wave.specs.Kept.{bits_after};
+ghost use Rattle.flac_wave.specs.Kept.{bits_after, begins_file};
 ghost use Rattle.flac_wave.specs.Plain.{CanBeWritten};
 ghost use Rattle.flac_wave.specs.Wave.{is_head};
 ghost use Rattle.flac_cli.specs.Outcomes.{text_of_kept};
 ghost use Rattle.flac_cli.specs.Waves.{is_riff, has_room, plain_with};
-ghost use Rattle.flac_cli.specs.inner.Waving.{Held, nothing_held, with_piece, with_plain, with_info, with_speakers, with_block, with_samples, with_begun, held_fault, held_wave_width, front_pieces, back_pieces};
+ghost use Rattle.flac_cli.specs.inner.Waving.{Held, nothing_held, with_piece, with_plain, with_info, with_speakers, with_block, with_samples, with_begun, is_kept, held_fault, held_wave_width, front_pieces, back_pieces};
 
 use crate::speakers::mask_in;
 use byteorder::{ByteOrder, LittleEndian};
 use flac_meta::{Block, StreamInfo};
 use flac_native::sample_width;
-use flac_wave::{WaveFormat, plain_pieces};
+use flac_wave::{WaveFormat, begins_wave, plain_pieces};
 use std::alloc::{AllocError, Global};
 use std::marker::Model;
 
@@ -40,7 +40,7 @@ pub(crate) struct HeldWave {
     pieces: Vec<Vec<u8>>,
     /// How many pieces there are up to the header of the samples; 0 before it came.
     head: usize,
-    /// The pieces of a plain file, which is written if `head` is 0; none before STREAMINFO came.
+    /// The pieces of a plain file, which is written if the others make none; none before STREAMINFO came.
     made: Vec<Vec<u8>>,
     /// The format of that file, and how many samples each of its channels has.
     form: WaveFormat,
@@ -99,6 +99,16 @@ fn bits_after(bits: u16, piece: &[u8]) -> u16
         return LittleEndian::read_u16(&piece[22..]);
     }
     bits
+}
+
+/// Whether the first piece begins as a WAV file does.
+fn begins_file(pieces: &[Vec<u8>]) -> bool
+    ensures { result ≡ begins_file (map (λ p. p.items) pieces.now) }
+{
+    match pieces.first() {
+        Some(piece) => begins_wave(piece.as_slice()),
+        None => false,
+    }
 }
 
 /// Whether a sample of this depth, of 1 bit at least, has room in n bytes, of which there are 4 at most.
@@ -229,12 +239,19 @@ impl HeldWave {
         self.begun = true;
     }
 
+    /// Whether the pieces make a WAV file again.
+    fn is_kept(&self) -> bool
+        ensures { result ≡ is_kept self.now }
+    {
+        self.head > 0 && begins_file(self.pieces.as_slice()) && self.bits > 0
+    }
+
     /// Why there is no WAV file of the stream's samples: those of the file that is kept have no room for them.
     pub(crate) fn fault(&self) -> Option<KeptFault>
         ensures value { result ≡ held_fault self.now }
         ensures few { self.now.depth ≤ 32 }
     {
-        if self.head == 0 || has_room((u32::from(self.bits) + 7) / 8, u32::from(self.depth)) {
+        if !self.is_kept() || has_room((u32::from(self.bits) + 7) / 8, u32::from(self.depth)) {
             return None;
         }
         Some(KeptFault::OtherBits)
@@ -244,10 +261,10 @@ impl HeldWave {
     pub(crate) fn wide(&self) -> usize
         ensures { result ≡ held_wave_width self.now }
     {
-        if self.head == 0 {
-            return sample_width(u32::from(self.depth));
+        if self.is_kept() {
+            return (usize::from(self.bits) + 7) / 8;
         }
-        (usize::from(self.bits) + 7) / 8
+        sample_width(u32::from(self.depth))
     }
 
     /// Whether samples came.
@@ -277,19 +294,19 @@ impl HeldWave {
     pub(crate) fn front(&self) -> &[Vec<u8>]
         ensures { map (λ p. p.items) result.now ≡ front_pieces self.now }
     {
-        if self.head == 0 {
-            return &self.made[..self.cut];
+        if self.is_kept() {
+            return &self.pieces[..self.head];
         }
-        &self.pieces[..self.head]
+        &self.made[..self.cut]
     }
 
     /// The pieces after the samples.
     pub(crate) fn back(&self) -> &[Vec<u8>]
         ensures { map (λ p. p.items) result.now ≡ back_pieces self.now }
     {
-        if self.head == 0 {
-            return &self.made[self.cut..];
+        if self.is_kept() {
+            return &self.pieces[self.head..];
         }
-        &self.pieces[self.head..]
+        &self.made[self.cut..]
     }
 }

@@ -1,16 +1,18 @@
 //! A WAV file, as it is read from a source.
 
-ghost use Rattle.std.specs.Prelude.{◌≡◌, true, IfOk, IfErr, OnOk, Some, None};
+ghost use Rattle.std.specs.Prelude.{◌≡◌, true, ℕ, List, IfOk, IfErr, OnOk, Some, None};
 ghost use Rattle.flac_wave.specs.Calls.{IfRead};
 ghost use Rattle.flac_wave.specs.Format.{IsInRange};
+ghost use Rattle.flac_wave.specs.Front.{BeginsWith};
 ghost use Rattle.flac_wave.specs.Parts.{given, beyond};
 ghost use Rattle.flac_wave.specs.Wave.{IsErrorOf};
-ghost use Rattle.flac_cli.specs.inner.WaveSamples.{AreTaken, IsTaken, IsJudged, samples_fault, IsSamplesError};
+ghost use Rattle.flac_cli.specs.inner.WaveSamples.{AreTaken, IsTaken, IsPart, IsJudged, samples_fault, IsSamplesError};
 
 use crate::wave_samples::{WaveSamples, read_samples};
-use flac_bits::Source;
+use flac_bits::{Memory, Source};
 use flac_wave::{
-    Limited, WaveError, WaveFault, WaveFormat, WaveFront, WaveWhy, cut_after, read_all, read_front,
+    Limited, WaveError, WaveFault, WaveFormat, WaveFront, WaveWhy, cut_after, is_unstated,
+    read_all, read_front, size_in,
 };
 use std::alloc::Global;
 
@@ -49,30 +51,32 @@ fn judged(
     Ok(samples)
 }
 
-/// Reads the samples of a WAV file, of which what comes before them was read. What follows them is still to come.
+/// Reads the samples of a WAV file, `size` bytes of them or all that come, after what comes before them. What follows
+/// them is still to come.
 ///
 /// # Errors
 /// Why what came is no samples. The source returned an error, or an allocation failed.
 fn read_data<R: Source>(
     alloc: Global,
     front: &WaveFront,
+    size: Option<u64>,
     to_end: bool,
     source: &mut R,
 ) -> Result<WaveSamples, WaveError>
     requires range { IsInRange front.now.format }
     ensures taken { IfOk result (λ s. R.known source.old ≡ true →
-        AreTaken front.now.format (given front.now.size (R.coming source.old)) s) }
+        AreTaken front.now.format (given size (R.coming source.old)) s) }
     ensures good { OnOk result (R.known source.old ≡ true →
-        samples_fault to_end front.now (R.coming source.old) ≡ None) }
+        samples_fault to_end front.now size (R.coming source.old) ≡ None) }
     ensures left { OnOk result (R.known source.old ≡ true →
-        R.coming source.new ≡ beyond front.now.size (R.coming source.old)) }
+        R.coming source.new ≡ beyond size (R.coming source.old)) }
     ensures known { OnOk result (R.known source.old ≡ true → R.known source.new ≡ true) }
     ensures counted { OnOk result (R.raised source.new ≡ R.raised source.old) }
     ensures fault { IfErr result (λ e. IfRead R.Source source.old source.new
-        (IsSamplesError to_end front.now (R.coming source.old) e)) }
+        (IsSamplesError to_end front.now size (R.coming source.old) e)) }
     ensures names { R.names source.new ≡ R.names source.old }
 {
-    let mut part = Limited::new(source, front.size);
+    let mut part = Limited::new(source, size);
     let read = read_samples(alloc, &front.format, &mut part);
     let cut = part.is_cut();
     let _source = part.into_source(); // for its clauses alone
@@ -80,6 +84,73 @@ fn read_data<R: Source>(
         Ok(samples) => judged(samples, front.count, to_end, cut),
         Err(why) => Err(WaveError::from(why)),
     }
+}
+
+/// Reads the samples of a WAV file, `size` bytes of them or all that come, and what follows them.
+///
+/// # Errors
+/// Why what came is no samples. The source returned an error, or an allocation failed.
+fn read_parts<R: Source>(
+    alloc: Global,
+    front: WaveFront,
+    size: Option<u64>,
+    to_end: bool,
+    source: &mut R,
+) -> Result<WaveFile, WaveError>
+    requires range { IsInRange front.format }
+    ensures taken { IfOk result (λ f. R.known source.old ≡ true → IsPart to_end front size (R.coming source.old) f) }
+    ensures fault { IfErr result (λ e. IfRead R.Source source.old source.new
+        (IsSamplesError to_end front size (R.coming source.old) e)) }
+{
+    let samples = read_data(alloc, &front, size, to_end, source)?;
+    let back = read_all(alloc, source)?;
+    let after = cut_after(alloc, samples.odd, back.as_slice())?;
+    let WaveFront {
+        format,
+        pieces,
+        size: _,
+        count: _,
+    } = front;
+    Ok(WaveFile {
+        format,
+        pieces,
+        samples,
+        after,
+    })
+}
+
+/// Reads the rest of a WAV file that states 0 bytes of samples. Whether its writer did not state their length is known
+/// when all of the rest came, which is held for that.
+///
+/// # Errors
+/// Why what came is no samples. The source returned an error, or an allocation failed.
+fn read_unsized<R: Source>(
+    alloc: Global,
+    front: WaveFront,
+    to_end: bool,
+    source: &mut R,
+) -> Result<WaveFile, WaveError>
+    requires range { IsInRange front.format }
+    ensures taken { IfOk result (λ f. R.known source.old ≡ true → (bytes : List ℕ) →
+        BeginsWith to_end bytes front (R.coming source.old) → IsTaken to_end bytes f) }
+    ensures fault { IfErr result (λ e. IfRead R.Source source.old source.new ((bytes : List ℕ) →
+        BeginsWith to_end bytes front (R.coming source.old) → IsErrorOf to_end bytes e)) }
+{
+    let rest = read_all(alloc, source)?;
+    let size = size_in(to_end, front.size, rest.as_slice());
+    if is_unstated(size, rest.as_slice()) {
+        return Err(WaveError::Fault(WaveFault {
+            chunk: Some(front.count),
+            why: WaveWhy::DataUnstated,
+        }));
+    }
+    read_parts(
+        alloc,
+        front,
+        size,
+        to_end,
+        &mut Memory::new(rest.as_slice()),
+    )
 }
 
 /// Reads a WAV file. Its samples are held as those of a stream, its other bytes in pieces.
@@ -96,19 +167,9 @@ pub(crate) fn read_file<R: Source>(
         (IsErrorOf to_end (R.coming source.old) e)) }
 {
     let front = read_front(alloc, source, to_end)?;
-    let samples = read_data(alloc, &front, to_end, source)?;
-    let back = read_all(alloc, source)?;
-    let after = cut_after(alloc, samples.odd, back.as_slice())?;
-    let WaveFront {
-        format,
-        pieces,
-        size: _,
-        count: _,
-    } = front;
-    Ok(WaveFile {
-        format,
-        pieces,
-        samples,
-        after,
-    })
+    let size = front.size;
+    if size == Some(0) {
+        return read_unsized(alloc, front, to_end, source);
+    }
+    read_parts(alloc, front, size, to_end, source)
 }

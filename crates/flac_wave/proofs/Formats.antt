@@ -1,19 +1,20 @@
 -- The format of a file, and what the file's pieces say of it.
 use Rattle.std.proofs.Common.{◌≡◌, ◌≤◌, ◌+◌, ◌*◌, ◌-◌, ◌/◌, ◌%◌, ◌++◌, ◌∷◌, [], ℕ, Bool, true, false, cond, List, length, take, drop, Option, Some, None, is_some, refl, sym, ap, ◌∙◌, subst, arith}
-use Rattle.std.specs.Prelude.{◌&&◌, nat_lt, nat_eq}
+use Rattle.std.specs.Prelude.{◌&&◌, nat_lt, nat_eq, is_none}
 use Rattle.std.proofs.Math.Nat.{mul_assoc, mul-mod_left}
 use Rattle.std.proofs.lemmas.Bool.{ltb-true, ltb-false, lt-ltb, and_parts, eqb-true}
-use Rattle.std.proofs.lemmas.List.{get_or-take, get_or-drop, length-take-le, length-drop}
+use Rattle.std.proofs.lemmas.List.{get_or-take, get_or-drop, length-take-le, length-drop, take-append-drop}
 use Rattle.std.proofs.lemmas.Nat.{div-add-mod'}
-use Rattle.flac_wave.specs.Chunks.{Leads, seen_first, fault_at, is_data, is_format, after_chunk, chunk_len, data_len, data_fault, samples_fault, chunk_fault, content_fault}
+use Rattle.flac_wave.specs.Chunks.{Leads, header_fault, seen_first, fault_at, is_data, is_format, after_chunk, chunk_len, is_unstated, data_size, data_len, data_fault, samples_fault, chunk_fault, content_fault}
 use Rattle.flac_wave.specs.Format.{short_at, long_at, is_pcm, fields_fit, format_fault, format_of, IsInRange, row_of}
-use Rattle.flac_wave.specs.Kept.{has_head, bits_after, bits_in}
+use Rattle.flac_wave.specs.Kept.{has_head, bits_after, bits_in, begins_file, are_file}
 use Rattle.flac_wave.specs.Wave.{Parts, IsWave, is_head}
 use Rattle.flac_wave.specs.inner.Pieces.{KnownInRange}
 use Rattle.flac_wave.specs.declared.format.WaveFormat.{WaveFormat}
 use Rattle.flac_wave.specs.declared.seen.Seen.{Seen}
 use Rattle.flac_wave.specs.declared.why.WaveWhy.TheVariants as why
 use Rattle.flac_wave.proofs.Files.{id_take, chunk_no_head, header_no_head, header_long, head_is, chunk_long, all_pieces}
+use Rattle.flac_wave.proofs.NextPieces.{header_front}
 use Rattle.flac_wave.proofs.Walks.{Walked}
 
 -- ---- tests
@@ -169,6 +170,13 @@ pub record Tells (w : Parts) (ps : List (List ℕ)) : Type 0 where
   pub range : IsInRange w.format
   pub head : has_head (w.pieces ++ ps) ≡ true
   pub bits : bits_in 0 (w.pieces ++ ps) ≡ w.format.bits
+  pub file : are_file (w.pieces ++ ps) ≡ true
+
+-- the header of a file is one alone
+header_taken : (bytes : List ℕ) → header_fault bytes ≡ None → 12 ≤ length bytes → header_fault (take 12 bytes) ≡ None
+header_taken bytes good long =
+    sym (header_front (take 12 bytes) (drop 12 bytes) (λ short. absurd (let all = length-take-le 12 bytes long in omega (arith, short, all))))
+    ∙ (ap header_fault (take-append-drop 12 bytes) ∙ good)
 
 first_by : (n : ℕ) (b : Bool) (stated : ℕ) → n ≡ 12 → cond (nat_lt 23 n && b) stated 0 ≡ 0
 first_by n b stated is = ap (λ k. cond (nat_lt 23 k && b) stated 0) is
@@ -183,12 +191,18 @@ wave_tells {to_end} bytes w ps i =
     let none : bits_after 0 first ≡ 0 = first_by (length first) (is_format first) (short_at 22 first) (length-take-le 12 bytes long) in
     let k = said (seen_first to_end bytes) i.chunks (drop 12 bytes) i.rest i.seen 0 (head ∷ ps) i.leads (known_first to_end bytes) in
     let known = known_some i.seen.format w.format k.last i.format k.known in
+    let all = w.pieces ++ ps in
+    let here : has_head all ≡ true = ap has_head (all_pieces bytes w i ps) ∙ (ap (λ b. cond b true (has_head (i.chunks ++ (head ∷ ps)))) other
+    ∙ (k.head ∙ ap (λ b. cond b true (has_head ps)) ends)) in
+    let bits : bits_in 0 all ≡ w.format.bits = ap (bits_in 0) (all_pieces bytes w i ps) ∙ (ap (λ b. cond b 0 (bits_in (bits_after 0 first) (i.chunks ++ (head ∷ ps)))) other
+    ∙ (ap (λ n. bits_in n (i.chunks ++ (head ∷ ps))) none ∙ (k.stated ∙ (ap (λ b. cond b k.last (bits_in (bits_after k.last head) ps)) ends ∙ known.1)))) in
+    let begins : begins_file all ≡ true = ap begins_file (all_pieces bytes w i ps) ∙ ap is_none (header_taken bytes i.header long) in
     record {
       range = known.0;
-      head = ap has_head (all_pieces bytes w i ps) ∙ (ap (λ b. cond b true (has_head (i.chunks ++ (head ∷ ps)))) other
-          ∙ (k.head ∙ ap (λ b. cond b true (has_head ps)) ends));
-      bits = ap (bits_in 0) (all_pieces bytes w i ps) ∙ (ap (λ b. cond b 0 (bits_in (bits_after 0 first) (i.chunks ++ (head ∷ ps)))) other
-          ∙ (ap (λ n. bits_in n (i.chunks ++ (head ∷ ps))) none ∙ (k.stated ∙ (ap (λ b. cond b k.last (bits_in (bits_after k.last head) ps)) ends ∙ known.1))));
+      head = here;
+      bits = bits;
+      file = ap (λ b. b && (begins_file all && nat_lt 0 (bits_in 0 all))) here
+          ∙ (ap (λ b. b && nat_lt 0 (bits_in 0 all)) begins ∙ (ap (nat_lt 0) bits ∙ lt-ltb 0 w.format.bits known.0.bits));
     }
 
 -- ---- its samples are whole
@@ -199,7 +213,12 @@ data_good s bytes good here = ap (λ b. cond b (data_fault s bytes) (chunk_fault
 
 samples_good : (s : Seen) (f : WaveFormat) (bytes : List ℕ) → s.format ≡ Some f → data_fault s bytes ≡ None → samples_fault f (data_len s bytes) (length bytes - 8) ≡ None
 unfolding data_fault
-samples_good s f bytes is good = ap (λ (o : Option WaveFormat). elim o [ None ↦ Some why.NoFormat | Some g ↦ samples_fault g (data_len s bytes) (length bytes - 8) ]) (sym is) ∙ good
+samples_good s f bytes is good =
+    (past (is_unstated (data_size s bytes) (drop 8 bytes)) _ _
+    (ap (λ (o : Option WaveFormat). elim o [
+      | None ↦ Some why.NoFormat
+      | Some g ↦ cond (is_unstated (data_size s bytes) (drop 8 bytes)) (Some why.DataUnstated) (samples_fault g (data_len s bytes) (length bytes - 8))
+    ]) (sym is) ∙ good)).1
 
 all_there : (f : WaveFormat) (size room : ℕ) → samples_fault f size room ≡ None → (size ≤ room) × (size % row_of f ≡ 0)
 unfolding samples_fault

@@ -4,9 +4,9 @@ use Rattle.std.specs.Prelude.{◌&&◌, not, nat_lt, nat_eq}
 use Rattle.std.proofs.Math.Nat.{mul-pos}
 use Rattle.std.proofs.lemmas.Bool.{lt-ltb, le-ltb, ltb-true, ltb-false}
 use Rattle.std.proofs.lemmas.List.{take_min, take_all, length-take, length-drop}
-use Rattle.flac_wave.specs.Chunks.{Leads, seen_first, after_chunk, chunk_len, fault_at, is_data, size_of, stated, within, data_len, data_fault, chunk_fault, samples_fault}
+use Rattle.flac_wave.specs.Chunks.{Leads, seen_first, after_chunk, chunk_len, fault_at, is_data, size_of, stated, is_unstated, size_in, data_size, within, data_len, data_fault, chunk_fault, samples_fault}
 use Rattle.flac_wave.specs.Format.{IsInRange, row_of}
-use Rattle.flac_wave.specs.Front.{IsFront, front_fault, are_whole}
+use Rattle.flac_wave.specs.Front.{IsFront, front_fault, are_whole, rest_fault}
 use Rattle.flac_wave.specs.Parts.{given, beyond, is_cut}
 use Rattle.flac_wave.specs.Wave.{Parts, IsWave, IsNoWave}
 use Rattle.flac_wave.specs.declared.seen.Seen.{Seen}
@@ -97,11 +97,20 @@ module _ (to_end : Bool) (bytes : List ℕ) (format : WaveFormat) (pieces : List
   room : length i.here - 8 ≡ length rest
   room = sym (ap length i.left ∙ length-drop 8 i.here)
 
-  len : data_len i.seen i.here ≡ len_in to_end size rest
+  -- how many bytes the samples have, by what follows their header
+  abbrev pub size_here : Option ℕ
+  size_here = size_in to_end size rest
+
+  size_is : data_size i.seen i.here ≡ size_here
+  size_is =
+      ap (λ b. size_in b (stated i.seen (size_of i.here)) (drop 8 i.here)) ends
+      ∙ (ap (λ o. size_in to_end o (drop 8 i.here)) (sym i.sized) ∙ ap (size_in to_end size) (sym i.left))
+
+  len : data_len i.seen i.here ≡ len_in to_end size_here rest
   len =
-      ap (λ b. within b (unwrap_or (stated i.seen (size_of i.here)) (length i.here - 8)) (length i.here - 8)) ends
-      ∙ (ap (λ o. within to_end (unwrap_or o (length i.here - 8)) (length i.here - 8)) (sym i.sized)
-      ∙ ap (λ k. within to_end (unwrap_or size k) k) room)
+      ap (λ b. within b (unwrap_or (data_size i.seen i.here) (length i.here - 8)) (length i.here - 8)) ends
+      ∙ (ap (λ o. within to_end (unwrap_or o (length i.here - 8)) (length i.here - 8)) size_is
+      ∙ ap (λ k. within to_end (unwrap_or size_here k) k) room)
 
   some_row : 0 < row_of format
   some_row = row_some format.channels format.bits i.range.channels i.range.bits
@@ -109,24 +118,33 @@ module _ (to_end : Bool) (bytes : List ℕ) (format : WaveFormat) (pieces : List
       row_some : (channels bits : ℕ) → 0 < channels → 0 < bits → 0 < channels * ((bits + 7) / 8)
       row_some channels bits some more = mul-pos some (omega (arith, more))
 
-  data_at : (s : Seen) (b : List ℕ) (f : WaveFormat) → 8 ≤ length b → is_data b ≡ true → s.format ≡ Some f → fault_at s b ≡ samples_fault f (data_len s b) (length b - 8)
+  data_at : (s : Seen) (b : List ℕ) (f : WaveFormat) → 8 ≤ length b → is_data b ≡ true → s.format ≡ Some f
+      → fault_at s b ≡ cond (is_unstated (data_size s b) (drop 8 b)) (Some why.DataUnstated) (samples_fault f (data_len s b) (length b - 8))
   unfolding fault_at data_fault
   data_at s b f long here is =
       ap (λ k. cond k (Some (cond (nat_eq (length b) 0) why.NoData why.ChunkCut)) (cond (is_data b) (data_fault s b) (chunk_fault s b))) (le-ltb (length b) 8 long)
       ∙ (ap (λ k. cond k (data_fault s b) (chunk_fault s b)) here
-      ∙ ap (λ (o : Option WaveFormat). elim o [ None ↦ Some why.NoFormat | Some g ↦ samples_fault g (data_len s b) (length b - 8) ]) is)
+      ∙ ap (λ (o : Option WaveFormat). elim o [
+        | None ↦ Some why.NoFormat
+        | Some g ↦ cond (is_unstated (data_size s b) (drop 8 b)) (Some why.DataUnstated) (samples_fault g (data_len s b) (length b - 8))
+      ]) is)
 
-  fault_is : fault_at i.seen i.here ≡ front_fault to_end (is_cut size rest) (are_whole format size rest)
+  unstated_is : is_unstated (data_size i.seen i.here) (drop 8 i.here) ≡ is_unstated size_here rest
+  unstated_is = ap (λ o. is_unstated o (drop 8 i.here)) size_is ∙ ap (is_unstated size_here) (sym i.left)
+
+  fault_is : fault_at i.seen i.here ≡ rest_fault to_end format size_here rest
   fault_is =
       data_at i.seen i.here format i.long i.begun i.form
-      ∙ (ap (λ k. samples_fault format k (length i.here - 8)) len
-      ∙ (ap (λ k. samples_fault format (len_in to_end size rest) k) room ∙ samples_judged format to_end size rest some_row))
+      ∙ (ap (λ b. cond b (Some why.DataUnstated) (samples_fault format (data_len i.seen i.here) (length i.here - 8))) unstated_is
+      ∙ ap (λ o. cond (is_unstated size_here rest) (Some why.DataUnstated) o)
+      (ap (λ k. samples_fault format k (length i.here - 8)) len
+      ∙ (ap (λ k. samples_fault format (len_in to_end size_here rest) k) room ∙ samples_judged format to_end size_here rest some_row)))
 
   -- with samples that are not refused they are a file
   abbrev pub file_of : Parts
-  file_of = record { format = format; pieces = pieces; samples = given size rest; back = beyond size rest }
+  file_of = record { format = format; pieces = pieces; samples = given size_here rest; back = beyond size_here rest }
 
-  pub front_file : front_fault to_end (is_cut size rest) (are_whole format size rest) ≡ None → IsWave to_end bytes file_of
+  pub front_file : rest_fault to_end format size_here rest ≡ None → IsWave to_end bytes file_of
   front_file good = record {
     header = i.header;
     chunks = i.chunks;
@@ -137,10 +155,10 @@ module _ (to_end : Bool) (bytes : List ℕ) (format : WaveFormat) (pieces : List
     begun = i.begun;
     format = i.form;
     pieces = i.list;
-    samples = sym (ap (λ k. take k (drop 8 i.here)) len ∙ (ap (take (len_in to_end size rest)) (sym i.left) ∙ len_taken to_end size rest));
-    back = sym (ap (λ k. drop k (drop 8 i.here)) len ∙ (ap (drop (len_in to_end size rest)) (sym i.left) ∙ len_dropped to_end size rest));
+    samples = sym (ap (λ k. take k (drop 8 i.here)) len ∙ (ap (take (len_in to_end size_here rest)) (sym i.left) ∙ len_taken to_end size_here rest));
+    back = sym (ap (λ k. drop k (drop 8 i.here)) len ∙ (ap (drop (len_in to_end size_here rest)) (sym i.left) ∙ len_dropped to_end size_here rest));
   }
 
   -- and else none
-  pub front_none : (why : WaveWhy) → front_fault to_end (is_cut size rest) (are_whole format size rest) ≡ Some why → IsNoWave to_end bytes (Some count) why
+  pub front_none : (why : WaveWhy) → rest_fault to_end format size_here rest ≡ Some why → IsNoWave to_end bytes (Some count) why
   front_none why bad = (i.header, i.chunks, i.here, i.seen, i.many, i.leads, fault_is ∙ bad)

@@ -5,7 +5,7 @@ use Rattle.std.proofs.lemmas.Bool.{lt-ltb, le-ltb, ltb-true, ltb-false, cases_lt
 use Rattle.std.proofs.Math.Seq.{take-append_seam, drop-append_seam}
 use Rattle.flac_bits.specs.declared.why.Why.{Why}
 use Rattle.flac_bits.specs.declared.why.Why.TheVariants as reason
-use Rattle.flac_wave.specs.Chunks.{Leads, id_of, is_data, size_of, chunk_len, most_kept, header_fault, seen_first, after_chunk, content_fault, chunk_fault, data_fault, samples_fault, data_len, stated, fault_at}
+use Rattle.flac_wave.specs.Chunks.{Leads, id_of, is_data, size_of, chunk_len, most_kept, header_fault, seen_first, after_chunk, content_fault, chunk_fault, data_fault, samples_fault, data_len, stated, is_unstated, data_size, fault_at}
 use Rattle.flac_wave.specs.Format.{long_at, IsInRange}
 use Rattle.flac_wave.specs.Front.{IsFront}
 use Rattle.flac_wave.specs.Wave.{IsNoWave, IsErrorOf}
@@ -102,7 +102,11 @@ no_format to_end all bytes piece rest taken s count header walk p here none =
       s,
       walk.many,
       walk.leads,
-      at_data s bytes long begun ∙ ap (λ (o : Option WaveFormat). elim o [ None ↦ Some why.NoFormat | Some g ↦ samples_fault g (data_len s bytes) (length bytes - 8) ]) none,
+      at_data s bytes long begun
+          ∙ ap (λ (o : Option WaveFormat). elim o [
+            | None ↦ Some why.NoFormat
+            | Some g ↦ cond (is_unstated (data_size s bytes) (drop 8 bytes)) (Some why.DataUnstated) (samples_fault g (data_len s bytes) (length bytes - 8))
+          ]) none,
     )
 
 -- the header of the samples came

@@ -1,6 +1,6 @@
 -- A plain file is read as one.
 use Rattle.std.proofs.Common.{◌≡◌, ◌≤◌, ◌<◌, ◌+◌, ◌*◌, ◌/◌, ◌%◌, ◌-◌, ◌++◌, ◌∷◌, [], ℕ, Bool, true, false, cond, List, length, take, drop, Option, Some, None, refl, sym, ap, ◌∙◌, arith, length-append, append_assoc, subst, inl, inr}
-use Rattle.std.specs.Prelude.{◌&&◌, ◌||◌, ◌⊎◌, nat_lt, nat_eq}
+use Rattle.std.specs.Prelude.{◌&&◌, ◌||◌, ◌⊎◌, not, nat_lt, nat_eq}
 use Rattle.std.proofs.lemmas.Bool.{lt-ltb, le-ltb, eq-eqb, ne_eqb, eqb-true, eqb-false, ltb-true, ltb-false}
 use Rattle.std.proofs.lemmas.List.{append-nil}
 use Rattle.std.proofs.Math.Seq.{take-append_seam, drop-append_seam}
@@ -10,7 +10,7 @@ use Rattle.std.specs.Prelude.{is_some, unwrap_or}
 use Rattle.std.proofs.Math.Nat.{mul-le-mul_right, mul-pos, mul-mod_left}
 use Rattle.flac_wave.specs.declared.why.WaveWhy.TheVariants as why
 use Rattle.flac_wave.specs.Format.{short_at, long_at, is_extensible, has_pcm_guid, is_pcm, fields_fit, format_fault, format_of, row_of, IsInRange}
-use Rattle.flac_wave.specs.Chunks.{Leads, seen_first, fault_at, is_data, is_format, is_long_sizes, size_of, most_kept, id_of, after_chunk, chunk_len, chunk_fault, content_fault, data_fault, samples_fault, header_fault, data_len, within, stated}
+use Rattle.flac_wave.specs.Chunks.{Leads, seen_first, fault_at, is_data, is_format, is_long_sizes, size_of, most_kept, id_of, after_chunk, chunk_len, chunk_fault, content_fault, data_fault, samples_fault, header_fault, is_unstated, size_in, data_size, begins_chunk, data_len, within, stated}
 use Rattle.flac_wave.specs.Plain.{needs_extensible, mask_of, plain_format, file_header, format_fields, basic_chunk, extensible_chunk, format_chunk, format_len, data_header, sizes_chunk, short_pieces, long_pieces, known_pieces, riff_size, plain_pieces, plain_file, plain_parts, MaskFits, CanBeWritten, IsPlain}
 use Rattle.flac_wave.specs.Wave.{IsWave, pad_of, all_of, front_of, pieces_after, is_head, restored}
 use Rattle.flac_wave.specs.declared.seen.Seen.{Seen}
@@ -379,37 +379,66 @@ samples_by f n room within some whole =
     ap (λ b. cond b (Some why.DataCut) (cond (nat_lt 0 (row_of f) && nat_eq (n % row_of f) 0) None (Some why.PartSample))) (le-ltb room n within)
     ∙ ap (λ b. cond b None (Some why.PartSample)) (and_true _ _ (lt-ltb 0 (row_of f) some) (eq-eqb (n % row_of f) 0 whole))
 
-data_by : (t : Seen) (f : WaveFormat) (bytes : List ℕ) → t.format ≡ Some f → samples_fault f (data_len t bytes) (length bytes - 8) ≡ None → data_fault t bytes ≡ None
+data_by : (t : Seen) (f : WaveFormat) (bytes : List ℕ) → t.format ≡ Some f → is_unstated (data_size t bytes) (drop 8 bytes) ≡ false
+    → samples_fault f (data_len t bytes) (length bytes - 8) ≡ None → data_fault t bytes ≡ None
 unfolding data_fault
-data_by t f bytes is none = ap (λ (o : Option WaveFormat). elim o [ None ↦ Some why.NoFormat | Some g ↦ samples_fault g (data_len t bytes) (length bytes - 8) ]) is ∙ none
+data_by t f bytes is said none =
+    ap (λ (o : Option WaveFormat). elim o [
+      | None ↦ Some why.NoFormat
+      | Some g ↦ cond (is_unstated (data_size t bytes) (drop 8 bytes)) (Some why.DataUnstated) (samples_fault g (data_len t bytes) (length bytes - 8))
+    ]) is
+    ∙ (ap (λ b. cond b (Some why.DataUnstated) (samples_fault f (data_len t bytes) (length bytes - 8))) said ∙ none)
+
+-- a length that is stated is none of samples that lack it
+said_by : (size : Option ℕ) (samples tail : List ℕ) → unwrap_or size (length samples + length tail) ≡ length samples → (length samples ≡ 0 → length tail ≡ 0)
+    → is_unstated size (samples ++ tail) ≡ false
+said_by None samples tail is none = refl
+said_by (Some n) samples tail is none = by_zero (nat_eq n 0) refl
+  where
+    by_zero : (b : Bool) → nat_eq n 0 ≡ b → (b && (nat_lt 0 (length (samples ++ tail)) && not (begins_chunk (samples ++ tail)))) ≡ false
+    by_zero false e = refl
+    by_zero true e =
+        let zero = eqb-true n 0 e in
+        let here : length samples ≡ 0 = sym is ∙ zero in
+        let there = none here in
+        ap (λ b. b && not (begins_chunk (samples ++ tail))) (le-ltb 0 (length (samples ++ tail)) (let all = length-append samples tail in omega (arith, all, here, there)))
+
+-- its size is what its header states
+size_said : (to_end : Bool) (size : Option ℕ) (rest : List ℕ) → is_unstated size rest ≡ false → size_in to_end size rest ≡ size
+size_said true size rest said = ap (λ b. cond b None size) said
+size_said false size rest said = refl
 
 -- ---- a file of chunks and samples
 
 file_is : (to_end : Bool) (h form : List ℕ) (cs : List (List ℕ)) (d : ℕ) (samples tail : List ℕ) (f : WaveFormat) (t : Seen)
     → length h ≡ 12 → header_fault (h ++ form) ≡ None → Leads (seen_first to_end (h ++ form)) cs form (data_header d ++ (samples ++ tail)) t → t.format ≡ Some f
-    → d < 4294967296 → unwrap_or (stated t d) (length samples + length tail) ≡ length samples → 0 < row_of f → length samples % row_of f ≡ 0
+    → d < 4294967296 → unwrap_or (stated t d) (length samples + length tail) ≡ length samples → (length samples ≡ 0 → length tail ≡ 0) → 0 < row_of f → length samples % row_of f ≡ 0
     → IsWave to_end (h ++ form) (record { format = f; pieces = h ∷ (cs ++ data_header d ∷ []); samples = samples; back = tail })
-file_is to_end h form cs d samples tail f t twelve header leads format few length_is some whole =
+file_is to_end h form cs d samples tail f t twelve header leads format few length_is none some whole =
     let body = samples ++ tail in
     let rest = data_header d ++ body in
     let bytes = h ++ form in
     let n = length samples in
     let long : length rest ≡ 8 + length body = length-append (data_header d) body ∙ ap (λ k. k + length body) (head_length d) in
     let room : length rest - 8 ≡ n + length tail = let e = length-append samples tail in omega (arith, long, e) in
-    let full : unwrap_or (stated t (size_of rest)) (length rest - 8) ≡ n = ap (λ k. unwrap_or (stated t k) (length rest - 8)) (size_is d body few) ∙ (ap (λ k. unwrap_or (stated t d) k) room ∙ length_is) in
+    let left : drop 8 rest ≡ body = ap (λ k. drop k rest) (sym (head_length d)) ∙ drop-append_seam (data_header d) body in
+    let said : is_unstated (stated t d) body ≡ false = said_by (stated t d) samples tail length_is none in
+    let size : data_size t rest ≡ stated t d =
+    ap (λ k. size_in t.to_end (stated t k) (drop 8 rest)) (size_is d body few) ∙ (ap (size_in t.to_end (stated t d)) left ∙ size_said t.to_end (stated t d) body said) in
+    let unsaid : is_unstated (data_size t rest) (drop 8 rest) ≡ false = ap (λ o. is_unstated o (drop 8 rest)) size ∙ (ap (is_unstated (stated t d)) left ∙ said) in
+    let full : unwrap_or (data_size t rest) (length rest - 8) ≡ n = ap (λ o. unwrap_or o (length rest - 8)) size ∙ (ap (λ k. unwrap_or (stated t d) k) room ∙ length_is) in
     let len : data_len t rest ≡ n = ap (λ k. within t.to_end k (length rest - 8)) full ∙ within_room t.to_end n (length rest - 8) (omega (arith, room)) in
     let all : samples_fault f (data_len t rest) (length rest - 8) ≡ None = ap (λ k. samples_fault f k (length rest - 8)) len ∙ samples_by f n (length rest - 8) (omega (arith, room)) some whole in
     let front : drop 12 bytes ≡ form = ap (λ k. drop k bytes) (sym twelve) ∙ drop-append_seam h form in
     let first : take 12 bytes ≡ h = ap (λ k. take k bytes) (sym twelve) ∙ take-append_seam h form in
     let head : take 8 rest ≡ data_header d = ap (λ k. take k rest) (sym (head_length d)) ∙ take-append_seam (data_header d) body in
-    let left : drop 8 rest ≡ body = ap (λ k. drop k rest) (sym (head_length d)) ∙ drop-append_seam (data_header d) body in
     record {
       header = header;
       chunks = cs;
       rest = rest;
       seen = t;
       leads = subst (λ b. Leads (seen_first to_end bytes) cs b rest t) (sym front) leads;
-      good = fault_by t rest true (omega (arith, long)) (begins d body) (data_by t f rest format all);
+      good = fault_by t rest true (omega (arith, long)) (begins d body) (data_by t f rest format unsaid all);
       begun = begins d body;
       format = format;
       pieces = ap (λ l. l ∷ (cs ++ data_header d ∷ [])) (sym first) ∙ ap (λ l. take 12 bytes ∷ (cs ++ l ∷ [])) (sym head);
@@ -440,9 +469,9 @@ joined_four h e c d body = append_assoc h (e ++ (c ++ (d ++ []))) body ∙ ap (�
 
 -- a file whose headers state these lengths
 short_is : (to_end : Bool) (f : WaveFormat) (all d : ℕ) (samples tail : List ℕ) → CanBeWritten f → all < 4294967296 → d < 4294967296
-    → ((t : Seen) → t.riff ≡ all → t.long ≡ None → unwrap_or (stated t d) (length samples + length tail) ≡ length samples) → length samples % row_of f ≡ 0
+    → ((t : Seen) → t.riff ≡ all → t.long ≡ None → unwrap_or (stated t d) (length samples + length tail) ≡ length samples) → (length samples ≡ 0 → length tail ≡ 0) → length samples % row_of f ≡ 0
     → IsWave to_end (all_of (short_pieces f all d) ++ (samples ++ tail)) (record { format = f; pieces = short_pieces f all d; samples = samples; back = tail })
-short_is to_end f all d samples tail p small few length_is whole =
+short_is to_end f all d samples tail p small few length_is none whole =
     let h = file_header 1179011410 all in
     let c = format_chunk f in
     let k = chunk_is f p in
@@ -454,14 +483,14 @@ short_is to_end f all d samples tail p small few length_is whole =
     (file_is to_end h (c ++ rest) (c ∷ []) d samples tail f t (header_length 1179011410 all) (riff_header all (c ++ rest))
     (leads_by s c (format_len f) rest [] rest t k.long k.some k.few (k.other rest) (k.len rest) content (refl, refl))
     (after_format s (c ++ rest) (k.is rest) ∙ ap Some (k.format rest)) few
-    (length_is t (after_riff s (c ++ rest) ∙ first_riff to_end 1179011410 all (c ++ rest) small) (after_long s (c ++ rest) (k.sizes rest) ∙ first_long to_end (h ++ (c ++ rest))))
+    (length_is t (after_riff s (c ++ rest) ∙ first_riff to_end 1179011410 all (c ++ rest) small) (after_long s (c ++ rest) (k.sizes rest) ∙ first_long to_end (h ++ (c ++ rest)))) none
     (row_some f.channels f.bits p.range.channels p.range.bits) whole)
 
 -- one whose chunk `ds64` states them
 long_is : (to_end : Bool) (f : WaveFormat) (size total : ℕ) (samples tail : List ℕ) → CanBeWritten f → size < 18446744073709551616
-    → ((t : Seen) → t.long ≡ Some size → unwrap_or (stated t 4294967295) (length samples + length tail) ≡ length samples) → length samples % row_of f ≡ 0
+    → ((t : Seen) → t.long ≡ Some size → unwrap_or (stated t 4294967295) (length samples + length tail) ≡ length samples) → (length samples ≡ 0 → length tail ≡ 0) → length samples % row_of f ≡ 0
     → IsWave to_end (all_of (long_pieces f size total) ++ (samples ++ tail)) (record { format = f; pieces = long_pieces f size total; samples = samples; back = tail })
-long_is to_end f size total samples tail p small length_is whole =
+long_is to_end f size total samples tail p small length_is empty whole =
     let h = file_header 875972178 4294967295 in
     let e = sizes_chunk (36 + riff_size f size) size total in
     let c = format_chunk f in
@@ -478,7 +507,7 @@ long_is to_end f size total samples tail p small length_is whole =
     (leads_by s e 36 form (c ∷ []) rest t z.long (omega arith) (omega arith) (z.other form) (z.len form) (content_other s (e ++ form) (z.is form))
     (leads_by u c (format_len f) rest [] rest t k.long k.some k.few (k.other rest) (k.len rest) (content_by u form (k.is rest) none (k.good rest)) (refl, refl)))
     (after_format u form (k.is rest) ∙ ap Some (k.format rest)) (omega arith)
-    (length_is t (after_long u form (k.sizes rest) ∙ after_sizes s (36 + riff_size f size) size total form small))
+    (length_is t (after_long u form (k.sizes rest) ∙ after_sizes s (36 + riff_size f size) size total form small)) empty
     (row_some f.channels f.bits p.range.channels p.range.bits) whole)
 
 -- ---- how long the samples are
@@ -515,6 +544,10 @@ parity n = parity_by n _ refl
 pad_length : (samples : List ℕ) → length (pad_of samples []) ≡ length samples % 2
 pad_length samples = pad_by (nat_eq (length samples % 2) 0) ∙ parity (length samples)
 
+-- no samples have no zero after them
+none_after : (samples : List ℕ) → length samples ≡ 0 → length (pad_of samples []) ≡ 0
+none_after samples none = pad_length samples ∙ ap (λ n. n % 2) none
+
 -- ---- all plain files
 
 known_by : (to_end b : Bool) (f : WaveFormat) (total : ℕ) (samples : List ℕ) → nat_lt (riff_size f (length samples)) 4294967295 ≡ b → CanBeWritten f → length samples < 18446744073709551616 → length samples % row_of f ≡ 0
@@ -526,9 +559,9 @@ known_by to_end true f total samples is p few whole =
     let least : 12 ≤ riff_size f (length samples) = omega arith in
     let within : length samples ≤ riff_size f (length samples) = omega arith in
     short_is to_end f (riff_size f (length samples)) (length samples) samples (pad_of samples []) p (omega (arith, small)) (omega (arith, small, within))
-    (λ t riff long. short_by t (riff_size f (length samples)) (length samples) _ riff (omega (arith, least)) small (omega (arith, small, within)) (ap (λ k. length samples + k) pad)) whole
+    (λ t riff long. short_by t (riff_size f (length samples)) (length samples) _ riff (omega (arith, least)) small (omega (arith, small, within)) (ap (λ k. length samples + k) pad)) (none_after samples) whole
 known_by to_end false f total samples is p few whole =
-    long_is to_end f (length samples) total samples (pad_of samples []) p few (λ t long. full_by t _ ∙ ap (λ o. unwrap_or o (length samples + length (pad_of samples []))) long) whole
+    long_is to_end f (length samples) total samples (pad_of samples []) p few (λ t long. full_by t _ ∙ ap (λ o. unwrap_or o (length samples + length (pad_of samples []))) long) (none_after samples) whole
 
 no_pad : (b : Bool) → cond {A = List ℕ} b [] (cond true [] (0 ∷ [])) ≡ []
 no_pad true = refl
@@ -545,7 +578,7 @@ plain_by to_end true f total samples is p =
     let whole : length samples % row_of f ≡ 0 = ap (λ k. k % row_of f) p.whole ∙ mul-mod_left p.count (row_of f) in
     subst (λ l. IsWave to_end (all_of (short_pieces f 4294967295 4294967295) ++ (samples ++ l)) (record { format = f; pieces = short_pieces f 4294967295 4294967295; samples = samples; back = l })) (sym (no_pad (nat_eq (length samples % 2) 0)))
     (short_is to_end f 4294967295 4294967295 samples [] p.format (omega arith) (omega arith)
-    (λ t riff long. full_by t _ ∙ (ap (λ o. unwrap_or o (length samples + 0)) long ∙ omega arith)) whole)
+    (λ t riff long. full_by t _ ∙ (ap (λ o. unwrap_or o (length samples + 0)) long ∙ omega arith)) (λ e. refl) whole)
 plain_by to_end false f total samples is p =
     let count : total ≡ p.count = total_is total p.count is p.stated in
     let whole : length samples % row_of f ≡ 0 = ap (λ k. k % row_of f) p.whole ∙ mul-mod_left p.count (row_of f) in

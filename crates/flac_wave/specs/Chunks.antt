@@ -1,7 +1,7 @@
 -- The chunks of a WAV file (RIFF: Microsoft and IBM, Multimedia Programming Interface and Data Specifications 1.0; RF64:
 -- EBU Tech 3306; BW64: ITU-R BS.2088). A chunk is an identifier of four bytes, the length of its content in four, the
 -- lowest first, the content, and a byte after content of odd length.
-use Rattle.std.specs.Prelude.{◌≡◌, ℕ, ◌+◌, ◌-◌, ◌%◌, min, ◌&&◌, ◌||◌, Bool, false, cond, nat_lt, nat_eq, List, [], ◌∷◌, length, take, drop, Option, Some, None, is_some, unwrap_or}
+use Rattle.std.specs.Prelude.{◌≡◌, ℕ, ◌+◌, ◌-◌, ◌%◌, min, ◌&&◌, ◌||◌, Bool, false, not, cond, nat_lt, nat_eq, List, [], ◌∷◌, length, take, drop, Option, Some, None, is_some, unwrap_or}
 use Rattle.byteorder.specs.Endian.{little_number}
 use Rattle.flac_wave.specs.Format.{long_at, format_fault, format_of, row_of}
 use Rattle.flac_wave.specs.declared.seen.Seen.{Seen}
@@ -76,13 +76,39 @@ stated s size =
     cond (nat_eq size 4294967295) s.long
     (cond (nat_eq size 2147479552 || (nat_eq size 0 && (nat_eq s.riff 0 || nat_eq s.riff 4294967295))) None (Some size))
 
+-- a printing character of ASCII, of which four are an identifier
+abbrev pub is_printing : ℕ → Bool
+is_printing byte = nat_lt 31 byte && nat_lt byte 127
+
+abbrev pub is_named : List ℕ → Bool
+is_named (a ∷ (b ∷ (c ∷ (d ∷ bytes)))) = is_printing a && (is_printing b && (is_printing c && is_printing d))
+is_named other = false
+
+-- these bytes begin with a whole chunk: its header, and as many bytes as this states
+abbrev pub begins_chunk : List ℕ → Bool
+begins_chunk bytes = nat_lt 7 (length bytes) && (is_named bytes && nat_lt (7 + size_of bytes) (length bytes))
+
+-- The header of the samples states 0 bytes, and what follows it is no chunk: the writer ended before it stated the length.
+abbrev pub is_unstated : (size : Option ℕ) → (rest : List ℕ) → Bool
+is_unstated None rest = false
+is_unstated (Some n) rest = nat_eq n 0 && (nat_lt 0 (length rest) && not (begins_chunk rest))
+
+-- The number of bytes of the samples whose header states this one and has these bytes after it. Samples without a length
+-- go to the end of the file, too, if samples may.
+abbrev pub size_in : (to_end : Bool) (size : Option ℕ) (rest : List ℕ) → Option ℕ
+size_in to_end size rest = cond (to_end && is_unstated size rest) None size
+
+-- the same, of the chunk that these bytes begin with
+abbrev pub data_size : Seen → (bytes : List ℕ) → Option ℕ
+data_size s bytes = size_in s.to_end (stated s (size_of bytes)) (drop 8 bytes)
+
 -- this length, or that of all bytes that are there, if they are fewer and the samples may go on to the end
 abbrev pub within : (to_end : Bool) (size room : ℕ) → ℕ
 within to_end size room = cond to_end (min size room) size
 
 -- how many bytes the samples have; `bytes` begins with the header of their chunk
 abbrev pub data_len : Seen → (bytes : List ℕ) → ℕ
-data_len s bytes = within s.to_end (unwrap_or (stated s (size_of bytes)) (length bytes - 8)) (length bytes - 8)
+data_len s bytes = within s.to_end (unwrap_or (data_size s bytes) (length bytes - 8)) (length bytes - 8)
 
 -- why these are no samples of a format
 unfoldable pub samples_fault : WaveFormat → (size room : ℕ) → Option WaveWhy
@@ -92,7 +118,10 @@ samples_fault format size room =
 
 -- why these are no samples
 unfoldable pub data_fault : Seen → (bytes : List ℕ) → Option WaveWhy
-data_fault s bytes = elim s.format [ None ↦ Some why.NoFormat | Some format ↦ samples_fault format (data_len s bytes) (length bytes - 8) ]
+data_fault s bytes = elim s.format [
+  | None ↦ Some why.NoFormat
+  | Some format ↦ cond (is_unstated (data_size s bytes) (drop 8 bytes)) (Some why.DataUnstated) (samples_fault format (data_len s bytes) (length bytes - 8))
+]
 
 -- ---- the next chunk
 

@@ -1,7 +1,7 @@
 -- What comes before the samples of a WAV file, for reading it part by part: how many bytes the samples have is judged when
 -- they have come.
 use Rattle.std.specs.Prelude.{◌≡◌, ◌≤◌, ℕ, ◌%◌, ◌&&◌, Bool, true, not, cond, nat_eq, List, [], ◌∷◌, ◌++◌, length, map, take, drop, Option, Some, None}
-use Rattle.flac_wave.specs.Chunks.{Leads, header_fault, seen_first, is_data, size_of, stated}
+use Rattle.flac_wave.specs.Chunks.{Leads, header_fault, seen_first, is_data, size_of, stated, is_unstated}
 use Rattle.flac_wave.specs.Format.{IsInRange, row_of}
 use Rattle.flac_wave.specs.Parts.{given, is_cut}
 use Rattle.flac_wave.specs.declared.seen.Seen.{Seen}
@@ -39,3 +39,8 @@ front_fault to_end cut whole = cond (cut && not to_end) (Some why.DataCut) (cond
 -- the samples that came of the rest are a whole number of inter-channel samples
 abbrev pub are_whole : WaveFormat → Option ℕ → List ℕ → Bool
 are_whole format size rest = nat_eq (length (given size rest) % row_of format) 0
+
+-- why the bytes after the header are no samples of this size, if they are none
+abbrev pub rest_fault : (to_end : Bool) → WaveFormat → (size : Option ℕ) → (rest : List ℕ) → Option WaveWhy
+rest_fault to_end format size rest =
+    cond (is_unstated size rest) (Some why.DataUnstated) (front_fault to_end (is_cut size rest) (are_whole format size rest))

@@ -15,6 +15,7 @@ number_of why.FormatFields = 67
 number_of why.NoData = 68
 number_of why.DataCut = 69
 number_of why.PartSample = 70
+number_of why.DataUnstated = 92
 
 -- the number and the name
 abbrev pub text_of : WaveWhy → List ℕ
@@ -29,3 +30,4 @@ text_of why.FormatFields = codes "67 FormatFields"
 text_of why.NoData = codes "68 NoData"
 text_of why.DataCut = codes "69 DataCut"
 text_of why.PartSample = codes "70 PartSample"
+text_of why.DataUnstated = codes "92 DataUnstated"

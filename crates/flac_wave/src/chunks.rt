@@ -1,10 +1,11 @@
 //! The chunks of a WAV file.
 
-ghost use Rattle.std.specs.Prelude.{◌≡◌, ◌≤◌, ◌<◌, ◌+◌, ◌-◌, ◌%◌, length, None, Some, IfOk, IfErr, OnOk};
-ghost use Rattle.flac_wave.specs.Chunks.{id_of, is_data, is_format, is_long_sizes, size_of, chunk_len, header_fault, seen_first, after_chunk, format_after, stated, data_len, samples_fault, data_fault, content_fault, chunk_fault, most_kept};
+ghost use Rattle.std.specs.Prelude.{◌≡◌, ◌≤◌, ◌<◌, ◌+◌, ◌-◌, ◌%◌, length, None, Some, is_none, IfOk, IfErr, OnOk};
+ghost use Rattle.flac_wave.specs.Chunks.{id_of, is_data, is_format, is_long_sizes, size_of, chunk_len, header_fault, seen_first, after_chunk, format_after, stated, data_size, data_len, samples_fault, data_fault, content_fault, chunk_fault, most_kept};
 
 use crate::format::{WaveFormat, format_at, long_at};
 use crate::seen::Seen;
+use crate::unstated::{is_unstated, size_in};
 use crate::why::WaveWhy;
 use byteorder::{ByteOrder, LittleEndian};
 
@@ -77,6 +78,13 @@ pub(crate) fn header_fault(bytes: &[u8]) -> Option<WaveWhy>
     Some(WaveWhy::NotWave)
 }
 
+/// Whether bytes begin as a WAV file does: with `RIFF`, `RF64` or `BW64`, a length and `WAVE`.
+pub fn begins_wave(bytes: &[u8]) -> bool
+    ensures { result ≡ is_none (header_fault bytes.now) }
+{
+    header_fault(bytes).is_none()
+}
+
 /// How many bytes the samples have, or `None` if they go to the end of the file.
 #[tactic(auto, unfolding(crate::specs::Chunks::stated))]
 pub(crate) fn stated(seen: &Seen, size: u32) -> Option<u64>
@@ -91,13 +99,21 @@ pub(crate) fn stated(seen: &Seen, size: u32) -> Option<u64>
     Some(u64::from(size))
 }
 
+/// How many bytes the samples have that follow this header, or `None` if they go to the end of the file.
+fn data_size(seen: &Seen, bytes: &[u8]) -> Option<u64>
+    requires { 8 ≤ length bytes.now }
+    ensures { result ≡ data_size seen.now bytes.now }
+{
+    size_in(seen.to_end, stated(seen, long_at(bytes, 4)), &bytes[8..])
+}
+
 /// How many bytes the samples have.
 pub(crate) fn data_len(seen: &Seen, bytes: &[u8]) -> u64
     requires { 8 ≤ length bytes.now }
     ensures { result ≡ data_len seen.now bytes.now }
 {
     let room = (bytes.len() - 8) as u64;
-    let size = stated(seen, long_at(bytes, 4)).unwrap_or(room);
+    let size = data_size(seen, bytes).unwrap_or(room);
     if seen.to_end {
         return size.min(room);
     }
@@ -157,6 +173,9 @@ impl Seen {
         let Some(format) = self.format else {
             return Err(WaveWhy::NoFormat);
         };
+        if is_unstated(data_size(self, bytes), &bytes[8..]) {
+            return Err(WaveWhy::DataUnstated);
+        }
         match samples_fault(format, data_len(self, bytes), (bytes.len() - 8) as u64) {
             None => Ok(format),
             Some(why) => Err(why),

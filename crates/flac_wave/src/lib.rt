@@ -23,9 +23,11 @@ mod seen;
 mod shift;
 #[cfg(test)]
 mod tests;
+mod unstated;
 mod waves;
 mod why;
 
+pub use chunks::begins_wave;
 pub use cuts::{cut, cut_after};
 pub use format::WaveFormat;
 pub use front::{WaveFront, front_fault, read_front};
@@ -34,5 +36,6 @@ pub use limited::Limited;
 pub use plain::plain_pieces;
 pub use reading::{fill, read_all, read_at_most};
 pub use shift::{lower, raise};
+pub use unstated::{is_unstated, size_in};
 pub use waves::{Wave, WaveError, WaveFault, wave_of};
 pub use why::WaveWhy;

@@ -4,8 +4,8 @@ ghost use Rattle.std.specs.Prelude.{◌<◌, ◌≤◌};
 ghost use Rattle.flac_wave.specs.Plain.{CanBeWritten};
 
 use crate::{
-    Limited, WaveError, WaveFault, WaveFormat, WaveWhy, cut, cut_after, front_fault, lower,
-    plain_pieces, raise, read_all, read_at_most, read_front, wave_of,
+    Limited, WaveError, WaveFault, WaveFormat, WaveWhy, begins_wave, cut, cut_after, front_fault,
+    is_unstated, lower, plain_pieces, raise, read_all, read_at_most, read_front, size_in, wave_of,
 };
 use flac_bits::{Memory, Pieces};
 use std::alloc::Global;
@@ -43,6 +43,9 @@ fn files_are_taken_apart(rt: HostRuntime) -> Result<(), Fail> {
     let front = joined(rt.alloc(), wave.pieces.as_slice())?;
     assert!(rt; wave.format == FORMAT && wave.format.row() == 4);
     assert!(rt; wave.pieces.len() == 3 && front.as_slice() == &STEREO[..44]);
+    assert!(rt;
+        begins_wave(&STEREO[..12]) && !begins_wave(&STEREO[..11]) && !begins_wave(&STEREO[12..])
+    );
     assert!(rt; wave.samples == &STEREO[44..] && wave.back.is_empty());
     Ok(())
 }
@@ -175,6 +178,65 @@ fn what_is_no_file_is_refused(rt: HostRuntime) -> Result<(), Fail> {
     assert!(rt; WaveWhy::Coding.number() == 66 && WaveWhy::Coding.as_str() == "66 Coding");
     file[0] = b'r';
     assert!(rt; is_refused(alloc, &file, None, WaveWhy::NotWave));
+    Ok(())
+}
+
+/// What a recorder leaves of [`STEREO`] that ends before its time: the header states 36 bytes after its first 8, and 0
+/// bytes of samples; then comes the rest.
+fn left_over(alloc: Global, rest: &[u8]) -> Result<Vec<u8>, Fail> {
+    let mut file = Vec::from_slice(alloc, &STEREO[..4])?;
+    file.extend_from_slice(&[36, 0, 0, 0])?;
+    file.extend_from_slice(&STEREO[8..40])?;
+    file.extend_from_slice(&[0; 4])?;
+    file.extend_from_slice(rest)?;
+    Ok(file)
+}
+
+/// Whether such a file is refused if its samples may not go to its end, and else has all of the rest as samples.
+fn is_without_length(alloc: Global, rest: &[u8]) -> Result<bool, Fail> {
+    let file = left_over(alloc, rest)?;
+    let refused = is_refused(alloc, file.as_slice(), Some(1), WaveWhy::DataUnstated);
+    let wave = wave_of(alloc, file.as_slice(), true)?;
+    Ok(refused && wave.samples == rest && wave.back.is_empty())
+}
+
+/// Whether such a file has no samples, and all of the rest after them.
+fn has_no_samples(alloc: Global, rest: &[u8], to_end: bool) -> Result<bool, Fail> {
+    let file = left_over(alloc, rest)?;
+    let wave = wave_of(alloc, file.as_slice(), to_end)?;
+    Ok(wave.samples.is_empty() && wave.back == rest)
+}
+
+#[test]
+fn samples_without_a_length(rt: HostRuntime) -> Result<(), Fail> {
+    let alloc = rt.alloc();
+    let chunk = b"LIST\x04\0\0\0INFO";
+    // Samples, silence, an identifier alone, a chunk that is cut.
+    let sound = is_without_length(alloc, &STEREO[44..])?;
+    let silence = is_without_length(alloc, &[0; 64])?;
+    let short = is_without_length(alloc, &chunk[..4])?;
+    let cut = is_without_length(alloc, &chunk[..8])?;
+    assert!(rt; sound && silence && short && cut);
+    assert!(rt; WaveWhy::DataUnstated.number() == 92);
+    assert!(rt; WaveWhy::DataUnstated.as_str() == "92 DataUnstated");
+    Ok(())
+}
+
+#[test]
+fn files_without_samples(rt: HostRuntime) -> Result<(), Fail> {
+    let alloc = rt.alloc();
+    let chunk = b"LIST\x04\0\0\0INFO";
+    for to_end in [false, true] {
+        let none = has_no_samples(alloc, &[], to_end)?;
+        let one = has_no_samples(alloc, chunk, to_end)?;
+        assert!(rt; none && one);
+        assert!(rt; size_in(to_end, Some(0), chunk) == Some(0));
+        assert!(rt; size_in(to_end, Some(8), &[0; 8]) == Some(8));
+    }
+    assert!(rt; is_unstated(Some(0), &chunk[..11]) && !is_unstated(None, &[0; 8]));
+    assert!(rt;
+        size_in(true, Some(0), &[0; 8]) == None && size_in(false, Some(0), &[0; 8]) == Some(0)
+    );
     Ok(())
 }
 

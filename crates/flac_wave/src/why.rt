@@ -28,10 +28,12 @@ pub enum WaveWhy {
     DataCut,
     /// The last inter-channel sample is not whole.
     PartSample,
+    /// The chunk `data` states 0 bytes, and what follows it is no chunk: the writer ended before it stated the length.
+    DataUnstated,
 }
 
 impl WaveWhy {
-    /// The number of the reason, 60 to 70.
+    /// The number of the reason, 60 to 70 or 92.
     pub fn number(self) -> u32
         ensures { result ≡ number_of self }
     {
@@ -47,6 +49,7 @@ impl WaveWhy {
             WaveWhy::NoData => 68,
             WaveWhy::DataCut => 69,
             WaveWhy::PartSample => 70,
+            WaveWhy::DataUnstated => 92,
         }
     }
 
@@ -66,6 +69,7 @@ impl WaveWhy {
             WaveWhy::NoData => "68 NoData",
             WaveWhy::DataCut => "69 DataCut",
             WaveWhy::PartSample => "70 PartSample",
+            WaveWhy::DataUnstated => "92 DataUnstated",
         }
     }
 }

@@ -9,7 +9,7 @@ use Rattle.flac_wave.specs.Shift.{wave_width_of, depth_in, AreBytes as AreSmall}
 use Rattle.flac_wave.specs.Wave.{Parts, IsWave, ArePiecesAfter}
 use Rattle.flac_wave.specs.declared.format.WaveFormat.{WaveFormat}
 use Rattle.flac_wave.specs.Front.{front_fault, are_whole}
-use Rattle.flac_wave.specs.Parts.{is_cut}
+use Rattle.flac_wave.specs.Parts.{given, beyond, is_cut}
 use Rattle.flac_wave.specs.declared.front.WaveFront.{WaveFront}
 use Rattle.flac_wave.specs.declared.waves.WaveError.{WaveError}
 use Rattle.flac_wave.specs.declared.waves.WaveError.TheVariants as error
@@ -48,9 +48,17 @@ pub record IsTaken (to_end : Bool) (bytes : List ℕ) (f : WaveFile) : Type 0 wh
   pub cut : ArePiecesAfter samples back (contents f.after.items)
   pub taken : AreTaken f.format samples f.samples
 
--- why the samples are none that come of these bytes after what comes before them
-abbrev pub samples_fault : (to_end : Bool) → WaveFront → (bytes : List ℕ) → Option WaveWhy
-samples_fault to_end f bytes = front_fault to_end (is_cut f.size bytes) (are_whole f.format f.size bytes)
+-- why the samples of this size are none that come of these bytes after what comes before them
+abbrev pub samples_fault : (to_end : Bool) → WaveFront → (size : Option ℕ) → (bytes : List ℕ) → Option WaveWhy
+samples_fault to_end f size bytes = front_fault to_end (is_cut size bytes) (are_whole f.format size bytes)
+
+-- these bytes are the samples of this size, and what follows them, after what comes before them
+pub record IsPart (to_end : Bool) (f : WaveFront) (size : Option ℕ) (bytes : List ℕ) (file : WaveFile) : Type 0 where
+  pub form : file.format ≡ f.format
+  pub pieces : file.pieces ≡ f.pieces
+  pub good : samples_fault to_end f size bytes ≡ None
+  pub taken : AreTaken f.format (given size bytes) file.samples
+  pub cut : ArePiecesAfter (given size bytes) (beyond size bytes) (contents file.after.items)
 
 -- the fault of the samples, whose chunk comes after `count` others
 abbrev pub fault_after : (count : ℕ) → WaveWhy → WaveError
@@ -62,10 +70,10 @@ IsJudged read count to_end cut (Ok s) = (read ≡ Some s) × (front_fault to_end
 IsJudged read count to_end cut (Err e) = (why : WaveWhy) × (e ≡ fault_after count why) × (front_fault to_end cut (is_some read) ≡ Some why)
 
 -- this error says why the samples are none, unless memory ran out; no source failed
-abbrev pub IsSamplesError : (to_end : Bool) → WaveFront → (bytes : List ℕ) → WaveError → Type 0
-IsSamplesError to_end f bytes error.Memory = Unit {0}
-IsSamplesError to_end f bytes error.Read = ⊥
-IsSamplesError to_end f bytes (error.Fault e) = (e.chunk ≡ Some f.count) × (samples_fault to_end f bytes ≡ Some e.why)
+abbrev pub IsSamplesError : (to_end : Bool) → WaveFront → (size : Option ℕ) → (bytes : List ℕ) → WaveError → Type 0
+IsSamplesError to_end f size bytes error.Memory = Unit {0}
+IsSamplesError to_end f size bytes error.Read = ⊥
+IsSamplesError to_end f size bytes (error.Fault e) = (e.chunk ≡ Some f.count) × (samples_fault to_end f size bytes ≡ Some e.why)
 
 -- These are the samples of any bytes that they are of in this format, or this is why those cannot be encoded.
 abbrev pub MakesRaw : Profile → RawFormat → (channels : List (List ℤ)) → Result Sound SetupFault → Type 0

@@ -5,7 +5,7 @@ use Rattle.flac_meta.specs.declared.block.Block.TheVariants as block_of
 use Rattle.flac_frame.specs.Frame.{Frame}
 use Rattle.flac_native.specs.Item.{Item, metadata, frame}
 use Rattle.flac_native.specs.Samples.{frame_bytes}
-use Rattle.flac_wave.specs.Kept.{bits_after}
+use Rattle.flac_wave.specs.Kept.{bits_after, begins_file}
 use Rattle.flac_wave.specs.Plain.{plain_format}
 use Rattle.flac_wave.specs.Wave.{is_head, all_of, begins_empty}
 use Rattle.flac_cli.specs.Speakers.{mask_in}
@@ -76,13 +76,17 @@ with_samples s n = record { pieces = s.pieces; head = s.head; bits = s.bits; pla
 abbrev pub with_begun : Held → Held
 with_begun s = record { pieces = s.pieces; head = s.head; bits = s.bits; plain = s.plain; cut = s.cut; depth = s.depth; begun = true; odd = s.odd }
 
+-- the pieces so far make a WAV file again
+abbrev pub is_kept : Held → Bool
+is_kept s = nat_lt 0 s.head && (begins_file s.pieces && nat_lt 0 s.bits)
+
 -- why there is no WAV file of samples of this depth, after the pieces so far
 abbrev pub held_fault : Held → Option KeptFault
-held_fault s = piece_fault (nat_lt 0 s.head) s.bits s.depth
+held_fault s = piece_fault (is_kept s) s.bits s.depth
 
 -- how many bytes a sample of the file has
 abbrev pub held_wave_width : Held → ℕ
-held_wave_width s = wave_width_by (nat_lt 0 s.head) s.bits s.depth
+held_wave_width s = wave_width_by (is_kept s) s.bits s.depth
 
 -- samples of this depth have room in n bytes, of which there are 4 at most; none have some
 pub record Holds (wide depth : ℕ) : Type 0 where
@@ -107,13 +111,12 @@ abbrev pub held_after : Held → Item → Held
 held_after s (metadata b) = cond s.begun s (with_block s b)
 held_after s (frame f) = with_frame (writes s) s (length (frame_text s f))
 
--- the pieces before the samples, and after them: of the file that is kept, if the header of its samples came, else of a
--- plain one
+-- the pieces before the samples, and after them: of the file that is kept, if they make one, else of a plain one
 abbrev pub front_pieces : Held → List (List ℕ)
-front_pieces s = cond (nat_lt 0 s.head) (take s.head s.pieces) (take s.cut s.plain.made)
+front_pieces s = cond (is_kept s) (take s.head s.pieces) (take s.cut s.plain.made)
 
 abbrev pub back_pieces : Held → List (List ℕ)
-back_pieces s = cond (nat_lt 0 s.head) (drop s.head s.pieces) (drop s.cut s.plain.made)
+back_pieces s = cond (is_kept s) (drop s.head s.pieces) (drop s.cut s.plain.made)
 
 -- those before the samples, if no samples came
 abbrev pub front_left : Held → List ℕ

@@ -9,7 +9,7 @@ pub returns-in-Ok-clause-left : goal.returns-in-Ok-clause-left
 returns-in-Ok-clause-left g c =
     let P = c.new-part.result in
     let Q = c.read_samples-read.new.source in
-    let size = c.args.front.now.size in
+    let size = c.args.size in
     let old = g.R.Source.coming P.source.now in
     let new = g.R.Source.coming Q.source.now in
     let read = c.in-Ok.ensures.read in
@@ -25,6 +25,7 @@ returns-in-Ok-clause-fault g c =
     let P = c.new-part.result in
     let Q = c.read_samples-read.new.source in
     let front = c.args.front.now in
+    let size = c.args.size in
     let bytes = g.R.Source.coming c.args.source.now in
     let old = g.R.Source.coming P.source.now in
     let new = g.R.Source.coming Q.source.now in
@@ -33,8 +34,8 @@ returns-in-Ok-clause-fault g c =
     let told = λ (known : g.R.Source.known c.args.source.now ≡ true). known_part (g.R.Source.known P.source.now) P.failed (ap g.R.Source.known here ∙ known) c.new-part.ensures.whole in
     let cut = λ (known : g.R.Source.known c.args.source.now ≡ true).
     let k = part_read P.left Q.left old new (read.end (told known)) (read.after (told known)) in
-    c.is_cut-cut.ensures ∙ (k.cut ∙ (ap (λ l. is_cut l old) c.new-part.ensures.size ∙ ap (λ s. is_cut front.size (g.R.Source.coming s)) here)) in
+    c.is_cut-cut.ensures ∙ (k.cut ∙ (ap (λ l. is_cut l old) c.new-part.ensures.size ∙ ap (λ s. is_cut size (g.R.Source.coming s)) here)) in
     let whole = λ (known : g.R.Source.known c.args.source.now ≡ true).
     whole_by c.in-Ok.samples front.format (given P.left old) ((g.R.Source.known P.source.now && not P.failed) ≡ true) c.in-Ok.ensures.taken c.in-Ok.ensures.part (told known)
-    ∙ (ap (λ l. are_whole front.format l old) c.new-part.ensures.size ∙ ap (λ s. are_whole front.format front.size (g.R.Source.coming s)) here) in
-    fault_by c.judged.result c.in-Ok.samples front c.args.to_end c.is_cut-cut.result bytes (g.R.Source.known c.args.source.now ≡ true) _ c.judged.ensures cut whole
+    ∙ (ap (λ l. are_whole front.format l old) c.new-part.ensures.size ∙ ap (λ s. are_whole front.format size (g.R.Source.coming s)) here) in
+    fault_by c.judged.result c.in-Ok.samples front size c.args.to_end c.is_cut-cut.result bytes (g.R.Source.known c.args.source.now ≡ true) _ c.judged.ensures cut whole
