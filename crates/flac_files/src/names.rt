@@ -1,9 +1,17 @@
 //! What the names of files say of them.
 
 ghost use Rattle.std.specs.Prelude.{◌≡◌};
+ghost use Rattle.std.specs.Str.{str_eq_ignore_ascii_case};
 ghost use Rattle.flac_files.specs.Names.{ends_so, is_misnamed, names_native, names_ogg, names_wave};
 
 use flac_jobs::Job;
+
+/// Whether two texts are the same, in any case.
+fn is_same(one: &[u8], other: &[u8]) -> bool
+    ensures { result ≡ str_eq_ignore_ascii_case one.now other.now }
+{
+    one.eq_ignore_ascii_case(other)
+}
 
 /// Whether a path ends so, in any case.
 fn ends_with(path: &str, ending: &str) -> bool
@@ -11,7 +19,7 @@ fn ends_with(path: &str, ending: &str) -> bool
 {
     let path = path.as_bytes();
     let ending = ending.as_bytes();
-    path.len() >= ending.len() && path[path.len() - ending.len()..].eq_ignore_ascii_case(ending)
+    path.len() >= ending.len() && is_same(&path[path.len() - ending.len()..], ending)
 }
 
 /// Whether a path ends as that of a native stream.
