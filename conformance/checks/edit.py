@@ -415,8 +415,8 @@ def fixed(folder, info, frames):
     for word in ("0", "streaminfo", "STREAMINFO", "", "pic", "application:", "application:abcde", "application:0x1234", "type_0",
                  "type_6", "type_127", "picture:3", "-1", "4294967296"):
         expect(run("edit", f"--remove-block={word}", path), (2, b"", name))
-    for word in ("21:cover.png", "4294967295:x"):
-        expect(run("edit", "--picture", word, path), (2, b"", b"flac: command: --picture takes [TYPE:]FILE, the type 0 to 20\n"))
+    for word in ("21:cover.png", "4294967295:x", "3:image/png:64x64:cover.png", "3:image/png:64x64x/2:cover.png"):
+        expect(run("edit", "--picture", word, path), (2, b"", b"flac: command: --picture takes [TYPE:]FILE or TYPE:MEDIA:WIDTHxHEIGHTxDEPTH:FILE, the type 0 to 20\n"))
     expect(run("edit", path), (2, b"", b"flac: command: edit needs --remove-block, --picture, --cuesheet or --padding\n"))
     expect(run("edit", "--padding", "1")[0], 2)
     expect(run("edit", "--padding", "x", path)[0], 2)

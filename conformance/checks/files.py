@@ -57,12 +57,13 @@ def source_of(place, words):
     return read(names["OUT"])
 
 
-def kept(place, words, old, source=None, name="out", before=(), **more):
+def kept(place, words, old, source=None, name="out", before=(), reason=None, **more):
     """OUT is not replaced: it and IN have their bytes, and no other file is there."""
     names = {"IN": place.put("in", source_of(place, words) if source is None else source), "OUT": place.put(name, old)}
     given, found = read(names["IN"]), set(os.listdir(place.folder))
-    more_of_it = ": it may be another song, which --force replaces" if words[0] in ("recode", "salvage") else ""
-    place.refused(words, names, f"{names['OUT']}: cannot be created{more_of_it}", before, **more)
+    if words[0] in ("recode", "salvage"):
+        reason = "it may be another song, which --force replaces"
+    place.refused(words, names, f"{names['OUT']}: cannot be created{': ' + reason if reason else ''}", before, **more)
     expect((read(names["IN"]), read(names["OUT"]), set(os.listdir(place.folder))), (given, old, found))
 
 
@@ -97,7 +98,7 @@ def kind_cases():
     yield "decode: OUT is a WAV file by its name", lambda p: replaced(p, DECODE, WAVE + b"\0", source_of(p, DECODE_WAVE), "out.wav", WAVE)
     yield "decode: OUT is a stream, its name that of a WAV file", lambda p: kept(p, DECODE, NATIVE, source_of(p, DECODE_WAVE), "out.wav")
     yield "decode: OUT is not to be read", lambda p: not_to_be_read(p)
-    yield "decode *.flac: the second song stays", lambda p: kept(p, DECODE, NATIVE + b"\0", name="second.flac")
+    yield "decode *.flac: the second song stays", lambda p: kept(p, DECODE, NATIVE + b"\0", name="second.flac", reason="flac recode writes streams")
     yield "encode *.wav: the second song stays", lambda p: kept(p, ["encode", "IN", "OUT"], WAVE + b"\0", name="second.wav")
     yield "standard output is added to, whatever it is", lambda p: added(p)
 
@@ -218,10 +219,10 @@ def given(place, source, how):
 
 
 def not_raw(place, words, source, how):
-    """Refused, and nothing is written: a new OUT is empty, one with bytes stays."""
+    """Refused, and nothing is written: a new OUT is not there, one with bytes stays."""
     path, more = given(place, source, how)
     place.refused(words, {"IN": path, "OUT": place.path("out")}, f"{path}: 56 NotRaw", **more)
-    expect(read(place.path("out")), b"")
+    expect(os.path.exists(place.path("out")), False)
     place.refused(words, {"IN": path, "OUT": place.put("out", BEFORE)}, f"{path}: 56 NotRaw", **more)
     expect((read(place.path("out")), os.path.exists(place.path("out.part"))), (BEFORE, False))
 
@@ -321,6 +322,7 @@ def whole_cases(library):
             yield f"{name}: OUT is {what}, and cannot be stored", lambda p, w=words, o=old: not_stored_whole(p, library, w, o)
         yield f"{name}: OUT is a link that leads nowhere", lambda p, w=words: through_link(p, w)
         yield f"{name}: OUT.part is taken", lambda p, w=words: part_taken(p, w)
+        yield f"{name}: another program makes OUT meanwhile", lambda p, w=words: came_meanwhile(p, w)
         yield f"{name}: a folder that is not there", lambda p, w=words: no_folder(p, w)
         yield f"{name}: a folder without rights", lambda p, w=words: no_rights(p, w)
         for mask in (0, 0o22, 0o77):
@@ -329,6 +331,102 @@ def whole_cases(library):
             yield f"{name}: a new OUT with a name of {length} bytes", lambda p, w=words, n=length: made_whole(p, w, None, "a" * n)
         yield f"{name}: OUT is a device", lambda p, w=words: expect(p.call(w, {"IN": p.put("in", NATIVE), "OUT": "/dev/null"}), (0, b"", ""))
         yield f"{name}: OUT is -", lambda p, w=words: expect(p.call(w, {"IN": p.put("in", NATIVE), "OUT": "-"})[::2], (0, ""))
+
+
+def came_meanwhile(place, words):
+    """While the job writes, another program makes a file of the name OUT: that stays, and nothing is beside it."""
+    names, part = {"IN": "-", "OUT": place.path("out")}, place.path("out.part")
+    called = [place.binary, *(names.get(word, word) for word in words)]
+    with subprocess.Popen(called, stdin=subprocess.PIPE, stdout=subprocess.DEVNULL, stderr=subprocess.PIPE) as job:
+        job.stdin.write(NATIVE[:8])
+        job.stdin.flush()
+        ends = time.time() + 20
+        while not os.path.exists(part) and time.time() < ends:
+            time.sleep(0.01)
+        place.put("out", BEFORE)
+        job.stdin.write(NATIVE[8:])
+        job.stdin.close()
+        line = f"flac: {names['OUT']}: cannot be stored: another program made a file of that name meanwhile\n"
+        expect((job.wait(60), job.stderr.read().decode()), (1, line))
+    expect((read(names["OUT"]), os.listdir(place.folder)), (BEFORE, ["out"]))
+
+
+NOTHING = [("decode", DECODE, b"no stream", "marker: 4 BadMarker"), ("decode --wav", DECODE_WAVE, b"", "marker: 3 Truncated"),
+           ("decode --from", ["decode", "IN", "OUT", "--from", "1"], b"no stream", "marker: 4 BadMarker"),
+           ("decode of its first frame", DECODE, NATIVE[:60], None), ("retag", RETAG, OGG, "marker: 4 BadMarker"),
+           ("encode", ["encode", "IN", "OUT", *ENCODE], b"odd", "48 RawLength"), ("encode of a WAV file", ["encode", "IN", "OUT"], b"no WAV file", None),
+           ("encode of a WAV file that is cut", ["encode", "IN", "OUT"], WAVE[:-1], "69 DataCut"), ("encode --ogg", ["encode", "IN", "OUT", "--ogg"], b"", None)]
+"""Jobs that are refused before anything is written."""
+
+
+def nothing_cases():
+    """Of a job that wrote nothing no new OUT stays; a file that was there stays, and so does a link, whatever it leads to."""
+    for name, words, source, line in NOTHING:
+        yield f"{name}: nothing is written to a new OUT", lambda p, w=words, s=source, t=line: not_made(p, w, s, t, None)
+        yield f"{name}: nothing is written to an empty OUT", lambda p, w=words, s=source, t=line: not_made(p, w, s, t, b"")
+        yield f"{name}: nothing is written to a link to an empty file", lambda p, w=words, s=source: link_stays(p, w, s)
+        yield f"{name}: nothing is written to a pipe", lambda p, w=words, s=source: pipe_stays(p, w, s)
+    yield "decode: what was written to a new OUT stays", lambda p: part_stays(p)
+
+
+def link_stays(place, words, source):
+    names = {"IN": place.put("in", source), "OUT": place.path("out")}
+    os.symlink(place.put("target", b""), names["OUT"])
+    expect(place.call(words, names)[:2], (1, b""))
+    expect((os.path.islink(names["OUT"]), read(names["OUT"]), set(os.listdir(place.folder))), (True, b"", {"in", "out", "target"}))
+
+
+def pipe_stays(place, words, source):
+    names = {"IN": place.put("in", source), "OUT": place.path("out")}
+    os.mkfifo(names["OUT"])
+    with subprocess.Popen(["cat", names["OUT"]], stdout=subprocess.PIPE) as reader:
+        expect(place.call(words, names)[:2], (1, b""))
+        expect(reader.communicate(timeout=60)[0], b"")
+    expect(set(os.listdir(place.folder)), {"in", "out"})
+
+
+def part_stays(place):
+    names, due = {"IN": place.put("in", NATIVE + b"\0"), "OUT": place.path("out")}, due_of(place, DECODE, NATIVE)
+    expect(place.call(DECODE, names)[:2], (1, b""))
+    expect(read(names["OUT"]), due)
+
+
+STREAM_NAMES, WAVE_NAMES = ("a.flac", "a.FLAC", "a.fla", "a.oga", "a.Ogg", ".flac"), ("a.wav", "a.WAV", ".wav")
+NO_STREAM, NO_WAVE = "flac recode writes streams", "flac decode writes WAV files"
+MISNAMED = [("decode", DECODE, STREAM_NAMES, NO_STREAM, "samples"), ("decode --wav", DECODE_WAVE, STREAM_NAMES, NO_STREAM, "samples"),
+            ("decode --from", ["decode", "IN", "OUT", "--from", "1"], STREAM_NAMES, NO_STREAM, "samples"),
+            ("recode", ["recode", "IN", "OUT"], WAVE_NAMES, NO_WAVE, "a stream"), ("salvage", ["salvage", "IN", "OUT"], WAVE_NAMES, NO_WAVE, "a stream")]
+"""Jobs, names of OUT that say something else than what they write, what writes it, and what they write."""
+
+
+def name_cases():
+    """A job writes no file whose name is that of something else; with --force it does."""
+    for name, words, outs, line, what in MISNAMED:
+        for out in outs:
+            yield f"{name}: OUT is {out}", lambda p, w=words, o=out, t=line, x=what: misnamed(p, w, o, t, x)
+        for out in ("flac", "a.flacc", "wav", "a.wave", "a.flac.raw", "a.wav.bin"):
+            yield f"{name}: OUT is {out}, no such name", lambda p, w=words, o=out: well_named(p, w, o)
+    yield "export: OUT has the name of a stream", lambda p: well_named(p, EXPORT, "a.flac")
+    yield "encode: OUT has the name of a WAV file", lambda p: well_named(p, ["encode", "IN", "OUT", *ENCODE], "a.wav", RAW)
+    yield "retag: OUT has the name of a WAV file", lambda p: well_named(p, RETAG, "a.wav")
+
+
+def misnamed(place, words, out, line, what):
+    names = {"IN": place.put("in", NATIVE), "OUT": place.path(out)}
+    place.refused(words, names, f"{names['OUT']}: cannot be created: {line}; --force writes {what} all the same")
+    expect(os.listdir(place.folder), ["in"])
+    for old in (b"", BEFORE, NATIVE):
+        place.put(out, old)
+        place.refused(words, names, f"{names['OUT']}: cannot be created: {line}")
+        expect((read(names["OUT"]), set(os.listdir(place.folder))), (old, {"in", out}))
+    os.remove(names["OUT"])
+    well_named(place, [*words, "--force"], out)
+
+
+def well_named(place, words, out, source=NATIVE):
+    names = {"IN": place.put("in", source), "OUT": place.path(out)}
+    expect(place.call(words, names), (0, b"", ""))
+    expect((os.path.getsize(names["OUT"]) > 0, set(os.listdir(place.folder))), (True, {"in", out}))
 
 
 def held_file(place, words, source, later, begun):
@@ -542,7 +640,8 @@ def main():
         os.chmod(folder, 0o755)
         binary, library = shutil.copy(program.BINARY, os.path.join(folder, "flac")), os.path.join(folder, "failing.so")
         subprocess.run(["cc", "-O1", "-shared", "-fPIC", "-o", library, os.path.join(HERE, "failing.c")], check=True)
-        groups = (kind_cases(), retag_cases(), forced_cases(), raw_cases(), word_cases(), long_name_cases(), whole_cases(library), held_cases(), recoded_cases(), stored_cases(library))
+        groups = (kind_cases(), retag_cases(), forced_cases(), raw_cases(), word_cases(), long_name_cases(), whole_cases(library), held_cases(), recoded_cases(), nothing_cases(), name_cases(),
+                  stored_cases(library))
         every = [case for group in groups for case in group if words.only in case[0]]
         found = list(pool.map(lambda case: devices.outcome(case, folder, binary), every))
     for _, line in found:

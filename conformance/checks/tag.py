@@ -326,8 +326,11 @@ def fixed(folder, info, frames):
     for words in (["--set", "TITLE"], ["--add", ""]):
         expect(run("tag", *words, path), (2, b"", b"flac: command: comment without =\n"))
     expect(read(path), roomy)
-    for words in ([], ["-v"], ["--in-place"], ["--padding", "100"]):
+    for words in ([], ["-v"], ["--in-place"], ["--padding", "8192"]):
         expect(run("tag", *words, path), (2, b"", b"flac: command: tag needs --clear, --from, --remove, --set, --add or --rewrite\n"))
+    expect(run("tag", "--padding", "100", path), (2, b"", b"flac: command: to set the padding alone: flac edit --padding N FILE\n"))
+    for words in (["TITLE=x", path], [path, "TITLE=x"], ["--in-place", "A=b/c", path]):
+        expect(run("tag", *words), (2, b"", b"flac: command: to set a comment: flac tag --set NAME=VALUE FILE\n"))
 
     # lines
     back, lines = put("back.flac", roomy), os.path.join(folder, "back.txt")

@@ -254,7 +254,7 @@ def check_many(folder, count):
 
 
 def check_resumed(folder, count):
-    """Runs that are killed after some lines, and resumed: the report has each file once, the good ones of before first."""
+    """Runs that are killed after some lines, and resumed: the report has each file once, the good ones of before first. Then over other folders."""
     again = os.path.join(folder, "again")
     os.makedirs(again)
     many = make_many(again, count, 6)
@@ -275,13 +275,49 @@ def check_resumed(folder, count):
         cut = begun + whole[len(begun):len(begun) + 40]  # as if the last line was cut
         with open(report, "wb") as file:
             file.write(cut)
-        kept = [line for line in cut.splitlines(True) if line.endswith(b"\n") and b'","status":"ok",' in line]
+        kept = [line for line in cut.splitlines(True) if line.endswith(b"\n") and is_good(line)]
         rest = [(path, data) for path, data in files if lines[path] not in kept]
         compare(["--resume", report, many], due_of(rest))
         expect(read(report), b"".join(kept) + report_of(rest))
         expect(sorted(read(report).splitlines(True)), sorted(whole.splitlines(True)))
-        bad = [(path, data) for path, data in files if b'","status":"ok",' not in lines[path]]
+        bad = [(path, data) for path, data in files if not is_good(lines[path])]
         compare(["--resume", report, many], due_of(bad))
+        check_resumed_in_part(report, many, files, lines)
+
+
+def check_resumed_in_part(report, many, files, lines):
+    """A report of all is resumed over a part of the folders, and over none: each file has its line still, once."""
+    empty = os.path.join(many, b"zz empty")
+    os.makedirs(empty, exist_ok=True)
+    compare(["--resume", report, empty], due_of([]))
+    expect(sorted(read(report).splitlines(True)), sorted(lines.values()))
+    before = read(report).splitlines(True)
+    for number in (0, 7, 20):
+        place = os.path.join(many, sorted(os.listdir(many))[number])
+        met = [(path, data) for path, data in files if path.startswith(place + b"/") and not is_good(lines[path])]
+        compare(["--resume", report, place], due_of(met))
+        again = [lines[path] for path, _ in met]
+        before = [line for line in before if line not in again] + again
+        expect(read(report), b"".join(before))
+    # a run that is killed takes no line away
+    run = subprocess.Popen([program.PROGRAM, "verify", "--resume", report, many], stdout=subprocess.DEVNULL, stderr=subprocess.DEVNULL)
+    while run.poll() is None and read(report).count(b"\n") == len(before):
+        time.sleep(0.0005)
+    run.send_signal(signal.SIGKILL)
+    run.wait()
+    expect(set(lines.values()) - set(read(report).splitlines(True)), set())
+    compare(["--resume", report, many], due_of([(path, data) for path, data in files if not is_good(lines[path])]))
+    before = read(report).splitlines(True)
+    expect(sorted(before), sorted(lines.values()))
+    # a file that comes twice has one line
+    path, data = next(it for it in files if it[1] is not None and not is_good(lines[it[0]]))
+    compare(["--resume", report, path, path], due_of([(path, data)] * 2))
+    expect(read(report), b"".join([line for line in before if line != lines[path]] + [lines[path]]))
+
+
+def is_good(line):
+    """Whether a line of a report has its file as good."""
+    return b'","status":"ok",' in line
 
 
 def word_of_change(old, path, data):
@@ -443,6 +479,29 @@ def check_unlooked(folder, good):
         due = due_of([(os.path.join(music, name), None) for name in (b"b.flac", b"one", b"two")])
         found = subprocess.run([program.PROGRAM, "verify", music], capture_output=True, timeout=60, check=False, user=65534, group=65534, extra_groups=[])
         expect((found.returncode, found.stdout, found.stderr), due)
+
+
+def check_unshortened(good):
+    """A resumed report in a folder without rights, which cannot be replaced: it keeps all lines, until it can be."""
+    if os.getuid() != 0:
+        print("verify: not root: no other user is asked")
+        return
+    with tempfile.TemporaryDirectory(prefix="flac-unshortened-") as place:
+        os.chmod(place, 0o755)
+        bad, report = (os.path.join(place.encode(), name) for name in (b"bad.flac", b"r.jsonl"))
+        data = read(good)[:500]
+        for path, text in ((bad, data), (report, b"")):
+            with open(path, "wb") as file:
+                file.write(text)
+            os.chmod(path, 0o666)
+        line, due = entry_of(bad, data), due_of([(bad, data)])
+        compare(["--resume", report, bad], due)
+        expect(read(report), line)
+        found = subprocess.run([program.PROGRAM, "verify", "--resume", report, bad], capture_output=True, timeout=60, check=False, user=65534, group=65534, extra_groups=[])
+        expect((found.returncode, found.stdout, found.stderr), (1, due[1], due[2] + b"flac: " + report + b": cannot be replaced\n"))
+        expect(read(report), 2 * line)
+        compare(["--resume", report, bad], due)
+        expect(read(report), line)
 
 
 def check_failing_reports(folder, good):
@@ -698,6 +757,7 @@ def tries(folder, count):
     yield "reports that fail", lambda: check_failing_reports(folder, good)
     yield "reports that are written", lambda: check_held_reports(folder, good)
     yield "a folder that cannot be searched", lambda: check_unlooked(folder, good)
+    yield "a report that cannot be replaced", lambda: check_unshortened(good)
     yield "standard input", lambda: check_standard_input(folder, good)
 
 

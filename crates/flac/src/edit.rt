@@ -1,5 +1,6 @@
 //! `flac edit`: edits the metadata blocks of files.
 
+use crate::edited::tell_edited;
 use flac_bits::Counted;
 use flac_cli::{EditPaths, edit_changes, edit_file, picture_of, removals_of};
 use flac_edit::{BlockEdits, Removal};
@@ -109,21 +110,7 @@ fn edit_one(rt: &HostRuntime, editing: &Editing<'_>, path: &str, edits: &BlockEd
         Ok(file) => edit_opened(rt, editing, path, &file, edits),
         Err(refused) => Err(refused),
     };
-    match done {
-        Ok(Some(word)) if editing.verbose => print_done(rt, path, word),
-        Ok(Some(_)) => 0,
-        Ok(None) => 1,
-        Err(refused) => refused.tell(rt),
-    }
-}
-
-/// Prints what became of a file. Returns the status.
-fn print_done(rt: &HostRuntime, path: &str, word: &str) -> u8 {
-    if println!(rt; "{path}: {word}").is_err() {
-        let _ = eprintln!(rt; "flac: {path}: 39 Write");
-        return 1;
-    }
-    0
+    tell_edited(rt, path, editing.verbose, done)
 }
 
 /// Edits the blocks of a file that was opened, if the edits change them. Returns what became of it; `None` if it is refused,

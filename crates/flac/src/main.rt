@@ -3,6 +3,7 @@
 
 mod between;
 mod edit;
+mod edited;
 mod excerpt;
 mod export;
 mod list;

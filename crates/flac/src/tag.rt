@@ -1,5 +1,6 @@
 //! `flac tag`: edits the comments of files.
 
+use crate::edited::tell_edited;
 use flac_bits::Counted;
 use flac_cli::{edits_of, refuse_lines, refuse_room, rewrite_file, tag_file};
 use flac_edit::{Edit, Tagged, comments_of_lines};
@@ -52,21 +53,7 @@ fn tag_one(rt: &HostRuntime, tagging: &Tagging<'_>, path: &str, edits: &[Edit<'_
         Ok(file) => tag_opened(rt, tagging, path, &file, edits),
         Err(refused) => Err(refused),
     };
-    match done {
-        Ok(Some(word)) if tagging.verbose => print_done(rt, path, word),
-        Ok(Some(_)) => 0,
-        Ok(None) => 1,
-        Err(refused) => refused.tell(rt),
-    }
-}
-
-/// Prints what became of a file. Returns the status.
-fn print_done(rt: &HostRuntime, path: &str, word: &str) -> u8 {
-    if println!(rt; "{path}: {word}").is_err() {
-        let _ = eprintln!(rt; "flac: {path}: 39 Write");
-        return 1;
-    }
-    0
+    tell_edited(rt, path, tagging.verbose, done)
 }
 
 /// Edits the comments of a file that was opened. Returns what became of it; `None` if it is refused, and its line was

@@ -66,7 +66,7 @@ fn verify_into(
         let _ = eprintln!(rt; "flac: {path}: 39 Write");
         return 1;
     }
-    match end_report(verification, lines.into_inner()) {
+    match end_report(rt, verification, lines.into_inner()) {
         Ok(()) => status,
         Err(refused) => refused.tell(rt),
     }

@@ -1,3 +1,4 @@
 pub mod JobFiles
+pub mod Names
 pub mod Replacing
 pub mod Unknown

@@ -2,13 +2,13 @@
 
 ghost use Rattle.std.specs.Prelude.{◌≤◌, length, IfOk};
 
+use crate::replacement::{Before, Place, create_beside, create_for, is_vacant};
 use crate::replacing::{FRONT, begins_native, may_replace, may_replace_recoded};
 use flac_jobs::Job;
 use std::fs::{File, Metadata, OpenOptions, TryLockError};
 use std::io;
 use std::io::{ErrorKind, Read, Stdin, Stdout, Write};
-use std::os::unix::fs::{FileExt, MetadataExt, OpenOptionsExt};
-use std::path::PathBuf;
+use std::os::unix::fs::{FileExt, MetadataExt};
 
 /// The path that stands for standard input and standard output.
 const STANDARD: &str = "-";
@@ -18,9 +18,6 @@ const STANDARD_INPUT: &str = "/dev/stdin";
 
 /// The path that the system has for standard output.
 const STANDARD_OUTPUT: &str = "/dev/stdout";
-
-/// The most bytes of a file's name.
-const MOST_OF_NAME: usize = 255;
 
 /// What a job reads.
 #[derive(Drop)]
@@ -82,7 +79,7 @@ impl Output {
     ///
     /// # Errors
     /// That of the system; some file systems report only now that a write failed.
-    fn store(&self) -> io::Result<()> {
+    pub(crate) fn store(&self) -> io::Result<()> {
         match self {
             Output::File(file) => file.sync_all(),
             _ => Ok(()),
@@ -116,87 +113,6 @@ impl Write for Output {
             Output::Standard(out) => out.flush(),
             Output::None => Ok(()),
         }
-    }
-}
-
-/// What is at a path that a job writes to.
-#[derive(Clone, Copy)]
-pub(crate) enum Before {
-    /// A file that may be replaced.
-    Replaceable,
-    /// A file that may not be replaced.
-    Kept,
-    /// No file.
-    Nothing,
-}
-
-/// A new file beside the path that a job writes to, which it gets when the job is done. Until then, and if the job
-/// fails, what is at that path stays as it was.
-#[derive(Drop)]
-pub(crate) struct Replacement {
-    part: String,
-    path: PathBuf,
-    before: Before,
-    /// Whether the new file is of no use if the job fails.
-    is_whole: bool,
-}
-
-impl Replacement {
-    /// What cannot be done if the job is done and this fails: `replaced`, or `stored` if there was no file.
-    pub(crate) fn refusal(&self) -> &'static str {
-        match self.before {
-            Before::Nothing => "stored",
-            _ => "replaced",
-        }
-    }
-
-    /// Ends the job. If its status is 0, the new file is stored and gets the path. Otherwise it keeps what was written;
-    /// it is removed if that is nothing, or is of use only as a whole.
-    ///
-    /// # Errors
-    /// The new file cannot be stored, or cannot or may not get the path: it stays beside it. After a job that failed: it
-    /// cannot be removed.
-    pub(crate) fn end(self, rt: &HostRuntime, output: Output, status: u8) -> io::Result<()> {
-        let Replacement {
-            part,
-            path,
-            before,
-            is_whole,
-        } = self;
-        if status == 0 {
-            output.store()?;
-            if !is_free(rt, path.as_str(), before) {
-                return Err(io::Error::from(ErrorKind::AlreadyExists));
-            }
-            return std::fs::rename(rt, part.as_str(), path.as_str());
-        }
-        if is_whole || std::fs::metadata(rt, part.as_str())?.len() == 0 {
-            std::fs::remove_file(rt, part.as_str())?;
-        }
-        Ok(())
-    }
-
-    /// Removes the new file. The old one stays as it was.
-    pub(crate) fn remove(self, rt: &HostRuntime) {
-        // If it cannot be removed, it stays beside the old one.
-        let _ = std::fs::remove_file(rt, self.part.as_str());
-    }
-}
-
-/// Whether a new file may get this path now, at which this was. A file that was made there meanwhile is not replaced.
-fn is_free(rt: &HostRuntime, path: &str, before: Before) -> bool {
-    match before {
-        Before::Replaceable => true,
-        Before::Kept => false,
-        Before::Nothing => is_vacant(rt, path),
-    }
-}
-
-/// Whether there is nothing at this path, not even a link that leads nowhere.
-fn is_vacant(rt: &HostRuntime, path: &str) -> bool {
-    match std::fs::symlink_metadata(rt, path) {
-        Ok(_) => false,
-        Err(error) => error.kind() == ErrorKind::NotFound,
     }
 }
 
@@ -375,7 +291,7 @@ pub(crate) fn create(
     input: &Known<'_>,
     list: Option<&Known<'_>>,
     rule: Rule<'_>,
-) -> io::Result<(Output, Option<Replacement>)> {
+) -> io::Result<(Output, Place)> {
     let path = if path == STANDARD {
         STANDARD_OUTPUT
     } else {
@@ -390,16 +306,34 @@ pub(crate) fn create(
     }
     if path == STANDARD_OUTPUT {
         differ_from_all(&std::fs::metadata(rt, path)?, input, list)?;
-        return Ok((Output::Standard(rt.stdout()), None));
+        return Ok((Output::Standard(rt.stdout()), Place::Old));
     }
-    if rule.is_whole && is_vacant(rt, path) {
-        let (file, replacement) = create_for(rt, path)?;
-        return Ok((Output::File(file), Some(replacement)));
+    if is_vacant(rt, path)? {
+        return create_new(rt, path, rule.is_whole);
     }
     create_over(rt, path, input, list, rule)
 }
 
-/// Opens what a job writes to, a path that may have a file already. A file that another job writes to is refused.
+/// Creates what a job writes to, a path that has no file. If what it writes is of use only as a whole, the new file is
+/// beside that path.
+///
+/// # Errors
+/// The file cannot be created.
+fn create_new(rt: &HostRuntime, path: &str, is_whole: bool) -> io::Result<(Output, Place)> {
+    if is_whole {
+        let (file, replacement) = create_for(rt, path)?;
+        return Ok((Output::File(file), Place::Beside(replacement)));
+    }
+    let file = OpenOptions::new()
+        .write(true)
+        .create_new(true)
+        .open(rt, path)?;
+    let found = file.metadata()?;
+    hold(rt, path, &file, &found)?;
+    Ok((Output::File(file), Place::Made))
+}
+
+/// Opens what a job writes to, a path that has a file already. A file that another job writes to is refused.
 ///
 /// # Errors
 /// Those of [`create`].
@@ -409,116 +343,53 @@ fn create_over(
     input: &Known<'_>,
     list: Option<&Known<'_>>,
     rule: Rule<'_>,
-) -> io::Result<(Output, Option<Replacement>)> {
+) -> io::Result<(Output, Place)> {
     let file = OpenOptions::new().write(true).create(true).open(rt, path)?;
     let found = file.metadata()?;
     differ_from_all(&found, input, list)?;
     if !found.is_file() {
-        return Ok((Output::Device(file), None));
+        return Ok((Output::Device(file), Place::Old));
     }
-    lock(&file)?;
+    hold(rt, path, &file, &found)?;
     if file.metadata()?.len() == 0 {
-        return Ok((Output::File(file), None));
+        return Ok((Output::File(file), Place::Old));
     }
     let before = rule.before_at(rt, path)?;
     let (file, mut replacement) = create_beside(rt, path, &found)?;
     replacement.before = before;
     replacement.is_whole = rule.is_whole;
-    Ok((Output::File(file), Some(replacement)))
+    Ok((Output::File(file), Place::Beside(replacement)))
 }
 
-/// Locks a file for as long as it is open. File systems without locks let every program in.
+/// Locks an opened file as [`holds_alone`] does.
 ///
 /// # Errors
-/// `ResourceBusy` if another program has locked it.
-pub(crate) fn lock(file: &File) -> io::Result<()> {
-    match file.try_lock() {
-        Err(TryLockError::WouldBlock) => Err(io::Error::from(ErrorKind::ResourceBusy)),
-        _ => Ok(()),
+/// `ResourceBusy` if another program has locked it, or it is no longer the one at its path.
+pub(crate) fn hold(rt: &HostRuntime, path: &str, file: &File, found: &Metadata) -> io::Result<()> {
+    if holds_alone(rt, path, file, found) {
+        return Ok(());
     }
+    Err(io::Error::from(ErrorKind::ResourceBusy))
 }
 
-/// Creates a new file for a path at which there is none, beside that path.
-///
-/// # Errors
-/// The file cannot be created.
-fn create_for(rt: &HostRuntime, path: &str) -> io::Result<(File, Replacement)> {
-    let (file, part) = create_part(rt, path, 0o666)?;
-    let replacement = Replacement {
-        part,
-        path: PathBuf::from_str(rt.alloc(), path)?,
-        before: Before::Nothing,
-        is_whole: true,
-    };
-    Ok((file, replacement))
+/// Locks a file for as long as it is open, and returns whether no other program has locked it. File systems without
+/// locks let every program in.
+fn is_locked(file: &File) -> bool {
+    !matches!(file.try_lock(), Err(TryLockError::WouldBlock))
 }
 
-/// Creates a new file beside another, whose place it may take, with the same permissions; at no time has it more.
-///
-/// # Errors
-/// The file cannot be created.
-pub(crate) fn create_beside(
-    rt: &HostRuntime,
-    path: &str,
-    found: &Metadata,
-) -> io::Result<(File, Replacement)> {
-    let path = std::fs::canonicalize(rt, path)?;
-    let (file, part) = create_part(rt, path.as_str(), found.mode() & 0o777)?;
-    // The system took some of them away. Not every file system has permissions.
-    let _ = file.set_permissions(found.permissions());
-    let replacement = Replacement {
-        part,
-        path,
-        before: Before::Replaceable,
-        is_whole: false,
-    };
-    Ok((file, replacement))
+/// Locks an opened file, of which the system knows this, and returns whether no other program has locked it, and it is
+/// still the one at its path: another program may have put a new file there, or removed it, after it was opened.
+pub(crate) fn holds_alone(rt: &HostRuntime, path: &str, file: &File, found: &Metadata) -> bool {
+    is_locked(file) && is_at(rt, path, found)
 }
 
-/// Creates a new file beside a path, with these permissions, or fewer if the system takes some away, and returns its
-/// path: the other followed by `.part`, or by `.part2` to `.part99` if that is taken. If its name would be too long, the
-/// end of the other's is left out.
-///
-/// # Errors
-/// The file cannot be created.
-fn create_part(rt: &HostRuntime, path: &str, mode: u32) -> io::Result<(File, String)> {
-    for n in 1..100u32 {
-        let part = part_name(rt, path, n)?;
-        let created = OpenOptions::new()
-            .write(true)
-            .create_new(true)
-            .mode(mode)
-            .open(rt, part.as_str());
-        match created {
-            Ok(file) => return Ok((file, part)),
-            Err(error) if error.kind() == ErrorKind::AlreadyExists => {}
-            Err(error) => return Err(error),
-        }
+/// Whether this file is the one at its path.
+pub(crate) fn is_at(rt: &HostRuntime, path: &str, found: &Metadata) -> bool {
+    match std::fs::metadata(rt, path) {
+        Ok(now) => is_one_file(&now, found),
+        Err(_) => false,
     }
-    Err(io::Error::from(ErrorKind::AlreadyExists))
-}
-
-/// The nth path for a new file beside this one.
-///
-/// # Errors
-/// Out of memory.
-fn part_name(rt: &HostRuntime, path: &str, n: u32) -> io::Result<String> {
-    if n == 1 {
-        let path = shortened(path, ".part".len());
-        return Ok(format!(in rt.alloc(); "{path}.part")?);
-    }
-    let path = shortened(path, ".part99".len());
-    Ok(format!(in rt.alloc(); "{path}.part{n}")?)
-}
-
-/// A path without as much of the end of its name that `more` bytes can be added to the name.
-fn shortened(path: &str, more: usize) -> &str {
-    let folder = match path.rfind('/') {
-        Some(at) => at.saturating_add(1),
-        None => 0,
-    };
-    let most = folder.saturating_add(MOST_OF_NAME.saturating_sub(more));
-    path.get(..path.floor_char_boundary(most)).unwrap_or(path)
 }
 
 /// Refuses a file that the job reads.
@@ -541,10 +412,15 @@ fn differ_from_all(
 /// # Errors
 /// `AlreadyExists` if they are.
 fn differ(one: &Metadata, other: &Metadata) -> io::Result<()> {
-    if one.dev() == other.dev() && one.ino() == other.ino() {
+    if is_one_file(one, other) {
         return Err(io::Error::from(ErrorKind::AlreadyExists));
     }
     Ok(())
+}
+
+/// Whether both are of the same file.
+fn is_one_file(one: &Metadata, other: &Metadata) -> bool {
+    one.dev() == other.dev() && one.ino() == other.ino()
 }
 
 /// Whether both paths lead to the same file, which exists.

@@ -4,8 +4,10 @@ ghost use Rattle.std.specs.Prelude.{◌≡◌, ◌≤◌, [], Some, None, length
 ghost use Rattle.flac_jobs.specs.Asks.{list_of, output_of};
 ghost use Rattle.flac_files.specs.JobFiles.{IsFileOf};
 
-use crate::files::{Input, Known, Output, Replacement, Rule, create};
+use crate::files::{Input, Known, Output, Rule, create};
 use crate::list::List;
+use crate::names::is_misnamed;
+use crate::replacement::{Place, is_vacant};
 use flac_jobs::Job;
 use std::fs::File;
 use std::io::ErrorKind;
@@ -29,7 +31,8 @@ impl<'a> JobFiles<'a> {
     /// it may replace any file that it does not read, else those that [`crate::may_replace`] lets it.
     ///
     /// # Errors
-    /// A file cannot be opened, read or created, or what the job writes is a file that it reads, or may not replace.
+    /// A file cannot be opened, read or created, or what the job writes is a file that it reads, or may not replace, or,
+    /// without `force`, has the name of something else.
     pub fn open(
         rt: &HostRuntime,
         job: &Job<'a>,
@@ -88,10 +91,10 @@ impl<'a> JobFiles<'a> {
             force,
             is_whole,
         };
-        let (output, replacement) = created(rt, job, &list, rule)?;
+        let (output, place) = created(rt, job, &list, rule)?;
         let ending = Ending {
             path: job.output(),
-            replacement,
+            place,
             standard,
         };
         Ok(JobFiles {
@@ -106,18 +109,24 @@ impl<'a> JobFiles<'a> {
 /// Opens what a job writes to.
 ///
 /// # Errors
-/// The file cannot be created, it is one that the job reads, or one that it may not replace.
+/// The file cannot be created, it is one that the job reads, or one that it may not replace, or has another name.
 fn created<'a>(
     rt: &HostRuntime,
     job: &Job<'a>,
     list: &List<'a>,
     rule: Rule<'_>,
-) -> Result<(Output, Option<Replacement>), FileRefused<'a>>
+) -> Result<(Output, Place), FileRefused<'a>>
     ensures { IfErr result (λ refused. output_of job.now ≡ Some refused.path.now) }
 {
     let Some(path) = job.output() else {
-        return Ok((Output::None, None));
+        return Ok((Output::None, Place::Old));
     };
+    if !rule.force && is_misnamed(job, rule.is_whole, path) {
+        return Err(FileRefused {
+            path,
+            what: misnamed(rt, job, path),
+        });
+    }
     let Ok(input) = Known::of_input(rt, job.input(), rule.input) else {
         return Err(FileRefused {
             path,
@@ -133,6 +142,20 @@ fn created<'a>(
     }
 }
 
+/// What cannot be done with a file whose name is that of something else than what the job writes. That `--force` lets the
+/// job write it is not said of a file that is there, which may be a song.
+fn misnamed(rt: &HostRuntime, job: &Job<'_>, path: &str) -> &'static str {
+    let is_new = is_vacant(rt, path).unwrap_or(false);
+    match job {
+        Job::EncodeWave { .. } if is_new => {
+            "created: flac decode writes WAV files; --force writes a stream all the same"
+        }
+        Job::EncodeWave { .. } => "created: flac decode writes WAV files",
+        _ if is_new => "created: flac recode writes streams; --force writes samples all the same",
+        _ => "created: flac recode writes streams",
+    }
+}
+
 /// What cannot be done with a file that is not created because of this error of [`create`].
 fn what_of(error: ErrorKind) -> &'static str {
     match error {
@@ -145,14 +168,15 @@ fn what_of(error: ErrorKind) -> &'static str {
 #[derive(Drop)]
 pub struct Ending<'a> {
     path: Option<&'a str>,
-    replacement: Option<Replacement>,
+    place: Place,
     standard: StandIns,
 }
 
 impl<'a> Ending<'a> {
     /// Ends a job of this status, which wrote to `output`. If that is a regular file and the status is 0, it is
     /// stored. A new file beside one that has bytes then takes the place of the old one. If the job failed, the new
-    /// file keeps what was written, and the old one stays as it was; a new file that is of use only as a whole is removed.
+    /// file keeps what was written, and the old one stays as it was; a new file that is of use only as a whole is removed,
+    /// and so is one to which nothing was written.
     ///
     /// # Errors
     /// The job is done, but the file cannot be stored, or cannot take the place of the old one, or get its path.
@@ -161,21 +185,14 @@ impl<'a> Ending<'a> {
     {
         let Ending {
             path,
-            replacement,
+            place,
             standard: _standard,
         } = self;
         let Some(path) = path else {
             return Ok(());
         };
-        let (ended, what) = match replacement {
-            Some(replacement) => {
-                let what = replacement.refusal();
-                (replacement.end(rt, output, status), what)
-            }
-            None => (output.end(status), "stored"),
-        };
-        match ended {
-            Err(_) if status == 0 => Err(FileRefused { path, what }),
+        match place.end(rt, path, output, status) {
+            Err(what) if status == 0 => Err(FileRefused { path, what }),
             _ => Ok(()),
         }
     }

@@ -49,6 +49,20 @@ pub(crate) fn recorded_of(alloc: Global, line: &[u8]) -> Result<Option<Recorded>
     }
 }
 
+/// The path of a line of a report; `None` of another line.
+///
+/// # Errors
+/// Memory ran out.
+pub(crate) fn path_of(alloc: Global, line: &[u8]) -> Result<Option<String>, AllocError> {
+    let Some(rest) = line.strip_prefix(BEGINNING) else {
+        return Ok(None);
+    };
+    match path_in(rest) {
+        Some((path, _)) => text_of(alloc, path),
+        None => Ok(None),
+    }
+}
+
 /// The path that these bytes begin with, as it is written, and what comes after it, from the quotation mark on.
 fn path_in(rest: &[u8]) -> Option<(&[u8], &[u8])> {
     let end = rest.iter().position(|byte| *byte == b'"')?;

@@ -1,34 +1,35 @@
 //! The report of a verification.
 
-use crate::files::{Output, create_beside, lock};
+use crate::files::{Output, hold};
 use crate::job_files::FileRefused;
-use crate::recorded::{Recorded, is_line, recorded_of};
+use crate::recorded::{Recorded, is_line, path_of, recorded_of};
+use crate::replacement::create_beside;
 use flac_jobs::Verification;
 use flac_shelf::Record;
 use std::alloc::{AllocError, Global};
+use std::collections::BTreeMap;
 use std::fs::{File, Metadata, OpenOptions};
 use std::io;
-use std::io::{ErrorKind, Read, Write};
-use std::os::unix::fs::MetadataExt;
+use std::io::{ErrorKind, Read, Seek, SeekFrom, Write};
 
 /// The report of a verification, opened.
 #[derive(Drop)]
 pub struct ReportFile {
     /// What its lines are written to; [`Output::None`] if there is no report.
     pub output: Output,
-    /// The files that it has as good, of a path those that come last in it.
+    /// What it has of files, of a path what comes last in it.
     pub good: Record,
 }
 
 impl ReportFile {
     /// Opens the report that is asked for.
     ///
-    /// A new report is a file that is not there, or is empty, or a device. One that is resumed may have lines. Those of
-    /// good files stay; the others, and a last line that was cut off, are left out: by a new file in its place, which
-    /// is stored first. A file that has other lines than those of a report is refused, and stays as it was.
+    /// A new report is a file that is not there, or is empty, or a device. One that is resumed may have lines, which stay
+    /// until [`end_report`]; a last line that was cut off is taken away. A file that has other lines than those of a report
+    /// is refused, and stays as it was.
     ///
     /// # Errors
-    /// The report cannot be created, or cannot be read or replaced, or another verification writes to it.
+    /// The report cannot be created, or cannot be read or cut off, or another verification writes to it.
     pub fn open<'a>(
         rt: &HostRuntime,
         asked: &Verification<'a>,
@@ -61,21 +62,32 @@ impl ReportFile {
     }
 }
 
-/// Ends the report that lines were written to: a regular file is stored.
+/// Ends the report that lines were written to: a regular file is stored. One that was resumed then has the last line of
+/// each file alone, in the order in which they were written.
 ///
 /// # Errors
-/// It cannot be stored.
-pub fn end_report<'a>(asked: &Verification<'a>, output: Output) -> Result<(), FileRefused<'a>> {
+/// It cannot be stored, or cannot be replaced by a file with fewer lines: it has all lines then.
+pub fn end_report<'a>(
+    rt: &HostRuntime,
+    asked: &Verification<'a>,
+    output: Output,
+) -> Result<(), FileRefused<'a>> {
     let Some(path) = asked.report.or(asked.resume) else {
         return Ok(());
     };
-    match output.end(0) {
-        Ok(()) => Ok(()),
-        Err(_) => Err(FileRefused {
+    if output.store().is_err() {
+        return Err(FileRefused {
             path,
             what: "stored",
-        }),
+        });
     }
+    if asked.report.is_none() && shorten(rt, path, &output).is_err() {
+        return Err(FileRefused {
+            path,
+            what: "replaced",
+        });
+    }
+    Ok(())
 }
 
 /// Opens a new report.
@@ -88,19 +100,19 @@ fn created(rt: &HostRuntime, path: &str) -> io::Result<ReportFile> {
     if !found.is_file() {
         return Ok(ReportFile::over(rt, Output::Device(file)));
     }
-    held_alone(rt, path, &file)?;
+    hold(rt, path, &file, &found)?;
     if file.metadata()?.len() > 0 {
         return Err(io::Error::from(ErrorKind::AlreadyExists));
     }
     Ok(ReportFile::over(rt, Output::File(file)))
 }
 
-/// Opens a report that may have lines, to add others after those of good files.
+/// Opens a report that may have lines, to add others after them.
 ///
 /// # Errors
 /// That of the system, or that memory ran out; `InvalidData` if the file is no report.
 fn resumed(rt: &HostRuntime, path: &str) -> io::Result<ReportFile> {
-    let mut file = OpenOptions::new()
+    let file = OpenOptions::new()
         .read(true)
         .write(true)
         .create(true)
@@ -109,82 +121,171 @@ fn resumed(rt: &HostRuntime, path: &str) -> io::Result<ReportFile> {
     if !found.is_file() {
         return Ok(ReportFile::over(rt, Output::Device(file)));
     }
-    held_alone(rt, path, &file)?;
-    let mut text = Vec::new(rt.alloc());
-    file.read_to_end(&mut text)?;
-    let (good, kept) = good_lines(rt.alloc(), text.as_slice())?;
-    let file = if kept.len() == text.len() {
-        file
-    } else {
-        replaced(rt, path, &found, kept.as_slice())?
-    };
+    hold(rt, path, &file, &found)?;
+    let text = text_of(rt, &file)?;
+    let (good, length) = good_files(rt.alloc(), text.as_slice())?;
+    if length < text.len() {
+        cut(&file, length as u64)?;
+    }
     Ok(ReportFile {
         output: Output::File(file),
         good,
     })
 }
 
-/// Locks a report for as long as it is open, so that no other verification writes to it.
+/// Cuts a report off after this many bytes, so that lines are added there.
 ///
 /// # Errors
-/// `ResourceBusy` if another one has locked it, or has put a new file at its path after it was opened.
-fn held_alone(rt: &HostRuntime, path: &str, file: &File) -> io::Result<()> {
-    lock(file)?;
-    let found = file.metadata()?;
-    let now = std::fs::metadata(rt, path)?;
-    if now.dev() == found.dev() && now.ino() == found.ino() {
-        return Ok(());
-    }
-    Err(io::Error::from(ErrorKind::ResourceBusy))
+/// That of the system.
+fn cut(mut file: &File, length: u64) -> io::Result<()> {
+    file.set_len(length)?;
+    file.seek(SeekFrom::Start(length))?;
+    Ok(())
 }
 
-/// Puts a new file with these lines in the place of a report, and opens it, locked, to add lines.
+/// The text of a report, after which lines are added.
 ///
 /// # Errors
-/// That of the system. The report stays as it was until its place is taken.
-fn replaced(rt: &HostRuntime, path: &str, found: &Metadata, lines: &[u8]) -> io::Result<File> {
-    let (mut file, replacement) = create_beside(rt, path, found)?;
-    match file.write_all(lines) {
-        Ok(()) => replacement.end(rt, Output::File(file), 0)?,
-        Err(error) => {
-            replacement.remove(rt);
-            return Err(error);
-        }
-    }
-    let file = OpenOptions::new().append(true).open(rt, path)?;
-    held_alone(rt, path, &file)?;
-    Ok(file)
+/// That of the system, or that memory ran out.
+fn text_of(rt: &HostRuntime, mut file: &File) -> io::Result<Vec<u8>> {
+    let mut text = Vec::new(rt.alloc());
+    file.rewind()?;
+    file.read_to_end(&mut text)?;
+    Ok(text)
 }
 
-/// The good files of a report, and their lines.
+/// What a report has of files by the last line of each, and how many bytes its whole lines have.
 ///
 /// # Errors
 /// `InvalidData` if there is a line that is none of a report, or memory ran out.
-fn good_lines(alloc: Global, text: &[u8]) -> io::Result<(Record, Vec<u8>)> {
+fn good_files(alloc: Global, text: &[u8]) -> io::Result<(Record, usize)> {
     let mut good = Record::none(alloc);
-    let mut kept = Vec::new(alloc);
+    let mut length = 0usize;
     for line in text.split_inclusive(|byte| *byte == b'\n') {
         if !is_line(line) {
             return Err(io::Error::from(ErrorKind::InvalidData));
         }
-        if line.ends_with(b"\n") && add_good(alloc, &mut good, line)? {
-            kept.extend_from_slice(line)?;
+        if is_whole(line) {
+            add_file(alloc, &mut good, line)?;
+            length = length.saturating_add(line.len());
         }
     }
-    Ok((good, kept))
+    Ok((good, length))
 }
 
-/// Adds the file of a line, if the line has it as good. Returns whether it has.
+/// Whether a line was not cut off.
+fn is_whole(line: &[u8]) -> bool {
+    line.ends_with(b"\n")
+}
+
+/// Adds the file of a line, in place of one of the same path.
 ///
 /// # Errors
 /// Memory ran out.
-fn add_good(alloc: Global, good: &mut Record, line: &[u8]) -> Result<bool, AllocError> {
-    let Some(Recorded { path, past }) = recorded_of(alloc, line)? else {
-        return Ok(false);
-    };
-    if past.audio.is_none() {
-        return Ok(false);
+fn add_file(alloc: Global, good: &mut Record, line: &[u8]) -> Result<(), AllocError> {
+    match recorded_of(alloc, line)? {
+        Some(Recorded { path, past }) => good.add(path, past),
+        None => Ok(()),
     }
-    good.add(path, past)?;
-    Ok(true)
+}
+
+/// Leaves the last line of each file in a report that lines were added to: by a new file in its place, which is stored
+/// first, if there are others.
+///
+/// # Errors
+/// That of the system, or that memory ran out. The report stays as it was until its place is taken.
+fn shorten(rt: &HostRuntime, path: &str, output: &Output) -> io::Result<()> {
+    let Output::File(file) = output else {
+        return Ok(());
+    };
+    let text = text_of(rt, file)?;
+    let lines = last_lines(rt.alloc(), text.as_slice())?;
+    if lines.len() == text.len() {
+        return Ok(());
+    }
+    replace(rt, path, &file.metadata()?, lines.as_slice())
+}
+
+/// Puts a new file with these lines in the place of a report.
+///
+/// # Errors
+/// That of the system. The report stays as it was until its place is taken.
+fn replace(rt: &HostRuntime, path: &str, found: &Metadata, lines: &[u8]) -> io::Result<()> {
+    let (mut file, replacement) = create_beside(rt, path, found)?;
+    match file.write_all(lines) {
+        Ok(()) => replacement.end(rt, Output::File(file), 0),
+        Err(error) => {
+            replacement.remove(rt);
+            Err(error)
+        }
+    }
+}
+
+/// The lines of a report without those after which there is another one of the same file.
+///
+/// # Errors
+/// Memory ran out.
+fn last_lines(alloc: Global, text: &[u8]) -> Result<Vec<u8>, AllocError> {
+    let places = last_places(alloc, text)?;
+    let mut lines = Vec::new(alloc);
+    let mut place = 0usize;
+    for line in text.split_inclusive(|byte| *byte == b'\n') {
+        if is_last(alloc, &places, line, place)? {
+            lines.extend_from_slice(line)?;
+        }
+        place = place.saturating_add(line.len());
+    }
+    Ok(lines)
+}
+
+/// Where the last line of each file begins in a report.
+///
+/// # Errors
+/// Memory ran out.
+fn last_places(alloc: Global, text: &[u8]) -> Result<BTreeMap<String, usize>, AllocError> {
+    let mut places = BTreeMap::new(alloc);
+    let mut place = 0usize;
+    for line in text.split_inclusive(|byte| *byte == b'\n') {
+        add_place(alloc, &mut places, line, place)?;
+        place = place.saturating_add(line.len());
+    }
+    Ok(places)
+}
+
+/// Adds where a line begins, in place of an earlier one of its file.
+///
+/// # Errors
+/// Memory ran out.
+fn add_place(
+    alloc: Global,
+    places: &mut BTreeMap<String, usize>,
+    line: &[u8],
+    place: usize,
+) -> Result<(), AllocError> {
+    let Some(path) = path_of(alloc, line)? else {
+        return Ok(());
+    };
+    match places.insert(path, place) {
+        Ok(_) => Ok(()),
+        Err(_) => Err(AllocError),
+    }
+}
+
+/// Whether the line that begins here is the last of its file. So is one that names no file.
+///
+/// # Errors
+/// Memory ran out.
+fn is_last(
+    alloc: Global,
+    places: &BTreeMap<String, usize>,
+    line: &[u8],
+    place: usize,
+) -> Result<bool, AllocError> {
+    let Some(path) = path_of(alloc, line)? else {
+        return Ok(true);
+    };
+    match places.get(path.as_str()) {
+        Some(last) => Ok(*last == place),
+        None => Ok(true),
+    }
 }

@@ -3,10 +3,11 @@
 ghost use Rattle.std.specs.Prelude.{[], false};
 ghost use Rattle.flac_files.specs.Unknown.{nothing_known, not_known};
 
-use crate::files::{Output, Replacement, create_beside};
+use crate::files::{Output, holds_alone};
 use crate::job_files::FileRefused;
+use crate::replacement::{Replacement, create_beside};
 use flac_edit::{Device, DeviceError};
-use std::fs::{File, Metadata, OpenOptions, TryLockError};
+use std::fs::{File, Metadata, OpenOptions};
 use std::io;
 use std::io::{ErrorKind, Seek, SeekFrom};
 use std::os::unix::fs::{FileExt, MetadataExt, fchown};
@@ -255,18 +256,6 @@ fn regular(file: &File) -> io::Result<Metadata> {
         return Err(io::Error::from(ErrorKind::InvalidInput));
     }
     Ok(found)
-}
-
-/// Locks a file, and returns whether no other program holds it, and it is still the one at its path: another edit may have
-/// put a new file there after it was opened. File systems without locks let every program in.
-fn holds_alone(rt: &HostRuntime, path: &str, file: &File, found: &Metadata) -> bool {
-    if let Err(TryLockError::WouldBlock) = file.try_lock() {
-        return false;
-    }
-    match std::fs::metadata(rt, path) {
-        Ok(now) => now.dev() == found.dev() && now.ino() == found.ino(),
-        Err(_) => false,
-    }
 }
 
 /// Gives a file the time at which another was changed.

@@ -1,5 +1,6 @@
 //! Files that are streams, by their names, and the names of folders.
 
+use crate::names::{names_native, names_ogg};
 use flac_shelf::Stamp;
 use std::fs::{File, Metadata};
 use std::io;
@@ -20,23 +21,6 @@ pub(crate) enum Look {
     Refused,
     /// It is passed over.
     Pass,
-}
-
-/// Whether a path ends so, in any case.
-fn ends_with(path: &str, ending: &str) -> bool {
-    let path = path.as_bytes();
-    let ending = ending.as_bytes();
-    path.len() >= ending.len() && path[path.len() - ending.len()..].eq_ignore_ascii_case(ending)
-}
-
-/// Whether a path ends as that of a stream.
-fn is_stream_path(path: &str) -> bool {
-    ends_with(path, ".flac") || ends_with(path, ".fla")
-}
-
-/// Whether a path ends as that of an Ogg stream, of FLAC or of something else.
-fn is_ogg_path(path: &str) -> bool {
-    ends_with(path, ".oga") || ends_with(path, ".ogg")
 }
 
 /// How many bytes of an Ogg file show what its first packet is: a page header of 27 bytes and the lengths of up to 255
@@ -111,8 +95,8 @@ pub(crate) fn look_at_named(rt: &HostRuntime, path: &str) -> Look {
 pub(crate) fn look_at_found(rt: &HostRuntime, path: &str) -> Look {
     match std::fs::symlink_metadata(rt, path) {
         Ok(found) if found.is_dir() => Look::Folder,
-        _ if is_stream_path(path) => look_at_stream(rt, path),
-        _ if is_ogg_path(path) => look_at_ogg(rt, path),
+        _ if names_native(path) => look_at_stream(rt, path),
+        _ if names_ogg(path) => look_at_ogg(rt, path),
         Ok(_) => Look::Pass,
         // (it was removed meanwhile)
         Err(error) if error.kind() == ErrorKind::NotFound => Look::Pass,

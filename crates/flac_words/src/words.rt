@@ -77,19 +77,66 @@ pub fn request<'a>(alloc: Global, words: &'a [String]) -> Result<Request<'a>, Li
     }
 }
 
-/// What names the command that is meant where the first word is an option that other programs have for it.
+/// What names the command that is meant where a word is an option that other programs have for it: the first word, or one
+/// of `encode` or `recode`.
 fn tip_of(words: &[String]) -> Option<LineFault>
     ensures { IfSome result (λ fault. fault.status ≤ 2) }
 {
     let text = match words.get(1)?.as_str() {
-        "-t" | "--test" => "flac: command: to test a stream: flac test IN\n",
-        "-d" | "--decode" => "flac: command: to decode a stream: flac decode IN OUT\n",
-        _ => return None,
+        "encode" | "recode" => tip_of_encoding(words.get(2..)?)?,
+        first => tip_of_option(first)?,
     };
     Some(LineFault {
         text: CowStr::Borrowed(text),
         status: 2,
     })
+}
+
+/// What names the command that is meant by an option of other programs as the first word.
+fn tip_of_option(word: &str) -> Option<&'static str> {
+    match word {
+        "-t" | "--test" => Some("flac: command: to test a stream: flac test IN\n"),
+        "-d" | "--decode" => Some("flac: command: to decode a stream: flac decode IN OUT\n"),
+        "-V" | "--verify" => Some(
+            "flac: command: to encode a stream and test it: flac encode IN OUT && flac test OUT\n",
+        ),
+        _ if is_level(word) => Some(
+            "flac: command: to encode a stream, smaller: flac encode IN OUT --search full\n",
+        ),
+        _ => None,
+    }
+}
+
+/// What names what is meant by an option that other encoders have, among the words of `encode` or `recode` before `--`.
+fn tip_of_encoding(words: &[String]) -> Option<&'static str> {
+    for word in words {
+        let word = word.as_str();
+        if word == "--" {
+            return None;
+        }
+        if word == "-V" || word == "--verify" {
+            return Some("flac: command: to test what was encoded: flac test OUT\n");
+        }
+        if is_level(word) {
+            return Some(
+                "flac: command: in place of levels --search none, quick or full: the last is the smallest\n",
+            );
+        }
+    }
+    None
+}
+
+/// Whether a word is an option of other encoders for how small the stream gets.
+fn is_level(word: &str) -> bool {
+    match word.strip_prefix("-") {
+        Some(rest) => {
+            matches!(
+                rest,
+                "0" | "1" | "2" | "3" | "4" | "5" | "6" | "7" | "8" | "-best" | "-fast"
+            )
+        }
+        None => false,
+    }
 }
 
 /// Reads the command line as [`request`] does, where it asks for a job.
@@ -301,7 +348,7 @@ fn fault_of_job(alloc: Global, job: &Job<'_>) -> Option<LineFault>
 }
 
 /// Whether a path has the form of a comment, NAME=VALUE, without a folder before its `=`.
-fn is_comment(path: &str) -> bool {
+pub(crate) fn is_comment(path: &str) -> bool {
     match path.split_once('=') {
         Some((name, _)) => !name.contains('/'),
         None => false,

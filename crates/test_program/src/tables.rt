@@ -738,17 +738,30 @@ flac -t a.flac | 2 flac: command: to test a stream: flac test IN;
 flac --test | 2 flac: command: to test a stream: flac test IN;
 flac -d a.flac | 2 flac: command: to decode a stream: flac decode IN OUT;
 flac --decode a.flac a.raw | 2 flac: command: to decode a stream: flac decode IN OUT;
+flac --verify a.wav | 2 flac: command: to encode a stream and test it: flac encode IN OUT && flac test OUT;
+flac -8 a.wav | 2 flac: command: to encode a stream, smaller: flac encode IN OUT --search full;
+flac --best a.wav | 2 flac: command: to encode a stream, smaller*
+flac -9 a.wav | 2 error: unexpected argument '-9' found*
+flac encode a.wav a.flac -8 | 2 flac: command: in place of levels --search none, quick or full: the last is the smallest;
+flac recode --verify a.flac b.flac | 2 flac: command: to test what was encoded: flac test OUT;
+flac encode -- -8 a.flac | EncodeWave { input: "-8", output: "a.flac", block: 4096, seek_every: 0, container: Native, comments: [], lax: false, predictors: None, effort: Quick, keep: true, to_end: false }
 flac --version | 0 flac (proved) 1.0.0;
 flac tag a.flac --set TITLE | 2 flac: command: comment without =;
 flac tag a.flac --from a.txt --add =x | 2 flac: command: 55 FieldName;
 flac tag a.flac --from a.txt --from b.txt | 2 error: the argument '--from <LINES>' cannot be used multiple times*
 flac tag a.flac | 2 flac: command: tag needs --clear, --from, --remove, --set, --add or --rewrite;
-flac tag a.flac --padding 0 | 2 flac: command: tag needs --clear, --from, --remove, --set, --add or --rewrite;
+flac tag a.flac --padding 0 | 2 flac: command: to set the padding alone: flac edit --padding N FILE;
+flac tag a.flac --padding 8192 --in-place | 2 flac: command: tag needs --clear, --from, --remove, --set, --add or --rewrite;
+flac tag TITLE=x a.flac | 2 flac: command: to set a comment: flac tag --set NAME=VALUE FILE;
+flac tag a=b/c.flac --in-place | 2 flac: command: to set a comment: flac tag --set NAME=VALUE FILE;
+flac tag ./a=b.flac | 2 flac: command: tag needs --clear, --from, --remove, --set, --add or --rewrite;
 flac edit a.flac | 2 flac: command: edit needs --remove-block, --picture, --cuesheet or --padding;
 flac edit a.flac --cuesheet a.cue --cuesheet b.cue | 2 error: the argument '--cuesheet <SHEET>' cannot be used multiple times*
 flac edit a.flac --remove-block 0 | 2 flac: command: --remove-block takes a number from 1 on, or a type other than STREAMINFO;
 flac edit a.flac --remove-block streaminfo | 2 flac: command: --remove-block takes a number from 1 on, or a type other than STREAMINFO;
-flac edit a.flac --picture 21:b.png | 2 flac: command: --picture takes [TYPE:]FILE, the type 0 to 20;
+flac edit a.flac --picture 21:b.png | 2 flac: command: --picture takes [TYPE:]FILE or TYPE:MEDIA:WIDTHxHEIGHTxDEPTH:FILE, the type 0 to 20;
+flac edit a.flac --picture 3:image/png:64x64:b.png | 2 flac: command: --picture takes*
+flac edit a.flac --picture 3:image/png:64x64x24/:b.png | 2 flac: command: --picture takes*
 flac export a.flac pictures b | 2 flac: command: export takes tags, picture, cuesheet or the number of a block;
 flac play a.flac | 2 error: unrecognized subcommand 'play';;Usage: flac <COMMAND>;;For more information, try '--help'.;
 flac --help | 0 Tests*

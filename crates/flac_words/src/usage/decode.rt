@@ -28,8 +28,9 @@ decoding fails, the samples written before stay in OUT. But if OUT was a file wi
 bytes, it stays as it was, and these samples are in OUT.part beside it.
 
 OUT is not replaced if it is a file of sound: a stream, or one that begins with RIFF,
-RF64, BW64, FORM or ID3. A WAV file that is written may replace another. With --force
-any file is replaced.";
+RF64, BW64, FORM or ID3. A WAV file that is written may replace another. A name of OUT
+that ends as that of a stream, in .flac, .fla, .oga or .ogg, is refused. With --force any
+file is replaced, and any name taken.";
 
 pub(crate) static DECODE: Usage = Usage {
     name: "decode",

@@ -149,12 +149,28 @@ fn picture_word(word: &str) -> Option<PictureWord<'_>> {
             form: Some(form),
             path,
         }),
+        None if is_nearly_formed(rest) => None,
         None => Some(PictureWord {
             kind,
             form: None,
             path: rest,
         }),
     }
+}
+
+/// Whether a text has sizes between its first two `:`, as `MEDIA:WIDTHxHEIGHT:FILE`, so that it is meant as one of
+/// [`formed`].
+fn is_nearly_formed(text: &str) -> bool {
+    let Some((_, rest)) = text.split_once(':') else {
+        return false;
+    };
+    let Some((sizes, _)) = rest.split_once(':') else {
+        return false;
+    };
+    sizes.contains('x')
+        && sizes
+            .bytes()
+            .all(|byte| byte.is_ascii_digit() || b"x/".contains(&byte))
 }
 
 /// The format, the sizes and the path of a text `MEDIA:WIDTHxHEIGHTxDEPTH[/COLOURS]:FILE`.
@@ -185,7 +201,7 @@ pub(crate) fn fault_of_editing(editing: &Editing<'_>) -> Option<LineFault>
     };
     let Some(pictures) = &editing.pictures else {
         return Some(LineFault::refused(
-            "flac: command: --picture takes [TYPE:]FILE, the type 0 to 20\n",
+            "flac: command: --picture takes [TYPE:]FILE or TYPE:MEDIA:WIDTHxHEIGHTxDEPTH:FILE, the type 0 to 20\n",
         ));
     };
     let is_idle = editing.padding.is_none() && editing.sheet.is_none();

@@ -26,8 +26,8 @@ with a rate or a depth outside the streamable subset is refused (40, 41).
 OUT has to be another file than IN and LIST. It is written beside its place, as OUT.part, and
 named OUT when all is done; after an error nothing of it stays. It may replace a native
 stream that has the samples of IN by its STREAMINFO, but no other file of sound: no other
-stream, and none that begins with RIFF, RF64, BW64, FORM or ID3. With --force any file is
-replaced.";
+stream, and none that begins with RIFF, RF64, BW64, FORM or ID3. A name that ends in .wav is
+refused. With --force any file is replaced, and any name taken.";
 
 pub(crate) static RECODE: Usage = Usage {
     name: "recode",

@@ -16,7 +16,8 @@ written, whatever is lost, and 1 if it was not. IN has to be native, and its met
 OUT has to be another file than IN. It is written beside its place, as OUT.part, and named OUT
 when all is done; after an error nothing of it stays. It may replace a native stream that has
 the samples of IN by its STREAMINFO, but no other file of sound: no other stream, and none
-that begins with RIFF, RF64, BW64, FORM or ID3. With --force any file is replaced.";
+that begins with RIFF, RF64, BW64, FORM or ID3. A name that ends in .wav is refused. With
+--force any file is replaced, and any name taken.";
 
 pub(crate) static SALVAGE: Usage = Usage {
     name: "salvage",

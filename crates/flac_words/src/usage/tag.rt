@@ -3,6 +3,7 @@
 ghost use Rattle.std.specs.Prelude.{◌≤◌, IfSome};
 
 use super::{Usage, Word, WordKind};
+use crate::words::is_comment;
 use clap::ArgMatches;
 use flac_jobs::{LineFault, Request, TagEdit, TagMode, Tagging};
 use std::alloc::{AllocError, Global};
@@ -29,6 +30,9 @@ no new file is written; with --rewrite always.
 Each file is done or refused by itself. One that is refused stays as it was, and a line
 says why; the exit status is then 1. The frames are not verified. Ogg streams are
 refused.";
+
+/// The bytes of padding of a new file if their number is not given.
+const USUAL_PADDING: u32 = 8192;
 
 pub(crate) static TAG: Usage = Usage {
     name: "tag",
@@ -82,7 +86,7 @@ const TAG_WORDS: [Word; 11] = [
     Word {
         name: "padding",
         kind: WordKind::Number("8192"),
-        help: "Bytes of padding of a new file; 0: none",
+        help: "Bytes of padding of a new file, as --rewrite always writes one; 0: none",
     },
     Word {
         name: "keep-times",
@@ -205,9 +209,7 @@ pub(crate) fn fault_of_tagging(tagging: &Tagging<'_>) -> Option<LineFault>
         return Some(LineFault::refused("flac: command: --in-place with --rewrite\n"));
     }
     if tagging.edits.is_empty() && tagging.mode != Some(TagMode::Rewrite) {
-        return Some(LineFault::refused(
-            "flac: command: tag needs --clear, --from, --remove, --set, --add or --rewrite\n",
-        ));
+        return Some(LineFault::refused(line_of_none(tagging)));
     }
     for edit in &tagging.edits {
         if lacks_equals(edit) {
@@ -218,6 +220,17 @@ pub(crate) fn fault_of_tagging(tagging: &Tagging<'_>) -> Option<LineFault>
         }
     }
     None
+}
+
+/// What to print of a tagging without an edit: what is meant by a comment among the files, or by a length of padding.
+fn line_of_none(tagging: &Tagging<'_>) -> &'static str {
+    if tagging.inputs.iter().any(|path| is_comment(path)) {
+        return "flac: command: to set a comment: flac tag --set NAME=VALUE FILE\n";
+    }
+    if tagging.padding != USUAL_PADDING {
+        return "flac: command: to set the padding alone: flac edit --padding N FILE\n";
+    }
+    "flac: command: tag needs --clear, --from, --remove, --set, --add or --rewrite\n"
 }
 
 /// Whether the comment of an edit has no `=`.

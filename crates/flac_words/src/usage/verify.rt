@@ -19,7 +19,8 @@ word says what a stream does not state: its MD5 digest (no-md5), the number of i
 (no-total); or that it is outside the streamable subset (outside-subset).
 
 --report writes a line of JSON for each file, as it is done: its path, size and time, and
-what was found. --resume goes on with such a report after a run that was cut off.
+what was found. --resume goes on with such a report after a run that was cut off, or over
+other files: at the end it has the last line of each file.
 
 --against compares with an older report. A word ends the line of each file: same (audio,
 size and time), tags (the same audio, at another size or time), audio (another digest,
