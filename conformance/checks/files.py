@@ -98,7 +98,7 @@ def kind_cases():
     yield "decode: OUT is a WAV file by its name", lambda p: replaced(p, DECODE, WAVE + b"\0", source_of(p, DECODE_WAVE), "out.wav", WAVE)
     yield "decode: OUT is a stream, its name that of a WAV file", lambda p: kept(p, DECODE, NATIVE, source_of(p, DECODE_WAVE), "out.wav")
     yield "decode: OUT is not to be read", lambda p: not_to_be_read(p)
-    yield "decode *.flac: the second song stays", lambda p: kept(p, DECODE, NATIVE + b"\0", name="second.flac", reason="flac recode writes streams")
+    yield "decode *.flac: the second song stays", lambda p: kept(p, DECODE, NATIVE + b"\0", name="second.flac")
     yield "encode *.wav: the second song stays", lambda p: kept(p, ["encode", "IN", "OUT"], WAVE + b"\0", name="second.wav")
     yield "standard output is added to, whatever it is", lambda p: added(p)
 
@@ -391,29 +391,27 @@ def part_stays(place):
     expect(read(names["OUT"]), due)
 
 
-STREAM_NAMES, WAVE_NAMES = ("a.flac", "a.FLAC", "a.fla", "a.oga", "a.Ogg", ".flac"), ("a.wav", "a.WAV", ".wav")
-NO_STREAM, NO_WAVE = "flac recode writes streams", "flac decode writes WAV files"
-MISNAMED = [("decode", DECODE, STREAM_NAMES, NO_STREAM, "samples"), ("decode --wav", DECODE_WAVE, STREAM_NAMES, NO_STREAM, "samples"),
-            ("decode --from", ["decode", "IN", "OUT", "--from", "1"], STREAM_NAMES, NO_STREAM, "samples"),
-            ("recode", ["recode", "IN", "OUT"], WAVE_NAMES, NO_WAVE, "a stream"), ("salvage", ["salvage", "IN", "OUT"], WAVE_NAMES, NO_WAVE, "a stream")]
-"""Jobs, names of OUT that say something else than what they write, what writes it, and what they write."""
+MISNAMED = [("recode", ["recode", "IN", "OUT"]), ("salvage", ["salvage", "IN", "OUT"])]
+"""Jobs that write streams alone, and none to a name of a WAV file."""
 
 
 def name_cases():
     """A job writes no file whose name is that of something else; with --force it does."""
-    for name, words, outs, line, what in MISNAMED:
-        for out in outs:
-            yield f"{name}: OUT is {out}", lambda p, w=words, o=out, t=line, x=what: misnamed(p, w, o, t, x)
+    for name, words in MISNAMED:
+        for out in ("a.wav", "a.WAV", ".wav"):
+            yield f"{name}: OUT is {out}", lambda p, w=words, o=out: misnamed(p, w, o)
         for out in ("flac", "a.flacc", "wav", "a.wave", "a.flac.raw", "a.wav.bin"):
             yield f"{name}: OUT is {out}, no such name", lambda p, w=words, o=out: well_named(p, w, o)
+    yield "decode: OUT has the name of a stream", lambda p: well_named(p, DECODE, "a.flac")
     yield "export: OUT has the name of a stream", lambda p: well_named(p, EXPORT, "a.flac")
     yield "encode: OUT has the name of a WAV file", lambda p: well_named(p, ["encode", "IN", "OUT", *ENCODE], "a.wav", RAW)
     yield "retag: OUT has the name of a WAV file", lambda p: well_named(p, RETAG, "a.wav")
 
 
-def misnamed(place, words, out, line, what):
+def misnamed(place, words, out):
+    line = "flac decode writes WAV files"
     names = {"IN": place.put("in", NATIVE), "OUT": place.path(out)}
-    place.refused(words, names, f"{names['OUT']}: cannot be created: {line}; --force writes {what} all the same")
+    place.refused(words, names, f"{names['OUT']}: cannot be created: {line}; --force writes a stream all the same")
     expect(os.listdir(place.folder), ["in"])
     for old in (b"", BEFORE, NATIVE):
         place.put(out, old)

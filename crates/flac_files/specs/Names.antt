@@ -1,5 +1,5 @@
 -- What the names of files say of them.
-use Rattle.std.specs.Prelude.{ℕ, ◌-◌, Bool, false, not, ◌&&◌, ◌||◌, nat_le, List, length, codes, drop}
+use Rattle.std.specs.Prelude.{ℕ, ◌-◌, Bool, false, ◌&&◌, ◌||◌, nat_le, List, length, codes, drop}
 use Rattle.std.specs.Str.{str_eq_ignore_ascii_case}
 use Rattle.flac_jobs.specs.declared.jobs.Job.{Job}
 use Rattle.flac_jobs.specs.declared.jobs.Job.TheVariants as job
@@ -20,10 +20,8 @@ names_ogg path = ends_so path (codes ".oga") || ends_so path (codes ".ogg")
 abbrev pub names_wave : (path : List ℕ) → Bool
 names_wave path = ends_so path (codes ".wav")
 
--- The path that a job writes to is that of something else than what it writes: of a decoding that of a stream, of a stream that is encoded
--- anew that of a WAV file. An export is opened as a decoding, a recoding as an encoding; what they write is of use only as a whole.
+-- The path that a job writes to is that of something else than what it writes: of a stream that is encoded anew, or salvaged, that of a WAV
+-- file. Both are opened as an encoding of which a part is of no use.
 unfoldable pub is_misnamed : Job → (is_whole : Bool) → (path : List ℕ) → Bool
-is_misnamed (job.Decode input output lax) is_whole path = not is_whole && (names_native path || names_ogg path)
-is_misnamed (job.DecodeWave input output lax) is_whole path = not is_whole && (names_native path || names_ogg path)
 is_misnamed (job.EncodeWave input output block seek_every container comments lax predictors effort keep to_end) is_whole path = is_whole && names_wave path
 is_misnamed other is_whole path = false

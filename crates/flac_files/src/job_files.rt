@@ -124,7 +124,7 @@ fn created<'a>(
     if !rule.force && is_misnamed(job, rule.is_whole, path) {
         return Err(FileRefused {
             path,
-            what: misnamed(rt, job, path),
+            what: misnamed(rt, path),
         });
     }
     let Ok(input) = Known::of_input(rt, job.input(), rule.input) else {
@@ -142,17 +142,13 @@ fn created<'a>(
     }
 }
 
-/// What cannot be done with a file whose name is that of something else than what the job writes. That `--force` lets the
+/// What cannot be done with a file whose name is that of a WAV file, by a job that writes a stream. That `--force` lets the
 /// job write it is not said of a file that is there, which may be a song.
-fn misnamed(rt: &HostRuntime, job: &Job<'_>, path: &str) -> &'static str {
-    let is_new = is_vacant(rt, path).unwrap_or(false);
-    match job {
-        Job::EncodeWave { .. } if is_new => {
-            "created: flac decode writes WAV files; --force writes a stream all the same"
-        }
-        Job::EncodeWave { .. } => "created: flac decode writes WAV files",
-        _ if is_new => "created: flac recode writes streams; --force writes samples all the same",
-        _ => "created: flac recode writes streams",
+fn misnamed(rt: &HostRuntime, path: &str) -> &'static str {
+    if is_vacant(rt, path).unwrap_or(false) {
+        "created: flac decode writes WAV files; --force writes a stream all the same"
+    } else {
+        "created: flac decode writes WAV files"
     }
 }
 

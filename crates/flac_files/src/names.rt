@@ -43,16 +43,13 @@ fn names_wave(path: &str) -> bool
     ends_with(path, ".wav")
 }
 
-/// Whether the path that a job writes to ends as that of something else than what it writes: a decoding to one of a
-/// stream, a stream that is encoded anew to one of a WAV file. `is_whole`: what it writes is of use only as a whole.
+/// Whether the path that a job writes to ends as that of something else than what it writes: that of a stream that is
+/// encoded anew, or salvaged, as one of a WAV file. `is_whole`: what it writes is of use only as a whole.
 #[tactic(auto, unfolding(crate::specs::Names::is_misnamed))]
 pub(crate) fn is_misnamed(job: &Job<'_>, is_whole: bool, path: &str) -> bool
     ensures { result ≡ is_misnamed job.now is_whole path.now }
 {
     match job {
-        Job::Decode { .. } | Job::DecodeWave { .. } => {
-            !is_whole && (names_native(path) || names_ogg(path))
-        }
         Job::EncodeWave { .. } => is_whole && names_wave(path),
         _ => false,
     }
