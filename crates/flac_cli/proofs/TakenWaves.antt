@@ -1,5 +1,5 @@
 -- The samples of WAV files, as they are taken.
-use Rattle.std.proofs.Common.{◌≡◌, ◌≢◌, ◌≤◌, ◌<◌, ◌+◌, ◌*◌, ◌-◌, ◌/◌, ◌%◌, ◌^◌, ◌&&◌, ℕ, zero, suc, ℤ, pos, Bool, true, false, cond, Option, Some, None, Result, Ok, Err, IfErr, OnOk, List, [], ◌∷◌, ◌++◌, length, take, map, get_or, refl, ap, sym, ◌∙◌, subst, inl, inr, arith, length-append}
+use Rattle.std.proofs.Common.{◌≡◌, ◌≢◌, ◌≤◌, ◌<◌, ◌+◌, ◌*◌, ◌-◌, ◌/◌, ◌%◌, ◌^◌, ◌&&◌, ℕ, zero, suc, ℤ, pos, Bool, true, false, cond, Option, Some, None, Result, Ok, Err, IfOk, IfErr, OnOk, List, [], ◌∷◌, ◌++◌, length, take, map, get_or, refl, ap, sym, ◌∙◌, subst, inl, inr, arith, length-append}
 use Rattle.std.specs.Prelude.{nat_lt, nat_eq, not, slice_index_or, is_some, IfSome, Vec}
 use Rattle.std.specs.Global.{Global}
 use Rattle.std.specs.Int.{to_le_bytes, cast_unsigned, w32, bytes_low_first}
@@ -15,7 +15,7 @@ use Rattle.flac_wave.specs.declared.format.WaveFormat.{WaveFormat}
 use Rattle.flac_wave.proofs.Shifts.{lowered_long, depth_cases, stated_some}
 use Rattle.flac_cli.specs.Waves.{turned, wave_samples, low_samples, stream_samples, contents}
 use Rattle.flac_cli.specs.inner.Raw.{AreChannels}
-use Rattle.flac_cli.specs.inner.WaveSamples.{AreTaken, IsTaken, IsPart, IsJudged, IsSamplesError, samples_fault}
+use Rattle.flac_cli.specs.inner.WaveSamples.{AreTaken, IsTaken, IsPart, states_none, IsJudged, IsSamplesError, samples_fault}
 use Rattle.flac_cli.specs.declared.wave_samples.WaveSamples.{WaveSamples}
 use Rattle.flac_cli.specs.declared.wave_file.WaveFile.{WaveFile}
 use Rattle.flac_wave.specs.Chunks.{begins_chunk, is_unstated, size_in}
@@ -209,12 +209,12 @@ pub record IsSize (to_end : Bool) (f : WaveFront) (size : Option ℕ) (rest : Li
   pub said : is_unstated size rest ≡ false
 
 -- a length that is not 0 is not lacking
-pub other_size : (to_end : Bool) (f : WaveFront) (rest : List ℕ) → (f.size ≡ Some 0 → ⊥) → IsSize to_end f f.size rest
+pub other_size : (to_end : Bool) (f : WaveFront) (rest : List ℕ) → states_none f.size ≡ false → IsSize to_end f f.size rest
 other_size to_end f rest other = let said = said_by f.size other in record { is = size_by to_end said; said = said }
   where
-    said_by : (size : Option ℕ) → (size ≡ Some 0 → ⊥) → is_unstated size rest ≡ false
-    said_by None no = refl
-    said_by (Some n) no = ap (λ b. b && (nat_lt 0 (length rest) && not (begins_chunk rest))) (ne_eqb n 0 (λ e. no (ap Some e)))
+    said_by : (size : Option ℕ) → states_none size ≡ false → is_unstated size rest ≡ false
+    said_by None e = refl
+    said_by (Some n) e = ap (λ b. b && (nat_lt 0 (length rest) && not (begins_chunk rest))) e
 
     size_by : (ends : Bool) → is_unstated f.size rest ≡ false → size_in ends f.size rest ≡ f.size
     size_by true said = ap (λ b. cond b None f.size) said
@@ -261,3 +261,33 @@ file_taken to_end bytes rest f size file b s p = record {
   cut = p.cut;
   taken = subst (λ w. AreTaken w (given size rest) file.samples) (sym p.form) p.taken;
 }
+
+-- what a call returned that read the rest
+module _ (r : Result WaveFile WaveError) (to_end : Bool) (f : WaveFront) (size : Option ℕ) (bytes rest : List ℕ) (K T S : Type 0) (t : T) (s : S) (same : K → bytes ≡ rest) (sized : K → IsSize to_end f size rest) where
+  pub all_taken : IfOk r (λ w. T → IsPart to_end f size bytes w) → IfOk r (λ w. K → (all : List ℕ) → BeginsWith to_end all f rest → IsTaken to_end all w)
+  all_taken p = by_result r p
+    where
+      by_result : (r : Result WaveFile WaveError) → IfOk r (λ w. T → IsPart to_end f size bytes w) → IfOk r (λ w. K → (all : List ℕ) → BeginsWith to_end all f rest → IsTaken to_end all w)
+      by_result (Ok w) p = λ k all b. file_taken to_end all rest f size w b (sized k) (subst (λ l. IsPart to_end f size l w) (same k) (p t))
+      by_result (Err e) p = tt
+
+  pub all_refused : (Q : Type 0) → IfErr r (λ e. T → S → IsSamplesError to_end f size bytes e) → IfErr r (λ e. K → Q → (all : List ℕ) → BeginsWith to_end all f rest → IsErrorOf to_end all e)
+  all_refused Q p = by_result r p
+    where
+      by_result : (r : Result WaveFile WaveError) → IfErr r (λ e. T → S → IsSamplesError to_end f size bytes e) → IfErr r (λ e. K → Q → (all : List ℕ) → BeginsWith to_end all f rest → IsErrorOf to_end all e)
+      by_result (Ok w) p = tt
+      by_result (Err e) p = λ k q all b. samples_error to_end all rest f size e b (sized k) (subst (λ l. IsSamplesError to_end f size l e) (same k) (p t s))
+
+-- the same of a whole file, whose source was read on
+module _ (to_end : Bool) (f : WaveFront) (size : Option ℕ) (bytes rest : List ℕ) (K T : Type 0) (t : K → T) (begins : K → BeginsWith to_end bytes f rest) where
+  pub sized_taken : (r : Result WaveFile WaveError) → IsSize to_end f size rest → IfOk r (λ w. T → IsPart to_end f size rest w) → IfOk r (λ w. K → IsTaken to_end bytes w)
+  sized_taken (Ok w) s p = λ k. file_taken to_end bytes rest f size w (begins k) s (p (t k))
+  sized_taken (Err e) s p = tt
+
+  pub sized_refused : (r : Result WaveFile WaveError) (Q S : Type 0) → (Q → S) → IsSize to_end f size rest → IfErr r (λ e. T → S → IsSamplesError to_end f size rest e) → IfErr r (λ e. K → Q → IsErrorOf to_end bytes e)
+  sized_refused (Ok w) Q S later s p = tt
+  sized_refused (Err e) Q S later s p = λ k q. samples_error to_end bytes rest f size e (begins k) s (p (t k) (later q))
+
+  pub rest_refused : (r : Result WaveFile WaveError) (Q S : Type 0) → (Q → S) → IfErr r (λ e. T → S → (all : List ℕ) → BeginsWith to_end all f rest → IsErrorOf to_end all e) → IfErr r (λ e. K → Q → IsErrorOf to_end bytes e)
+  rest_refused (Ok w) Q S later p = tt
+  rest_refused (Err e) Q S later p = λ k q. p (t k) (later q) bytes (begins k)

@@ -6,7 +6,7 @@ ghost use Rattle.flac_wave.specs.Format.{IsInRange};
 ghost use Rattle.flac_wave.specs.Front.{BeginsWith};
 ghost use Rattle.flac_wave.specs.Parts.{given, beyond};
 ghost use Rattle.flac_wave.specs.Wave.{IsErrorOf};
-ghost use Rattle.flac_cli.specs.inner.WaveSamples.{AreTaken, IsTaken, IsPart, IsJudged, samples_fault, IsSamplesError};
+ghost use Rattle.flac_cli.specs.inner.WaveSamples.{AreTaken, IsTaken, IsPart, states_none, IsJudged, samples_fault, IsSamplesError};
 
 use crate::wave_samples::{WaveSamples, read_samples};
 use flac_bits::{Memory, Source};
@@ -153,6 +153,16 @@ fn read_unsized<R: Source>(
     )
 }
 
+/// Whether the header of the samples states 0 bytes.
+fn states_none(size: Option<u64>) -> bool
+    ensures { result ≡ states_none size }
+{
+    match size {
+        Some(bytes) => bytes == 0,
+        None => false,
+    }
+}
+
 /// Reads a WAV file. Its samples are held as those of a stream, its other bytes in pieces.
 ///
 /// # Errors
@@ -168,7 +178,7 @@ pub(crate) fn read_file<R: Source>(
 {
     let front = read_front(alloc, source, to_end)?;
     let size = front.size;
-    if size == Some(0) {
+    if states_none(size) {
         return read_unsized(alloc, front, to_end, source);
     }
     read_parts(alloc, front, size, to_end, source)

@@ -1,5 +1,5 @@
 -- For the proof of reading a WAV file from a source: its samples, and what comes after them.
-use Rattle.std.specs.Prelude.{◌≡◌, ℕ, ℤ, ◌*◌, ◌%◌, Bool, true, not, nat_eq, List, length, map, Option, Some, None, is_some, Result, Ok, Err}
+use Rattle.std.specs.Prelude.{◌≡◌, ℕ, ℤ, ◌*◌, ◌%◌, Bool, true, false, not, nat_eq, List, length, map, Option, Some, None, is_some, Result, Ok, Err}
 use Rattle.flac_header.specs.declared.subset.Profile.{Profile}
 use Rattle.flac_frame.specs.Audio.{Sound}
 use Rattle.flac_frame.specs.declared.setup.SetupFault.{SetupFault}
@@ -51,6 +51,11 @@ pub record IsTaken (to_end : Bool) (bytes : List ℕ) (f : WaveFile) : Type 0 wh
 -- why the samples of this size are none that come of these bytes after what comes before them
 abbrev pub samples_fault : (to_end : Bool) → WaveFront → (size : Option ℕ) → (bytes : List ℕ) → Option WaveWhy
 samples_fault to_end f size bytes = front_fault to_end (is_cut size bytes) (are_whole f.format size bytes)
+
+-- the header of the samples states 0 bytes
+abbrev pub states_none : (size : Option ℕ) → Bool
+states_none None = false
+states_none (Some n) = nat_eq n 0
 
 -- these bytes are the samples of this size, and what follows them, after what comes before them
 pub record IsPart (to_end : Bool) (f : WaveFront) (size : Option ℕ) (bytes : List ℕ) (file : WaveFile) : Type 0 where
