@@ -1,6 +1,8 @@
 -- What is gathered of frames.
-use Rattle.std.specs.Prelude.{ℕ, List, min, cond, nat_eq}
+use Rattle.std.specs.Prelude.{ℕ, ◌<◌, List, min, cond, nat_eq}
 use Rattle.flac_info.specs.Info.{Info}
+use Rattle.flac_meta.specs.Valid.{AllAre}
+use Rattle.flac_meta.specs.declared.seek_table.SeekPoint.{SeekPoint}
 use Rattle.flac_encoder.specs.Pushing.{Shape}
 
 -- STREAMINFO of a format with the smallest and the largest frame in bytes, the samples of each channel, and the digest
@@ -21,3 +23,7 @@ info_with s least greatest total digest = record {
 -- the smallest size with one more frame; that of this frame if no sample was encoded before
 abbrev pub least_after : (samples least bytes : ℕ) → ℕ
 least_after samples least bytes = cond (nat_eq samples 0) bytes (min least bytes)
+
+-- the points name frames that begin before a sample
+abbrev pub AreBefore : (start : ℕ) → List SeekPoint → Type 0
+AreBefore start points = AllAre (λ x. x.sample < start) points

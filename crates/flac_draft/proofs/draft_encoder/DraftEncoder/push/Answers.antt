@@ -37,13 +37,14 @@ returns-in_err-frame g c =
     rw (p.1, p.2, ← c.self.view_is) (record {
       next = tt;
       list = refl;
+      stated = record { total = refl; every = refl };
       draft = tt;
       written = tt;
       known = tt;
       counted = tt;
       accepted = tt;
       refused = subst (λ o. IsFirst o c.in_err-frame.field-0.0) (fault_seen i.blocks i.target (with_target i.blocks i.target) block refl) e.refused;
-      kept = λ other. ap (λ (b : Pushed ⊤). draft_of b i.target i.list i.hasher i.least i.greatest i.start) e.kept;
+      kept = λ other. ap (λ (b : Pushed ⊤). draft_of b i.target i.list i.hasher i.least i.greatest i.start i.table) e.kept;
       begun = λ is. absurd (e.unsent is);
       spent = λ is. absurd (e.unsent is);
       failed = λ is. absurd (e.unsent is);
@@ -68,8 +69,9 @@ returns-in-Ok g c =
     rw (← c.self.view_is) (record {
       next = same;
       list = refl;
+      stated = record { total = refl; every = refl };
       draft = λ known samples before o next.
-          draft_next g.W.Target samples block before (draft_of b s i.list i.hasher i.least i.greatest i.start) t c.feed_rows.new.hasher items (with_target c.sent.new.self t) c.sample_width-width.result c.block_len.result c.least_after-self-inside.result
+          draft_next g.W.Target samples block before (draft_of b s i.list i.hasher i.least i.greatest i.start i.table) t c.feed_rows.new.hasher items (with_target c.sent.new.self t) c.sample_width-width.result c.block_len.result c.least_after-self-inside.result
           c.max-self-inside.result o next (accepted b block ok.format ok.accepted).number ok.next.spells ok.next.least c.feed_rows.ensures (sends.sent known ∙ ap (λ l. g.W.Target.sent s ++ l) c.as_slice.ensures.value)
           (c.sample_width-width.ensures ∙ ap (λ (x : Shape). sample_width x.bits) (sym c.self.invariant.same)) c.block_len.ensures same least greatest;
       written = λ known. pushes g.W.Target b tt s t block items ok.next (with_target c.sent.new.self t) same (sends.sent known ∙ ap (λ l. g.W.Target.sent s ++ l) c.as_slice.ensures.value);
@@ -96,6 +98,7 @@ returns g c =
     rw (← c.self.view_is) (record {
       next = tt;
       list = refl;
+      stated = record { total = refl; every = refl };
       draft = tt;
       written = tt;
       known = tt;
