@@ -1,5 +1,5 @@
 -- What other programs put around a stream, and where the stream is between.
-use Rattle.std.specs.Prelude.{◌≡◌, ◌≤◌, ℕ, ◌+◌, ◌*◌, ◌-◌, ◌/◌, ◌%◌, ◌&&◌, nat_eq, nat_lt, Bool, eqb, cond, List, ◌∷◌, length, take, drop, codes}
+use Rattle.std.specs.Prelude.{◌≡◌, ◌≤◌, ℕ, ◌+◌, ◌*◌, ◌-◌, ◌/◌, ◌%◌, ◌&&◌, nat_eq, nat_lt, Bool, false, eqb, cond, List, ◌∷◌, length, take, drop, codes}
 use Rattle.std.specs.List.{starts_with}
 
 -- ---- an ID3v2 tag, before the stream (ID3v2.4.0, sections 3.1 and 6.2)
@@ -86,3 +86,11 @@ around bytes =
 -- that are not among the last 128 before the error.
 abbrev pub middle_of : (fails : Bool) → List ℕ → List ℕ
 middle_of fails bytes = cond fails (all_but_128 (past_front bytes)) (without_back (past_front bytes))
+
+-- these are the parts of an input
+abbrev pub HasParts : (bytes before middle after : List ℕ) → Type 0
+HasParts bytes before middle after = around bytes ≡ record { before = before; middle = middle; after = after }
+
+-- no tag is at the end
+abbrev pub HasNoBack : List ℕ → Type 0
+HasNoBack bytes = is_back (last_128 bytes) ≡ false

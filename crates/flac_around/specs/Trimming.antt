@@ -1,5 +1,5 @@
 -- What a source of an input without the empty packets at its end has to give.
-use Rattle.std.specs.Prelude.{ℕ, ◌+◌, ◌-◌, Bool, cond, List, ◌++◌, is_some}
+use Rattle.std.specs.Prelude.{◌≡◌, ◌<◌, ◌⊎◌, ℕ, ◌+◌, ◌-◌, Bool, true, cond, List, ◌++◌, is_some}
 use Rattle.flac_bits.specs.declared.source.Source as source
 use Rattle.flac_around.specs.EmptyPackets.{trimmed, trimmed_from}
 use Rattle.flac_around.specs.Holding.{part}
@@ -24,3 +24,7 @@ ghosts_of g = record {
   most = λ t. g.most t.source + (t.lead_end - t.lead_at + (t.body_end - t.body_at));
   names = λ t. g.names t.source;
 }
+
+-- something is held, or comes as it is
+abbrev pub HasNext : {S : Type 0} → Trimmed S → Type 0
+HasNext t = (t.plain ≡ true) ⊎ (t.lead_at < t.lead_end) ⊎ (t.body_at < t.body_end)

@@ -1,9 +1,8 @@
 //! A source of the bytes between the tags of other programs.
 
 ghost use Rattle.std.specs.Prelude.{◌≡◌, ◌≢◌, ◌≤◌, ◌<◌, ◌+◌, ◌-◌, ◌++◌, ℕ, true, [], length, take, drop, min, IfOk, OnOk, OnErr};
-ghost use Rattle.flac_around.specs.Around.{front_length, past_front, back_length, without_back};
-ghost use Rattle.flac_around.specs.inner.Pulling.{Goes, Fails, IsOver};
-ghost use Rattle.flac_bits.specs.Sources.{Ended};
+ghost use Rattle.flac_around.specs.Around.{past_front, back_length, without_back};
+ghost use Rattle.flac_around.specs.inner.Pulling.{Goes, Fails, IsOver, IfComing, Gives, Slides, KeepsComing, PassesFront, IsEnded, front_within};
 
 use crate::filling::{fill, skip};
 use crate::tags::{front_length, is_back};
@@ -37,10 +36,8 @@ pub(crate) struct Front {
 fn pass_front<S: Source>(source: &mut S, held: &mut [u8]) -> io::Result<Front>
     requires { 10 ≤ length held.old }
     ensures few { IfOk result (λ f. f.held ≤ 10) }
-    ensures bytes { IfOk result (λ f. S.known source.old ≡ true →
-        past_front (S.coming source.old) ≡ take f.held held.new ++ S.coming source.new) }
-    ensures before { IfOk result (λ f. S.known source.old ≡ true →
-        f.before ≡ min (front_length (S.coming source.old)) (length (S.coming source.old))) }
+    ensures bytes { IfOk result (λ f. PassesFront S.Source source.old source.new (take f.held held.new)) }
+    ensures before { IfOk result (λ f. IfComing S.Source source.old (λ coming. f.before ≡ front_within coming)) }
     ensures most { IfOk result (λ f. S.most source.new + f.held ≤ S.most source.old) }
     ensures goes { OnOk result (Goes S.Source source.old source.new) }
     ensures fails { OnErr result (Fails S.Source (λ coming. length (past_front coming) ≤ 128) source.old source.new) }
@@ -69,11 +66,9 @@ fn pass_front<S: Source>(source: &mut S, held: &mut [u8]) -> io::Result<Front>
 fn begin<S: Source>(source: &mut S, held: &mut [u8]) -> io::Result<Front>
     requires { length held.old ≡ 128 }
     ensures few { IfOk result (λ f. f.held ≤ 128) }
-    ensures bytes { IfOk result (λ f. S.known source.old ≡ true →
-        past_front (S.coming source.old) ≡ take f.held held.new ++ S.coming source.new) }
+    ensures bytes { IfOk result (λ f. PassesFront S.Source source.old source.new (take f.held held.new)) }
     ensures end { IfOk result (λ f. f.held < 128 → IsOver S.Source source.old source.new) }
-    ensures before { IfOk result (λ f. S.known source.old ≡ true →
-        f.before ≡ min (front_length (S.coming source.old)) (length (S.coming source.old))) }
+    ensures before { IfOk result (λ f. IfComing S.Source source.old (λ coming. f.before ≡ front_within coming)) }
     ensures most { IfOk result (λ f. S.most source.new + f.held ≤ S.most source.old) }
     ensures goes { OnOk result (Goes S.Source source.old source.new) }
     ensures fails { OnErr result (Fails S.Source (λ coming. length (past_front coming) ≤ 128) source.old source.new) }
@@ -97,8 +92,7 @@ fn through<S: Source>(source: &mut S, held: &mut [u8], room: &mut [u8]) -> io::R
     requires held { length held.old ≡ 128 }
     requires room { 128 < length room.old }
     ensures few { IfOk result (λ n. n + 128 ≤ length room.new) }
-    ensures bytes { IfOk result (λ n. S.known source.old ≡ true →
-        held.old ++ S.coming source.old ≡ take n room.new ++ (held.new ++ S.coming source.new)) }
+    ensures bytes { IfOk result (λ n. Slides S.Source source.old source.new held.old (take n room.new) held.new) }
     ensures end { IfOk result (λ n. n ≡ 0 → IsOver S.Source source.old source.new) }
     ensures same { IfOk result (λ n. n ≡ 0 → held.new ≡ held.old) }
     ensures most { IfOk result (λ n. S.most source.new + n ≤ S.most source.old) }
@@ -119,8 +113,7 @@ fn slide<S: Source>(source: &mut S, held: &mut [u8], buf: &mut [u8]) -> io::Resu
     requires held { length held.old ≡ 128 }
     requires room { 0 < length buf.old }
     ensures few { IfOk result (λ n. n ≤ length buf.new) }
-    ensures bytes { IfOk result (λ n. S.known source.old ≡ true →
-        held.old ++ S.coming source.old ≡ take n buf.new ++ (held.new ++ S.coming source.new)) }
+    ensures bytes { IfOk result (λ n. Slides S.Source source.old source.new held.old (take n buf.new) held.new) }
     ensures end { IfOk result (λ n. n ≡ 0 → IsOver S.Source source.old source.new) }
     ensures same { IfOk result (λ n. n ≡ 0 → held.new ≡ held.old) }
     ensures most { IfOk result (λ n. S.most source.new + n ≤ S.most source.old) }
@@ -223,8 +216,7 @@ impl<S: Source> Between<S> {
     /// That of the other source.
     fn start(&mut self) -> io::Result<()>
         ensures stage { OnOk result (self.new.stage ≢ stage.Unread) }
-        ensures bytes { OnOk result ((ghosts_of S.Source).known self.old ≡ true →
-            (ghosts_of S.Source).coming self.new ≡ (ghosts_of S.Source).coming self.old) }
+        ensures bytes { OnOk result (KeepsComing (ghosts_of S.Source) self.old self.new) }
         ensures goes { OnOk result (Goes (ghosts_of S.Source) self.old self.new) }
         ensures fails { OnErr result (Fails (ghosts_of S.Source) (λ coming. coming ≡ []) self.old self.new) }
     {
@@ -251,10 +243,8 @@ impl<S: Source> Between<S> {
         requires stage { self.old.stage ≡ stage.Ended }
         requires room { 0 < length buf.old }
         ensures few { IfOk result (λ n. n ≤ length buf.new) }
-        ensures bytes { IfOk result (λ n. (ghosts_of S.Source).known self.old ≡ true →
-            (ghosts_of S.Source).coming self.old ≡ take n buf.new ++ (ghosts_of S.Source).coming self.new) }
-        ensures end { IfOk result (λ n. n ≡ 0 →
-            Ended (ghosts_of S.Source).known (ghosts_of S.Source).coming (ghosts_of S.Source).after self.old) }
+        ensures bytes { IfOk result (λ n. Gives (ghosts_of S.Source) self.old self.new (take n buf.new)) }
+        ensures end { IfOk result (λ n. n ≡ 0 → IsEnded (ghosts_of S.Source) self.old) }
         ensures most { IfOk result (λ n. (ghosts_of S.Source).most self.new + n ≤ (ghosts_of S.Source).most self.old) }
         ensures goes { OnOk result (Goes (ghosts_of S.Source) self.old self.new) }
         ensures fails { OnErr result (Fails (ghosts_of S.Source) (λ coming. coming ≡ []) self.old self.new) }
@@ -274,8 +264,7 @@ impl<S: Source> Between<S> {
         requires room { 0 < length buf.old }
         ensures stage { IfOk result (λ n. n ≡ 0 → self.new.stage ≡ stage.Ended) }
         ensures few { IfOk result (λ n. n ≤ length buf.new) }
-        ensures bytes { IfOk result (λ n. (ghosts_of S.Source).known self.old ≡ true →
-            (ghosts_of S.Source).coming self.old ≡ take n buf.new ++ (ghosts_of S.Source).coming self.new) }
+        ensures bytes { IfOk result (λ n. Gives (ghosts_of S.Source) self.old self.new (take n buf.new)) }
         ensures most { IfOk result (λ n. (ghosts_of S.Source).most self.new + n ≤ (ghosts_of S.Source).most self.old) }
         ensures goes { OnOk result (Goes (ghosts_of S.Source) self.old self.new) }
         ensures fails { OnErr result (Fails (ghosts_of S.Source) (λ coming. coming ≡ []) self.old self.new) }
@@ -296,10 +285,8 @@ impl<S: Source> Between<S> {
         requires stage { self.old.stage ≢ stage.Unread }
         requires room { 0 < length buf.old }
         ensures few { IfOk result (λ n. n ≤ length buf.new) }
-        ensures bytes { IfOk result (λ n. (ghosts_of S.Source).known self.old ≡ true →
-            (ghosts_of S.Source).coming self.old ≡ take n buf.new ++ (ghosts_of S.Source).coming self.new) }
-        ensures end { IfOk result (λ n. n ≡ 0 →
-            Ended (ghosts_of S.Source).known (ghosts_of S.Source).coming (ghosts_of S.Source).after self.old) }
+        ensures bytes { IfOk result (λ n. Gives (ghosts_of S.Source) self.old self.new (take n buf.new)) }
+        ensures end { IfOk result (λ n. n ≡ 0 → IsEnded (ghosts_of S.Source) self.old) }
         ensures most { IfOk result (λ n. (ghosts_of S.Source).most self.new + n ≤ (ghosts_of S.Source).most self.old) }
         ensures goes { OnOk result (Goes (ghosts_of S.Source) self.old self.new) }
         ensures fails { OnErr result (Fails (ghosts_of S.Source) (λ coming. coming ≡ []) self.old self.new) }

@@ -1,7 +1,7 @@
 //! Bytes of a source that are read to be held, or are skipped.
 
 ghost use Rattle.std.specs.Prelude.{◌≡◌, ◌≤◌, ◌<◌, ◌+◌, ◌++◌, true, [], length, take, drop, min, IfOk, OnOk, OnErr};
-ghost use Rattle.flac_around.specs.inner.Pulling.{Goes, Fails, IsOver};
+ghost use Rattle.flac_around.specs.inner.Pulling.{Goes, Fails, IsOver, GivesAfter, Skips};
 
 use flac_bits::Source;
 use std::io;
@@ -24,8 +24,8 @@ pub(crate) fn fill<S: Source>(
     requires within { most ≤ length places.old }
     ensures least { IfOk result (λ n. from ≤ n) }
     ensures few { IfOk result (λ n. n ≤ most) }
-    ensures bytes { IfOk result (λ n. S.known source.old ≡ true →
-        take from places.old ++ S.coming source.old ≡ take n places.new ++ S.coming source.new) }
+    ensures bytes { IfOk result (λ n.
+        GivesAfter S.Source source.old source.new (take from places.old) (take n places.new)) }
     ensures end { IfOk result (λ n. n < most → IsOver S.Source source.old source.new) }
     ensures most { IfOk result (λ n. S.most source.new + n ≤ S.most source.old + from) }
     ensures goes { OnOk result (Goes S.Source source.old source.new) }
@@ -49,7 +49,7 @@ pub(crate) fn fill<S: Source>(
 fn skip_some<S: Source>(source: &mut S, most: u64) -> io::Result<usize>
     requires { 0 < most }
     ensures few { IfOk result (λ n. n ≤ most) }
-    ensures bytes { IfOk result (λ n. S.known source.old ≡ true → (length (S.coming source.old) ≡ n + length (S.coming source.new)) × (S.coming source.new ≡ drop n (S.coming source.old))) }
+    ensures bytes { IfOk result (λ n. Skips S.Source source.old source.new n) }
     ensures end { IfOk result (λ n. n ≡ 0 → IsOver S.Source source.old source.new) }
     ensures goes { OnOk result (Goes S.Source source.old source.new) }
     ensures fails { OnErr result (Fails S.Source (λ coming. coming ≡ []) source.old source.new) }

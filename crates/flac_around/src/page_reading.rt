@@ -1,10 +1,10 @@
 //! Reads a page of a source, to be held.
 
-ghost use Rattle.std.specs.Prelude.{◌≡◌, ◌≤◌, ◌+◌, ◌++◌, Bool, true, false, eqb, is_some, length, take, drop, IfOk, OnOk, OnErr};
+ghost use Rattle.std.specs.Prelude.{◌≡◌, ◌≤◌, ◌+◌, Bool, true, false, eqb, [], length, take, drop, IfOk, OnOk, OnErr};
 ghost use Rattle.std.specs.List.{starts_with};
 ghost use Rattle.flac_around.specs.EmptyPackets.{begins_page, is_cut, check_of};
-ghost use Rattle.flac_around.specs.inner.Pages.{IsLead, IsPlain, GivesPage, page_of};
-ghost use Rattle.flac_around.specs.inner.Pulling.{Goes, Fails};
+ghost use Rattle.flac_around.specs.inner.Pages.{IsLead, IsPlainHere, IsPlainAfter, IsCutAfter, TakesPage, page_of};
+ghost use Rattle.flac_around.specs.inner.Pulling.{Goes, Fails, Gives, GivesBoth, GivesAfter};
 
 use crate::filling::fill;
 use crate::page_parts::{FIELDS, HEAD, begins_page, checksum, total};
@@ -36,14 +36,13 @@ fn read_lacing<S: Source>(source: &mut S, lead: &mut [u8]) -> io::Result<LeadRea
     requires room { length lead.old ≡ 282 }
     requires begins { begins_page (take 27 lead.old) ≡ true }
     ensures most { IfOk result (λ r. r.end ≤ 282) }
-    ensures bytes { IfOk result (λ r. S.known source.old ≡ true →
-        take 27 lead.old ++ S.coming source.old ≡ take r.end lead.new ++ S.coming source.new) }
+    ensures bytes { IfOk result (λ r.
+        GivesAfter S.Source source.old source.new (take 27 lead.old) (take r.end lead.new)) }
     ensures whole { IfOk result (λ r. r.is_whole ≡ true → IsLead (take r.end lead.new)) }
-    ensures part { IfOk result (λ r. r.is_whole ≡ false → S.known source.old ≡ true →
-        IsPlain (is_some ((S.after source.old).fails)) (take 27 lead.old ++ S.coming source.old)) }
+    ensures part { IfOk result (λ r. r.is_whole ≡ false → IsPlainAfter S.Source source.old (take 27 lead.old)) }
     ensures count { IfOk result (λ r. S.most source.new + r.end ≤ S.most source.old + 27) }
     ensures goes { OnOk result (Goes S.Source source.old source.new) }
-    ensures fails { OnErr result (Fails S.Source (λ coming. is_cut (take 27 lead.old ++ coming) ≡ true) source.old source.new) }
+    ensures fails { OnErr result (Fails S.Source (IsCutAfter (take 27 lead.old)) source.old source.new) }
 {
     let count = usize::from(lead[HEAD - 1]);
     let more = match fill(source, &mut lead[HEAD..], 0, count) {
@@ -67,10 +66,9 @@ fn read_lacing<S: Source>(source: &mut S, lead: &mut [u8]) -> io::Result<LeadRea
 fn read_lead<S: Source>(source: &mut S, lead: &mut [u8]) -> io::Result<LeadRead>
     requires { length lead.old ≡ 282 }
     ensures most { IfOk result (λ r. r.end ≤ 282) }
-    ensures bytes { IfOk result (λ r. S.known source.old ≡ true → S.coming source.old ≡ take r.end lead.new ++ S.coming source.new) }
+    ensures bytes { IfOk result (λ r. Gives S.Source source.old source.new (take r.end lead.new)) }
     ensures whole { IfOk result (λ r. r.is_whole ≡ true → IsLead (take r.end lead.new)) }
-    ensures part { IfOk result (λ r. r.is_whole ≡ false → S.known source.old ≡ true →
-        IsPlain (is_some ((S.after source.old).fails)) (S.coming source.old)) }
+    ensures part { IfOk result (λ r. r.is_whole ≡ false → IsPlainHere S.Source source.old) }
     ensures count { IfOk result (λ r. S.most source.new + r.end ≤ S.most source.old) }
     ensures goes { OnOk result (Goes S.Source source.old source.new) }
     ensures fails { OnErr result (Fails S.Source (λ coming. is_cut coming ≡ true) source.old source.new) }
@@ -119,14 +117,13 @@ fn read_body<S: Source>(source: &mut S, lead: &[u8], body: &mut [u8]) -> io::Res
     requires few { length lead.now ≤ 282 }
     requires room { length body.old ≡ 65025 }
     ensures most { IfOk result (λ r. r.end ≤ 65025) }
-    ensures bytes { IfOk result (λ r. S.known source.old ≡ true → S.coming source.old ≡ take r.end body.new ++ S.coming source.new) }
-    ensures page { IfOk result (λ r. r.is_page ≡ true → S.known source.old ≡ true → (fails : Bool) →
-        GivesPage fails (page_of lead.now (take r.end body.new)) (lead.now ++ S.coming source.old) (S.coming source.new)) }
-    ensures part { IfOk result (λ r. r.is_page ≡ false → S.known source.old ≡ true →
-        IsPlain (is_some ((S.after source.old).fails)) (lead.now ++ S.coming source.old)) }
+    ensures bytes { IfOk result (λ r. Gives S.Source source.old source.new (take r.end body.new)) }
+    ensures page { IfOk result (λ r. r.is_page ≡ true →
+        TakesPage S.Source source.old source.new lead.now (page_of lead.now (take r.end body.new))) }
+    ensures part { IfOk result (λ r. r.is_page ≡ false → IsPlainAfter S.Source source.old lead.now) }
     ensures count { IfOk result (λ r. S.most source.new + r.end ≤ S.most source.old) }
     ensures goes { OnOk result (Goes S.Source source.old source.new) }
-    ensures fails { OnErr result (Fails S.Source (λ coming. is_cut (lead.now ++ coming) ≡ true) source.old source.new) }
+    ensures fails { OnErr result (Fails S.Source (IsCutAfter lead.now) source.old source.new) }
 {
     let most = total(&lead[HEAD..]);
     let end = match fill(source, body, 0, most) {
@@ -157,13 +154,12 @@ pub(crate) fn read_page<S: Source>(
     requires body { length body.old ≡ 65025 }
     ensures lead { IfOk result (λ r. r.lead ≤ 282) }
     ensures body { IfOk result (λ r. r.body ≤ 65025) }
-    ensures bytes { IfOk result (λ r. S.known source.old ≡ true →
-        S.coming source.old ≡ take r.lead lead.new ++ (take r.body body.new ++ S.coming source.new)) }
+    ensures bytes { IfOk result (λ r.
+        GivesBoth S.Source source.old source.new (take r.lead lead.new) (take r.body body.new)) }
     ensures whole { IfOk result (λ r. r.is_page ≡ true → IsLead (take r.lead lead.new)) }
-    ensures page { IfOk result (λ r. r.is_page ≡ true → S.known source.old ≡ true → (fails : Bool) →
-        GivesPage fails (page_of (take r.lead lead.new) (take r.body body.new)) (S.coming source.old) (S.coming source.new)) }
-    ensures part { IfOk result (λ r. r.is_page ≡ false → S.known source.old ≡ true →
-        IsPlain (is_some ((S.after source.old).fails)) (S.coming source.old)) }
+    ensures page { IfOk result (λ r. r.is_page ≡ true →
+        TakesPage S.Source source.old source.new [] (page_of (take r.lead lead.new) (take r.body body.new))) }
+    ensures part { IfOk result (λ r. r.is_page ≡ false → IsPlainHere S.Source source.old) }
     ensures count { IfOk result (λ r. S.most source.new + (r.lead + r.body) ≤ S.most source.old) }
     ensures goes { OnOk result (Goes S.Source source.old source.new) }
     ensures fails { OnErr result (Fails S.Source (λ coming. is_cut coming ≡ true) source.old source.new) }

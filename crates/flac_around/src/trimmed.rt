@@ -2,10 +2,9 @@
 
 ghost use Rattle.std.specs.Prelude.{◌≡◌, ◌≤◌, ◌<◌, ◌+◌, ◌-◌, ◌++◌, ◌⊎◌, ◌&&◌, not, nat_eq, true, false, [], length, take, slice_set, IfOk, OnOk, OnErr};
 ghost use Rattle.flac_around.specs.EmptyPackets.{page_bytes, checked, given_for, leaves_out};
-ghost use Rattle.flac_around.specs.inner.Pages.{IsLead, page_of};
-ghost use Rattle.flac_around.specs.inner.Pulling.{Goes, Fails};
+ghost use Rattle.flac_around.specs.inner.Pages.{IsLead, IsGivenFor, page_of};
+ghost use Rattle.flac_around.specs.inner.Pulling.{Goes, Fails, Gives, KeepsComing, IsEnded};
 ghost use Rattle.flac_around.specs.Holding.{part};
-ghost use Rattle.flac_bits.specs.Sources.{Ended};
 
 use crate::page_parts::{BODY, HEAD, LEAD, complete, kept};
 use crate::page_reading::read_page;
@@ -51,8 +50,8 @@ fn put_kept(lead: &mut [u8], kept: usize, body: &[u8])
 fn leave_out(lead: &mut [u8], body: &[u8], left_out: bool) -> Given
     requires whole { IsLead lead.old }
     requires few { length lead.old ≤ 282 }
-    ensures bytes { take result.lead lead.new ++ take result.body body.now ≡
-        page_bytes (given_for left_out (page_of lead.old body.now)) }
+    ensures bytes { IsGivenFor left_out (page_of lead.old body.now)
+        (take result.lead lead.new) (take result.body body.now) }
     ensures left_out { result.left_out ≡ leaves_out left_out (page_of lead.old body.now) }
     ensures some { 0 < result.lead }
     ensures lead { result.lead ≤ length lead.old }
@@ -88,8 +87,8 @@ fn leave_out_of(lead: &mut [u8], end: usize, body: &[u8], left_out: bool) -> Giv
     requires end { end ≤ length lead.old }
     requires few { end ≤ 282 }
     requires whole { IsLead (take end lead.old) }
-    ensures bytes { take result.lead lead.new ++ take result.body body.now ≡
-        page_bytes (given_for left_out (page_of (take end lead.old) body.now)) }
+    ensures bytes { IsGivenFor left_out (page_of (take end lead.old) body.now)
+        (take result.lead lead.new) (take result.body body.now) }
     ensures left_out { result.left_out ≡ leaves_out left_out (page_of (take end lead.old) body.now) }
     ensures some { 0 < result.lead }
     ensures lead { result.lead ≤ end }
@@ -139,7 +138,7 @@ pub struct Trimmed<S> {
 }
 
 impl<S: Source> Trimmed<S> {
-    ghost use Rattle.flac_around.specs.Trimming.{ghosts_of, without_end};
+    ghost use Rattle.flac_around.specs.Trimming.{ghosts_of, without_end, HasNext};
 
     /// A source of the bytes without these packets.
     pub fn new(source: S) -> Trimmed<S>
@@ -186,8 +185,7 @@ impl<S: Source> Trimmed<S> {
         requires lead { self.old.lead_at ≡ self.old.lead_end }
         requires body { self.old.body_at ≡ self.old.body_end }
         ensures some { OnOk result ((self.new.plain ≡ true) ⊎ (self.new.lead_at < self.new.lead_end)) }
-        ensures bytes { OnOk result ((ghosts_of S.Source).known self.old ≡ true →
-            (ghosts_of S.Source).coming self.new ≡ (ghosts_of S.Source).coming self.old) }
+        ensures bytes { OnOk result (KeepsComing (ghosts_of S.Source) self.old self.new) }
         ensures goes { OnOk result (Goes (ghosts_of S.Source) self.old self.new) }
         ensures fails { OnErr result (Fails (ghosts_of S.Source) (λ coming. coming ≡ []) self.old self.new) }
     {
@@ -218,12 +216,10 @@ impl<S: Source> Trimmed<S> {
     /// Gives some of the bytes that are held, or else of those of the other source.
     fn give(&mut self, buf: &mut [u8]) -> io::Result<usize>
         requires room { 0 < length buf.old }
-        requires some { (self.old.plain ≡ true) ⊎ (self.old.lead_at < self.old.lead_end) ⊎ (self.old.body_at < self.old.body_end) }
+        requires some { HasNext self.old }
         ensures few { IfOk result (λ n. n ≤ length buf.new) }
-        ensures bytes { IfOk result (λ n. (ghosts_of S.Source).known self.old ≡ true →
-            (ghosts_of S.Source).coming self.old ≡ take n buf.new ++ (ghosts_of S.Source).coming self.new) }
-        ensures end { IfOk result (λ n. n ≡ 0 →
-            Ended (ghosts_of S.Source).known (ghosts_of S.Source).coming (ghosts_of S.Source).after self.old) }
+        ensures bytes { IfOk result (λ n. Gives (ghosts_of S.Source) self.old self.new (take n buf.new)) }
+        ensures end { IfOk result (λ n. n ≡ 0 → IsEnded (ghosts_of S.Source) self.old) }
         ensures most { IfOk result (λ n. (ghosts_of S.Source).most self.new + n ≤ (ghosts_of S.Source).most self.old) }
         ensures goes { OnOk result (Goes (ghosts_of S.Source) self.old self.new) }
         ensures fails { OnErr result (Fails (ghosts_of S.Source) (λ coming. coming ≡ []) self.old self.new) }
@@ -246,9 +242,8 @@ impl<S: Source> Trimmed<S> {
     /// # Errors
     /// That of the other source.
     fn start(&mut self) -> io::Result<()>
-        ensures some { OnOk result ((self.new.plain ≡ true) ⊎ (self.new.lead_at < self.new.lead_end) ⊎ (self.new.body_at < self.new.body_end)) }
-        ensures bytes { OnOk result ((ghosts_of S.Source).known self.old ≡ true →
-            (ghosts_of S.Source).coming self.new ≡ (ghosts_of S.Source).coming self.old) }
+        ensures some { OnOk result (HasNext self.new) }
+        ensures bytes { OnOk result (KeepsComing (ghosts_of S.Source) self.old self.new) }
         ensures goes { OnOk result (Goes (ghosts_of S.Source) self.old self.new) }
         ensures fails { OnErr result (Fails (ghosts_of S.Source) (λ coming. coming ≡ []) self.old self.new) }
     {

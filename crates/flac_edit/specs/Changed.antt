@@ -1,10 +1,13 @@
 -- Edits that change nothing of the metadata blocks of a stream.
-use Rattle.std.specs.Prelude.{◌≡◌, Bool, false, List, ◌∷◌, None, map}
-use Rattle.flac_bits.specs.State.{Mark, Cursor}
+use Rattle.std.specs.Prelude.{◌≡◌, Bool, true, false, List, ◌∷◌, None, map}
+use Rattle.flac_bits.specs.Fencing.{lifted}
+use Rattle.flac_bits.specs.State.{Mark, Cursor, State}
+use Rattle.flac_bits.specs.declared.source.Source as source
 use Rattle.flac_info.specs.Info.{Info}
 use Rattle.flac_meta.specs.Spelling.{block_spelling}
 use Rattle.flac_meta.specs.declared.block.Block.{Block}
 use Rattle.flac_meta.specs.declared.block.Block.TheVariants as block_of
+use Rattle.flac_native.specs.Decoding.{source_start}
 use Rattle.flac_native.specs.Retag.{BeginsWith}
 use Rattle.flac_edit.specs.BlockEdits.{edited_blocks, block_fault}
 use Rattle.flac_edit.specs.declared.block_edits.BlockEdits.{BlockEdits}
@@ -25,3 +28,11 @@ pub record KeepsBlocks (m : Mark) (text : List Bool) (edits : BlockEdits) : Type
 -- the same of the bits of a cursor
 abbrev pub KeepsBlocksAt : Cursor → BlockEdits → Type 0
 KeepsBlocksAt c edits = KeepsBlocks c.mark c.left edits
+
+-- the input of a source, if its bytes are known
+abbrev pub KeepsBlocksOf : {S : Type 0} (g : source.Ghosts S) → S → BlockEdits → Type 0
+KeepsBlocksOf g from edits = g.known from ≡ true → KeepsBlocksAt (source_start g from) edits
+
+-- what a reader has still to read
+abbrev pub KeepsBlocksFrom : State → BlockEdits → Type 0
+KeepsBlocksFrom from edits = from.known ≡ true → KeepsBlocksAt (lifted from).cursor edits

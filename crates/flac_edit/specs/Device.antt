@@ -65,3 +65,17 @@ pub record LeavesOnly (old new : Timeline) (P : List ℕ → Type 0) : Type 0 wh
 pub record HasCause {T : Type 0} (before now : ℕ) (result : Result T DeviceError) : Type 0 where
   pub later : before ≤ now
   pub failed : IsErrOf result Failed → before < now
+
+-- ---- one write of a run
+
+-- a crash at any moment leaves the bytes of a file, or what a write of n bytes that is cut short makes of them
+abbrev pub LeavesTorn : (at n : ℕ) → (file : List ℕ) → (old new : Timeline) → Type 0
+LeavesTorn at n file old new = LeavesOnly old new (Torn at n file)
+
+-- of four bytes in one sector: the bytes of the file, or those with all four
+abbrev pub LeavesWhole : (at : ℕ) → (bytes file : List ℕ) → (old new : Timeline) → Type 0
+LeavesWhole at bytes file old new = IsWord at (length bytes) → LeavesOnly old new (Whole at bytes file)
+
+-- the same of what a crash may leave at one moment
+abbrev pub FollowsWhole : (at : ℕ) → (bytes : List ℕ) → (old new : Timeline) → Type 0
+FollowsWhole at bytes old new = IsWord at (length bytes) → Follows (Whole at bytes) old new

@@ -60,9 +60,13 @@ comment_in line = option_and_then (λ comment. cond (has_name comment) (Some com
 abbrev pub without_end : List ℕ → List ℕ
 without_end text = cond (nat_lt 0 (length text) && get_or text (length text - 1) 0 == 10) (take (length text - 1) text) text
 
+-- what is between the ends of lines
+abbrev pub split_lines : List ℕ → List (List ℕ)
+split_lines text = slice_split (λ byte. byte == 10) text
+
 -- the lines of a text, of which the last one need not be ended
 abbrev pub lines_of : (text : List ℕ) → List (List ℕ)
-lines_of text = cond (nat_lt 0 (length text)) (slice_split (λ byte. byte == 10) (without_end text)) []
+lines_of text = cond (nat_lt 0 (length text)) (split_lines (without_end text)) []
 
 -- these comments, and then those of the lines, of which the first has this number; or the number of the first line that
 -- is no comment

@@ -1,13 +1,17 @@
 -- A part of the metadata of a stream, written to another file.
-use Rattle.std.specs.Prelude.{◌≡◌, ◌≤◌, ◌<◌, ℕ, Bool, List, ◌∷◌, ◌++◌, length, slice_index_or, Some, None}
+use Rattle.std.specs.Prelude.{◌≡◌, ◌≤◌, ◌<◌, ℕ, Bool, true, List, ◌∷◌, ◌++◌, length, slice_index_or, Some, None}
 use Rattle.flac_bits.specs.Bits.{bits_of}
-use Rattle.flac_bits.specs.State.{Mark, Cursor}
+use Rattle.flac_bits.specs.Fencing.{lifted}
+use Rattle.flac_bits.specs.State.{Mark, Cursor, State}
+use Rattle.flac_bits.specs.declared.source.Source as source
+use Rattle.flac_bits.specs.declared.target.Target as target
 use Rattle.flac_info.specs.Info.{Info}
 use Rattle.flac_meta.specs.Spelling.{content_spelling}
 use Rattle.flac_meta.specs.declared.cue_sheet.CueSheet.{CueSheet}
 use Rattle.flac_meta.specs.declared.picture.Picture.{Picture}
 use Rattle.flac_meta.specs.declared.block.Block.{Block}
 use Rattle.flac_meta.specs.declared.block.Block.TheVariants as block_of
+use Rattle.flac_native.specs.Decoding.{source_start}
 use Rattle.flac_native.specs.Retag.{BeginsWith}
 use Rattle.flac_cue.specs.Text.{cue_text}
 use Rattle.flac_edit.specs.Tagged.{comments_among}
@@ -60,3 +64,19 @@ ExportsAt c p before after = Exports c.mark c.left p before after
 
 abbrev pub LacksAt : Cursor → Part → BlockFault → Type 0
 LacksAt c p why = LacksPart c.mark c.left p why
+
+-- ---- of the input of a source, if its bytes are known
+
+abbrev pub SendsPart : {S T : Type 0} (g : source.Ghosts S) (h : target.Ghosts T) → S → Part → (old new : T) → Type 0
+SendsPart g h from p old new = g.known from ≡ true → h.known old ≡ true → ExportsAt (source_start g from) p (h.sent old) (h.sent new)
+
+abbrev pub LacksOf : {S : Type 0} (g : source.Ghosts S) → S → Part → BlockFault → Type 0
+LacksOf g from p why = g.known from ≡ true → LacksAt (source_start g from) p why
+
+-- ---- of what a reader has still to read
+
+abbrev pub IsPartFrom : State → Part → (bytes : List ℕ) → Type 0
+IsPartFrom from p bytes = from.known ≡ true → (before : List ℕ) → ExportsAt (lifted from).cursor p before (before ++ bytes)
+
+abbrev pub LacksFrom : State → Part → BlockFault → Type 0
+LacksFrom from p why = from.known ≡ true → LacksAt (lifted from).cursor p why

@@ -1,5 +1,5 @@
 -- Edits of the comments of a stream, and of a file that has it.
-use Rattle.std.specs.Prelude.{◌≡◌, ℕ, Bool, true, false, cond, nat_eq, List, [], ◌∷◌, ◌++◌}
+use Rattle.std.specs.Prelude.{◌≡◌, ℕ, Bool, true, false, cond, nat_eq, List, [], ◌∷◌, ◌++◌, Result, IfOk}
 use Rattle.flac_bits.specs.Bits.{bits_of}
 use Rattle.flac_bits.specs.Fencing.{lifted}
 use Rattle.flac_bits.specs.State.{Mark, Cursor, State}
@@ -12,10 +12,14 @@ use Rattle.flac_meta.specs.declared.block.Block.TheVariants as block_of
 use Rattle.flac_native.specs.Decoding.{source_start}
 use Rattle.flac_native.specs.Retag.{BeginsWith}
 use Rattle.flac_native.specs.Writing.{head_spelling}
+use Rattle.flac_edit.specs.Calls.{AtEachMoment, InTheEnd}
 use Rattle.flac_edit.specs.Device.{Timeline, LeavesOnly}
 use Rattle.flac_edit.specs.Edited.{edited}
 use Rattle.flac_edit.specs.Places.{IsEdited, IsOldOrEdited}
+use Rattle.flac_edit.specs.declared.device.Device as device
 use Rattle.flac_edit.specs.declared.edits.Edit.{Edit}
+use Rattle.flac_edit.specs.declared.tagging.Tagged.{Tagged}
+use Rattle.flac_edit.specs.declared.tagging.Tagged.TheVariants.{Same, Flipped}
 
 -- ---- the comments of a stream
 
@@ -32,6 +36,10 @@ comments_among (b ∷ bs) = comments_among bs
 -- the comments after these edits
 abbrev pub new_comments : List Edit → List Block → Comments
 new_comments edits list = edited edits (comments_among list)
+
+-- the edits change none of them
+abbrev pub KeepComments : List Edit → List Block → Type 0
+KeepComments edits list = new_comments edits list ≡ comments_among list
 
 -- ---- in place
 
@@ -54,6 +62,32 @@ IsTagged m edits file now =
 abbrev pub ChangesNothing : Mark → List Edit → (file : List ℕ) → Type 0
 ChangesNothing m edits file =
     (info : Info) (list : List Block) (rest : List Bool) → BeginsWith m (bits_of file) info list rest → new_comments edits list ≡ comments_among list
+
+-- ---- what an edit in place does to the file of a device, `old` before the call and `new` after it, of which `from` reads
+-- the blocks, if the bytes are known
+
+abbrev pub LeavesTagged : {S D : Type 0} (g : source.Ghosts S) (h : device.Ghosts D) → S → List Edit → (old new : D) → Type 0
+LeavesTagged g h from edits old new = AtEachMoment h old new (LeavesOldOrTagged (source_start g from).mark edits)
+
+abbrev pub ReadsTagged : {S D : Type 0} (g : source.Ghosts S) (h : device.Ghosts D) → S → List Edit → (old new : D) → Type 0
+ReadsTagged g h from edits old new = InTheEnd h old new (ReadsOldOrTagged (source_start g from).mark edits)
+
+abbrev pub HasTagged : {S D : Type 0} (g : source.Ghosts S) (h : device.Ghosts D) → S → List Edit → (old new : D) → Type 0
+HasTagged g h from edits old new = InTheEnd h old new (IsTagged (source_start g from).mark edits)
+
+abbrev pub KeepsComments : {S : Type 0} (g : source.Ghosts S) → S → List Edit → Type 0
+KeepsComments g from edits = g.known from ≡ true → ChangesNothing (source_start g from).mark edits (g.coming from)
+
+-- this holds if they change nothing
+abbrev pub IfNothingChanges : {S : Type 0} (g : source.Ghosts S) → S → List Edit → Type 0 → Type 0
+IfNothingChanges g from edits Says = g.known from ≡ true → ChangesNothing (source_start g from).mark edits (g.coming from) → Says
+
+-- what is claimed of a call that edited them in place, and of one that had nothing to edit
+abbrev pub IfFlipped : {E : Type 0} → Result Tagged E → Type 0 → Type 0
+IfFlipped result Says = IfOk result (λ done. done ≡ Flipped → Says)
+
+abbrev pub IfSame : {E : Type 0} → Result Tagged E → Type 0 → Type 0
+IfSame result Says = IfOk result (λ done. done ≡ Same → Says)
 
 -- ---- in a new file
 

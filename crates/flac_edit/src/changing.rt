@@ -1,12 +1,10 @@
 //! Whether edits of the metadata blocks of a stream change them.
 
 ghost use Rattle.std.specs.Prelude.{◌≡◌, true, false, IfOk, IfErr};
-ghost use Rattle.flac_bits.specs.Fencing.{lifted};
 ghost use Rattle.flac_meta.specs.Spelling.{block_spelling};
-ghost use Rattle.flac_native.specs.Decoding.{source_start};
 ghost use Rattle.flac_edit.specs.BlockEdits.{edited_blocks, block_fault};
-ghost use Rattle.flac_edit.specs.Rewritten.{Judges, IfRefused, RefusesBlocksAt};
-ghost use Rattle.flac_edit.specs.Changed.{AreAlike, KeepsBlocksAt};
+ghost use Rattle.flac_edit.specs.Rewritten.{Judges, IfRefused, RefusesBlocksOf, RefusesBlocksFrom};
+ghost use Rattle.flac_edit.specs.Changed.{AreAlike, KeepsBlocksOf, KeepsBlocksFrom};
 
 use crate::block_edits::BlockEdits;
 use crate::exporting::block_bytes;
@@ -73,11 +71,9 @@ pub fn blocks_change<R: Source>(
     edits: &BlockEdits<'_>,
 ) -> Result<bool, EditFault>
     // `false`: the edited blocks are written as the old ones are.
-    ensures kept { IfOk result (λ changes. changes ≡ false → R.known source.old ≡ true
-        → KeepsBlocksAt (source_start R.Source source.old) edits.now) }
+    ensures kept { IfOk result (λ changes. changes ≡ false → KeepsBlocksOf R.Source source.old edits.now) }
     // Edits are refused only if they do not fit the blocks, for that reason.
-    ensures refused { IfErr result (IfRefused (λ why. R.known source.old ≡ true
-        → RefusesBlocksAt (source_start R.Source source.old) edits.now why)) }
+    ensures refused { IfErr result (IfRefused (RefusesBlocksOf R.Source source.old edits.now)) }
 {
     let mut reader = BitReader::new(source);
     let outcome = change_from(alloc, &mut reader, edits);
@@ -92,10 +88,8 @@ fn change_from<R: Source>(
     edits: &BlockEdits<'_>,
 ) -> Result<bool, EditFault>
     requires { reader.old.cursor.mark.unread ≡ 0 }
-    ensures kept { IfOk result (λ changes. changes ≡ false → reader.old.known ≡ true
-        → KeepsBlocksAt (lifted reader.old).cursor edits.now) }
-    ensures refused { IfErr result (IfRefused (λ why. reader.old.known ≡ true
-        → RefusesBlocksAt (lifted reader.old).cursor edits.now why)) }
+    ensures kept { IfOk result (λ changes. changes ≡ false → KeepsBlocksFrom reader.old edits.now) }
+    ensures refused { IfErr result (IfRefused (RefusesBlocksFrom reader.old edits.now)) }
 {
     let blocks = match read_blocks(alloc, reader) {
         Ok(blocks) => blocks,

@@ -1,7 +1,7 @@
 //! Which padding takes the new comments.
 
 ghost use Rattle.std.specs.Prelude.{◌≡◌, ◌≤◌, ◌<◌, ◌+◌, ◌^◌, true, false, length, OnOk, IfOk, IfSome};
-ghost use Rattle.flac_edit.specs.Calls.{AtEachMoment, InTheEnd, FailureIsCounted};
+ghost use Rattle.flac_edit.specs.Calls.{AtEachMoment, InTheEnd, FailureIsCounted, IfDone};
 ghost use Rattle.flac_edit.specs.Device.{Only};
 ghost use Rattle.flac_edit.specs.Places.{total_of};
 ghost use Rattle.flac_edit.specs.inner.Chosen.{LeavesOldOrChanged, HasChanged};
@@ -33,8 +33,7 @@ fn try_before<D: Device>(
     // A crash at any moment leaves the blocks as they were, or with the new comments, before the same frames.
     ensures any_moment { AtEachMoment D.Device device.old device.new (LeavesOldOrChanged slots.now comments.now) }
     // At Ok(true) it has the new ones, and they are stored.
-    ensures edited { IfOk result (λ done. done ≡ true
-        → InTheEnd D.Device device.old device.new (HasChanged slots.now comments.now)) }
+    ensures edited { IfDone result (InTheEnd D.Device device.old device.new (HasChanged slots.now comments.now)) }
     ensures stored { OnOk result (D.known device.old ≡ true → Only (D.seen device.new) (D.time device.new)) }
     // At Ok(false) nothing was done.
     ensures untouched { IfOk result (λ done. done ≡ false → device.new ≡ device.old) }
@@ -92,8 +91,7 @@ fn try_after<D: Device>(
     // A crash at any moment leaves the blocks as they were, or with the new comments, before the same frames.
     ensures any_moment { AtEachMoment D.Device device.old device.new (LeavesOldOrChanged slots.now comments.now) }
     // At Ok(true) it has the new ones, and they are stored.
-    ensures edited { IfOk result (λ done. done ≡ true
-        → InTheEnd D.Device device.old device.new (HasChanged slots.now comments.now)) }
+    ensures edited { IfDone result (InTheEnd D.Device device.old device.new (HasChanged slots.now comments.now)) }
     ensures stored { OnOk result (D.known device.old ≡ true → Only (D.seen device.new) (D.time device.new)) }
     // At Ok(false) nothing was done.
     ensures untouched { IfOk result (λ done. done ≡ false → device.new ≡ device.old) }
@@ -172,8 +170,7 @@ fn try_first_before<D: Device>(
     // A crash at any moment leaves the blocks as they were, or with the new comments, before the same frames.
     ensures any_moment { AtEachMoment D.Device device.old device.new (LeavesOldOrChanged slots.now comments.now) }
     // At Ok(true) it has the new ones, and they are stored.
-    ensures edited { IfOk result (λ done. done ≡ true
-        → InTheEnd D.Device device.old device.new (HasChanged slots.now comments.now)) }
+    ensures edited { IfDone result (InTheEnd D.Device device.old device.new (HasChanged slots.now comments.now)) }
     ensures stored { OnOk result (D.known device.old ≡ true → Only (D.seen device.new) (D.time device.new)) }
     // At Ok(false) nothing was done.
     ensures untouched { IfOk result (λ done. done ≡ false → device.new ≡ device.old) }
@@ -207,8 +204,7 @@ fn try_first_after<D: Device>(
     // A crash at any moment leaves the blocks as they were, or with the new comments, before the same frames.
     ensures any_moment { AtEachMoment D.Device device.old device.new (LeavesOldOrChanged slots.now comments.now) }
     // At Ok(true) it has the new ones, and they are stored.
-    ensures edited { IfOk result (λ done. done ≡ true
-        → InTheEnd D.Device device.old device.new (HasChanged slots.now comments.now)) }
+    ensures edited { IfDone result (InTheEnd D.Device device.old device.new (HasChanged slots.now comments.now)) }
     ensures stored { OnOk result (D.known device.old ≡ true → Only (D.seen device.new) (D.time device.new)) }
     // At Ok(false) nothing was done.
     ensures untouched { IfOk result (λ done. done ≡ false → device.new ≡ device.old) }
@@ -239,8 +235,7 @@ pub(crate) fn change_in_place<D: Device>(
     // A crash at any moment leaves the blocks as they were, or with the new comments, before the same frames.
     ensures any_moment { AtEachMoment D.Device device.old device.new (LeavesOldOrChanged slots.now comments.now) }
     // At Ok(true) it has the new ones, and they are stored.
-    ensures edited { IfOk result (λ done. done ≡ true
-        → InTheEnd D.Device device.old device.new (HasChanged slots.now comments.now)) }
+    ensures edited { IfDone result (InTheEnd D.Device device.old device.new (HasChanged slots.now comments.now)) }
     ensures stored { OnOk result (D.known device.old ≡ true → Only (D.seen device.new) (D.time device.new)) }
     // At Ok(false) nothing was done.
     ensures untouched { IfOk result (λ done. done ≡ false → device.new ≡ device.old) }

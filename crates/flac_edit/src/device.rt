@@ -1,7 +1,7 @@
 //! A file as an edit in place sees it: what a read returns, and what a crash may leave.
 
 ghost use Rattle.std.specs.Prelude.{◌≡◌, ◌≤◌, ◌+◌, Bool, true, List, ℕ, length, OnOk};
-ghost use Rattle.flac_edit.specs.Device.{Timeline, Fits, Only, Follows, Torn, Whole, IsWord, Holds, Elapses, HasCause};
+ghost use Rattle.flac_edit.specs.Device.{Timeline, Fits, Only, Follows, FollowsWhole, Torn, Holds, Elapses, HasCause};
 
 /// Why a device did not do what it was asked for.
 #[derive(Clone, Copy, Debug, PartialEq, Eq)]
@@ -40,8 +40,7 @@ pub trait Device {
         ensures known { known self.new ≡ known self.old }
         ensures written { OnOk result (known self.old ≡ true → Holds (seen self.old) at bytes.now (seen self.new)) }
         ensures crash { known self.old ≡ true → Follows (Torn at (length bytes.now)) (time self.old) (time self.new) }
-        ensures whole { known self.old ≡ true → IsWord at (length bytes.now)
-            → Follows (Whole at bytes.now) (time self.old) (time self.new) }
+        ensures whole { known self.old ≡ true → FollowsWhole at bytes.now (time self.old) (time self.new) }
         ensures time { known self.old ≡ true → Elapses (time self.old) (time self.new) }
         ensures cause { known self.old ≡ true → HasCause (faults self.old) (faults self.new) result };
 

@@ -3,14 +3,12 @@
 ghost use Rattle.std.specs.Prelude.{◌≡◌, ◌≢◌, ◌++◌, ℕ, List, true, None, Some, option_map, OnOk, IfOk, IfErr, IfSome};
 ghost use Rattle.std.specs.List.{slice_get};
 ghost use Rattle.flac_bits.specs.Bits.{bits_of};
-ghost use Rattle.flac_bits.specs.Fencing.{lifted};
 ghost use Rattle.flac_meta.specs.Spelling.{content_spelling};
-ghost use Rattle.flac_native.specs.Decoding.{source_start};
 ghost use Rattle.flac_native.specs.Retag.{not_written};
 ghost use Rattle.flac_edit.specs.Tagged.{comments_among};
 ghost use Rattle.flac_edit.specs.Exported.{comment_lines, first_picture, first_sheet};
 ghost use Rattle.flac_edit.specs.Rewritten.{IfRefused};
-ghost use Rattle.flac_edit.specs.Parts.{IsPart, Lacks, ExportsAt, LacksAt};
+ghost use Rattle.flac_edit.specs.Parts.{IsPart, Lacks, SendsPart, LacksOf, IsPartFrom, LacksFrom};
 ghost use Rattle.flac_edit.specs.declared.rewriting_blocks.EditFault.TheVariants as fault;
 
 use crate::block_edits::BlockFault;
@@ -136,11 +134,9 @@ pub fn export_part<R: Source, W: Target>(
     target: &mut W,
 ) -> Result<(), EditFault>
     // What was written is that part of the input.
-    ensures written { OnOk result (R.known source.old ≡ true → W.known target.old ≡ true
-        → ExportsAt (source_start R.Source source.old) part.entry (W.sent target.old) (W.sent target.new)) }
+    ensures written { OnOk result (SendsPart R.Source W.Target source.old part.entry target.old target.new) }
     // A part is refused only if the input has none, for that reason.
-    ensures refused { IfErr result (IfRefused (λ why. R.known source.old ≡ true
-        → LacksAt (source_start R.Source source.old) part.entry why)) }
+    ensures refused { IfErr result (IfRefused (LacksOf R.Source source.old part.entry)) }
     // Unless the target failed, nothing was written.
     ensures nothing { IfErr result (λ f. f ≢ fault.Stream not_written → target.new ≡ target.old) }
 {
@@ -166,10 +162,8 @@ fn part_from<R: Source>(
     part: Part<'_>,
 ) -> Result<Vec<u8>, EditFault>
     requires { reader.old.cursor.mark.unread ≡ 0 }
-    ensures found { IfOk result (λ v. reader.old.known ≡ true
-        → (before : List ℕ) → ExportsAt (lifted reader.old).cursor part.entry before (before ++ v.items)) }
-    ensures lacks { IfErr result (IfRefused (λ why. reader.old.known ≡ true
-        → LacksAt (lifted reader.old).cursor part.entry why)) }
+    ensures found { IfOk result (λ v. IsPartFrom reader.old part.entry v.items) }
+    ensures lacks { IfErr result (IfRefused (LacksFrom reader.old part.entry)) }
 {
     let blocks = match read_blocks(alloc, reader) {
         Ok(blocks) => blocks,

@@ -3,7 +3,7 @@
 ghost use Rattle.std.specs.Prelude.{◌≡◌, ◌≤◌, ◌+◌, true, false, length, OnOk, IfOk};
 ghost use Rattle.flac_bits.specs.Forms.{AreBytes};
 ghost use Rattle.flac_meta.specs.Valid.{AllAre, IsComments};
-ghost use Rattle.flac_edit.specs.Calls.{AtEachMoment, InTheEnd, FailureIsCounted};
+ghost use Rattle.flac_edit.specs.Calls.{AtEachMoment, InTheEnd, FailureIsCounted, IfDone};
 ghost use Rattle.flac_edit.specs.Device.{Only};
 ghost use Rattle.flac_edit.specs.Places.{total_of, LeavesOldOrEdited, ReadsOldOrEdited, HasComments};
 
@@ -66,8 +66,7 @@ pub fn edit_in_place<D: Device>(
     // Whatever is returned, a read finds the old blocks, or those with the new comments.
     ensures reads { InTheEnd D.Device device.old device.new (ReadsOldOrEdited slots.now comments.now) }
     // At Ok(true) it has the new comments, and they are stored.
-    ensures edited { IfOk result (λ done. done ≡ true
-        → InTheEnd D.Device device.old device.new (HasComments slots.now comments.now)) }
+    ensures edited { IfDone result (InTheEnd D.Device device.old device.new (HasComments slots.now comments.now)) }
     ensures stored { OnOk result (D.known device.old ≡ true → Only (D.seen device.new) (D.time device.new)) }
     // At Ok(false) nothing was done.
     ensures untouched { IfOk result (λ done. done ≡ false → device.new ≡ device.old) }

@@ -1,8 +1,7 @@
 //! Comments that are read from lines.
 
-ghost use Rattle.std.specs.Prelude.{◌≡◌, ◌≤◌, ◌+◌, ◌==◌, [], length, drop, Ok, Err, option_map, IfOk, IfErr, IfSome};
-ghost use Rattle.std.specs.List.{slice_split};
-ghost use Rattle.flac_edit.specs.Lines.{digit_value, escape_at, is_itself, unescaped, is_of_name, ends_name, has_name, comment_in, without_end, lines_after, comments_in, IfLine};
+ghost use Rattle.std.specs.Prelude.{◌≡◌, ◌≤◌, ◌+◌, [], length, drop, Ok, Err, option_map, IfOk, IfErr, IfSome};
+ghost use Rattle.flac_edit.specs.Lines.{digit_value, escape_at, is_itself, unescaped, is_of_name, ends_name, has_name, comment_in, without_end, split_lines, lines_after, comments_in, IfLine};
 ghost use Rattle.flac_edit.specs.declared.lines.LinesFault.TheVariants.{Memory};
 
 use flac_meta::Bytes;
@@ -158,8 +157,8 @@ fn without_end(text: &[u8]) -> &[u8]
 
 /// The comments of the lines between the ends of lines of a text.
 fn comments_between(alloc: Global, text: &[u8]) -> Result<Vec<Bytes>, LinesFault>
-    ensures read { IfOk result (λ list. lines_after 1 [] (slice_split (λ byte. byte == 10) text.now) ≡ Ok list.items) }
-    ensures refused { IfErr result (IfLine (λ number. lines_after 1 [] (slice_split (λ byte. byte == 10) text.now) ≡ Err number)) }
+    ensures read { IfOk result (λ list. lines_after 1 [] (split_lines text.now) ≡ Ok list.items) }
+    ensures refused { IfErr result (IfLine (λ number. lines_after 1 [] (split_lines text.now) ≡ Err number)) }
 {
     let mut comments = Vec::new(alloc);
     for (index, line) in text.split(|byte| *byte == b'\n').enumerate() {

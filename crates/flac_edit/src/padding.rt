@@ -2,7 +2,7 @@
 
 ghost use Rattle.std.specs.Prelude.{◌≡◌, ◌≤◌, ◌<◌, ◌+◌, ◌%◌, ◌^◌, true, length, OnOk};
 ghost use Rattle.flac_meta.specs.Spelling.{comments_length};
-ghost use Rattle.flac_edit.specs.Calls.{AtEachMoment, InTheEnd, FailureIsCounted};
+ghost use Rattle.flac_edit.specs.Calls.{AtEachMoment, InTheEnd, FailureIsCounted, IsInside};
 ghost use Rattle.flac_edit.specs.Device.{Only};
 ghost use Rattle.flac_edit.specs.inner.Changed.{LeavesBefore, HasNewBefore, LeavesAfter, HasNewAfter};
 
@@ -50,8 +50,8 @@ pub(crate) fn edit_before<D: Device>(
     requires padding { place.now.padding ≤ 16777215 }
     requires sector { place.now.at % 512 ≤ 508 }
     requires counted { place.now.at + 4 + place.now.padding + place.now.following < 2 ^ 64 }
-    requires inside { D.known device.old ≡ true
-        → place.now.at + 4 + place.now.padding + place.now.following ≤ length (D.seen device.old) }
+    requires inside {
+        IsInside D.Device device.old (place.now.at + 4 + place.now.padding + place.now.following) }
     requires durable { D.known device.old ≡ true → Only (D.seen device.old) (D.time device.old) }
     ensures known { D.known device.new ≡ D.known device.old }
     // A crash at any moment of the call leaves the old blocks or the new ones, before the same frames.
@@ -88,8 +88,8 @@ pub(crate) fn edit_after<D: Device>(
     requires padding { place.now.padding ≤ 16777215 }
     requires sector { place.now.at % 512 ≤ 508 }
     requires counted { place.now.at + place.now.preceding + 4 + place.now.padding < 2 ^ 64 }
-    requires inside { D.known device.old ≡ true
-        → place.now.at + place.now.preceding + 4 + place.now.padding ≤ length (D.seen device.old) }
+    requires inside {
+        IsInside D.Device device.old (place.now.at + place.now.preceding + 4 + place.now.padding) }
     requires durable { D.known device.old ≡ true → Only (D.seen device.old) (D.time device.old) }
     ensures known { D.known device.new ≡ D.known device.old }
     // A crash at any moment of the call leaves the old blocks or the new ones, before the same frames.

@@ -1,12 +1,9 @@
 //! Writes a stream with edited metadata blocks to another file.
 
 ghost use Rattle.std.specs.Prelude.{◌≡◌, ◌≢◌, true, OnOk, IfOk, IfErr};
-ghost use Rattle.flac_bits.specs.Bits.{bits_of};
-ghost use Rattle.flac_bits.specs.Fencing.{lifted};
-ghost use Rattle.flac_native.specs.Decoding.{source_start};
 ghost use Rattle.flac_native.specs.Retag.{not_read, not_written};
 ghost use Rattle.flac_edit.specs.BlockEdits.{edited_blocks, block_fault};
-ghost use Rattle.flac_edit.specs.Rewritten.{Judges, IfRefused, RewritesBlocksAt, RefusesBlocksAt};
+ghost use Rattle.flac_edit.specs.Rewritten.{Judges, IfRefused, SendsBlocks, SendsBlocksFrom, RefusesBlocksOf, RefusesBlocksFrom, IsOfNoDevice};
 ghost use Rattle.flac_edit.specs.declared.rewriting_blocks.EditFault.TheVariants as fault;
 
 use crate::block_edits::{BlockEdits, BlockFault, arranged, missing, pictures_fault};
@@ -81,15 +78,11 @@ pub fn rewrite_blocks<R: Source, W: Target>(
     target: &mut W,
 ) -> Result<(), EditFault>
     // What was written is the input with its blocks edited so; its frames and all after them are the same.
-    ensures written { OnOk result (R.known source.old ≡ true → W.known target.old ≡ true
-        → RewritesBlocksAt (source_start R.Source source.old) edits.now (bits_of (W.sent target.old))
-        (bits_of (W.sent target.new))) }
+    ensures written { OnOk result (SendsBlocks R.Source W.Target source.old edits.now target.old target.new) }
     // Edits are refused only if they do not fit the blocks, for that reason.
-    ensures refused { IfErr result (IfRefused (λ why. R.known source.old ≡ true
-        → RefusesBlocksAt (source_start R.Source source.old) edits.now why)) }
+    ensures refused { IfErr result (IfRefused (RefusesBlocksOf R.Source source.old edits.now)) }
     // Unless a device failed, nothing was written.
-    ensures nothing { IfErr result (λ f. f ≢ fault.Stream not_read → f ≢ fault.Stream not_written
-        → target.new ≡ target.old) }
+    ensures nothing { IfErr result (λ f. IsOfNoDevice f (target.new ≡ target.old)) }
 {
     let mut reader = BitReader::new(source);
     let outcome = rewrite_blocks_from(alloc, &mut reader, edits, target);
@@ -105,13 +98,9 @@ fn rewrite_blocks_from<R: Source, W: Target>(
     target: &mut W,
 ) -> Result<(), EditFault>
     requires { reader.old.cursor.mark.unread ≡ 0 }
-    ensures written { OnOk result (reader.old.known ≡ true → W.known target.old ≡ true
-        → RewritesBlocksAt (lifted reader.old).cursor edits.now (bits_of (W.sent target.old))
-        (bits_of (W.sent target.new))) }
-    ensures refused { IfErr result (IfRefused (λ why. reader.old.known ≡ true
-        → RefusesBlocksAt (lifted reader.old).cursor edits.now why)) }
-    ensures nothing { IfErr result (λ f. f ≢ fault.Stream not_read → f ≢ fault.Stream not_written
-        → target.new ≡ target.old) }
+    ensures written { OnOk result (SendsBlocksFrom W.Target reader.old edits.now target.old target.new) }
+    ensures refused { IfErr result (IfRefused (RefusesBlocksFrom reader.old edits.now)) }
+    ensures nothing { IfErr result (λ f. IsOfNoDevice f (target.new ≡ target.old)) }
 {
     let blocks = match read_blocks(alloc, reader) {
         Ok(blocks) => blocks,

@@ -1,8 +1,8 @@
 //! A write that is stored before the next one begins.
 
 ghost use Rattle.std.specs.Prelude.{◌≡◌, ◌≤◌, true, length, OnOk};
-ghost use Rattle.flac_edit.specs.Calls.{FailureIsCounted};
-ghost use Rattle.flac_edit.specs.Device.{Fits, Only, Torn, Whole, IsWord, Holds, LeavesOnly};
+ghost use Rattle.flac_edit.specs.Calls.{AtEachMoment, FailureIsCounted};
+ghost use Rattle.flac_edit.specs.Device.{Fits, Only, Holds, LeavesTorn, LeavesWhole};
 
 use crate::device::{Device, DeviceError};
 
@@ -17,10 +17,8 @@ pub(crate) fn store<D: Device>(device: &mut D, at: usize, bytes: &[u8]) -> Resul
     ensures long { OnOk result (D.known device.old ≡ true
         → length (D.seen device.new) ≡ length (D.seen device.old)) }
     ensures durable { OnOk result (D.known device.old ≡ true → Only (D.seen device.new) (D.time device.new)) }
-    ensures any_moment { D.known device.old ≡ true
-        → LeavesOnly (D.time device.old) (D.time device.new) (Torn at (length bytes.now) (D.seen device.old)) }
-    ensures whole { D.known device.old ≡ true → IsWord at (length bytes.now)
-        → LeavesOnly (D.time device.old) (D.time device.new) (Whole at bytes.now (D.seen device.old)) }
+    ensures any_moment { AtEachMoment D.Device device.old device.new (LeavesTorn at (length bytes.now)) }
+    ensures whole { AtEachMoment D.Device device.old device.new (LeavesWhole at bytes.now) }
     ensures faults { D.known device.old ≡ true → D.faults device.old ≤ D.faults device.new }
     ensures failed { FailureIsCounted D.Device device.old device.new result }
 {

@@ -1,14 +1,13 @@
 //! Edits the comments of a file in place, after it was read.
 
 ghost use Rattle.std.specs.Prelude.{◌≡◌, ◌≢◌, ◌≤◌, ◌<◌, ◌+◌, ◌↔◌, true, length, Err, OnOk, IfOk, IfErr, IfSome};
-ghost use Rattle.flac_native.specs.Decoding.{source_start};
-ghost use Rattle.flac_edit.specs.Calls.{AtEachMoment, InTheEnd, FailureIsCounted};
+ghost use Rattle.flac_edit.specs.Calls.{FailureIsCounted, FaultIsCounted};
 ghost use Rattle.flac_edit.specs.Device.{Only};
 ghost use Rattle.flac_edit.specs.Places.{slot_of, slots_of, total_of};
 ghost use Rattle.flac_edit.specs.inner.Tagging.{LeavesSameOrEdited, ReadsSameOrEdited, HasEdited};
 ghost use Rattle.flac_edit.specs.Faults.{IsOfStream, IfStream, RefusalIsDueIn};
 ghost use Rattle.flac_edit.specs.declared.tagging.TagFault.TheVariants as fault;
-ghost use Rattle.flac_edit.specs.Tagged.{no_comments, comments_among, new_comments, LeavesOldOrTagged, ReadsOldOrTagged, IsTagged, ChangesNothing};
+ghost use Rattle.flac_edit.specs.Tagged.{no_comments, comments_among, KeepComments, LeavesTagged, ReadsTagged, HasTagged, KeepsComments, IfNothingChanges, IfFlipped, IfSame};
 
 use crate::device::{Device, DeviceError};
 use crate::edits::{Edit, edited};
@@ -110,12 +109,10 @@ fn change_comments<D: Device>(
     ensures known { D.known device.new ≡ D.known device.old }
     ensures any_moment { LeavesSameOrEdited D.Device edits.now blocks.now device.old device.new }
     ensures reads { ReadsSameOrEdited D.Device edits.now blocks.now device.old device.new }
-    ensures flipped { IfOk result (λ done. done ≡ Tagged.Flipped
-        → HasEdited D.Device edits.now blocks.now device.old device.new) }
+    ensures flipped { IfFlipped result (HasEdited D.Device edits.now blocks.now device.old device.new) }
     ensures stored { OnOk result (D.known device.old ≡ true → Only (D.seen device.new) (D.time device.new)) }
     ensures untouched { IfOk result (λ done. done ≢ Tagged.Flipped → device.new ≡ device.old) }
-    ensures same { IfOk result (λ done. (done ≡ Tagged.Same)
-        ↔ (new_comments edits.now blocks.now ≡ comments_among blocks.now)) }
+    ensures same { IfOk result (λ done. (done ≡ Tagged.Same) ↔ KeepComments edits.now blocks.now) }
     ensures failed { FailureIsCounted D.Device device.old device.new result }
 {
     let old = comments_among(alloc, blocks)?;
@@ -167,28 +164,23 @@ pub fn tag_in_place<R: Source, D: Device>(
     ensures known { D.known device.new ≡ D.known device.old }
     // A crash at any moment leaves a file that is read as the old blocks, or as those with the edited comments, before the
     // same frames.
-    ensures any_moment { AtEachMoment D.Device device.old device.new
-        (LeavesOldOrTagged (source_start R.Source source.old).mark edits.now) }
+    ensures any_moment { LeavesTagged R.Source D.Device source.old edits.now device.old device.new }
     // Whatever is returned, a read finds the old blocks, or those with the edited comments.
-    ensures reads { InTheEnd D.Device device.old device.new
-        (ReadsOldOrTagged (source_start R.Source source.old).mark edits.now) }
+    ensures reads { ReadsTagged R.Source D.Device source.old edits.now device.old device.new }
     // `Flipped`: it has the edited comments. After each Ok all is stored.
-    ensures flipped { IfOk result (λ done. done ≡ Tagged.Flipped → InTheEnd D.Device device.old device.new
-        (IsTagged (source_start R.Source source.old).mark edits.now)) }
+    ensures flipped { IfFlipped result (HasTagged R.Source D.Device source.old edits.now device.old device.new) }
     ensures stored { OnOk result (D.known device.old ≡ true → Only (D.seen device.new) (D.time device.new)) }
     // Unless it is `Flipped`, nothing was written; nor was it if the stream is refused.
     ensures untouched { IfOk result (λ done. done ≢ Tagged.Flipped → device.new ≡ device.old) }
     ensures unread { IfErr result (λ f. IsOfStream f → device.new ≡ device.old) }
     // `Same` if the edits change none of its comments, and only then.
-    ensures same { IfOk result (λ done. done ≡ Tagged.Same → R.known source.old ≡ true
-        → ChangesNothing (source_start R.Source source.old).mark edits.now (R.coming source.old)) }
-    ensures idle { IfOk result (λ done. R.known source.old ≡ true
-        → ChangesNothing (source_start R.Source source.old).mark edits.now (R.coming source.old) → done ≡ Tagged.Same) }
+    ensures same { IfSame result (KeepsComments R.Source source.old edits.now) }
+    ensures idle { IfOk result (λ done. IfNothingChanges R.Source source.old edits.now (done ≡ Tagged.Same)) }
     // Refused only as the marker and the blocks are, at that place and for that reason.
     ensures refused { IfErr result (IfStream (RefusalIsDueIn R.Source source.old source.new)) }
     // `Failed` is returned only if the device failed.
-    ensures failed { D.known device.old ≡ true → result ≡ Err (fault.Device DeviceError.Failed)
-        → D.faults device.old < D.faults device.new }
+    ensures failed {
+        FaultIsCounted D.Device device.old device.new (result ≡ Err (fault.Device DeviceError.Failed)) }
 {
     let mut reader = BitReader::new(source);
     let read = read_blocks(alloc, &mut reader);

@@ -1,13 +1,13 @@
 //! The MD5 digest of samples (RFC 9639, section 8.2).
 
-ghost use Rattle.std.specs.Prelude.{◌≡◌, ◌≤◌, ◌+◌, length};
+ghost use Rattle.std.specs.Prelude.{◌≡◌, ◌≤◌, ◌+◌, length, map};
 ghost use Rattle.flac_native.specs.Message.{rows_bytes, frame_rows, sample_width, Feeds};
 ghost use Rattle.md5.specs.Md5.{md5};
 ghost use Rattle.flac_frame.specs.Viewed.{frame_of};
 ghost use Rattle.flac_frame.specs.Audio.{samples_each};
 ghost use Rattle.flac_native.specs.Given.{sound_message};
 
-use crate::sample_bytes::{Channels, Pair, put_rows_in, sample_width};
+use crate::sample_bytes::{Channels, Pair, Rows, put_rows_in, sample_width};
 use flac_frame::{Audio, FrameView};
 use md5::{Digest, Md5};
 
@@ -72,6 +72,18 @@ pub(crate) fn feed_block(hasher: &mut Md5, audio: &Audio, start: usize, size: us
         return;
     }
     feed_rows(hasher, audio, channels.len(), start, size, width);
+}
+
+/// Adds the first `len` samples of each channel of a block to the input of a digest, interleaved, each in its lowest
+/// `width` bytes (1 to 4), as the digest of STREAMINFO has all samples (RFC 9639, section 8.2). A block has one slice for
+/// each of at most 8 channels; a sample that a slice does not have counts as 0.
+pub fn feed_slices(hasher: &mut Md5, block: &[&[i32]], len: usize, width: usize)
+    requires few { length block.now ≤ 8 }
+    requires width { width ≤ 4 }
+    ensures { Feeds hasher.old (rows_bytes width (map (λ c. c.now) block.now) len 0) hasher.new }
+{
+    let rows = Rows { block, len };
+    feed_rows(hasher, &rows, block.len(), 0, len, width);
 }
 
 /// The digest of all samples, which STREAMINFO states (RFC 9639, section 8.2).

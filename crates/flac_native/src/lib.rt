@@ -41,6 +41,7 @@ pub use chosen_frames::{ChosenFrames, info_of};
 pub use container::{Container, Part};
 pub use decoder::{Decoder, bytes_from};
 pub use decoding::{Sink, SinkFault, decode, decode_into};
+pub use digest::feed_slices;
 pub use encoding::{encode, send_head};
 pub use fault::{EncodeFault, Fault, Place, Refused};
 pub use flac_bits::{
@@ -63,7 +64,7 @@ pub use laws::{
     subset_is_lax,
 };
 pub use native::{MARKER, read_marker};
-pub use plan::{Plan, predictors_fault};
+pub use plan::{Plan, count_points, has_point, predictors_fault};
 pub use retagging::{RetagFault, read_blocks, retag};
 pub use rewriting::send_with_blocks;
 pub use sample_bytes::{put_rows, sample_width};

@@ -123,9 +123,10 @@ fn lists_at(frames: &[Vec<Vec<LinearPredictor>>], number: u64) -> &[Vec<LinearPr
     &[]
 }
 
-/// Whether the frame of this number holds a sample whose index is a multiple of `every`; false if `every` is 0.
+/// Whether the frame of this number, in blocks of `size` of `total` samples of each channel, has a seek point (RFC 9639,
+/// section 8.5): it holds a sample whose index is a multiple of `every`. False if `every` is 0.
 #[tactic(auto, unfolding(crate::specs::Given::has_point))]
-fn has_point(size: u64, total: u64, every: u64, number: u64) -> bool
+pub fn has_point(size: u64, total: u64, every: u64, number: u64) -> bool
     requires first { size * number < total }
     requires total { total < 2 ^ 36 }
     requires every { every < 2 ^ 32 }
@@ -139,8 +140,8 @@ fn has_point(size: u64, total: u64, every: u64, number: u64) -> bool
     every * ((start + (every - 1)) / every) < end
 }
 
-/// How many frames have a seek point.
-fn count_points(size: u64, total: u64, every: u64) -> u64
+/// How many frames have a seek point ([`has_point`]), in blocks of `size` of `total` samples of each channel.
+pub fn count_points(size: u64, total: u64, every: u64) -> u64
     requires size { 16 ≤ size }
     requires most { size ≤ 65535 }
     requires total { total < 2 ^ 36 }

@@ -282,6 +282,15 @@ fn sample_of(channels: &[Vec<i32>], channel: usize, index: usize) -> i32
     sample_or_zero(&channels[channel], index)
 }
 
+/// The sample of a channel at an index, where each channel is a slice; 0 if there is none.
+#[inline(always)]
+fn slice_sample(channels: &[&[i32]], channel: usize, index: usize) -> i32
+    requires { channel < length channels.now }
+    ensures { result ≡ slice_index_or (slice_index_or (map (λ c. c.now) channels.now) channel []) index (pos 0) }
+{
+    sample_or_zero(channels[channel], index)
+}
+
 impl Channels for Audio {
     ghost lists = { λ a. a.channels };
 
@@ -312,6 +321,24 @@ impl<'a> Channels for Pair<'a> {
             return self.left[index];
         }
         self.right[index]
+    }
+}
+
+/// The first `len` samples of the channels of a block, each a slice; a sample that is not there is 0.
+#[derive(Drop)]
+pub(crate) struct Rows<'a> {
+    pub(crate) block: &'a [&'a [i32]],
+    pub(crate) len: usize,
+}
+
+impl<'a> Channels for Rows<'a> {
+    ghost lists = { λ r. map (λ c. c.now) r.block.now };
+
+    ghost size = { λ r. r.len };
+
+    #[inline(always)]
+    fn sample(&self, channel: usize, index: usize) -> i32 {
+        slice_sample(self.block, channel, index)
     }
 }
 

@@ -10,6 +10,8 @@ mod chosen;
 #[cfg(test)]
 mod decoding;
 #[cfg(test)]
+mod digest;
+#[cfg(test)]
 mod encoding;
 #[cfg(test)]
 mod parts;

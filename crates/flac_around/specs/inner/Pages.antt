@@ -1,6 +1,7 @@
 -- For proofs: the parts of a page that was read, and what an input is in which none was.
-use Rattle.std.specs.Prelude.{◌≡◌, ℕ, ◌+◌, Bool, true, List, ◌++◌, length, take, drop}
-use Rattle.flac_around.specs.EmptyPackets.{Page, begins_page, count_at, page_bytes, given_for, leaves_out, trimmed_from}
+use Rattle.std.specs.Prelude.{◌≡◌, ℕ, ◌+◌, Bool, true, List, ◌++◌, length, take, drop, is_some}
+use Rattle.flac_bits.specs.declared.source.Source as source
+use Rattle.flac_around.specs.EmptyPackets.{Page, begins_page, is_cut, count_at, page_bytes, given_for, leaves_out, trimmed_from}
 
 -- a page of these parts, of which the checksum is in the first
 abbrev pub page_of : (lead body : List ℕ) → Page
@@ -18,3 +19,25 @@ IsPlain fails bytes = (left_out : Bool) → trimmed_from fails left_out bytes �
 -- this page is at the start of the first bytes, and the second ones come after it
 abbrev pub GivesPage : (fails : Bool) → Page → (old new : List ℕ) → Type 0
 GivesPage fails p old new = (left_out : Bool) → trimmed_from fails left_out old ≡ page_bytes (given_for left_out p) ++ trimmed_from fails (leaves_out left_out p) new
+
+-- ---- of what a source has to give, if its bytes are known
+
+-- no page is at the start
+abbrev pub IsPlainHere : {S : Type 0} → source.Ghosts S → (old : S) → Type 0
+IsPlainHere g old = g.known old ≡ true → IsPlain (is_some ((g.after old).fails)) (g.coming old)
+
+-- no page is at the start of these bytes and what comes after them
+abbrev pub IsPlainAfter : {S : Type 0} → source.Ghosts S → (old : S) → (lead : List ℕ) → Type 0
+IsPlainAfter g old lead = g.known old ≡ true → IsPlain (is_some ((g.after old).fails)) (lead ++ g.coming old)
+
+-- these bytes and what comes are cut off inside a page
+abbrev pub IsCutAfter : (lead coming : List ℕ) → Type 0
+IsCutAfter lead coming = is_cut (lead ++ coming) ≡ true
+
+-- this page begins with these bytes, and the others of it were given
+abbrev pub TakesPage : {S : Type 0} → source.Ghosts S → (old new : S) → (lead : List ℕ) → Page → Type 0
+TakesPage g old new lead p = g.known old ≡ true → (fails : Bool) → GivesPage fails p (lead ++ g.coming old) (g.coming new)
+
+-- these are the bytes of what is given in place of a page
+abbrev pub IsGivenFor : (left_out : Bool) → Page → (lead body : List ℕ) → Type 0
+IsGivenFor left_out p lead body = lead ++ body ≡ page_bytes (given_for left_out p)
