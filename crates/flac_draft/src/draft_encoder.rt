@@ -14,7 +14,6 @@ ghost use Rattle.flac_draft.specs.Table.{no_table, table_for, table_fault, begin
 ghost use Rattle.flac_draft.specs.inner.Gathering.{info_with, least_after};
 
 use crate::draft_fault::{DraftFault, Unfinished};
-use crate::feeding::feed_rows;
 use crate::point_table::PointTable;
 use crate::rewritable::Rewritable;
 use crate::table_faults::begin_fault;
@@ -22,7 +21,7 @@ use flac_bits::{Collected, Target, send_all};
 use flac_encoder::{BlockEncoder, StreamFormat, block_len};
 use flac_frame::SetupFault;
 use flac_meta::{BlockList, SeekPoint, StreamInfo};
-use flac_native::{EncodeFault, sample_width, send_head};
+use flac_native::{EncodeFault, feed_slices, sample_width, send_head};
 use flac_predict::Search;
 use flac_subframe::LinearPredictor;
 use md5::{Digest, Md5};
@@ -363,7 +362,7 @@ impl<W: Rewritable + Drop> DraftEncoder<W> {
             Ok(()) => {
                 let bytes = frame.len() as u64;
                 let width = sample_width(self.format.bits);
-                feed_rows(&mut self.hasher, block, block_len(block), width);
+                feed_slices(&mut self.hasher, block, block_len(block), width);
                 self.least = least_after(samples, self.least, bytes);
                 self.greatest = self.greatest.max(bytes);
                 self.table.count(bytes);

@@ -6,8 +6,8 @@ ghost use Rattle.flac_meta.specs.declared.block.Block.TheVariants as blocks;
 ghost use Rattle.flac_draft.specs.Table.{no_table, table_for, reserved, pointed, lengthened, takes};
 ghost use Rattle.flac_draft.specs.inner.Gathering.{AreBefore};
 
-use crate::counting::{count_points, has_point};
 use flac_meta::SeekPoint;
+use flac_native::{count_points, has_point};
 use std::alloc::{AllocError, Global};
 use std::marker::Model;
 

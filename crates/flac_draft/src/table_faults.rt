@@ -6,12 +6,11 @@ ghost use Rattle.flac_native.specs.Given.{plan_fault};
 ghost use Rattle.flac_native.specs.Seeking.{is_table, has_table};
 ghost use Rattle.flac_draft.specs.Table.{table_for, cut_stated, begin_fault};
 
-use crate::counting::count_points;
 use crate::point_table::MOST_POINTS;
 use flac_encoder::StreamFormat;
 use flac_frame::SetupFault;
 use flac_meta::{Block, BlockList};
-use flac_native::EncodeFault;
+use flac_native::{EncodeFault, count_points};
 
 /// Why as many samples of a format as were stated cannot be divided into blocks with a seek point for each `every`
 /// samples, or `None` if they can.

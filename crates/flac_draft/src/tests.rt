@@ -1,12 +1,13 @@
 //! Streams whose head is written last, beside those that are encoded at once.
 
-use crate::{DraftEncoder, DraftFault, DraftMemory, Rewritable, Unfinished, drafts_are_encoded};
+use crate::{DraftEncoder, DraftFile, DraftMemory, Rewritable, Unfinished, drafts_are_encoded};
 use flac_bits::{Collected, send_all};
 use flac_encoder::{StreamEncoder, StreamFormat};
 use flac_meta::{Block, BlockList, SeekPoint, SeekTable};
 use flac_native::{Audio, EncodeFault, LinearPredictor, Plan, Profile, encode};
 use flac_predict::Search;
 use std::alloc::Global;
+use std::io::{Cursor, Write};
 use std::test::Fail;
 
 /// 44100 Hz, two channels and 16 bits, in blocks of 32 samples.
@@ -301,5 +302,53 @@ fn tables_that_are_refused(rt: HostRuntime) -> Result<(), Fail> {
     assert!(rt; begun_with(alloc, padded(alloc)?, 16 * 932067 + 1) == 47);
     assert!(rt; begun_with(alloc, tabled(alloc)?, 16) == 9);
     assert!(rt; begun_with(alloc, tabled(alloc)?, 1 << 36) == 45);
+    Ok(())
+}
+
+/// A place with three bytes, and its position after them.
+fn place_after_tag(alloc: Global) -> Result<Cursor<Vec<u8>>, Fail> {
+    let mut place = Cursor::new(Vec::new(alloc));
+    place.write_all(b"ID3")?;
+    Ok(place)
+}
+
+/// The stream of one sample in a place that is like a file, after three bytes; the target is lent to the encoder.
+fn in_file(alloc: Global) -> Result<Vec<u8>, Fail> {
+    let mut file = DraftFile::new(place_after_tag(alloc)?)?;
+    let list = BlockList::new(Vec::new(alloc))?;
+    let format = StreamFormat {
+        block_size: 4096,
+        ..FORMAT
+    };
+    let mut encoder = DraftEncoder::new_in(alloc, &format, list, &mut file)?;
+    let (left, right) = ([25588], [10416]);
+    encoder.push(&[left.as_slice(), right.as_slice()])?;
+    let _file = encoder.finish()?;
+    Ok(file.into_inner().into_inner())
+}
+
+#[test]
+fn file_after_a_tag(rt: HostRuntime) -> Result<(), Fail> {
+    let bytes = in_file(rt.alloc())?;
+    assert!(rt; bytes.starts_with(b"ID3"));
+    assert!(rt; bytes.get(3..).unwrap_or(&[]) == ONE.as_slice());
+    Ok(())
+}
+
+/// The number of bytes after an error, and whether the error is kept.
+fn file_refuses(alloc: Global) -> Result<(u64, bool), Fail> {
+    let mut file = DraftFile::new(place_after_tag(alloc)?)?;
+    send_all(&mut file, b"fLaC")?;
+    let good = file.last_error().is_none() && file.write_over(1, b"LA").is_ok();
+    let refused = file.write_over(3, b"LA").is_err() && file.write_over(5, b"").is_err();
+    Ok((
+        file.sent_len(),
+        good && refused && file.last_error().is_some(),
+    ))
+}
+
+#[test]
+fn bytes_of_a_file(rt: HostRuntime) -> Result<(), Fail> {
+    assert!(rt; file_refuses(rt.alloc())? == (4, true));
     Ok(())
 }

@@ -9,8 +9,8 @@ use Rattle.flac_draft.specs.inner.Gathering.{least_after}
 use Rattle.flac_draft.proofs.Drafting.{draft_of, draft_next, short_frame, least_small}
 use Rattle.flac_draft.proofs.draft_encoder.DraftEncoder.push.Goals as goal
 
-pub feed_rows-requires : goal.feed_rows-requires
-feed_rows-requires g c = let q = shaped _ c.self.invariant.format in omega (arith, q.bits, c.sample_width-width.ensures)
+pub feed_slices-requires : goal.feed_slices-requires
+feed_slices-requires g c = let q = shaped _ c.self.invariant.format in omega (arith, q.bits, c.sample_width-width.ensures)
 
 pub invariant_of-self-in-Ok : goal.invariant_of-self-in-Ok
 invariant_of-self-in-Ok g c =
@@ -71,8 +71,8 @@ returns-in-Ok g c =
       list = refl;
       stated = record { total = refl; every = refl };
       draft = λ known samples before o next.
-          draft_next g.W.Target samples block before (draft_of b s i.list i.hasher i.least i.greatest i.start i.table) t c.feed_rows.new.hasher items (with_target c.sent.new.self t) c.sample_width-width.result c.block_len.result c.least_after-self-inside.result
-          c.max-self-inside.result o next (accepted b block ok.format ok.accepted).number ok.next.spells ok.next.least c.feed_rows.ensures (sends.sent known ∙ ap (λ l. g.W.Target.sent s ++ l) c.as_slice.ensures.value)
+          draft_next g.W.Target samples block before (draft_of b s i.list i.hasher i.least i.greatest i.start i.table) t c.feed_slices.new.hasher items (with_target c.sent.new.self t) c.sample_width-width.result c.block_len.result c.least_after-self-inside.result
+          c.max-self-inside.result o next (accepted b block ok.format ok.accepted).number ok.next.spells ok.next.least c.feed_slices.ensures (sends.sent known ∙ ap (λ l. g.W.Target.sent s ++ l) c.as_slice.ensures.value)
           (c.sample_width-width.ensures ∙ ap (λ (x : Shape). sample_width x.bits) (sym c.self.invariant.same)) c.block_len.ensures same least greatest;
       written = λ known. pushes g.W.Target b tt s t block items ok.next (with_target c.sent.new.self t) same (sends.sent known ∙ ap (λ l. g.W.Target.sent s ++ l) c.as_slice.ensures.value);
       known = sends.known;
