@@ -2,12 +2,10 @@
 
 ghost use Rattle.std.specs.Prelude.{◌≡◌, ◌≢◌, ◌≤◌, [], true, false, length, None, Some, OnOk, IfOk, IfErr};
 ghost use Rattle.flac_bits.specs.Layout.{because};
-ghost use Rattle.flac_bits.specs.Reading.{Reads, CallInPlace};
 ghost use Rattle.flac_header.specs.declared.subset.Profile.{Profile};
 ghost use Rattle.flac_native.specs.Item.{fault_pair};
 ghost use Rattle.flac_pages.specs.Page.{went_on, goes_on_after};
 ghost use Rattle.flac_pages.specs.Pages.{next_page, end_fault};
-ghost use Rattle.flac_ogg.specs.Mapping.{mapping, page_place};
 ghost use Rattle.flac_c.specs.Answers.{IsAnswered, in_c};
 ghost use Rattle.flac_c.specs.Unpacked.{HasMapping, Maps, RefusesPages, WritesNative, WritesAny};
 ghost use Rattle.flac_c.specs.inner.Blocks.{IfServed};
@@ -15,31 +13,11 @@ ghost use Rattle.flac_c.specs.inner.Unpacked.{after_or_last, PageAdded, IsUnpack
 
 use crate::fault::{FlacProvedFault, in_c};
 use crate::texts::copy;
-use flac_bits::{BitReader, Memory, Source, Why};
-use flac_native::{Fault, MARKER, Place, bytes_from};
+use flac_bits::{BitReader, Memory, Why};
+use flac_native::{Fault, Place, bytes_from};
+use flac_ogg::{page_place, read_mapping};
 use flac_pages::{Before, PageBuffer, PageFault, next_page};
 use std::alloc::Global;
-
-/// The first five bytes of the first packet: 7F and `FLAC` (RFC 9639, section 10.1).
-const MAPPING_NAME: u64 = 0x7F464C4143;
-
-/// The two bytes after them: version 1.0 of the mapping.
-const MAPPING_VERSION: u64 = 0x0100;
-
-/// Reads the mapping up to the marker, and with it (RFC 9639, section 10.1).
-#[tactic(auto, unfolding(flac_ogg::specs::Mapping::mapping))]
-fn read_mapping<R: Source>(bits: &mut BitReader<R>) -> Result<(), Why>
-    ensures reading { CallInPlace 104 (Reads (λ u. u) mapping) bits.old bits.new result }
-{
-    let name = bits.take(40)?;
-    let version = bits.take(16)?;
-    let _count = bits.take(16)?;
-    let marker = bits.take(32)?;
-    if name != MAPPING_NAME || version != MAPPING_VERSION || marker != MARKER {
-        return Err(Why::BadMapping);
-    }
-    Ok(())
-}
 
 /// Whether the bytes of all packets begin with the mapping.
 fn has_mapping(packed: &[u8]) -> bool
@@ -53,17 +31,6 @@ fn has_mapping(packed: &[u8]) -> bool
     match outcome {
         Ok(()) => true,
         Err(_) => false,
-    }
-}
-
-/// The place of a page's error.
-fn page_place(page: u64, why: Why) -> Place
-    ensures { result ≡ page_place page why }
-{
-    match why {
-        Why::BadMapping => Place::Marker,
-        Why::NoEndPage => Place::End,
-        _ => Place::Page(page),
     }
 }
 

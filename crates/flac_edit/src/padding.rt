@@ -50,8 +50,7 @@ pub(crate) fn edit_before<D: Device>(
     requires padding { place.now.padding ≤ 16777215 }
     requires sector { place.now.at % 512 ≤ 508 }
     requires counted { place.now.at + 4 + place.now.padding + place.now.following < 2 ^ 64 }
-    requires inside {
-        IsInside D.Device device.old (place.now.at + 4 + place.now.padding + place.now.following) }
+    requires inside { IsInside D.Device device.old (place.now.at + 4 + place.now.padding + place.now.following) }
     requires durable { D.known device.old ≡ true → Only (D.seen device.old) (D.time device.old) }
     ensures known { D.known device.new ≡ D.known device.old }
     // A crash at any moment of the call leaves the old blocks or the new ones, before the same frames.
@@ -88,8 +87,7 @@ pub(crate) fn edit_after<D: Device>(
     requires padding { place.now.padding ≤ 16777215 }
     requires sector { place.now.at % 512 ≤ 508 }
     requires counted { place.now.at + place.now.preceding + 4 + place.now.padding < 2 ^ 64 }
-    requires inside {
-        IsInside D.Device device.old (place.now.at + place.now.preceding + 4 + place.now.padding) }
+    requires inside { IsInside D.Device device.old (place.now.at + place.now.preceding + 4 + place.now.padding) }
     requires durable { D.known device.old ≡ true → Only (D.seen device.old) (D.time device.old) }
     ensures known { D.known device.new ≡ D.known device.old }
     // A crash at any moment of the call leaves the old blocks or the new ones, before the same frames.

@@ -179,8 +179,7 @@ pub fn tag_in_place<R: Source, D: Device>(
     // Refused only as the marker and the blocks are, at that place and for that reason.
     ensures refused { IfErr result (IfStream (RefusalIsDueIn R.Source source.old source.new)) }
     // `Failed` is returned only if the device failed.
-    ensures failed {
-        FaultIsCounted D.Device device.old device.new (result ≡ Err (fault.Device DeviceError.Failed)) }
+    ensures failed { FaultIsCounted D.Device device.old device.new (result ≡ Err (fault.Device DeviceError.Failed)) }
 {
     let mut reader = BitReader::new(source);
     let read = read_blocks(alloc, &mut reader);

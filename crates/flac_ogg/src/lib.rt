@@ -45,5 +45,6 @@ pub use laws::{
     calls_break_at_pages, encoded_are_read, encoded_items, nothing_is_outside_lax, only_one_way,
     same_items, some_way, subset_is_lax,
 };
-pub use packets::OggPackets;
+pub use mapping::read_mapping;
+pub use packets::{OggPackets, page_place};
 pub use verifying::{encode_and_decode, verify};

@@ -29,8 +29,12 @@ const MAPPING_VERSION: u64 = 0x0100;
 
 /// Reads what the first packet has before STREAMINFO: the byte 7F and `FLAC`, version 1.0, the number of header
 /// packets, which may be any, and `fLaC` (RFC 9639, section 10.1).
+///
+/// # Errors
+/// [`Why::BadMapping`] if these are other bytes, [`Why::Truncated`] if there are fewer; [`Why::Read`] if the source
+/// returns an error.
 #[tactic(auto, unfolding(crate::specs::Mapping::mapping))]
-fn read_mapping<R: Source>(bits: &mut BitReader<R>) -> Result<(), Why>
+pub fn read_mapping<R: Source>(bits: &mut BitReader<R>) -> Result<(), Why>
     ensures reading { CallInPlace 104 (Reads (λ u. u) mapping) bits.old bits.new result }
 {
     let name = bits.take(40)?;

@@ -38,6 +38,6 @@ pub use keep::Keep;
 pub use laws::{encoded_are_cut, encoded_are_sought, streams_are_cut};
 pub use opening::{open_native, open_ogg};
 pub use reader::Reader;
-pub use returned::Returned;
+pub use returned::{Returned, move_to};
 pub use samples::Samples;
 pub use stereo::{StereoSamples, stereo_samples};

@@ -52,8 +52,11 @@ impl<T> Returned<T> {
     }
 }
 
-/// Moves a device to its byte of this number, counted from 0. With an error the device is returned.
-pub(crate) fn move_to<T: Seek>(device: T, at: u64) -> Result<T, Returned<T>>
+/// Moves a device to its byte of this number, counted from 0.
+///
+/// # Errors
+/// That of the device, with the device: it was asked, and may be anywhere.
+pub fn move_to<T: Seek>(device: T, at: u64) -> Result<T, Returned<T>>
     ensures moved { IfOk result (λ moved. IsMoved T.Seek device moved at) }
     ensures unmoved { IfErr result (λ left. IsNotMoved T.Seek device left) }
 {
