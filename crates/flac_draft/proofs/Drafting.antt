@@ -177,6 +177,7 @@ pub draft_more : {S : Type 0} (g : target.Ghosts S) (samples block : List (List 
     → SpellsFrame (sound_of d.pushed.shape block) (frame_with d.pushed.number block) (bits_of bytes)
     → SpellsLeastFound d.pushed.search d.pushed.predictors (sound_of d.pushed.shape block) (frame_with d.pushed.number block) (bits_of bytes)
     → Feeds d.hasher (rows_bytes (sample_width d.pushed.shape.bits) block (samples_each block) 0) h → g.sent t ≡ g.sent d.pushed.target ++ bytes → Drafts g samples before (drafted d t h block bytes)
+unfolding table_fault
 draft_more g samples block before d t h bytes o next few spells least feeds sent =
     let s = d.pushed.shape in
     let q = shaped s o.shape in
@@ -253,7 +254,7 @@ taken : (t : Table) (n total : ℕ) → takes t n ≡ true → n ≡ total → 0
 taken t n total e same some = let is : n ≡ t.total = go (nat_eq t.every 0) refl in omega (arith, is, same)
   where
     go : (c : Bool) → nat_eq t.every 0 ≡ c → n ≡ t.total
-    go true zero = absurd (let z : t.every ≡ 0 = grind (arith, nat_tests) in omega (arith, z, some))
+    go true nil = absurd (let z : t.every ≡ 0 = grind (arith, nat_tests) in omega (arith, z, some))
     go false other = let is : nat_eq n t.total ≡ true = ap (λ c. c || nat_eq n t.total) (sym other) ∙ e in grind (arith, nat_tests)
 
 -- the table has as many points as there are places
@@ -267,8 +268,8 @@ as_many s samples t frames all stated =
     let places = length-replicate (points_before b t.total t.every (blocks_in b t.total)) vacant in
     let same : points_before b total t.every (blocks_in b total) ≡ points_before b t.total t.every (blocks_in b t.total) = elim (cases_lt 0 t.every) [
       | inl some ↦ ap (λ m. points_before b m t.every (blocks_in b m)) (stated some)
-      | inr zero ↦
-          let none : t.every ≡ 0 = omega (arith, zero) in
+      | inr nil ↦
+          let none : t.every ≡ 0 = omega (arith, nil) in
           ap (λ e. points_before b total e (blocks_in b total)) none ∙ none_before b total (blocks_in b total) ∙ sym (none_before b t.total (blocks_in b t.total)) ∙ sym (ap (λ e. points_before b t.total e (blocks_in b t.total)) none)
     ] in
     omega (arith, counted p 0 0 frames, ap (λ k. points_before b total t.every k) number, same, places)
@@ -288,17 +289,17 @@ draft_whole g samples before d new digest head o all few takes_it md is over =
     let far : b * d.pushed.number ≡ b * blocks_in b total = ap (λ k. b * k) all in
     let count : d.pushed.samples ≡ total = omega (arith, o.count, far, all_parts b total q.least) in
     let stated : 0 < t.every → total ≡ t.total = taken t d.pushed.samples total takes_it count in
-    let blocks : length o.frames ≡ blocks_in b total = o.many ∙ all in
+    let enough : length o.frames ≡ blocks_in b total = o.many ∙ all in
     let digest_is : digest ≡ md5 (sound_message a) = md (sound_message a) (fed_all a d.hasher d.pushed.samples count o.digest) in
     let info : info_with s d.least d.greatest d.pushed.samples digest ≡ info_of p a d.least d.greatest = stated_info s d.least d.greatest (length samples) d.pushed.samples total digest (md5 (sound_message a)) o.channels count digest_is in
     let points : t.points ≡ points_of p o.frames = o.points stated ∙ sym (points_alike p0 d.pushed.predictors 0 0 o.frames) in
     let list = d.list ++ table_of (points_of p o.frames) in
     let head_is : bits_of head ≡ head_spelling (info_of p a d.least d.greatest) list = is ∙ ap (λ i. head_spelling i (d.list ++ table_of t.points)) info ∙ ap (λ x. head_spelling (info_of p a d.least d.greatest) (d.list ++ table_of x)) points in
-    let many : length (reserved b t) ≡ length (points_of p o.frames) = sym (as_many s samples t o.frames blocks stated) ∙ ap (λ (l : List SeekPoint). length l) (sym (points_alike p0 d.pushed.predictors 0 0 o.frames)) in
+    let many : length (reserved b t) ≡ length (points_of p o.frames) = sym (as_many s samples t o.frames enough stated) ∙ ap (λ (l : List SeekPoint). length l) (sym (points_alike p0 d.pushed.predictors 0 0 o.frames)) in
     let place = with_place b t d.list in
     let long : length (head_spelling (open_info s) place) ≡ length (bits_of head) =
     heads_alike (open_info s) (info_of p a d.least d.greatest) d.list (reserved b t) (points_of p o.frames) refl (digest_is_bytes (sound_message a)).many many ∙ sym (ap (λ (l : List Bool). length l) head_is) in
-    let are : AreFrames p0 a o.frames = record { many = blocks; each = o.each } in
+    let are : AreFrames p0 a o.frames = record { many = enough; each = o.each } in
     let fault = planned_for s samples d.list t o.shape o.channels (omega (arith, few, count)) (omega (arith, o.few, all)) o.table stated in
     let fits = fits_for s samples t.every in
     let good = tabled p0 a d.list o.frames (planned p0 fault) (fit p0 a fits) are (not_twice s d.list t o.table) (o.listed, o.fields) in
@@ -311,7 +312,7 @@ draft_whole g samples before d new digest head o all few takes_it md is over =
       least = d.least;
       greatest = d.greatest;
       frames = o.frames;
-      are = record { many = blocks; each = o.each };
+      are = record { many = enough; each = o.each };
       are_least = o.least;
       sizes = o.sizes;
       written = written;

@@ -1,22 +1,22 @@
 -- The seek points of a draft.
-use Rattle.std.proofs.Common.{◌≡◌, ℕ, zero, suc, ◌+◌, ◌-◌, ◌*◌, ◌/◌, ◌<◌, ◌≤◌, min, Bool, true, false, not, cond, ◌&&◌, ◌||◌, nat_eq, nat_lt, List, [], ◌∷◌, ◌++◌, length, Option, Some, None, replicate, refl, sym, ap, subst, ◌∙◌, mul_comm, div-mul-le_self, arith}
+use Rattle.std.proofs.Common.{◌≡◌, ℕ, zero, suc, ◌+◌, ◌-◌, ◌*◌, ◌/◌, ◌<◌, ◌≤◌, min, Bool, true, false, cond, ◌&&◌, nat_lt, List, [], ◌∷◌, ◌++◌, length, Option, Some, None, replicate, refl, sym, ap, subst, ◌∙◌, mul_comm, arith}
 use Rattle.std.proofs.lemmas.Bool.Decides.{nat_tests}
-use Rattle.std.proofs.lemmas.List.{append-nil, length-replicate}
+use Rattle.std.proofs.lemmas.List.{append-nil}
 use Rattle.std.proofs.lemmas.Nat.{div-mul-add}
 use Rattle.std.proofs.Math.Nat.{lt_of_mul-lt-mul_left}
 use Rattle.flac_bits.specs.Bits.{bit_value}
-use Rattle.flac_bits.proofs.Holding.{length-bits_of}
 use Rattle.flac_meta.specs.Listed.{block_fault}
 use Rattle.flac_meta.specs.SeekTable.{placeholder, follows, in_order}
 use Rattle.flac_meta.specs.Valid.{AllAre}
 use Rattle.flac_meta.specs.declared.seek_table.SeekPoint.{SeekPoint}
+use Rattle.flac_meta.specs.declared.block.Block.{Block}
 use Rattle.flac_meta.specs.declared.block.Block.TheVariants as blocks
 use Rattle.flac_subframe.specs.declared.format.linear.LinearPredictor.{LinearPredictor}
 use Rattle.flac_native.specs.Given.{Cut, with_predictors, blocks_in, size_of, has_point, points_before}
-use Rattle.flac_native.specs.Seeking.{point_at, points_from, points_of, table_of}
+use Rattle.flac_native.specs.Seeking.{point_at, points_from, table_of}
 use Rattle.flac_native.proofs.Encoded.{all_parts}
-use Rattle.flac_native.proofs.Tables.{bytes_of, counted, points_more}
-use Rattle.flac_draft.specs.Table.{Table, no_table, vacant, reserved, next_point, pointed}
+use Rattle.flac_native.proofs.Tables.{bytes_of}
+use Rattle.flac_draft.specs.Table.{Table, no_table, vacant, reserved, with_place, pointed}
 use Rattle.flac_draft.specs.Draft.{bytes_in}
 use Rattle.flac_draft.specs.inner.Gathering.{AreBefore}
 
@@ -62,7 +62,7 @@ pointed_before b start n t h all = go (nat_lt start t.total && (has_point b t.to
   where
     go : (c : Bool) → AreBefore n (t.points ++ cond c (the_point b start t ∷ []) [])
     go true = one_before start n t.points (the_point b start t) h refl all
-    go false = subst (AreBefore n) (append-nil t.points) (still_before start n t.points (omega (arith, h)) all)
+    go false = subst (AreBefore n) (sym (append-nil t.points)) (still_before start n t.points (omega (arith, h)) all)
 
 -- a table may be written
 pub table_may : (points : List SeekPoint) → length points ≤ 932067 → in_order None points ≡ true → block_fault (blocks.SeekTable points) ≡ None
@@ -87,6 +87,10 @@ none_before size total (suc n) = rw (none_before size total n) refl
 
 pub none_reserved : (b : ℕ) → reserved b no_table ≡ []
 none_reserved b = ap (λ n. replicate n vacant) (none_before b 0 (blocks_in b 0))
+
+-- no place for no table
+pub no_place : (b : ℕ) (t : Table) (list : List Block) → t ≡ no_table → with_place b t list ≡ list
+no_place b t list is = ap (λ k. with_place b k list) is ∙ ap (λ x. list ++ table_of x) (none_reserved b) ∙ append-nil list
 
 -- ---- the points of frames
 

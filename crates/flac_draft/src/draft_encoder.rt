@@ -355,9 +355,9 @@ impl<W: Rewritable + Drop> DraftEncoder<W> {
     {
         let frame = self.blocks.encode(block)?;
         let samples = self.blocks.samples();
-        if self.table.note(self.format.block_size, samples).is_err() {
+        let Ok(()) = self.table.note(self.format.block_size, samples) else {
             return Err(EncodeFault::Memory);
-        }
+        };
         match send_all(&mut self.target, frame.as_slice()) {
             Ok(()) => {
                 let bytes = frame.len() as u64;

@@ -75,6 +75,7 @@ impl<T> DraftFile<T> {
     /// Counts an error, up to 2^64 - 1, and keeps it.
     fn count(&mut self, error: io::Error)
         ensures errors { self.new.errors ≡ min (self.old.errors + 1) (2 ^ 64 - 1) }
+        ensures kept { self.old.errors ≤ self.new.errors }
         ensures last { self.new.last ≡ Some error }
     {
         self.errors = self.errors.saturating_add(1);

@@ -70,7 +70,7 @@ impl PointTable {
 
     /// The table of `total` samples of each channel without a frame; none if `every` is 0.
     pub(crate) fn new(alloc: Global, total: u64, every: u32) -> PointTable
-        requires { total < 2 ^ 36 }
+        requires { 0 < every → total < 2 ^ 36 }
         ensures { result ≡ table_for total every }
     {
         if every == 0 {

@@ -12,6 +12,7 @@ use Rattle.flac_native.specs.Seeking.{table_of}
 use Rattle.flac_native.specs.Writing.{head_spelling}
 use Rattle.flac_native.specs.declared.fault.EncodeFault.TheVariants.{Setup}
 use Rattle.flac_encoder.specs.Pushing.{Pushed, shape_of, open_info, with_target}
+use Rattle.flac_encoder.proofs.Pushing.{shaped}
 use Rattle.flac_draft.specs.Table.{reserved, with_place}
 use Rattle.flac_draft.specs.Draft.{Drafts}
 use Rattle.flac_draft.proofs.Drafting.{draft_none}
@@ -40,17 +41,20 @@ returns-in_err-blocks g c =
     })
 
 pub send_head-requires : goal.send_head-requires
-send_head-requires g c = subst (λ x. block_fault (blocks.SeekTable x) ≡ None) (sym c.in_ok-points.ensures) (place_may (shape_of c.args.format.now) c.args.list c.args.table (c.requires.fits c.in_ok-blocks.ensures.accepted))
+send_head-requires g c = subst (λ x. block_fault (blocks.SeekTable x) ≡ None) (sym c.in-Ok.ensures) (place_may (shape_of c.args.format.now) c.args.list c.args.table (c.requires.fits c.in_ok-blocks.ensures.accepted))
 
-pub returns-in-Ok : goal.returns-in-Ok
-returns-in-Ok g c =
+pub reserved-requires : goal.reserved-requires
+reserved-requires g c = let q = shaped (shape_of c.args.format.now) c.in_ok-blocks.ensures.accepted in record { size = (q.least, q.small) }
+
+pub returns-in-Ok-send_head : goal.returns-in-Ok-send_head
+returns-in-Ok-send_head g c =
     let t = c.send_head.new.target in
     let list = c.args.list in
     let ok = c.in_ok-blocks.ensures in
-    let sends = c.in-Ok.ensures in
+    let sends = c.in-Ok-send_head.ensures in
     let shape = shape_of c.args.format.now in
     let table = c.args.table in
-    let head = placed c.info_with-info.result (open_info shape) list _ (reserved shape.block_size table) c.info_with-info.ensures c.in_ok-points.ensures in
+    let head = placed c.info_with-info.result (open_info shape) list _ (reserved shape.block_size table) c.info_with-info.ensures c.in-Ok.ensures in
     record {
       made = ap (λ (b : Pushed ⊤). with_target b t) ok.made;
       list = refl;
@@ -88,7 +92,7 @@ returns-in-Err g c =
         c.send_head.new.target,
         record {
           fails = record { failed = sends.rises; risen = sends.risen; names = sends.names };
-          begun = λ known. let b = sends.begun known in (b.0, b.1, sym (placed _ _ c.args.list _ (reserved (shape_of c.args.format.now).block_size c.args.table) c.info_with-info.ensures c.in_ok-points.ensures) ∙ b.2, b.3);
+          begun = λ known. let b = sends.begun known in (b.0, b.1, sym (placed _ _ c.args.list _ (reserved (shape_of c.args.format.now).block_size c.args.table) c.info_with-info.ensures c.in-Ok.ensures) ∙ b.2, b.3);
         },
       );
     }

@@ -1,6 +1,8 @@
-use Rattle.std.proofs.Common.{◌<◌, ◌^◌, sym, ap, subst, ◌∙◌, arith}
+use Rattle.std.proofs.Common.{◌≡◌, ◌<◌, ◌++◌, ◌^◌, true, sym, ap, subst, ◌∙◌, arith}
+use Rattle.flac_native.specs.Seeking.{table_of}
 use Rattle.flac_native.specs.Writing.{head_spelling}
 use Rattle.flac_encoder.specs.Pushing.{Shape}
+use Rattle.flac_draft.specs.Table.{takes}
 use Rattle.flac_draft.specs.Rewriting.{IsWrittenOver}
 use Rattle.flac_draft.specs.inner.Gathering.{info_with}
 use Rattle.flac_draft.proofs.Drafting.{draft_of, draft_whole}
@@ -12,6 +14,7 @@ returns-in-Ok-clause-finished g c =
     let d = draft_of i.blocks i.target i.list i.hasher i.least i.greatest i.start i.table in
     let digest = c.finalize-digest.result in
     let few : d.pushed.samples < 2 ^ 36 = omega (arith, c.samples-total.ensures.value, c.samples-total.ensures.few) in
+    let takes_it : takes i.table d.pushed.samples ≡ true = ap (takes i.table) (sym c.samples-total.ensures.value) ∙ sym c.takes.ensures ∙ c.if-not-takes.false in
     let info = c.info_with-info.ensures ∙ ap (λ (s : Shape). info_with s i.least i.greatest c.samples-total.result digest) (sym c.self.invariant.same)
     ∙ ap (λ n. info_with d.pushed.shape i.least i.greatest n digest) c.samples-total.ensures.value in
     rw (← c.self.view_is) (λ known samples before o all.
