@@ -1,3 +1,5 @@
+-- the seek points of a draft
+pub mod Points
 -- how long the head is, and what is left after it is written over
 pub mod Heads
 -- a plan for what is pushed

@@ -1,3 +1,5 @@
 pub mod Rewriting
+pub mod Faults
+pub mod Table
 pub mod Draft
 pub mod inner

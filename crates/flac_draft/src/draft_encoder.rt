@@ -1,20 +1,27 @@
 //! Encodes a native stream a block at a time, and writes its head last.
 
-ghost use Rattle.std.specs.Prelude.{◌≡◌, ◌≢◌, ◌<◌, ◌≤◌, ◌^◌, ◌↔◌, ◌⊎◌, max, true, None, Some, IfOk, IfErr, OnOk, Ok, Err, ⊤, MatchOption};
+ghost use Rattle.std.specs.Prelude.{◌≡◌, ◌≢◌, ◌<◌, ◌≤◌, ◌^◌, ◌++◌, [], max, true, None, Some, IfOk, IfErr, OnOk, Ok, Err, ⊤, MatchOption};
 ghost use Rattle.flac_bits.specs.Bits.{bits_of};
+ghost use Rattle.flac_meta.specs.Listed.{block_fault};
+ghost use Rattle.flac_meta.specs.declared.block.Block.TheVariants as kinds;
 ghost use Rattle.flac_encoder.specs.Pushing.{shape_of, shape_fault, setup_fault, IsUnpushed, IsAfterBlock, trying, trying_fault, searching, block_channels, push_fault, IsFirst, IsSpent, SentHead, FailsHead, SentFrame, BegunFrame};
+ghost use Rattle.flac_native.specs.Seeking.{table_of};
 ghost use Rattle.flac_native.specs.Writing.{head_spelling};
 ghost use Rattle.flac_ogg.specs.Writing.{HasWriteError, CountsWriteError};
-ghost use Rattle.flac_draft.specs.Draft.{BeginsDraft, GoesOn, StaysDraft, Finishes, FailsLast};
+ghost use Rattle.flac_draft.specs.Draft.{BeginsDraft, GoesOn, StaysDraft, Finishes, finish_fault, FailsLast};
+ghost use Rattle.flac_draft.specs.Faults.{IsFirstFault};
+ghost use Rattle.flac_draft.specs.Table.{no_table, table_for, table_fault, begin_fault, with_place, StaysStated};
 ghost use Rattle.flac_draft.specs.inner.Gathering.{info_with, least_after};
 
-use crate::feeding::feed_rows;
+use crate::draft_fault::{DraftFault, Unfinished};
+use crate::point_table::PointTable;
 use crate::rewritable::Rewritable;
+use crate::table_faults::begin_fault;
 use flac_bits::{Collected, Target, send_all};
 use flac_encoder::{BlockEncoder, StreamFormat, block_len};
 use flac_frame::SetupFault;
-use flac_meta::{BlockList, StreamInfo};
-use flac_native::{EncodeFault, sample_width, send_head};
+use flac_meta::{BlockList, SeekPoint, StreamInfo};
+use flac_native::{EncodeFault, feed_slices, sample_width, send_head};
 use flac_predict::Search;
 use flac_subframe::LinearPredictor;
 use md5::{Digest, Md5};
@@ -54,12 +61,17 @@ fn info_with(
     }
 }
 
-/// What comes before the frames, in memory: the marker, STREAMINFO and the blocks of the list (RFC 9639, section 6).
-/// `None` if an allocation fails.
-fn head_bytes(alloc: Global, info: StreamInfo, list: &BlockList) -> Option<Vec<u8>>
-    ensures { MatchOption result ⊤ (λ b. bits_of b.items ≡ head_spelling info list.now) }
+/// What comes before the frames, in memory: the marker, STREAMINFO, the blocks of the list and the seek table of these
+/// points, if there are points (RFC 9639, section 6). `None` if an allocation fails.
+fn head_bytes(
+    alloc: Global,
+    info: StreamInfo,
+    list: &BlockList,
+    points: Vec<SeekPoint>,
+) -> Option<Vec<u8>>
+    requires { block_fault (kinds.SeekTable points.items) ≡ None }
+    ensures { MatchOption result ⊤ (λ b. bits_of b.items ≡ head_spelling info (list.now ++ table_of points.items)) }
 {
-    let points = Vec::new(alloc);
     let mut target = Collected::new(alloc);
     match send_head(info, list, points, &mut target) {
         Ok(()) => Some(target.into_bytes()),
@@ -87,6 +99,8 @@ fn least_after(samples: u64, least: u64, bytes: u64) -> u64
 /// stream after each call that returns `Ok`, whose STREAMINFO states neither the number of samples nor the sizes of the
 /// frames nor the digest.
 ///
+/// [`DraftEncoder::new_with_table`] makes one with a seek table, for which the number of samples is stated before.
+///
 /// ```
 /// let mut encoder = DraftEncoder::new_in(alloc, &format, list, DraftMemory::new(alloc))?;
 /// encoder.push(&[left.as_slice(), right.as_slice()])?;
@@ -106,13 +120,16 @@ pub struct DraftEncoder<W: Rewritable> {
     greatest: u64,
     /// How many bytes the target had been sent before.
     start: u64,
+    /// The seek table.
+    table: PointTable,
     target: W,
 }
 
 impl<W: Rewritable> Model for DraftEncoder<W> {
-    ghost use Rattle.std.specs.Prelude.{◌≡◌, ◌<◌, ◌^◌, None};
+    ghost use Rattle.std.specs.Prelude.{◌≡◌, ◌<◌, ◌≤◌, ◌*◌, ◌^◌, None, false};
     ghost use Rattle.flac_encoder.specs.Pushing.{with_target, shape_of, shape_fault};
     ghost use Rattle.flac_draft.specs.Draft.{Draft};
+    ghost use Rattle.flac_draft.specs.inner.Gathering.{AreBefore};
 
     ghost Value = { Draft W };
 
@@ -123,6 +140,7 @@ impl<W: Rewritable> Model for DraftEncoder<W> {
       least = e.least;
       greatest = e.greatest;
       start = e.start;
+      table = e.table;
     } };
 
     ghost invariant = { λ e. record {
@@ -130,6 +148,8 @@ impl<W: Rewritable> Model for DraftEncoder<W> {
       same : e.blocks.shape ≡ shape_of e.format;
       least : e.least < 2 ^ 24;
       greatest : e.greatest < 2 ^ 24;
+      bytes : e.table.bytes ≤ 2 ^ 24 * e.blocks.number;
+      points : e.blocks.spent ≡ false → AreBefore e.blocks.samples e.table.points;
     } };
 }
 
@@ -150,6 +170,7 @@ impl<W: Rewritable + Drop> DraftEncoder<W> {
     ) -> Result<DraftEncoder<W>, EncodeFault>
         ensures made { IfOk result (λ e. IsUnpushed (shape_of format.now) e.pushed) }
         ensures list { IfOk result (λ e. e.list ≡ list) }
+        ensures table { IfOk result (λ e. e.table ≡ no_table) }
         ensures begun { IfOk result (λ e. BeginsDraft W.Target target e) }
         ensures written { IfOk result (λ e. SentHead W.Target list target e.pushed) }
         ensures known { IfOk result (λ e. W.known target ≡ true → W.known e.pushed.target ≡ true) }
@@ -160,11 +181,89 @@ impl<W: Rewritable + Drop> DraftEncoder<W> {
         // An error of the target is counted, and a prefix was sent before it.
         ensures failed { FailsHead W.Target (shape_of format.now) list target result }
     {
+        DraftEncoder::begin(alloc, format, list, PointTable::none(alloc), target)
+    }
+
+    /// Makes an encoder as [`DraftEncoder::new_in`] does, and after the blocks of the list it reserves a seek table for
+    /// `total` samples of each channel, which are to come. If `seek_every` is not 0, each frame that holds a sample whose
+    /// index is a multiple of it has a seek point (RFC 9639, section 8.5), which [`DraftEncoder::finish`] writes. Before
+    /// that the points of the table are placeholders.
+    ///
+    /// If `seek_every` is 0, there is no table, and any number of samples may come.
+    ///
+    /// ```
+    /// let mut encoder = DraftEncoder::new_with_table(alloc, &format, list, 80, 32, DraftMemory::new(alloc))?;
+    /// ```
+    ///
+    /// # Errors
+    /// Those of [`DraftEncoder::new_in`]. If `seek_every` is not 0, before that it allocates or writes,
+    /// [`EncodeFault::Setup`] with `TooLong` for 2^36 samples or more, or more than 2^31 frames, or with `TooManyPoints`
+    /// for more than 932067 points; or [`EncodeFault::RepeatedBlock`] if the list has a seek table.
+    pub fn new_with_table(
+        alloc: Global,
+        format: &StreamFormat,
+        list: BlockList,
+        total: u64,
+        seek_every: u32,
+        target: W,
+    ) -> Result<DraftEncoder<W>, EncodeFault>
+        ensures made { IfOk result (λ e. IsUnpushed (shape_of format.now) e.pushed) }
+        ensures list { IfOk result (λ e. e.list ≡ list) }
+        ensures table { IfOk result (λ e. e.table ≡ table_for total seek_every) }
+        ensures begun { IfOk result (λ e. BeginsDraft W.Target target e) }
+        ensures written { IfOk result (λ e. SentHead W.Target
+            (with_place format.now.block_size (table_for total seek_every) list) target e.pushed) }
+        ensures known { IfOk result (λ e. W.known target ≡ true → W.known e.pushed.target ≡ true) }
+        ensures counted { IfOk result (λ e. W.errors e.pushed.target ≡ W.errors target) }
+        ensures names { IfOk result (λ e. W.names e.pushed.target ≡ W.names target) }
+        ensures accepted { OnOk result
+            (begin_fault (shape_of format.now) list (table_for total seek_every) ≡ None) }
+        ensures refused { IfErr result (λ e. IsFirst
+            (begin_fault (shape_of format.now) list (table_for total seek_every)) e) }
+        // An error of the target is counted, and a prefix was sent before it.
+        ensures failed { FailsHead W.Target (shape_of format.now)
+            (with_place format.now.block_size (table_for total seek_every) list) target result }
+    {
+        if let Some(fault) = begin_fault(format, &list, total, seek_every) {
+            return Err(fault);
+        }
+        let table = PointTable::new(alloc, total, seek_every);
+        DraftEncoder::begin(alloc, format, list, table, target)
+    }
+
+    /// Makes an encoder for this format with a seek table, of which there is no point yet.
+    fn begin(
+        alloc: Global,
+        format: &StreamFormat,
+        list: BlockList,
+        table: PointTable,
+        target: W,
+    ) -> Result<DraftEncoder<W>, EncodeFault>
+        requires fits { shape_fault (shape_of format.now) ≡ None
+            → table_fault (shape_of format.now) list table ≡ None }
+        requires points { table.points ≡ [] }
+        requires bytes { table.bytes ≡ 0 }
+        ensures made { IfOk result (λ e. IsUnpushed (shape_of format.now) e.pushed) }
+        ensures list { IfOk result (λ e. e.list ≡ list) }
+        ensures table { IfOk result (λ e. e.table ≡ table) }
+        ensures begun { IfOk result (λ e. BeginsDraft W.Target target e) }
+        ensures written { IfOk result (λ e. SentHead W.Target
+            (with_place format.now.block_size table list) target e.pushed) }
+        ensures known { IfOk result (λ e. W.known target ≡ true → W.known e.pushed.target ≡ true) }
+        ensures counted { IfOk result (λ e. W.errors e.pushed.target ≡ W.errors target) }
+        ensures names { IfOk result (λ e. W.names e.pushed.target ≡ W.names target) }
+        ensures accepted { OnOk result (shape_fault (shape_of format.now) ≡ None) }
+        ensures refused { IfErr result (λ e. IsFirst (setup_fault (shape_of format.now)) e) }
+        ensures failed { FailsHead W.Target (shape_of format.now)
+            (with_place format.now.block_size table list) target result }
+    {
         let blocks = BlockEncoder::new(alloc, format)?;
         let _blocks = list.blocks(); // for its clauses alone
+        let Ok(points) = table.reserved(alloc, format.block_size) else {
+            return Err(EncodeFault::Memory);
+        };
         let start = target.sent_len();
         let info = info_with(format, 0, 0, 0, [0; 16]);
-        let points = Vec::new(alloc);
         let hasher = Md5::new();
         let mut target = target;
         match send_head(info, &list, points, &mut target) {
@@ -177,6 +276,7 @@ impl<W: Rewritable + Drop> DraftEncoder<W> {
                 least: 0,
                 greatest: 0,
                 start,
+                table,
                 target,
             }),
             Err(_) => {
@@ -237,6 +337,7 @@ impl<W: Rewritable + Drop> DraftEncoder<W> {
     pub fn push(&mut self, block: &[&[i32]]) -> Result<(), EncodeFault>
         ensures next { OnOk result (IsAfterBlock self.old.pushed (block_channels block.now) self.new.pushed) }
         ensures list { self.new.list ≡ self.old.list }
+        ensures stated { StaysStated self.old.table self.new.table }
         ensures draft { OnOk result (GoesOn W.Target (block_channels block.now) self.old self.new) }
         ensures written { OnOk result (SentFrame W.Target (block_channels block.now) self.old.pushed self.new.pushed) }
         ensures known { OnOk result (W.known self.old.pushed.target ≡ true → W.known self.new.pushed.target ≡ true) }
@@ -253,13 +354,18 @@ impl<W: Rewritable + Drop> DraftEncoder<W> {
         ensures names { W.names self.new.pushed.target ≡ W.names self.old.pushed.target }
     {
         let frame = self.blocks.encode(block)?;
+        let samples = self.blocks.samples();
+        let Ok(()) = self.table.note(self.format.block_size, samples) else {
+            return Err(EncodeFault::Memory);
+        };
         match send_all(&mut self.target, frame.as_slice()) {
             Ok(()) => {
                 let bytes = frame.len() as u64;
                 let width = sample_width(self.format.bits);
-                feed_rows(&mut self.hasher, block, block_len(block), width);
-                self.least = least_after(self.blocks.samples(), self.least, bytes);
+                feed_slices(&mut self.hasher, block, block_len(block), width);
+                self.least = least_after(samples, self.least, bytes);
                 self.greatest = self.greatest.max(bytes);
+                self.table.count(bytes);
                 self.blocks.sent(block);
                 Ok(())
             }
@@ -271,23 +377,28 @@ impl<W: Rewritable + Drop> DraftEncoder<W> {
     }
 
     /// Writes the number of samples, the sizes of the frames and the MD5 digest into STREAMINFO (RFC 9639, section 8.2),
-    /// and returns the target, which has the whole stream.
+    /// and the points of the seek table, if one was reserved, and returns the target, which has the whole stream.
     ///
     /// It holds what comes before the frames in memory.
     ///
     /// # Errors
-    /// [`EncodeFault::Spent`] after a call that returned [`EncodeFault::Write`]. Else [`EncodeFault::Memory`] if an
-    /// allocation fails, or [`EncodeFault::Write`] if the target returns an error. The target is not returned then.
-    pub fn finish(self) -> Result<W, EncodeFault>
+    /// The target is returned too, which is as it was but after `Write`.
+    ///
+    /// - [`DraftFault::Encode`] with [`EncodeFault::Spent`] after a call that returned [`EncodeFault::Write`];
+    /// - else [`DraftFault::OtherTotal`] if for the seek table another number of samples was stated than came;
+    /// - else [`DraftFault::Encode`] with [`EncodeFault::Memory`] if an allocation fails, or [`EncodeFault::Write`] if the
+    ///   target returns an error.
+    pub fn finish(self) -> Result<W, Unfinished<W>>
         ensures finished { IfOk result (λ target. Finishes W.Target self target) }
         ensures known { IfOk result (λ target. W.known self.pushed.target ≡ true → W.known target ≡ true) }
         ensures counted { IfOk result (λ target. W.errors target ≡ W.errors self.pushed.target) }
         ensures names { IfOk result (λ target. W.names target ≡ W.names self.pushed.target) }
-        ensures spent { (result ≡ Err EncodeFault.Spent) ↔ (self.pushed.spent ≡ true) }
-        ensures only { IfErr result (λ e.
-            (e ≡ EncodeFault.Spent) ⊎ ((e ≡ EncodeFault.Memory) ⊎ (e ≡ EncodeFault.Write))) }
+        ensures accepted { OnOk result (finish_fault self ≡ None) }
+        ensures refused { IfErr result (λ e. IsFirstFault (finish_fault self) e.fault) }
+        ensures kept { IfErr result (λ e. e.fault ≢ DraftFault.Encode EncodeFault.Write
+            → e.left ≡ self.pushed.target) }
         // An error of the target is counted.
-        ensures failed { FailsLast W.Target self.pushed.target result }
+        ensures failed { IfErr result (λ e. FailsLast W.Target self.pushed.target e.fault e.left) }
     {
         let DraftEncoder {
             alloc,
@@ -298,24 +409,42 @@ impl<W: Rewritable + Drop> DraftEncoder<W> {
             least,
             greatest,
             start,
+            table,
             mut target,
         } = self;
         let spent = blocks.is_spent();
         let total = blocks.samples();
         drop(blocks);
         if spent {
-            return Err(EncodeFault::Spent);
+            return Err(unfinished(EncodeFault::Spent, target));
+        }
+        if !table.takes(total) {
+            return Err(Unfinished {
+                fault: DraftFault::OtherTotal,
+                left: target,
+            });
         }
         let digest = hasher.finalize();
         let info = info_with(&format, least, greatest, total, digest);
-        let head = head_bytes(alloc, info, &list);
+        let head = head_bytes(alloc, info, &list, table.into_points());
         drop(list);
         let Some(head) = head else {
-            return Err(EncodeFault::Memory);
+            return Err(unfinished(EncodeFault::Memory, target));
         };
         match target.write_over(start, head.as_slice()) {
             Ok(()) => Ok(target),
-            Err(_) => Err(EncodeFault::Write),
+            Err(_) => Err(unfinished(EncodeFault::Write, target)),
         }
+    }
+}
+
+/// What [`DraftEncoder::finish`] returns with the fault of an encoder.
+fn unfinished<W>(fault: EncodeFault, left: W) -> Unfinished<W>
+    ensures fault { result.fault ≡ DraftFault.Encode fault }
+    ensures left { result.left ≡ left }
+{
+    Unfinished {
+        fault: DraftFault::Encode(fault),
+        left,
     }
 }

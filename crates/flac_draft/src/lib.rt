@@ -3,19 +3,26 @@
 //! | To | Begin with |
 //! |---|---|
 //! | encode a native stream with the number of samples and their digest, block by block | [`DraftEncoder`] |
+//! | give it a seek table, if the number of samples is known | [`DraftEncoder::new_with_table`] |
 //! | keep the stream in memory | [`DraftMemory`] |
+//! | write it to a file | [`DraftFile`] |
 //! | write it to a place of one's own | [`Rewritable`] |
 #![tactic(auto)]
 
 mod draft_encoder;
-mod feeding;
+mod draft_fault;
+mod draft_file;
 mod laws;
 mod memory;
+mod point_table;
 mod rewritable;
+mod table_faults;
 #[cfg(test)]
 mod tests;
 
 pub use draft_encoder::DraftEncoder;
+pub use draft_fault::{DraftFault, Unfinished};
+pub use draft_file::DraftFile;
 pub use laws::drafts_are_encoded;
 pub use memory::DraftMemory;
 pub use rewritable::Rewritable;

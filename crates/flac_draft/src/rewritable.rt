@@ -7,8 +7,9 @@ ghost use Rattle.flac_draft.specs.Rewriting.{IsWrittenOver, KeepsOutside};
 use flac_bits::Target;
 use std::io;
 
-/// A target that keeps what it was sent, and in which bytes can be replaced by as many others, as in a new file. What
-/// the clauses say of the bytes holds if they are known to a proof ([`Target`]).
+/// A target that keeps what it was sent, and in which bytes can be replaced by as many others, as in a new file.
+/// [`crate::DraftMemory`] is one in memory, [`crate::DraftFile`] one over a file, and `&mut` of one is one. What the clauses
+/// say of the bytes holds if they are known to a proof ([`Target`]).
 pub trait Rewritable: Target {
     /// How many bytes were sent.
     fn sent_len(&self) -> u64
@@ -30,4 +31,14 @@ pub trait Rewritable: Target {
         ensures kept { Self.errors self.old ≤ Self.errors self.new }
         ensures rises { OnErr result (Self.known self.old ≡ true → Self.errors self.old < Self.errors self.new) }
         ensures risen { OnErr result (Rises (Self.errors self.old) (Self.errors self.new)) };
+}
+
+impl<W: Rewritable> Rewritable for &mut W {
+    fn sent_len(&self) -> u64 {
+        (**self).sent_len()
+    }
+
+    fn write_over(&mut self, at: u64, bytes: &[u8]) -> io::Result<()> {
+        (**self).write_over(at, bytes)
+    }
 }

@@ -1,12 +1,13 @@
 //! Streams whose head is written last, beside those that are encoded at once.
 
-use crate::{DraftEncoder, DraftMemory, Rewritable, drafts_are_encoded};
+use crate::{DraftEncoder, DraftFile, DraftMemory, Rewritable, Unfinished, drafts_are_encoded};
 use flac_bits::{Collected, send_all};
 use flac_encoder::{StreamEncoder, StreamFormat};
-use flac_meta::{Block, BlockList};
+use flac_meta::{Block, BlockList, SeekPoint, SeekTable};
 use flac_native::{Audio, EncodeFault, LinearPredictor, Plan, Profile, encode};
 use flac_predict::Search;
 use std::alloc::Global;
+use std::io::{Cursor, Write};
 use std::test::Fail;
 
 /// 44100 Hz, two channels and 16 bits, in blocks of 32 samples.
@@ -25,6 +26,25 @@ const ONE: [u8; 57] = [
     0x00, 0x0f, 0x0a, 0xc4, 0x42, 0xf0, 0x00, 0x00, 0x00, 0x01, 0x3e, 0x84, 0xb4, 0x18, 0x07, 0xdc,
     0x69, 0x03, 0x07, 0x58, 0x6a, 0x3d, 0xad, 0x1a, 0x2e, 0x0f, 0xff, 0xf8, 0x69, 0x18, 0x00, 0x00,
     0xbf, 0x01, 0x58, 0xfd, 0x01, 0x12, 0x8b, 0x5a, 0xb2,
+];
+
+/// The same with a seek table of one point after STREAMINFO, which has the header 83 00 00 12: sample 0, offset 0, and 1
+/// sample (RFC 9639, sections 8.1 and 8.5).
+const ONE_WITH_TABLE: [u8; 79] = [
+    0x66, 0x4c, 0x61, 0x43, 0x00, 0x00, 0x00, 0x22, 0x10, 0x00, 0x10, 0x00, 0x00, 0x00, 0x0f, 0x00,
+    0x00, 0x0f, 0x0a, 0xc4, 0x42, 0xf0, 0x00, 0x00, 0x00, 0x01, 0x3e, 0x84, 0xb4, 0x18, 0x07, 0xdc,
+    0x69, 0x03, 0x07, 0x58, 0x6a, 0x3d, 0xad, 0x1a, 0x2e, 0x0f, 0x83, 0x00, 0x00, 0x12, 0x00, 0x00,
+    0x00, 0x00, 0x00, 0x00, 0x00, 0x00, 0x00, 0x00, 0x00, 0x00, 0x00, 0x00, 0x00, 0x00, 0x00, 0x01,
+    0xff, 0xf8, 0x69, 0x18, 0x00, 0x00, 0xbf, 0x01, 0x58, 0xfd, 0x01, 0x12, 0x8b, 0x5a, 0xb2,
+];
+
+/// What comes before the frame of that stream, of 2 samples that were stated, while it is a draft: STREAMINFO has neither
+/// sizes of frames nor a number of samples nor a digest, and the point is a placeholder (RFC 9639, section 8.5.1).
+const DRAFT_HEAD: [u8; 64] = [
+    0x66, 0x4c, 0x61, 0x43, 0x00, 0x00, 0x00, 0x22, 0x10, 0x00, 0x10, 0x00, 0x00, 0x00, 0x00, 0x00,
+    0x00, 0x00, 0x0a, 0xc4, 0x42, 0xf0, 0x00, 0x00, 0x00, 0x00, 0x00, 0x00, 0x00, 0x00, 0x00, 0x00,
+    0x00, 0x00, 0x00, 0x00, 0x00, 0x00, 0x00, 0x00, 0x00, 0x00, 0x83, 0x00, 0x00, 0x12, 0xff, 0xff,
+    0xff, 0xff, 0xff, 0xff, 0xff, 0xff, 0x00, 0x00, 0x00, 0x00, 0x00, 0x00, 0x00, 0x00, 0x00, 0x00,
 ];
 
 /// The samples of a channel, which rise and fall.
@@ -52,37 +72,45 @@ fn padded(alloc: Global) -> Result<BlockList, Fail> {
     Ok(BlockList::new(blocks)?)
 }
 
-/// The stream that is encoded at once.
-fn at_once(alloc: Global) -> Result<Vec<u8>, Fail> {
+/// The stream that is encoded at once, with a seek point for each `every` samples.
+fn at_once(alloc: Global, every: u32) -> Result<Vec<u8>, Fail> {
     let list = padded(alloc)?;
     let mut channels = Vec::new(alloc);
     channels.push(LEFT.to_vec(alloc)?)?;
     channels.push(RIGHT.to_vec(alloc)?)?;
     let audio = Audio::new(44100, 16, channels)?;
-    let plan = Plan::new(32, &audio, 0)?;
+    let plan = Plan::new(32, &audio, every)?;
     let mut target = Collected::new(alloc);
     encode(alloc, &plan, &list, &audio, &mut target)?;
     Ok(target.into_bytes())
 }
 
 /// The same stream in blocks of 32 samples, the last of which is shorter, after three bytes.
-fn by_blocks(alloc: Global) -> Result<Vec<u8>, Fail> {
+fn by_blocks(alloc: Global, every: u32) -> Result<Vec<u8>, Fail> {
     let mut target = DraftMemory::new(alloc);
     send_all(&mut target, b"ID3")?;
-    let mut encoder = DraftEncoder::new_in(alloc, &FORMAT, padded(alloc)?, target)?;
+    let list = padded(alloc)?;
+    let mut encoder = DraftEncoder::new_with_table(alloc, &FORMAT, list, 80, every, target)?;
     encoder.push(&[&LEFT[..32], &RIGHT[..32]])?;
     encoder.push(&[&LEFT[32..64], &RIGHT[32..64]])?;
     encoder.push(&[&LEFT[64..], &RIGHT[64..]])?;
     Ok(encoder.finish()?.into_bytes())
 }
 
+/// Whether a draft is the stream that is encoded at once, after three bytes.
+fn draft_is_at_once(alloc: Global, every: u32) -> Result<bool, Fail> {
+    let once = at_once(alloc, every)?;
+    let blocks = by_blocks(alloc, every)?;
+    Ok(blocks.starts_with(b"ID3") && blocks.get(3..).unwrap_or(&[]) == once.as_slice())
+}
+
+/// Without a seek table, with a point for the first and the last frame, and with one for each.
 #[test]
 fn draft_is_the_stream_at_once(rt: HostRuntime) -> Result<(), Fail> {
     let alloc = rt.alloc();
-    let once = at_once(alloc)?;
-    let blocks = by_blocks(alloc)?;
-    assert!(rt; blocks.starts_with(b"ID3"));
-    assert!(rt; blocks.get(3..).unwrap_or(&[]) == once.as_slice());
+    assert!(rt; draft_is_at_once(alloc, 0)?);
+    assert!(rt; draft_is_at_once(alloc, 70)?);
+    assert!(rt; draft_is_at_once(alloc, 1)?);
     Ok(())
 }
 
@@ -192,5 +220,135 @@ fn bytes_in_memory(rt: HostRuntime) -> Result<(), Fail> {
     assert!(rt; written_over(&mut target, 3, b"LA") == 255);
     assert!(rt; written_over(&mut target, u64::MAX, b"x") == 255);
     assert!(rt; target.into_bytes().as_slice() == b"fLAC".as_slice());
+    Ok(())
+}
+
+/// An encoder of blocks of 4096 samples that reserves a table for `total` samples, with a point for each.
+fn table_encoder(alloc: Global, total: u64) -> Result<DraftEncoder<DraftMemory>, Fail> {
+    let list = BlockList::new(Vec::new(alloc))?;
+    let format = StreamFormat {
+        block_size: 4096,
+        ..FORMAT
+    };
+    let target = DraftMemory::new(alloc);
+    Ok(DraftEncoder::new_with_table(alloc, &format, list, total, 1, target)?)
+}
+
+/// Pushes one sample, and returns what `finish` does.
+fn one_sample_of(alloc: Global, total: u64) -> Result<DraftEncoder<DraftMemory>, Fail> {
+    let mut encoder = table_encoder(alloc, total)?;
+    let (left, right) = ([25588], [10416]);
+    encoder.push(&[left.as_slice(), right.as_slice()])?;
+    Ok(encoder)
+}
+
+/// The point is written at the end.
+#[test]
+fn table_of_one_point(rt: HostRuntime) -> Result<(), Fail> {
+    let bytes = one_sample_of(rt.alloc(), 1)?.finish()?.into_bytes();
+    assert!(rt; bytes.as_slice() == ONE_WITH_TABLE.as_slice());
+    Ok(())
+}
+
+/// The reason why a draft is not finished, and the bytes that are left.
+fn left_of(
+    finished: Result<DraftMemory, Unfinished<DraftMemory>>,
+) -> Option<(&'static str, Vec<u8>)> {
+    match finished {
+        Ok(_) => None,
+        Err(unfinished) => Some((unfinished.fault.as_str(), unfinished.left.into_bytes())),
+    }
+}
+
+/// With another number of samples than was stated it stays a draft, whose frame is there.
+#[test]
+fn other_total(rt: HostRuntime) -> Result<(), Fail> {
+    let left = left_of(one_sample_of(rt.alloc(), 2)?.finish());
+    let Some((text, bytes)) = left else {
+        return Err(Fail::new("it is finished"));
+    };
+    assert!(rt; text == "93 OtherTotal");
+    assert!(rt; bytes.get(..64).unwrap_or(&[]) == DRAFT_HEAD.as_slice());
+    assert!(rt; bytes.get(64..).unwrap_or(&[]) == &ONE_WITH_TABLE[64..]);
+    Ok(())
+}
+
+/// The number of the reason why no draft is begun in blocks of 16 samples, with a point for each sample; 0 for none.
+fn begun_with(alloc: Global, list: BlockList, total: u64) -> u8 {
+    let format = StreamFormat {
+        block_size: 16,
+        ..FORMAT
+    };
+    let target = DraftMemory::new(alloc);
+    match DraftEncoder::new_with_table(alloc, &format, list, total, 1, target) {
+        Ok(_) => 0,
+        Err(fault) => fault.number(),
+    }
+}
+
+/// A list with a seek table without points.
+fn tabled(alloc: Global) -> Result<BlockList, Fail> {
+    let points: Vec<SeekPoint> = Vec::new(alloc);
+    let mut blocks = Vec::new(alloc);
+    blocks.push(Block::SeekTable(SeekTable::from_vec(points)))?;
+    Ok(BlockList::new(blocks)?)
+}
+
+/// A number of samples that has more than 36 bits, more points than a block holds, and a second table.
+#[test]
+fn tables_that_are_refused(rt: HostRuntime) -> Result<(), Fail> {
+    let alloc = rt.alloc();
+    assert!(rt; begun_with(alloc, padded(alloc)?, 1 << 36) == 45);
+    assert!(rt; begun_with(alloc, padded(alloc)?, 16 * 932067 + 1) == 47);
+    assert!(rt; begun_with(alloc, tabled(alloc)?, 16) == 9);
+    assert!(rt; begun_with(alloc, tabled(alloc)?, 1 << 36) == 45);
+    Ok(())
+}
+
+/// A place with three bytes, and its position after them.
+fn place_after_tag(alloc: Global) -> Result<Cursor<Vec<u8>>, Fail> {
+    let mut place = Cursor::new(Vec::new(alloc));
+    place.write_all(b"ID3")?;
+    Ok(place)
+}
+
+/// The stream of one sample in a place that is like a file, after three bytes; the target is lent to the encoder.
+fn in_file(alloc: Global) -> Result<Vec<u8>, Fail> {
+    let mut file = DraftFile::new(place_after_tag(alloc)?)?;
+    let list = BlockList::new(Vec::new(alloc))?;
+    let format = StreamFormat {
+        block_size: 4096,
+        ..FORMAT
+    };
+    let mut encoder = DraftEncoder::new_in(alloc, &format, list, &mut file)?;
+    let (left, right) = ([25588], [10416]);
+    encoder.push(&[left.as_slice(), right.as_slice()])?;
+    let _file = encoder.finish()?;
+    Ok(file.into_inner().into_inner())
+}
+
+#[test]
+fn file_after_a_tag(rt: HostRuntime) -> Result<(), Fail> {
+    let bytes = in_file(rt.alloc())?;
+    assert!(rt; bytes.starts_with(b"ID3"));
+    assert!(rt; bytes.get(3..).unwrap_or(&[]) == ONE.as_slice());
+    Ok(())
+}
+
+/// The number of bytes after an error, and whether the error is kept.
+fn file_refuses(alloc: Global) -> Result<(u64, bool), Fail> {
+    let mut file = DraftFile::new(place_after_tag(alloc)?)?;
+    send_all(&mut file, b"fLaC")?;
+    let good = file.last_error().is_none() && file.write_over(1, b"LA").is_ok();
+    let refused = file.write_over(3, b"LA").is_err() && file.write_over(5, b"").is_err();
+    Ok((
+        file.sent_len(),
+        good && refused && file.last_error().is_some(),
+    ))
+}
+
+#[test]
+fn bytes_of_a_file(rt: HostRuntime) -> Result<(), Fail> {
+    assert!(rt; file_refuses(rt.alloc())? == (4, true));
     Ok(())
 }

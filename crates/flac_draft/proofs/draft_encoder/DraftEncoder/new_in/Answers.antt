@@ -1,84 +1,15 @@
-use Rattle.std.specs.Prelude.{⊤, option_map}
-use Rattle.std.proofs.Common.{◌≡◌, ◌++◌, ◌*◌, List, [], length, inr, refl, sym, ap, subst, ◌∙◌, arith}
-use Rattle.std.proofs.lemmas.List.{append-nil}
-use Rattle.std.proofs.lemmas.Result.{err_from_is_err_and}
-use Rattle.flac_bits.specs.Bits.{bits_of}
-use Rattle.flac_bits.proofs.Holding.{length-bits_of}
-use Rattle.flac_info.specs.Info.{Info}
-use Rattle.flac_meta.specs.declared.block.Block.{Block}
-use Rattle.flac_native.specs.Seeking.{table_of}
-use Rattle.flac_native.specs.Writing.{head_spelling}
-use Rattle.flac_native.specs.declared.fault.EncodeFault.TheVariants.{Setup}
-use Rattle.flac_encoder.specs.Pushing.{Pushed, shape_of, open_info, with_target}
-use Rattle.flac_draft.specs.Draft.{Drafts}
-use Rattle.flac_draft.proofs.Drafting.{draft_none}
+use Rattle.std.proofs.Common.{subst}
+use Rattle.std.specs.Prelude.{IfOk}
+use Rattle.flac_encoder.specs.Pushing.{shape_of, SentHead, FailsHead}
+use Rattle.flac_draft.proofs.Planned.{none_fits}
+use Rattle.flac_draft.proofs.Points.{no_place}
 use Rattle.flac_draft.proofs.draft_encoder.DraftEncoder.new_in.Goals as goal
 
--- a head with no table
-no_table : (i j : Info) (list table : List Block) → i ≡ j → table ≡ [] → head_spelling i (list ++ table) ≡ head_spelling j list
-no_table i j list table e none =
-    ap (λ k. head_spelling k (list ++ table)) e ∙ ap (λ l. head_spelling j (list ++ l)) none ∙ ap (head_spelling j) (append-nil list)
+pub begin-requires-clause-fits : goal.begin-requires-clause-fits
+begin-requires-clause-fits g c = λ shape. none_fits (shape_of c.args.format.now) c.args.list c.none.result c.none.ensures
 
-pub returns-in_err-blocks : goal.returns-in_err-blocks
-returns-in_err-blocks g c =
-    let p = err_from_is_err_and c.from_residual.result c.from_residual.ensures.1 in
-    rw (p.1, p.2) (record {
-      made = tt;
-      list = tt;
-      begun = tt;
-      written = tt;
-      known = tt;
-      counted = tt;
-      names = tt;
-      accepted = tt;
-      refused = c.in_err-blocks.ensures.refused;
-      failed = λ is. absurd (c.in_err-blocks.ensures.unsent is);
-    })
+pub returns-clause-written : goal.returns-clause-written
+returns-clause-written g c = subst (λ l. IfOk c.begin.result (λ e. SentHead g.W.Target l c.args.target e.pushed)) (no_place c.args.format.now.block_size c.none.result c.args.list c.none.ensures) c.begin.ensures.written
 
-pub returns-in-Ok : goal.returns-in-Ok
-returns-in-Ok g c =
-    let t = c.send_head.new.target in
-    let list = c.args.list in
-    let ok = c.in_ok-blocks.ensures in
-    let sends = c.in-Ok.ensures in
-    let shape = shape_of c.args.format.now in
-    let head = no_table c.info_with-info.result (open_info shape) list _ c.info_with-info.ensures (ap table_of c.new-points.ensures.items) in
-    record {
-      made = ap (λ (b : Pushed ⊤). with_target b t) ok.made;
-      list = refl;
-      begun = λ known samples channels.
-          let before = bits_of (g.W.Target.sent c.args.target) in
-          let far : length before ≡ 8 * c.sent_len-start.result = omega (arith, length-bits_of (g.W.Target.sent c.args.target), c.sent_len-start.ensures known) in
-          subst (λ (b : Pushed ⊤). Drafts g.W.Target samples before (record { pushed = with_target b t; list = list; hasher = c.new-hasher.result; least = 0; greatest = 0; start = c.sent_len-start.result })) (sym ok.made)
-          (draft_none g.W.Target samples before shape t list c.new-hasher.result c.sent_len-start.result ok.accepted c.blocks-blocks.ensures.good c.blocks-blocks.ensures.fits (channels ∙ ap (λ (b : Pushed ⊤). b.shape.channels) ok.made) c.new-hasher.ensures far
-          (sends.sent known ∙ ap (λ l. before ++ l) head));
-      written = λ known. sends.sent known ∙ ap (λ l. bits_of (g.W.Target.sent c.args.target) ++ l) (head ∙ sym (ap (λ (b : Pushed ⊤). head_spelling (open_info b.shape) list) ok.made));
-      known = sends.known;
-      counted = sends.counted;
-      names = sends.names;
-      accepted = ok.accepted;
-      refused = tt;
-      failed = tt;
-    }
-
-pub returns-in-Err : goal.returns-in-Err
-returns-in-Err g c =
-    let sends = c.in-Err.ensures in
-    record {
-      made = tt;
-      list = tt;
-      begun = tt;
-      written = tt;
-      known = tt;
-      counted = tt;
-      names = tt;
-      accepted = tt;
-      refused = inr (ap (option_map Setup) c.in_ok-blocks.ensures.accepted, inr refl);
-      failed = λ is. (
-        c.send_head.new.target,
-        record {
-          fails = record { failed = sends.rises; risen = sends.risen; names = sends.names };
-          begun = λ known. let b = sends.begun known in (b.0, b.1, sym (no_table _ _ c.args.list _ c.info_with-info.ensures (ap table_of c.new-points.ensures.items)) ∙ b.2, b.3);
-        },
-      );
-    }
+pub returns-clause-failed : goal.returns-clause-failed
+returns-clause-failed g c = subst (λ l. FailsHead g.W.Target (shape_of c.args.format.now) l c.args.target c.begin.result) (no_place c.args.format.now.block_size c.none.result c.args.list c.none.ensures) c.begin.ensures.failed

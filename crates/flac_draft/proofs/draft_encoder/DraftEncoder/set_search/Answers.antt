@@ -8,8 +8,8 @@ use Rattle.flac_draft.proofs.draft_encoder.DraftEncoder.set_search.Goals as goal
 pub returns-clause-stays : goal.returns-clause-stays
 returns-clause-stays g c =
     let e = c.self.inside in
-    let old = draft_of e.blocks e.target e.list e.hasher e.least e.greatest e.start in
+    let old = draft_of e.blocks e.target e.list e.hasher e.least e.greatest e.start e.table in
     on_ok c.set_search.result
-    (λ set. subst (λ (d : Draft g.row.W.Denot). StaysDraft g.W.Target d (draft_of c.set_search.new.self e.target e.list e.hasher e.least e.greatest e.start)) c.self.view_is
-    (subst (λ (b : Pushed ⊤). StaysDraft g.W.Target old (draft_of b e.target e.list e.hasher e.least e.greatest e.start)) (sym set) (stays_searching g.W.Target old c.args.search)))
+    (λ set. subst (λ (d : Draft g.row.W.Denot). StaysDraft g.W.Target d (draft_of c.set_search.new.self e.target e.list e.hasher e.least e.greatest e.start e.table)) c.self.view_is
+    (subst (λ (b : Pushed ⊤). StaysDraft g.W.Target old (draft_of b e.target e.list e.hasher e.least e.greatest e.start e.table)) (sym set) (stays_searching g.W.Target old c.args.search)))
     c.set_search.ensures.set
