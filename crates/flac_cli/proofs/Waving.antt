@@ -377,7 +377,7 @@ kept_closed s h samples odd some is =
     ∙ (ap (λ qs. front_of (s.pieces ++ []) ++ (samples ++ (end_pad odd qs ++ all_of qs))) after
     ∙ ap (λ o. front_of (s.pieces ++ []) ++ (samples ++ (end_pad o (pieces_after (s.pieces ++ [])) ++ all_of (pieces_after (s.pieces ++ []))))) is)
 
--- ---- whether the pieces make a file
+-- whether the pieces make a file
 
 -- the header of the samples came if they do
 kept_headed : (s : Held) → is_kept s ≡ true → 0 < s.head
@@ -404,25 +404,6 @@ closed_by s true e h samples odd is =
     kept_closed s h samples odd (kept_headed s e) is ∙ ap (λ c. restored (cond c (s.pieces ++ []) s.plain.made) samples) (sym e ∙ kept_at_end s h)
 closed_by s false e h samples odd is =
     h.plain samples odd is ∙ ap (λ c. restored (cond c (s.pieces ++ []) s.plain.made) samples) (sym e ∙ kept_at_end s h)
-
-closed : (s : Held) (h : Headed s) (samples : List ℕ) (odd : ℕ) → 0 < s.head → odd ≡ length samples % 2
-    → all_of (take s.head s.pieces) ++ (samples ++ (end_pad odd (drop s.head s.pieces) ++ all_of (drop s.head s.pieces))) ≡ restored (s.pieces ++ []) samples
-kept_closed s h samples odd some is =
-    let after : drop s.head s.pieces ≡ pieces_after (s.pieces ++ []) = sym (append-nil (drop s.head s.pieces)) ∙ sym (h.after_some some []) in
-    ap (λ l. l ++ (samples ++ (end_pad odd (drop s.head s.pieces) ++ all_of (drop s.head s.pieces)))) (sym (h.front_some some []))
-    ∙ (ap (λ qs. front_of (s.pieces ++ []) ++ (samples ++ (end_pad odd qs ++ all_of qs))) after
-    ∙ ap (λ o. front_of (s.pieces ++ []) ++ (samples ++ (end_pad o (pieces_after (s.pieces ++ [])) ++ all_of (pieces_after (s.pieces ++ []))))) is)
-
-closed_by : (s : Held) (b : Bool) → nat_lt 0 s.head ≡ b → (h : Headed s) (samples : List ℕ) (odd : ℕ) → odd ≡ length samples % 2
-    → all_of (cond b (take s.head s.pieces) (take s.cut s.plain.made))
-    ++ (samples ++ (end_pad odd (cond b (drop s.head s.pieces) (drop s.cut s.plain.made)) ++ all_of (cond b (drop s.head s.pieces) (drop s.cut s.plain.made))))
-    ≡ restored (file_pieces (s.pieces ++ []) s.plain.made) samples
-closed_by s true e h samples odd is =
-    let some = ltb-true 0 s.head e in
-    kept_closed s h samples odd some is ∙ ap (λ c. restored (cond c (s.pieces ++ []) s.plain.made) samples) (sym (h.has_some some []))
-closed_by s false e h samples odd is =
-    let none : s.head ≡ 0 = omega (arith, ltb-false 0 s.head e) in
-    h.plain samples odd is ∙ ap (λ c. restored (cond c (s.pieces ++ []) s.plain.made) samples) (sym (h.has_none none []))
 
 closed : (s : Held) (h : Headed s) (samples : List ℕ) (odd : ℕ) → odd ≡ length samples % 2
     → all_of (front_pieces s) ++ (samples ++ (end_pad odd (back_pieces s) ++ all_of (back_pieces s))) ≡ restored (file_pieces (s.pieces ++ []) s.plain.made) samples
