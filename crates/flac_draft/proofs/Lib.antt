@@ -8,3 +8,5 @@ pub mod Planned
 pub mod Moved
 -- a draft, from the first block to the last
 pub mod Drafting
+-- what a search found, as the lists of a plan
+pub mod FoundLists

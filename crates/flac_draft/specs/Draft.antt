@@ -11,12 +11,13 @@ use Rattle.flac_meta.specs.declared.block.Block.{Block}
 use Rattle.flac_subframe.specs.declared.format.linear.LinearPredictor.{LinearPredictor}
 use Rattle.flac_frame.specs.Audio.{Sound, samples_each}
 use Rattle.flac_native.specs.Decoding.{beginning}
-use Rattle.flac_native.specs.Given.{Cut, cut_in, with_predictors, blocks_in, frame_of, given}
+use Rattle.flac_native.specs.Given.{Cut, cut_in, with_predictors, with_found, blocks_in, frame_of, given}
 use Rattle.flac_native.specs.Message.{sample_width, rows_bytes}
 use Rattle.flac_native.specs.Seeking.{points_of, table_of}
 use Rattle.flac_native.specs.Stream.{grammar, opening}
 use Rattle.flac_native.specs.Writing.{SpellsFrame, AreFrames, AreSizes, Encodes, head_spelling, stream_spelling}
 use Rattle.flac_native.specs.declared.fault.EncodeFault.TheVariants.{Spent, Write}
+use Rattle.flac_predict.specs.Found.{AllBegin}
 use Rattle.flac_predict.specs.declared.search.Search.{Search}
 use Rattle.flac_encoder.specs.Pushing.{Pushed, Fails, shape_fault, open_info, sound_of, SpellsLeastFound}
 use Rattle.md5.specs.Md5.{Holds}
@@ -143,3 +144,10 @@ FailsLast g old fault left = fault ≡ Encode Write → Fails g old left
 -- Without a search this is what `encode` writes by the same plan.
 abbrev pub DraftsAreEncoded : Type 0
 DraftsAreEncoded = (p : Cut) (ps : List LinearPredictor) (list : List Block) (a : Sound) (before after : List Bool) → EncodesFound None (with_predictors p ps) list a before after → Encodes (with_predictors p ps) list a before after
+
+-- In any case it is what `encode` writes by a plan that has lists for the planes of each frame, of which each begins with
+-- the predictors that were set.
+abbrev pub FoundAreEncoded : Type 0
+FoundAreEncoded =
+    (sought : Option Search) (p : Cut) (ps : List LinearPredictor) (list : List Block) (a : Sound) (before after : List Bool) → EncodesFound sought (with_predictors p ps) list a before after
+    → (found : List (List (List LinearPredictor))) × AllBegin ps found × Encodes (with_found (with_predictors p ps) found) list a before after

@@ -23,6 +23,6 @@ mod tests;
 pub use draft_encoder::DraftEncoder;
 pub use draft_fault::{DraftFault, Unfinished};
 pub use draft_file::DraftFile;
-pub use laws::drafts_are_encoded;
+pub use laws::{drafts_are_encoded, found_are_encoded};
 pub use memory::DraftMemory;
 pub use rewritable::Rewritable;

@@ -1,6 +1,9 @@
 //! Streams whose head is written last, beside those that are encoded at once.
 
-use crate::{DraftEncoder, DraftFile, DraftMemory, Rewritable, Unfinished, drafts_are_encoded};
+use crate::{
+    DraftEncoder, DraftFile, DraftMemory, Rewritable, Unfinished, drafts_are_encoded,
+    found_are_encoded,
+};
 use flac_bits::{Collected, send_all};
 use flac_encoder::{StreamEncoder, StreamFormat};
 use flac_meta::{Block, BlockList, SeekPoint, SeekTable};
@@ -194,6 +197,7 @@ fn frames_of_a_search(rt: HostRuntime) -> Result<(), Fail> {
     let alloc = rt.alloc();
     let block = [LEFT.as_slice(), RIGHT.as_slice()];
     let draft = searched(alloc, &block)?;
+    found_are_encoded();
     let stream = searched_at_once(alloc, &block)?;
     assert!(rt; draft.len() == stream.len());
     assert!(rt; draft.get(42..).unwrap_or(&[]) == stream.get(42..).unwrap_or(&[]));
