@@ -441,12 +441,13 @@ def error_is_full(place, words):
 
 
 def closed_files(place, words, closed):
-    """A refused run without standard files: status 1, IN keeps its bytes, and no line of text goes into OUT."""
+    """A refused run without standard files: status 1, IN keeps its bytes, and no line of text goes into OUT, which is not there without a byte."""
     refused = NATIVE + b"\0" if words[0] in ("test", "list", "decode") else b"fLaD\0"
     names = {"IN": place.put("in", refused), "OUT": place.path("out")}
     expect(place.call(words, names, closing(closed))[0], 1)
     expect(read(names["IN"]), refused)
-    if "OUT" in words and b"flac: " in read(names["OUT"]):
+    expect(os.path.exists(names["OUT"]), words[0] == "decode")
+    if words[0] == "decode" and b"flac: " in read(names["OUT"]):
         raise Wrong("the line of the fault is written into OUT, which got the number of standard error")
 
 
@@ -461,7 +462,7 @@ def memory_cases():
     def endless(words, line, place):
         names = {"IN": "/dev/zero", "OUT": place.path("out")}
         place.refused(words, names, line, ["prlimit", "--as=67108864"])
-        expect(read(names["OUT"]), b"")
+        expect(os.path.exists(names["OUT"]), False)
 
     for name, words, _ in WRITING:
         if name.startswith("encode"):

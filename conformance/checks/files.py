@@ -355,7 +355,7 @@ NOTHING = [("decode", DECODE, b"no stream", "marker: 4 BadMarker"), ("decode --w
            ("decode --from", ["decode", "IN", "OUT", "--from", "1"], b"no stream", "marker: 4 BadMarker"),
            ("decode of its first frame", DECODE, NATIVE[:60], None), ("retag", RETAG, OGG, "marker: 4 BadMarker"),
            ("encode", ["encode", "IN", "OUT", *ENCODE], b"odd", "48 RawLength"), ("encode of a WAV file", ["encode", "IN", "OUT"], b"no WAV file", None),
-           ("encode of a WAV file that is cut", ["encode", "IN", "OUT"], WAVE[:-1], "69 DataCut"), ("encode --ogg", ["encode", "IN", "OUT", "--ogg"], b"", None)]
+           ("encode of a WAV file that is cut", ["encode", "IN", "OUT"], WAVE[:-1], "chunk 1: 69 DataCut"), ("encode --ogg", ["encode", "IN", "OUT", "--ogg"], b"", None)]
 """Jobs that are refused before anything is written."""
 
 
