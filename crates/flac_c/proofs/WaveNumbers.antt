@@ -9,7 +9,7 @@ use Rattle.byteorder.specs.Endian.{twos_complement, little_number, little_bytes}
 use Rattle.flac_wave.proofs.Shifts.{low_bytes_of}
 use Rattle.flac_wave.specs.Reasons.{number_of}
 use Rattle.flac_wave.specs.declared.why.WaveWhy.{WaveWhy}
-use Rattle.flac_wave.specs.declared.why.WaveWhy.TheVariants.{NotWave, ChunkCut, ChunkLength, NoFormat, RepeatedFormat, FormatLength, Coding, FormatFields, NoData, DataCut, PartSample}
+use Rattle.flac_wave.specs.declared.why.WaveWhy.TheVariants.{NotWave, ChunkCut, ChunkLength, NoFormat, RepeatedFormat, FormatLength, Coding, FormatFields, NoData, DataCut, PartSample, DataUnstated}
 use Rattle.flac_c.specs.Waves.{is_form, wave_number, wave_numbers, high_number, sample_of}
 
 -- no reason has the number 0
@@ -25,6 +25,7 @@ some_why FormatFields = omega arith
 some_why NoData = omega arith
 some_why DataCut = omega arith
 some_why PartSample = omega arith
+some_why DataUnstated = omega arith
 
 -- ---- two's complement
 
