@@ -7,7 +7,7 @@ ghost use Rattle.flac_files.specs.JobFiles.{IsFileOf};
 use crate::files::{Input, Known, Output, Rule, create};
 use crate::list::List;
 use crate::names::is_misnamed;
-use crate::replacement::{Place, is_vacant};
+use crate::replacement::{Place, is_new};
 use flac_jobs::Job;
 use std::fs::File;
 use std::io::ErrorKind;
@@ -32,7 +32,7 @@ impl<'a> JobFiles<'a> {
     ///
     /// # Errors
     /// A file cannot be opened, read or created, or what the job writes is a file that it reads, or may not replace, or,
-    /// without `force`, has the name of something else.
+    /// without `force`, a new file with the name of something else.
     pub fn open(
         rt: &HostRuntime,
         job: &Job<'a>,
@@ -121,10 +121,10 @@ fn created<'a>(
     let Some(path) = job.output() else {
         return Ok((Output::None, Place::Old));
     };
-    if !rule.force && is_misnamed(job, rule.is_whole, path) {
+    if !rule.force && is_misnamed(job, rule.is_whole, path) && is_new(rt, path) {
         return Err(FileRefused {
             path,
-            what: misnamed(rt, job, path),
+            what: misnamed(job),
         });
     }
     let Ok(input) = Known::of_input(rt, job.input(), rule.input) else {
@@ -142,17 +142,13 @@ fn created<'a>(
     }
 }
 
-/// What cannot be done with a file whose name is that of something else than what the job writes. That `--force` lets the
-/// job write it is not said of a file that is there, which may be a song.
-fn misnamed(rt: &HostRuntime, job: &Job<'_>, path: &str) -> &'static str {
-    let is_new = is_vacant(rt, path).unwrap_or(false);
+/// What cannot be done with a new file whose name is that of something else than what the job writes.
+fn misnamed(job: &Job<'_>) -> &'static str {
     match job {
-        Job::EncodeWave { .. } if is_new => {
+        Job::EncodeWave { .. } => {
             "created: flac decode writes WAV files; --force writes a stream all the same"
         }
-        Job::EncodeWave { .. } => "created: flac decode writes WAV files",
-        _ if is_new => "created: flac recode writes streams; --force writes samples all the same",
-        _ => "created: flac recode writes streams",
+        _ => "created: flac recode writes streams; --force writes samples all the same",
     }
 }
 
