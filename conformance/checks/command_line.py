@@ -43,7 +43,7 @@ def output_is_another(bench, data, words):
     path, out, link = bench.put(data), bench.put(data[:42] * (words[0] == "retag") + bytes(100000)), bench.path()
     os.symlink(out, link)
     program.succeeds(words[0], path, link, *words[1:])
-    due = bench.path()
+    due = bench.path(".raw" if words[0] == "decode" else ".flac")
     program.succeeds(words[0], path, due, *words[1:])
     expect(read(out), read(due))
     expect(read(path), data)

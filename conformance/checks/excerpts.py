@@ -116,7 +116,7 @@ class Runs:
                     file.write(old)
             expect(call("decode", *words, path, name), (1, b"", f"flac: {path}: {line}\n".encode()))
             if old or not begun:
-                expect(read(name), old or b"")
+                expect(read(name) if os.path.exists(name) else None, old)
         self.refused += 3
 
 
@@ -338,7 +338,8 @@ class Long:
             os.remove("part.raw")
         words = ["--from", str(first), *(["--to", str(last)] if last is not None else [])]
         expect(call("decode", "--lax", *words, name, "part.raw"), (1, b"", f"flac: {name}: {line}\n".encode()))
-        expect(read("part.raw"), due)
+        # without a sample there is no file
+        expect(read("part.raw") if os.path.exists("part.raw") else None, due or None)
         self.runs.refused += 1
 
     def damage(self, tries):

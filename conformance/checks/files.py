@@ -57,13 +57,12 @@ def source_of(place, words):
     return read(names["OUT"])
 
 
-def kept(place, words, old, source=None, name="out", before=(), reason=None, **more):
+def kept(place, words, old, source=None, name="out", before=(), **more):
     """OUT is not replaced: it and IN have their bytes, and no other file is there."""
     names = {"IN": place.put("in", source_of(place, words) if source is None else source), "OUT": place.put(name, old)}
     given, found = read(names["IN"]), set(os.listdir(place.folder))
-    if words[0] in ("recode", "salvage"):
-        reason = "it may be another song, which --force replaces"
-    place.refused(words, names, f"{names['OUT']}: cannot be created{': ' + reason if reason else ''}", before, **more)
+    more_of_it = ": it may be another song, which --force replaces" if words[0] in ("recode", "salvage") else ""
+    place.refused(words, names, f"{names['OUT']}: cannot be created{more_of_it}", before, **more)
     expect((read(names["IN"]), read(names["OUT"]), set(os.listdir(place.folder))), (given, old, found))
 
 
@@ -396,7 +395,7 @@ MISNAMED = [("recode", ["recode", "IN", "OUT"]), ("salvage", ["salvage", "IN", "
 
 
 def name_cases():
-    """A job writes no file whose name is that of something else; with --force it does."""
+    """A job makes no file whose name is that of something else; with --force it does."""
     for name, words in MISNAMED:
         for out in ("a.wav", "a.WAV", ".wav"):
             yield f"{name}: OUT is {out}", lambda p, w=words, o=out: misnamed(p, w, o)
@@ -413,12 +412,13 @@ def misnamed(place, words, out):
     names = {"IN": place.put("in", NATIVE), "OUT": place.path(out)}
     place.refused(words, names, f"{names['OUT']}: cannot be created: {line}; --force writes a stream all the same")
     expect(os.listdir(place.folder), ["in"])
-    for old in (b"", BEFORE, NATIVE):
-        place.put(out, old)
-        place.refused(words, names, f"{names['OUT']}: cannot be created: {line}")
-        expect((read(names["OUT"]), set(os.listdir(place.folder))), (old, {"in", out}))
-    os.remove(names["OUT"])
+    absent = os.path.join(place.folder, "absent", out)
+    place.refused(words, names | {"OUT": absent}, f"{absent}: cannot be created")
     well_named(place, [*words, "--force"], out)
+    # a file that is there, and is no other song, is replaced as any other
+    for old in (b"", BEFORE):
+        place.put(out, old)
+        well_named(place, words, out)
 
 
 def well_named(place, words, out, source=NATIVE):

@@ -7,10 +7,14 @@ ghost use Rattle.flac_files.specs.JobFiles.{IsFileOf};
 use crate::files::{Input, Known, Output, Rule, create};
 use crate::list::List;
 use crate::names::is_misnamed;
-use crate::replacement::{Place, is_vacant};
+use crate::replacement::{Place, is_new};
 use flac_jobs::Job;
 use std::fs::File;
 use std::io::ErrorKind;
+
+/// What cannot be done with a new file whose name is that of a WAV file, by a job that writes a stream.
+const MISNAMED: &str =
+    "created: flac decode writes WAV files; --force writes a stream all the same";
 
 /// The files of a job, opened.
 #[derive(Drop)]
@@ -32,7 +36,7 @@ impl<'a> JobFiles<'a> {
     ///
     /// # Errors
     /// A file cannot be opened, read or created, or what the job writes is a file that it reads, or may not replace, or,
-    /// without `force`, has the name of something else.
+    /// without `force`, a new file with the name of something else.
     pub fn open(
         rt: &HostRuntime,
         job: &Job<'a>,
@@ -121,10 +125,10 @@ fn created<'a>(
     let Some(path) = job.output() else {
         return Ok((Output::None, Place::Old));
     };
-    if !rule.force && is_misnamed(job, rule.is_whole, path) {
+    if !rule.force && is_misnamed(job, rule.is_whole, path) && is_new(rt, path) {
         return Err(FileRefused {
             path,
-            what: misnamed(rt, path),
+            what: MISNAMED,
         });
     }
     let Ok(input) = Known::of_input(rt, job.input(), rule.input) else {
@@ -139,16 +143,6 @@ fn created<'a>(
             path,
             what: what_of(error.kind()),
         }),
-    }
-}
-
-/// What cannot be done with a file whose name is that of a WAV file, by a job that writes a stream. That `--force` lets the
-/// job write it is not said of a file that is there, which may be a song.
-fn misnamed(rt: &HostRuntime, path: &str) -> &'static str {
-    if is_vacant(rt, path).unwrap_or(false) {
-        "created: flac decode writes WAV files; --force writes a stream all the same"
-    } else {
-        "created: flac decode writes WAV files"
     }
 }
 

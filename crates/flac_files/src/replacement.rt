@@ -157,6 +157,20 @@ pub(crate) fn is_vacant(rt: &HostRuntime, path: &str) -> io::Result<bool> {
     }
 }
 
+/// Whether there is nothing at this path, but its folder.
+pub(crate) fn is_new(rt: &HostRuntime, path: &str) -> bool {
+    is_vacant(rt, path).unwrap_or(false) && has_folder(rt, path)
+}
+
+/// Whether the folder of a path is there.
+fn has_folder(rt: &HostRuntime, path: &str) -> bool {
+    let folder = match path.rfind('/') {
+        Some(at) => path.get(..at).unwrap_or(""),
+        None => "",
+    };
+    folder.is_empty() || std::fs::metadata(rt, folder).is_ok()
+}
+
 /// Creates a new file for a path at which there is none, beside that path.
 ///
 /// # Errors

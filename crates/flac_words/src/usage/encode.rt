@@ -32,7 +32,8 @@ The stream of a WAV file keeps all of it, and flac decode writes the same file a
 With --no-keep it has the samples alone, and becomes a WAV file without what was before
 and after them. If the file names other speakers than is usual for its channels, they
 are in the comment WAVEFORMATEXTENSIBLE_CHANNEL_MASK. A WAV file that ends inside its
-samples is refused (69 DataCut); with --to-end those that are there are encoded.
+samples (69 DataCut), or states 0 bytes of them where they are (92 DataUnstated), is
+refused; with --to-end those that are there are encoded.
 
 With --lax streams outside the streamable subset are written: rates up to 1048575 Hz, 4
 to 32 bits, blocks of up to 65535 samples, partition orders up to 15. Other players may
