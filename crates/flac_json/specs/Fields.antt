@@ -1,7 +1,7 @@
 -- The members of objects as a program has them.
 use Rattle.std.specs.Prelude.{ℕ, cond, List, [], ◌∷◌, codes}
 use Rattle.std.specs.Str.{is_utf8}
-use Rattle.flac_json.specs.Json.{Json, number, text, truth, object, Members, no_members, member}
+use Rattle.flac_json.specs.Json.{Json, number, text, truth, object, Members, no_members, member, members_text, json_text}
 use Rattle.flac_json.specs.Texts.{all_digits}
 use Rattle.flac_json.specs.declared.fields.Field.{Field}
 use Rattle.flac_json.specs.declared.fields.Field.TheVariants as field
@@ -28,3 +28,10 @@ value_of (field.Truth name b) = truth b
 abbrev pub fields_then : List Field → Members → Members
 fields_then [] members = members
 fields_then (f ∷ fs) members = member (name_of f) (value_of f) (fields_then fs members)
+
+-- the texts of the members of these fields, and of an object of them
+abbrev pub fields_text : Field → List Field → List ℕ
+fields_text first more = members_text (fields_then (first ∷ more) no_members)
+
+abbrev pub object_text : Field → List Field → List ℕ
+object_text first more = json_text (object (fields_then (first ∷ more) no_members))

@@ -1,5 +1,5 @@
 -- The line of a file: an object of JSON (RFC 8259).
-use Rattle.std.specs.Prelude.{◌≡◌, ℕ, List, [], ◌∷◌, ◌++◌, codes, map, Option, Some, None}
+use Rattle.std.specs.Prelude.{◌≡◌, ℕ, List, [], ◌∷◌, ◌++◌, codes, map, Option, Some, None, Result, OnOk}
 use Rattle.flac_meta.specs.declared.block.Block.{Block}
 use Rattle.flac_json.specs.Json.{Json, text, array, object, Members, no_members, member, items_of, json_text, members_text, more_members, items_text}
 use Rattle.flac_json.specs.Blocks.{block_json}
@@ -29,6 +29,10 @@ file_line path container blocks ending = json_text (file_json path container blo
 -- its parts: what is before the blocks, and what is after them
 abbrev pub line_front : (path : List ℕ) → Option (List ℕ) → List ℕ
 line_front path container = codes "{" ++ (members_text (member (codes "path") (text path) (container_then container no_members)) ++ codes ",\"blocks\":[")
+
+-- a call that succeeded added all of it but the name of the list of blocks and its bracket
+abbrev pub BeginsLine : {X E : Type 0} → (path : List ℕ) → Option (List ℕ) → (before after : List ℕ) → Result X E → Type 0
+BeginsLine path container before after result = OnOk result (after ++ codes ",\"blocks\":[" ≡ before ++ line_front path container)
 
 abbrev pub line_end : (ending : Members) → List ℕ
 line_end ending = codes "]" ++ (more_members ending ++ codes "}\n")

@@ -1,6 +1,7 @@
 //! Metadata blocks as JSON (RFC 9639, section 8).
 
 ghost use Rattle.std.specs.Prelude.{◌≡◌, ◌++◌, codes, decimal, map, IfOk, OnOk};
+ghost use Rattle.flac_meta.specs.declared.block.Block.TheVariants.{Application};
 ghost use Rattle.flac_json.specs.Json.{json_text, items_of, items_text, more_items, more_members};
 ghost use Rattle.flac_json.specs.Blocks.{info_members, data_members, comments_members, sheet_members, picture_members, point_json, equals_at, comment_json, without_zeros, index_json, track_json, own_members, type_name, block_json};
 
@@ -290,7 +291,7 @@ fn push_table(text: &mut Vec<u8>, points: &[SeekPoint]) -> Result<(), AllocError
 /// Adds the members of an application block (section 8.4).
 fn push_application(text: &mut Vec<u8>, id: &[u8; 4], bytes: &[u8]) -> Result<(), AllocError>
     ensures { OnOk result (text.new.items ≡ text.old.items
-        ++ more_members (own_members (Block.Application id.now bytes.now))) }
+        ++ more_members (own_members (Application id.now bytes.now))) }
 {
     push_more(text, &[Field::Digits("id", id)])?;
     push_data(text, bytes)

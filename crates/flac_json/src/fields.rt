@@ -1,8 +1,8 @@
 //! Objects of JSON (RFC 8259, section 4) whose values are no lists.
 
 ghost use Rattle.std.specs.Prelude.{◌≡◌, ◌++◌, ◌∷◌, codes, OnOk};
-ghost use Rattle.flac_json.specs.Json.{json_text, member_text, members_text, more_members, truth, object, no_members};
-ghost use Rattle.flac_json.specs.Fields.{name_of, value_of, fields_then};
+ghost use Rattle.flac_json.specs.Json.{json_text, member_text, more_members, truth, object, no_members};
+ghost use Rattle.flac_json.specs.Fields.{name_of, value_of, fields_then, fields_text, object_text};
 
 use crate::texts::{push_bytes, push_number, push_quoted, push_quoted_digits};
 use std::alloc::AllocError;
@@ -92,7 +92,7 @@ pub(crate) fn push_open(
     more: &[Field<'_>],
 ) -> Result<(), AllocError>
     ensures { OnOk result (text.new.items ≡ text.old.items
-        ++ (codes "{" ++ members_text (fields_then (first.now ∷ more.now) no_members))) }
+        ++ (codes "{" ++ fields_text first.now more.now)) }
 {
     text.push(b'{')?;
     push_field(text, first)?;
@@ -106,7 +106,7 @@ pub(crate) fn push_object(
     more: &[Field<'_>],
 ) -> Result<(), AllocError>
     ensures { OnOk result (text.new.items ≡ text.old.items
-        ++ json_text (object (fields_then (first.now ∷ more.now) no_members))) }
+        ++ object_text first.now more.now) }
 {
     push_open(text, first, more)?;
     text.push(b'}')?;

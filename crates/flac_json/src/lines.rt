@@ -1,17 +1,16 @@
 //! The line of a file: an object of JSON.
 
-ghost use Rattle.std.specs.Prelude.{◌≡◌, ◌++◌, codes, option_map, IfOk, OnOk};
-ghost use Rattle.flac_json.specs.Json.{no_members, members_text};
+ghost use Rattle.std.specs.Prelude.{◌≡◌, ◌++◌, option_map, IfOk, OnOk};
+ghost use Rattle.flac_json.specs.Json.{no_members};
 ghost use Rattle.flac_json.specs.Fields.{fields_then};
-ghost use Rattle.flac_json.specs.Lines.{line_front, line_end};
+ghost use Rattle.flac_json.specs.Lines.{line_front, line_end, BeginsLine};
 
 use crate::fields::{Field, push_more, push_open};
 use std::alloc::{AllocError, Global};
 
 /// Adds the first members of a line.
 fn push_front(text: &mut Vec<u8>, path: &str, container: Option<&str>) -> Result<(), AllocError>
-    ensures { OnOk result (text.new.items ++ codes ",\"blocks\":["
-        ≡ text.old.items ++ line_front path.now (option_map (λ name. name.now) container.entry)) }
+    ensures { BeginsLine path.now (option_map (λ name. name.now) container.entry) text.old.items text.new.items result }
 {
     let path = Field::Text("path", path.as_bytes());
     match container {

@@ -23,6 +23,10 @@ pub record Listed : Type 0 where
   pub earlier : Earlier
   pub contents : Option Contents
 
+-- no error was returned, foretold or not
+abbrev pub HasNotFailed : {S : Type 0} (g : source.Ghosts S) → S → Type 0
+HasNotFailed g s = (g.errors s ≡ 0) × (g.raised s ≡ 0)
+
 -- a source that is about to give these bytes, and has not failed
 pub record Opens {S : Type 0} (g : source.Ghosts S) (contents : Option Contents) (s : S) : Type 0 where
   pub of : Contents

@@ -1,5 +1,5 @@
 -- Reports as a program holds them.
-use Rattle.std.specs.Prelude.{ℕ, List, [], ◌∷◌, cond, Option, Some, None, map}
+use Rattle.std.specs.Prelude.{ℕ, List, [], ◌∷◌, cond, Option, Some, None, map, ◌≡◌}
 use Rattle.std.specs.BTreeMap.{get_by_text}
 use Rattle.std.specs.Cmp.Lexicographic.{slice_cmp}
 use Rattle.std.specs.Ordering.{match_ordering, nat_cmp}
@@ -8,11 +8,20 @@ use Rattle.std.specs.String.{string_bytes}
 use Rattle.flac_shelf.specs.Listed.{Listed}
 use Rattle.flac_shelf.specs.Past.{Report, compared_with}
 use Rattle.flac_shelf.specs.declared.older.Older.{Older}
+use Rattle.flac_shelf.specs.declared.past.Past.{Past}
 use Rattle.flac_shelf.specs.declared.record.Record.{Record}
 
 -- what it has at each path
 abbrev pub report_of : Record → Report
 report_of r path = get_by_text r.files path
+
+-- it has this at this path, and at each other what another has
+abbrev pub HasNoted : (old : Record) → (path : List ℕ) → Past → (new : Record) → Type 0
+HasNoted old path past new = (other : List ℕ) → report_of new other ≡ cond (bytes_eq path other) (Some past) (report_of old other)
+
+-- it has the same at each path
+abbrev pub SaysTheSame : (old new : Record) → Type 0
+SaysTheSame old new = (other : List ℕ) → report_of new other ≡ report_of old other
 
 -- a file with what an older report has of it, if there is one
 abbrev pub compared_by : Option Older → Listed → Listed

@@ -1,10 +1,9 @@
 //! An older report, with which files are compared.
 
-ghost use Rattle.std.specs.Prelude.{◌≡◌, ◌∷◌, ℕ, List, [], Some, None, cond, OnOk, OnErr, IfSome, MatchOption};
-ghost use Rattle.std.specs.Str.{bytes_eq};
+ghost use Rattle.std.specs.Prelude.{◌≡◌, ◌∷◌, ℕ, List, [], Some, None, OnOk, OnErr, MatchOption};
 ghost use Rattle.std.specs.String.{string_bytes};
 ghost use Rattle.flac_shelf.specs.Past.{earlier_at};
-ghost use Rattle.flac_shelf.specs.Records.{report_of, left_in, with_path, without};
+ghost use Rattle.flac_shelf.specs.Records.{report_of, left_in, with_path, without, HasNoted, SaysTheSame};
 
 use crate::past::{Earlier, Past};
 use crate::record::Record;
@@ -37,10 +36,9 @@ impl Older {
     /// Memory ran out. The report is as it was, but its path may be among those that were not met.
     #[tactic(auto, using(crate::proofs::Compared::added))]
     pub fn add(&mut self, path: String, past: Past) -> Result<(), AllocError>
-        ensures added { OnOk result ((other : List ℕ) → report_of self.new.record other
-            ≡ cond (bytes_eq (string_bytes path) other) (Some past) (report_of self.old.record other)) }
+        ensures added { OnOk result (HasNoted self.old.record (string_bytes path) past self.new.record) }
         ensures left { OnOk result (left_in self.new ≡ with_path (string_bytes path) (left_in self.old)) }
-        ensures unchanged { OnErr result ((other : List ℕ) → report_of self.new.record other ≡ report_of self.old.record other) }
+        ensures unchanged { OnErr result (SaysTheSame self.old.record self.new.record) }
     {
         let copy = path.clone()?;
         match self.left.insert(copy) {

@@ -1,9 +1,8 @@
 //! What a report has of files.
 
-ghost use Rattle.std.specs.Prelude.{◌≡◌, ℕ, List, Some, None, cond, OnOk, OnErr};
-ghost use Rattle.std.specs.Str.{bytes_eq};
+ghost use Rattle.std.specs.Prelude.{◌≡◌, ℕ, List, Some, None, OnOk, OnErr};
 ghost use Rattle.std.specs.String.{string_bytes};
-ghost use Rattle.flac_shelf.specs.Records.{report_of};
+ghost use Rattle.flac_shelf.specs.Records.{report_of, HasNoted};
 
 use crate::past::Past;
 use std::alloc::{AllocError, Global};
@@ -31,8 +30,7 @@ impl Record {
     /// Memory ran out.
     #[tactic(auto, using(std::proofs::lemmas::Map::Text::text_keys))]
     pub fn add(&mut self, path: String, past: Past) -> Result<(), AllocError>
-        ensures added { OnOk result ((other : List ℕ) → report_of self.new other
-            ≡ cond (bytes_eq (string_bytes path) other) (Some past) (report_of self.old other)) }
+        ensures added { OnOk result (HasNoted self.old (string_bytes path) past self.new) }
         ensures unchanged { OnErr result ((other : List ℕ) → report_of self.new other ≡ report_of self.old other) }
     {
         match self.files.insert(path, past) {

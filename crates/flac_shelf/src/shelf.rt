@@ -1,7 +1,7 @@
 //! Lists of files.
 
 ghost use Rattle.std.specs.Prelude.{◌≡◌, ◌≤◌, ◌<◌, ℕ, Bool, true, false, cond, List, [], ◌∷◌, IfSome};
-ghost use Rattle.flac_shelf.specs.Listed.{Listed, OpensIf};
+ghost use Rattle.flac_shelf.specs.Listed.{Listed, OpensIf, HasNotFailed};
 
 use crate::past::Earlier;
 use crate::stamp::Stamp;
@@ -71,8 +71,7 @@ pub trait Shelf {
 
     /// Takes an opened file back, and counts it if its device failed.
     fn close(&mut self, file: Self::File)
-        ensures unfailed { known self.old ≡ true → faults self.new ≡ faults self.old →
-            (Self.File.errors file ≡ 0) × (Self.File.raised file ≡ 0) }
+        ensures unfailed { known self.old ≡ true → faults self.new ≡ faults self.old → HasNotFailed Self.File.Source file }
         ensures kept { faults self.old ≤ faults self.new }
         ensures known { known self.old ≡ true → faults self.new ≡ faults self.old → known self.new ≡ true }
         ensures current { current self.new ≡ current self.old }

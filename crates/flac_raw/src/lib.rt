@@ -1,0 +1,31 @@
+//! Raw samples: interleaved channel by channel, signed little-endian, each sign-extended to whole bytes. They are the
+//! bytes whose MD5 STREAMINFO states (RFC 9639, section 8.2).
+//!
+//! | To | Begin with |
+//! |---|---|
+//! | read all samples of a source | [`audio_of`] |
+//! | read them block by block | [`RawBlocks`] |
+//! | judge them, and count them, without holding any | [`judge`] |
+//! | encode what was judged, block by block | [`RawPlan`], [`encode_judged`] |
+//! | do both, of a file that can be read twice | [`encode_twice`] |
+#![tactic(auto)]
+
+mod audio;
+mod blocks;
+mod judging;
+mod raw;
+mod raw_fault;
+mod raw_plan;
+mod second_pass;
+#[cfg(test)]
+mod tests;
+mod two_passes;
+
+pub use audio::audio_of;
+pub use blocks::RawBlocks;
+pub use judging::judge;
+pub use raw::{PIECE, no_samples, push_piece, read_channels};
+pub use raw_fault::{RawEncodeFault, RawFault};
+pub use raw_plan::RawPlan;
+pub use second_pass::encode_judged;
+pub use two_passes::{RawEncoding, encode_twice};

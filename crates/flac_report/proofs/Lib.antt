@@ -1,0 +1,11 @@
+pub mod Again
+pub mod Cuts
+pub mod Decimals
+pub mod Digests
+pub mod Digits
+pub mod Ends
+pub mod Escapes
+pub mod Parts
+pub mod Pasts
+pub mod Quoted
+pub mod Tails

@@ -1,0 +1,4 @@
+pub mod Objects
+pub mod Entries
+pub mod Lines
+pub mod inner
