@@ -1,17 +1,13 @@
 -- A frame that was read, and its bytes.
-use Rattle.std.proofs.Common.{◌≡◌, ℕ, ◌+◌, ◌-◌, ◌*◌, ◌/◌, ◌%◌, ◌^◌, ◌<◌, ◌≤◌, min, Bool, true, false, not, ◌&&◌, cond, List, [], ◌∷◌, ◌++◌, length, length-append, take, drop, Option, Some, None, is_some, Ok, refl, sym, ap, subst, ◌∙◌, add-zero, arith}
+use Rattle.std.proofs.Common.{◌≡◌, ℕ, ◌+◌, ◌-◌, ◌*◌, ◌/◌, ◌%◌, ◌^◌, ◌≤◌, min, Bool, true, false, not, ◌&&◌, cond, List, [], ◌∷◌, ◌++◌, length, length-append, take, drop, Option, Some, None, is_some, refl, sym, ap, subst, ◌∙◌, add-zero, arith}
 use Rattle.std.proofs.lemmas.List.{take_at, length-take-le, append-nil}
 use Rattle.std.proofs.lemmas.Bool.{and_from}
 use Rattle.std.specs.Borrow.{GName}
 use Rattle.flac_bits.specs.Bits.{bits_of}
-use Rattle.flac_bits.specs.State.{State, After, Mark, past, without_fence, started, short_of}
-use Rattle.flac_bits.specs.Fence.{InRoom}
-use Rattle.flac_bits.specs.Fencing.{lifted}
+use Rattle.flac_bits.specs.State.{State, After, past, without_fence, short_of}
 use Rattle.flac_bits.specs.Meaning.{Spells}
-use Rattle.flac_bits.specs.Reading.{Counts}
 use Rattle.flac_bits.specs.declared.source.Source as source
 use Rattle.flac_bits.specs.declared.why.Why.{Why}
-use Rattle.flac_bits.specs.declared.why.Why.TheVariants.{Memory}
 use Rattle.flac_bits.proofs.Fencing.{take_bits}
 use Rattle.flac_bits.proofs.Holding.{length-bits_of}
 use Rattle.flac_bits.proofs.Marks.{past-unread, past-bytes}
@@ -19,8 +15,7 @@ use Rattle.flac_frame.specs.Frame.{Frame}
 use Rattle.flac_native.specs.Decoding.{beginning}
 use Rattle.flac_native.specs.Stream.{Stand, frame_after}
 use Rattle.flac_copy.specs.Again.{errors_of, raised_of, failed, known_of, all_of, after_of, Holds}
-use Rattle.flac_copy.specs.Frames.{IsFrameOf, TakesText, TakesFrame, FirstIsFrame, PassesFrame}
-use Rattle.flac_copy.specs.Heads.{Passes}
+use Rattle.flac_copy.specs.Frames.{TakesFrame, PassesFrame}
 use Rattle.flac_copy.specs.declared.again.Again.{Again}
 
 -- ---- the bytes of a text
@@ -72,7 +67,7 @@ both true None e = (refl, refl)
 both true (Some w) e = absurd cc
 both false o e = absurd cc
 
-calm_is : (o : Option Why) → o ≡ None → not (is_some o) ≡ true
+pub calm_is : (o : Option Why) → o ≡ None → not (is_some o) ≡ true
 calm_is None e = refl
 calm_is (Some w) e = absurd cc
 
@@ -115,11 +110,6 @@ holds_of g old new end same known_end errors_end raised_end after_end back calm 
       fault = now.1;
       names = same;
     }
-
--- after any reading that met no error
-pub passes : {S X : Type 0} (g : source.Ghosts S) (old new : Again S) (most : ℕ) (names : List GName) (end : State) (x : X) → g.names new.source ≡ g.names old.source
-    → Counts (reader_over g old most names) end (Ok x) → GotBack g new end → Passes g old new
-passes g old new most names end x same counts back = holds_of g old new end same counts.0 counts.1 counts.2 counts.3 back
 
 pub passed : {S : Type 0} (g : source.Ghosts S) (s : Stand) (f : Frame) (old new : Again S) (most n : ℕ) (names : List GName) (end : State)
     → old.given ≡ 0 → g.names new.source ≡ g.names old.source → TakesFrame s f (reader_over g old most names) end n → GotBack g new end → PassesFrame g s f old new n

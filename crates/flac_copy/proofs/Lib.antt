@@ -1,5 +1,14 @@
 pub mod AgainLemmas
 pub mod FramesKept
-pub mod Copied
+pub mod Taken
+pub mod PartLemmas
+pub mod InputLemmas
 pub mod HeadLemmas
-pub mod OggCopies
+pub mod OutputLemmas
+pub mod Copied
+pub mod FrameLemmas
+pub mod OpenedLemmas
+pub mod SerialLemmas
+pub mod Opening
+pub mod OggPages
+pub mod WrittenLemmas

@@ -1,5 +1,5 @@
 -- A source that keeps the bytes that were pulled from it.
-use Rattle.std.specs.Prelude.{◌≡◌, ℕ, ◌+◌, ◌<◌, ◌≤◌, Bool, true, false, not, ◌&&◌, cond, Option, Some, None, is_some, List, [], ◌++◌, length, vec_len}
+use Rattle.std.specs.Prelude.{◌≡◌, ℕ, ◌+◌, ◌<◌, ◌≤◌, Bool, true, false, not, ◌&&◌, cond, Option, Some, None, is_some, List, [], ◌++◌, length, drop, vec_len}
 use Rattle.flac_bits.specs.State.{After, Rises}
 use Rattle.flac_bits.specs.declared.source.Source as source
 use Rattle.flac_bits.specs.declared.why.Why.{Why}
@@ -22,6 +22,10 @@ failed other = 0
 -- the errors of the source below, and an allocation that failed
 abbrev pub raised_of : {S : Type 0} → (S → ℕ) → Again S → ℕ
 raised_of raised a = raised a.source + failed a.fault
+
+-- the bytes that are held and were not given
+abbrev pub to_give : {S : Type 0} → Again S → List ℕ
+to_give a = drop a.given a.held.items
 
 -- the bytes that are held, and those that the source below still has
 abbrev pub all_of : {S : Type 0} → (S → List ℕ) → Again S → List ℕ
@@ -57,10 +61,11 @@ HoldsFirst g n old new = Holds g old new × (n ≤ length new.held.items)
 abbrev pub SaysOver : {S : Type 0} → source.Ghosts S → (old new : Again S) → Bool → Type 0
 SaysOver g old new over = Holds g old new × (new.given ≡ old.given) × (over ≡ true → g.known old.source ≡ true → all_of g.coming old ≡ [])
 
--- An error of the source below was met, or an allocation failed, or fewer bytes are to come than are asked for. Or it is
--- the error of an earlier call.
+-- An error of the source below was met, or an allocation failed, or fewer bytes are to come than are asked for: these
+-- are held. Or it is the error of an earlier call.
 pub record FailsToHold {S : Type 0} (g : source.Ghosts S) (n : ℕ) (old new : Again S) (e : Why) : Type 0 where
   pub kept : g.errors old.source ≤ g.errors new.source
   pub names : g.names new.source ≡ g.names old.source
   pub risen : old.fault ≡ None → e ≡ Read → Rises (g.raised old.source) (g.raised new.source)
   pub short : old.fault ≡ None → e ≡ Truncated → g.known old.source ≡ true → length (all_of g.coming old) < n
+  pub stays : old.fault ≡ None → e ≡ Truncated → Holds g old new

@@ -1,55 +1,36 @@
--- What copying the frames of a native stream into Ogg does (RFC 9639, sections 9 and 10.1).
-use Rattle.std.specs.Prelude.{◌≡◌, ℕ, Bool, true, List, [], ◌∷◌, ◌++◌, None, map}
-use Rattle.std.specs.List.{flat_map}
+-- What copying the frames of a stream does (RFC 9639, sections 9 and 10.1).
+use Rattle.std.specs.Prelude.{◌≡◌, Bool, true, false, List, ◌++◌}
 use Rattle.flac_bits.specs.Bits.{bits_of}
-use Rattle.flac_bits.specs.Items.{state_after}
 use Rattle.flac_bits.specs.Meaning.{AllKept}
-use Rattle.flac_bits.specs.State.{short_of}
 use Rattle.flac_bits.specs.declared.source.Source as source
 use Rattle.flac_bits.specs.declared.target.Target as target
-use Rattle.flac_frame.specs.Frame.{Frame}
-use Rattle.flac_native.specs.Stream.{Stand, Progress, grammar, framed}
+use Rattle.flac_native.specs.Stream.{Progress, grammar}
 use Rattle.flac_native.specs.Track.{IsAt}
 use Rattle.flac_native.specs.declared.track.Track.{Track}
-use Rattle.flac_copy.specs.Again.{all_of, Holds}
-use Rattle.flac_copy.specs.Frames.{Copied, IsFrameOf, AreFramesOf}
-use Rattle.flac_copy.specs.Outgoing.{Pending, after_frame, pages_to_come}
-use Rattle.flac_copy.specs.declared.again.Again.{Again}
+use Rattle.flac_copy.specs.Frames.{Copied}
+use Rattle.flac_copy.specs.Inputs.{IsKnown, FramesCome}
+use Rattle.flac_copy.specs.Outputs.{to_come, Finishes}
+use Rattle.flac_copy.specs.declared.fault.CopyFault.{CopyFault}
+use Rattle.flac_copy.specs.declared.fault.CopyFault.TheVariants.{Blocks}
+use Rattle.flac_copy.specs.declared.input.Input.{Input}
+use Rattle.flac_copy.specs.declared.output.Output.{Output}
 
--- ---- a source whose bytes are known and that had no fault, and a target that is known
+-- it is that of the blocks that were given
+abbrev pub is_of_blocks : CopyFault → Bool
+is_of_blocks (Blocks why) = true
+is_of_blocks other = false
 
--- The source gave the bytes of this frame, and what it has left comes after them; the target was sent the packet that
--- was held, and that of the frame is held.
-pub record CopiesOne {S W : Type 0} (g : source.Ghosts S) (h : target.Ghosts W) (s : Stand) (f : Frame) (old new : Again S) (from to : Pending) (before after : W) : Type 0 where
-  pub bytes : List ℕ
-  pub split : all_of g.coming old ≡ bytes ++ all_of g.coming new
-  pub known : g.known new.source ≡ true
-  pub fails : (g.after new.source).fails ≡ (g.after old.source).fails
-  pub errors : g.errors new.source ≡ g.errors old.source
-  pub raised : g.raised new.source ≡ g.raised old.source
-  pub fault : new.fault ≡ None
-  pub is : IsFrameOf (short_of (g.after old.source).fails) s bytes f
-  pub next : to ≡ after_frame from bytes f.size
-  pub stays : h.known after ≡ true
-  pub sent : bits_of (h.sent after) ≡ bits_of (h.sent before) ++ from.middle
+-- what STREAMINFO states holds of all frames, and what is to be written after the last one was written
+pub record EndsCopy {W : Type 0} (h : target.Ghosts W) (track : Track) (out : Output) (before after : W) : Type 0 where
+  pub judged : (p : Progress) → IsAt track p → AllKept (grammar.at_end p)
+  pub sent : Finishes h out before after
 
-abbrev pub CopiesFrame : {S W : Type 0} → source.Ghosts S → target.Ghosts W → Stand → Frame → (old new : Again S) → (from to : Pending) → (before after : W) → Type 0
-CopiesFrame g h s f old new from to before after = old.fault ≡ None → g.known old.source ≡ true → h.known before ≡ true → CopiesOne g h s f old new from to before after
-
--- All bytes of the source are these frames, after which the stream may end; the target was sent the packet that was
--- held, and then a packet for each frame with its bytes, the final one marked as the last of the stream.
-pub record CopiesAll {S W : Type 0} (g : source.Ghosts S) (h : target.Ghosts W) (p : Progress) (old : Again S) (from : Pending) (before after : W) : Type 0 where
+-- The stream has these frames left, and then its end; the target was sent what is to be written if these follow.
+pub record CopiesAll {S W : Type 0} (g : source.Ghosts S) (h : target.Ghosts W) (p : Progress) (from : Input S) (out : Output) (before after : W) : Type 0 where
   pub frames : List Copied
-  pub bytes : all_of g.coming old ≡ flat_map (λ x. x.bytes) frames
-  pub are : AreFramesOf (short_of (g.after old.source).fails) p frames
-  pub kept : AllKept (grammar.at_end (state_after grammar p (map (λ x. framed x.frame) frames)))
-  pub sent : bits_of (h.sent after) ≡ bits_of (h.sent before) ++ pages_to_come from frames
+  pub come : FramesCome g p from frames
+  pub sent : bits_of (h.sent after) ≡ bits_of (h.sent before) ++ to_come out frames
 
-abbrev pub CopiesFrames : {S W : Type 0} → source.Ghosts S → target.Ghosts W → Track → (old : Again S) → (from : Pending) → (before after : W) → Type 0
-CopiesFrames g h track old from before after =
-    old.fault ≡ None → g.known old.source ≡ true → h.known before ≡ true → (p : Progress) → IsAt track p → CopiesAll g h p old from before after
-
--- what STREAMINFO states holds of all frames, and the target was sent the packet that was held, marked as the last
-abbrev pub EndsStream : {W : Type 0} → target.Ghosts W → Track → Pending → (before after : W) → Type 0
-EndsStream h track from before after =
-    ((p : Progress) → IsAt track p → AllKept (grammar.at_end p)) × (h.known before ≡ true → bits_of (h.sent after) ≡ bits_of (h.sent before) ++ from.last)
+-- the same if the bytes of the stream and of the target are known
+abbrev pub CopiesFrames : {S W : Type 0} → source.Ghosts S → target.Ghosts W → Track → Input S → Output → (before after : W) → Type 0
+CopiesFrames g h track from out before after = IsKnown g from → h.known before ≡ true → (p : Progress) → IsAt track p → CopiesAll g h p from out before after

@@ -1,7 +1,15 @@
 pub mod Again
 pub mod Blocks
+pub mod Packets
 pub mod Frames
-pub mod Outgoing
-pub mod Copying
+pub mod Parts
 pub mod Heads
+pub mod Inputs
+pub mod Outgoing
+pub mod Outputs
+pub mod Copying
+pub mod Serials
+pub mod Opened
+pub mod Given
+pub mod Written
 pub mod ToOgg

@@ -12,17 +12,17 @@ const PIECE: usize = 4096;
 /// A source that keeps the bytes that were pulled from it, until some are dropped by [`Again::skip`]. The
 /// others come again then, and after them what the source below still has.
 #[derive(Drop)]
-pub struct Again<S> {
-    source: S,
-    held: Vec<u8>,
+pub(crate) struct Again<S> {
+    pub(crate) source: S,
+    pub(crate) held: Vec<u8>,
     /// How many of the bytes that are held were given.
-    given: usize,
+    pub(crate) given: usize,
     /// The error after which nothing more comes: of the source below, or of an allocation.
     fault: Option<Why>,
 }
 
 /// How many bytes these are.
-fn count(bytes: &Vec<u8>) -> usize
+pub(crate) fn count(bytes: &Vec<u8>) -> usize
     ensures items { result ≡ length bytes.now.items }
     ensures len { result ≡ vec_len bytes.now }
 {
@@ -61,10 +61,10 @@ fn copy_front(bytes: &[u8], buf: &mut [u8]) -> usize
 
 impl<S: Source> Again<S> {
     ghost use Rattle.flac_bits.specs.declared.why.Why.{Why};
-    ghost use Rattle.flac_copy.specs.Again.{HoldsMore, HoldsFirst, FailsToHold, SaysOver};
+    ghost use Rattle.flac_copy.specs.Again.{HoldsMore, HoldsFirst, FailsToHold, SaysOver, to_give};
 
     /// Makes a source that holds nothing yet.
-    pub fn new(alloc: Global, source: S) -> Again<S>
+    pub(crate) fn new(alloc: Global, source: S) -> Again<S>
         ensures { (result.source ≡ source) × (result.held.items ≡ []) × (result.given ≡ 0) × (result.fault ≡ None) }
     {
         Again {
@@ -76,7 +76,7 @@ impl<S: Source> Again<S> {
     }
 
     /// The error after which nothing more comes: [`Why::Read`] of the source below, [`Why::Memory`] of an allocation.
-    pub fn fault(&self) -> Option<Why>
+    pub(crate) fn fault(&self) -> Option<Why>
         ensures { result ≡ self.now.fault }
     {
         self.fault
@@ -102,13 +102,13 @@ impl<S: Source> Again<S> {
     }
 
     /// Gives some of the bytes that are held, and returns how many.
-    fn give(&mut self, buf: &mut [u8]) -> usize
+    pub(crate) fn give(&mut self, buf: &mut [u8]) -> usize
         requires { self.old.given < vec_len self.old.held }
         ensures given { self.new ≡ record self.old { given = self.old.given + result } }
         ensures bound { (result ≤ length buf.new) × (length buf.new ≡ length buf.old) }
         ensures room { self.old.given + result ≤ vec_len self.old.held }
         ensures some { 0 < length buf.new → 0 < result }
-        ensures bytes { drop self.old.given self.old.held.items ≡ take result buf.new ++ drop self.new.given self.new.held.items }
+        ensures bytes { to_give self.old ≡ take result buf.new ++ to_give self.new }
     {
         let left = bytes_from(self.held.as_slice(), self.given);
         let n = copy_front(left, buf);
@@ -121,7 +121,7 @@ impl<S: Source> Again<S> {
     /// # Errors
     /// [`Why::Truncated`] if there are fewer. [`Why::Read`] if the source below returns an error, [`Why::Memory`] if an
     /// allocation fails, or the error of an earlier call ([`Again::fault`]).
-    pub fn hold(&mut self, n: usize) -> Result<(), Why>
+    pub(crate) fn hold(&mut self, n: usize) -> Result<(), Why>
         ensures held { OnOk result (HoldsFirst S.Source n self.old self.new) }
         ensures failed { IfErr result (λ e. FailsToHold S.Source n self.old self.new e) }
     {
@@ -141,7 +141,7 @@ impl<S: Source> Again<S> {
     ///
     /// # Errors
     /// Those of [`Again::hold`], but for [`Why::Truncated`].
-    pub fn is_over(&mut self) -> Result<bool, Why>
+    pub(crate) fn is_over(&mut self) -> Result<bool, Why>
         ensures over { IfOk result (λ over. SaysOver S.Source self.old self.new over) }
         ensures failed { IfErr result (λ e. FailsToHold S.Source 0 self.old self.new e) }
     {
@@ -157,7 +157,7 @@ impl<S: Source> Again<S> {
     }
 
     /// The first n of the bytes that are held.
-    pub fn front(&self, n: usize) -> &[u8]
+    pub(crate) fn front(&self, n: usize) -> &[u8]
         requires { n ≤ length self.now.held.items }
         ensures { result.now ≡ take n self.now.held.items }
     {
@@ -165,7 +165,7 @@ impl<S: Source> Again<S> {
     }
 
     /// Drops the first n of the bytes that are held: they come no more, and the others come again.
-    pub fn skip(&mut self, n: usize)
+    pub(crate) fn skip(&mut self, n: usize)
         requires { n ≤ length self.old.held.items }
         ensures held { self.new.held.items ≡ drop n self.old.held.items }
         ensures given { self.new.given ≡ 0 }
@@ -176,8 +176,15 @@ impl<S: Source> Again<S> {
         remove_front(&mut self.held, n);
     }
 
+    /// Lets the bytes that are held come again.
+    pub(crate) fn rewind(&mut self)
+        ensures { self.new ≡ record self.old { given = 0 } }
+    {
+        self.given = 0;
+    }
+
     /// Returns the source below. The bytes that are held are lost.
-    pub fn into_source(self) -> S
+    pub(crate) fn into_source(self) -> S
         ensures { result ≡ self.source }
     {
         let Again { source, .. } = self;

@@ -1,54 +1,28 @@
-//! Copies the frames of a native stream into Ogg.
+//! Copies the frames of a stream.
 
-ghost use Rattle.std.specs.Prelude.{◌≡◌, OnOk, IfOk};
-ghost use Rattle.flac_native.specs.Stream.{framed};
-ghost use Rattle.flac_native.specs.Track.{stand_of, shown, ReadsPart};
-ghost use Rattle.flac_copy.specs.Again.{SaysOver};
-ghost use Rattle.flac_copy.specs.Outgoing.{pending_in};
-ghost use Rattle.flac_copy.specs.Copying.{CopiesFrame, EndsStream, CopiesFrames};
+ghost use Rattle.std.specs.Prelude.{◌≡◌, false, OnOk, IfErr};
+ghost use Rattle.flac_copy.specs.Copying.{EndsCopy, CopiesFrames, is_of_blocks};
 
-use crate::again::Again;
 use crate::fault::CopyFault;
-use crate::frames::next_frame;
-use crate::outgoing::Outgoing;
+use crate::input::Input;
+use crate::output::Output;
 use flac_bits::{Source, Target, Why};
 use flac_native::{Fault, Place, Track};
+use std::alloc::Global;
 
 /// The fault of an input at a place; that of the target if it failed.
-pub(crate) fn fault_at(at: Place, why: Why) -> CopyFault {
+pub(crate) fn fault_at(at: Place, why: Why) -> CopyFault
+    ensures { is_of_blocks result ≡ false }
+{
     match why {
         Why::Write => CopyFault::Write,
         _ => CopyFault::Input(Fault { at, why }),
     }
 }
 
-/// Copies the next frame: reads it, holds its bytes back as a packet, and writes the packet that was held.
-///
-/// # Errors
-/// Those of [`next_frame`] and [`Outgoing::push`].
-fn copy_frame<R: Source, W: Target>(
-    again: &mut Again<R>,
-    track: &mut Track,
-    out: &mut Outgoing,
-    target: &mut W,
-) -> Result<(), Why>
-    requires { again.old.given ≡ 0 }
-    ensures copied { OnOk result (CopiesFrame R.Source W.Target (stand_of track.old) (shown track.new)
-        again.old again.new (pending_in out.old) (pending_in out.new) target.old target.new) }
-    ensures next { OnOk result (ReadsPart track.old (framed (shown track.new)) track.new) }
-    ensures given { OnOk result (again.new.given ≡ 0) }
-{
-    let n = next_frame(again, track)?;
-    let count = track.view().len();
-    out.push(again.front(n), count, target)?;
-    again.skip(n);
-    Ok(())
-}
-
-/// Ends the stream after its last frame: compares what STREAMINFO states of all samples, and writes the packet that is
-/// held.
-fn end_stream<W: Target>(track: &mut Track, out: &Outgoing, target: &mut W) -> Result<(), Why>
-    ensures ended { OnOk result (EndsStream W.Target track.old (pending_in out.now) target.old target.new) }
+/// Ends the copy after its last frame: compares what STREAMINFO states of all samples, and writes what is held back.
+fn end_copy<W: Target>(track: &mut Track, out: &Output, target: &mut W) -> Result<(), Why>
+    ensures { OnOk result (EndsCopy W.Target track.old out.now target.old target.new) }
 {
     track.end()?;
     match out.finish(target) {
@@ -57,14 +31,14 @@ fn end_stream<W: Target>(track: &mut Track, out: &Outgoing, target: &mut W) -> R
     }
 }
 
-/// Whether no byte is left; a failure is at this place.
-fn is_over_at<R: Source>(again: &mut Again<R>, at: Place) -> Result<bool, CopyFault>
-    ensures over { IfOk result (λ over. SaysOver R.Source again.old again.new over) }
-    ensures given { OnOk result (again.new.given ≡ again.old.given) }
+/// What [`end_copy`] does; a failure is at the end.
+fn end_at<W: Target>(track: &mut Track, out: &Output, target: &mut W) -> Result<(), CopyFault>
+    ensures fault { IfErr result (λ e. is_of_blocks e ≡ false) }
+    ensures ends { OnOk result (EndsCopy W.Target track.old out.now target.old target.new) }
 {
-    match again.is_over() {
-        Ok(over) => Ok(over),
-        Err(why) => Err(fault_at(at, why)),
+    match end_copy(track, out, target) {
+        Ok(()) => Ok(()),
+        Err(why) => Err(fault_at(Place::End, why)),
     }
 }
 
@@ -73,28 +47,26 @@ fn is_over_at<R: Source>(again: &mut Again<R>, at: Place) -> Result<bool, CopyFa
 /// # Errors
 /// The fault of the stream at its place, or of the target.
 pub(crate) fn copy_frames<R: Source, W: Target>(
-    again: &mut Again<R>,
+    alloc: Global,
+    input: &mut Input<R>,
     track: &mut Track,
-    out: &mut Outgoing,
+    out: &mut Output,
     target: &mut W,
 ) -> Result<(), CopyFault>
-    requires { again.old.given ≡ 0 }
-    ensures copied { OnOk result (CopiesFrames R.Source W.Target track.old again.old
-        (pending_in out.old) target.old target.new) }
+    ensures copies { OnOk result (CopiesFrames R.Source W.Target track.old input.old out.old target.old target.new) }
+    ensures fault { IfErr result (λ e. is_of_blocks e ≡ false) }
 {
+    let mut bytes = Vec::new(alloc);
     // More frames than this have no place.
     'frames: for _ in 0..u64::MAX {
         let at = track.place();
-        let over = is_over_at(again, at)?;
-        if over {
-            return match end_stream(track, out, target) {
-                Ok(()) => Ok(()),
-                Err(why) => Err(fault_at(Place::End, why)),
-            };
-        }
-        match copy_frame(again, track, out, target) {
-            Ok(()) => {}
-            Err(why) => return Err(fault_at(at, why)),
+        match input.next(track, &mut bytes) {
+            Ok(true) => match out.put(bytes.as_slice(), track.view().len(), target) {
+                Ok(()) => {}
+                Err(why) => return Err(fault_at(at, why)),
+            },
+            Ok(false) => return end_at(track, out, target),
+            Err(fault) => return Err(CopyFault::Input(fault)),
         }
     }
     Err(fault_at(track.place(), Why::Truncated))

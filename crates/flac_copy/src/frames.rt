@@ -13,7 +13,10 @@ use flac_native::Track;
 ///
 /// # Errors
 /// Those of [`Track::next_frame`].
-fn take_frame<R: Source>(reader: &mut BitReader<R>, track: &mut Track) -> Result<u64, Why>
+pub(crate) fn take_frame<R: Source>(
+    reader: &mut BitReader<R>,
+    track: &mut Track,
+) -> Result<u64, Why>
     ensures taken { IfOk result (λ n. TakesFrame (stand_of track.old) (shown track.new) reader.old reader.new n) }
     ensures next { OnOk result (ReadsPart track.old (framed (shown track.new)) track.new) }
     ensures made { OnOk result (is_some (stand_of track.new).info ≡ true) }

@@ -1,10 +1,10 @@
-//! Reads what comes before the frames.
+//! Reads what comes before the frames of a native stream.
 
-ghost use Rattle.std.specs.Prelude.{◌≡◌, ◌≤◌, ◌+◌, [], OnOk, IfOk};
+ghost use Rattle.std.specs.Prelude.{◌≡◌, ◌≤◌, ◌+◌, OnOk, IfOk};
 ghost use Rattle.flac_bits.specs.Reading.{Counts};
 ghost use Rattle.flac_bits.specs.Handing.{reason_of};
 ghost use Rattle.flac_native.specs.Item.{fault_pair};
-ghost use Rattle.flac_copy.specs.Heads.{TakesBlock, TakesBlocks, Passes, SkipsHead};
+ghost use Rattle.flac_copy.specs.Heads.{TakesBlock, TakesBlocks, CountsBytes, TakesHead, PassesHead, ReadsHead};
 
 use crate::again::Again;
 use flac_bits::{BitReader, Source, Why};
@@ -20,7 +20,7 @@ fn take_block<R: Source>(
 ) -> Result<(), Why>
     // proof only
     ensures spends { OnOk result (reader.new.most + 32 ≤ reader.old.most) }
-    ensures taken { OnOk result (TakesBlock track.old track.new blocks.old.items blocks.new.items) }
+    ensures taken { OnOk result (TakesBlock track.old track.new reader.old reader.new blocks.old.items blocks.new.items) }
     ensures counts { Counts reader.old reader.new result }
 {
     let (_last, block) = track.block(reader)?;
@@ -28,14 +28,46 @@ fn take_block<R: Source>(
     Ok(())
 }
 
-/// Reads the marker and the metadata blocks, of which the last is marked (RFC 9639, sections 6 and 8).
-fn take_head<R: Source>(
+/// Reads metadata blocks up to the last (RFC 9639, section 8).
+fn take_blocks<R: Source>(
     reader: &mut BitReader<R>,
     track: &mut Track,
     blocks: &mut Vec<Block>,
 ) -> Result<(), Fault>
-    ensures taken { OnOk result (TakesBlocks track.old track.new blocks.old.items blocks.new.items) }
+    ensures taken { OnOk result (TakesBlocks track.old track.new reader.old reader.new blocks.old.items blocks.new.items) }
     ensures counts { Counts reader.old reader.new (reason_of fault_pair result) }
+{
+    'reading: while !track.is_past_metadata() {
+        let at = track.place();
+        if let Err(why) = take_block(reader, track, blocks) {
+            return Err(Fault { at, why });
+        }
+    }
+    Ok(())
+}
+
+/// How many bytes were read, all of them whole.
+fn bytes_read<R: Source>(reader: &BitReader<R>, track: &Track) -> Result<u64, Fault>
+    ensures { IfOk result (CountsBytes reader.now) }
+{
+    let count = reader.bytes_taken();
+    if reader.unread() != 0 || count == u64::MAX {
+        return Err(Fault {
+            at: track.place(),
+            why: Why::Truncated,
+        });
+    }
+    Ok(count)
+}
+
+/// Reads the marker and the metadata blocks, of which the last is marked (RFC 9639, sections 6 and 8). Returns how many
+/// bytes they have.
+fn take_head<R: Source>(
+    reader: &mut BitReader<R>,
+    track: &mut Track,
+    blocks: &mut Vec<Block>,
+) -> Result<u64, Fault>
+    ensures taken { IfOk result (TakesHead track.old track.new reader.old reader.new blocks.old.items blocks.new.items) }
     ensures names { reader.new.names ≡ reader.old.names }
 {
     if let Err(why) = read_marker(reader) {
@@ -44,13 +76,10 @@ fn take_head<R: Source>(
             why,
         });
     }
-    'reading: while !track.is_past_metadata() {
-        let at = track.place();
-        if let Err(why) = take_block(reader, track, blocks) {
-            return Err(Fault { at, why });
-        }
+    match take_blocks(reader, track, blocks) {
+        Ok(()) => bytes_read(reader, track),
+        Err(fault) => Err(fault),
     }
-    Ok(())
 }
 
 /// Reads the marker and the metadata blocks from the first byte of a source on, and lets all bytes come again. Returns
@@ -61,17 +90,12 @@ fn pass_head<R: Source>(
     blocks: &mut Vec<Block>,
 ) -> Result<u64, Fault>
     requires { again.old.given ≡ 0 }
-    ensures taken { OnOk result (TakesBlocks track.old track.new blocks.old.items blocks.new.items) }
-    ensures passed { OnOk result (Passes R.Source again.old again.new) }
+    ensures { IfOk result (PassesHead R.Source track.old track.new again.old again.new blocks.old.items blocks.new.items) }
 {
     let mut reader = BitReader::new(again);
     let taken = take_head(&mut reader, track, blocks);
-    let count = reader.bytes_taken();
     let _again = reader.into_source(); // for its clauses alone
-    match taken {
-        Ok(()) => Ok(count),
-        Err(fault) => Err(fault),
-    }
+    taken
 }
 
 /// The fault, with the reason of the source whose bytes come again if that had one.
@@ -95,8 +119,7 @@ pub(crate) fn read_head<R: Source>(
     track: &mut Track,
 ) -> Result<Vec<Block>, Fault>
     requires { again.old.given ≡ 0 }
-    ensures taken { IfOk result (λ blocks. TakesBlocks track.old track.new [] blocks.items) }
-    ensures rest { IfOk result (λ _. SkipsHead R.Source again.old again.new) }
+    ensures { IfOk result (λ blocks. ReadsHead R.Source track.old track.new again.old again.new blocks.items) }
 {
     let mut blocks = Vec::new(alloc);
     match pass_head(again, track, &mut blocks) {

@@ -2,4 +2,6 @@
 #![tactic(auto)]
 
 #[cfg(test)]
+mod opened;
+#[cfg(test)]
 mod to_ogg;

@@ -8,4 +8,5 @@ returns-in_default-clause-failed g c =
       names = e.names;
       risen = λ none is. e.risen;
       short = λ none is. absurd cc;
+      stays = λ none is. absurd cc;
     }

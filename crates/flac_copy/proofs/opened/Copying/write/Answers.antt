@@ -1,0 +1,4 @@
+use Rattle.flac_copy.proofs.opened.Copying.write.Goals as goal
+
+pub returns-clause-written : goal.returns-clause-written
+returns-clause-written g c = c.send_as.ensures.written
