@@ -1,5 +1,5 @@
 -- What other programs put around a stream, and where the stream is between.
-use Rattle.std.specs.Prelude.{◌≡◌, ◌≤◌, ℕ, ◌+◌, ◌*◌, ◌-◌, ◌/◌, ◌%◌, ◌&&◌, nat_eq, nat_lt, Bool, false, eqb, cond, List, ◌∷◌, length, take, drop, codes}
+use Rattle.std.specs.Prelude.{◌≡◌, ◌≤◌, ℕ, ◌+◌, ◌*◌, ◌-◌, ◌/◌, ◌%◌, ◌&&◌, nat_eq, nat_lt, Bool, true, false, eqb, cond, List, [], ◌∷◌, ◌++◌, length, take, drop, codes}
 use Rattle.std.specs.List.{starts_with}
 
 -- ---- an ID3v2 tag, before the stream (ID3v2.4.0, sections 3.1 and 6.2)
@@ -94,3 +94,24 @@ HasParts bytes before middle after = around bytes ≡ record { before = before; 
 -- no tag is at the end
 abbrev pub HasNoBack : List ℕ → Type 0
 HasNoBack bytes = is_back (last_128 bytes) ≡ false
+
+-- ---- laws
+
+-- The parts of an input, one after another, are the input.
+abbrev pub PartsAreAll : Type 0
+PartsAreAll = (bytes : List ℕ) → (around bytes).before ++ ((around bytes).middle ++ (around bytes).after) ≡ bytes
+
+-- Without a tag at the start and at the end the part between is all of it.
+abbrev pub UntaggedIsAll : Type 0
+UntaggedIsAll = (bytes : List ℕ) → front_length bytes ≡ 0 → HasNoBack bytes → HasParts bytes [] bytes []
+
+-- Tags that are put around any bytes come off again: both of them; or one, if the bytes themselves have no tag at the
+-- other end.
+abbrev pub BothComeOff : Type 0
+BothComeOff = (front middle back : List ℕ) → IsFront front → is_back back ≡ true → HasParts (front ++ (middle ++ back)) front middle back
+
+abbrev pub FrontComesOff : Type 0
+FrontComesOff = (front middle : List ℕ) → IsFront front → HasNoBack middle → HasParts (front ++ middle) front middle []
+
+abbrev pub BackComesOff : Type 0
+BackComesOff = (middle back : List ℕ) → front_length (middle ++ back) ≡ 0 → is_back back ≡ true → HasParts (middle ++ back) [] middle back

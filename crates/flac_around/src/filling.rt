@@ -1,7 +1,7 @@
 //! Bytes of a source that are read to be held, or are skipped.
 
-ghost use Rattle.std.specs.Prelude.{◌≡◌, ◌≤◌, ◌<◌, ◌+◌, ◌++◌, true, [], length, take, drop, min, IfOk, OnOk, OnErr};
-ghost use Rattle.flac_around.specs.inner.Pulling.{Goes, Fails, IsOver, GivesAfter, Skips};
+ghost use Rattle.std.specs.Prelude.{◌≡◌, ◌≤◌, ◌<◌, ◌+◌, ◌++◌, true, [], length, drop, min, IfOk, OnOk, OnErr};
+ghost use Rattle.flac_around.specs.inner.Pulling.{Goes, Fails, IsOver, FillsPlaces, Skips};
 
 use flac_bits::Source;
 use std::io;
@@ -24,8 +24,7 @@ pub(crate) fn fill<S: Source>(
     requires within { most ≤ length places.old }
     ensures least { IfOk result (λ n. from ≤ n) }
     ensures few { IfOk result (λ n. n ≤ most) }
-    ensures bytes { IfOk result (λ n.
-        GivesAfter S.Source source.old source.new (take from places.old) (take n places.new)) }
+    ensures bytes { IfOk result (FillsPlaces S.Source source.old source.new from places.old places.new) }
     ensures end { IfOk result (λ n. n < most → IsOver S.Source source.old source.new) }
     ensures most { IfOk result (λ n. S.most source.new + n ≤ S.most source.old + from) }
     ensures goes { OnOk result (Goes S.Source source.old source.new) }

@@ -3,7 +3,7 @@
 ghost use Rattle.std.specs.Prelude.{◌≡◌, ◌≤◌, ◌+◌, Bool, true, false, eqb, [], length, take, drop, IfOk, OnOk, OnErr};
 ghost use Rattle.std.specs.List.{starts_with};
 ghost use Rattle.flac_around.specs.EmptyPackets.{begins_page, is_cut, check_of};
-ghost use Rattle.flac_around.specs.inner.Pages.{IsLead, IsPlainHere, IsPlainAfter, IsCutAfter, TakesPage, page_of};
+ghost use Rattle.flac_around.specs.inner.Pages.{IsLead, IsPlainHere, IsPlainAfter, IsCutAfter, TakesBody, GivesRead, TakesRead, page_of};
 ghost use Rattle.flac_around.specs.inner.Pulling.{Goes, Fails, Gives, GivesBoth, GivesAfter};
 
 use crate::filling::fill;
@@ -118,8 +118,7 @@ fn read_body<S: Source>(source: &mut S, lead: &[u8], body: &mut [u8]) -> io::Res
     requires room { length body.old ≡ 65025 }
     ensures most { IfOk result (λ r. r.end ≤ 65025) }
     ensures bytes { IfOk result (λ r. Gives S.Source source.old source.new (take r.end body.new)) }
-    ensures page { IfOk result (λ r. r.is_page ≡ true →
-        TakesPage S.Source source.old source.new lead.now (page_of lead.now (take r.end body.new))) }
+    ensures page { IfOk result (TakesBody S.Source source.old source.new lead.now body.new) }
     ensures part { IfOk result (λ r. r.is_page ≡ false → IsPlainAfter S.Source source.old lead.now) }
     ensures count { IfOk result (λ r. S.most source.new + r.end ≤ S.most source.old) }
     ensures goes { OnOk result (Goes S.Source source.old source.new) }
@@ -154,11 +153,9 @@ pub(crate) fn read_page<S: Source>(
     requires body { length body.old ≡ 65025 }
     ensures lead { IfOk result (λ r. r.lead ≤ 282) }
     ensures body { IfOk result (λ r. r.body ≤ 65025) }
-    ensures bytes { IfOk result (λ r.
-        GivesBoth S.Source source.old source.new (take r.lead lead.new) (take r.body body.new)) }
+    ensures bytes { IfOk result (GivesRead S.Source source.old source.new lead.new body.new) }
     ensures whole { IfOk result (λ r. r.is_page ≡ true → IsLead (take r.lead lead.new)) }
-    ensures page { IfOk result (λ r. r.is_page ≡ true →
-        TakesPage S.Source source.old source.new [] (page_of (take r.lead lead.new) (take r.body body.new))) }
+    ensures page { IfOk result (TakesRead S.Source source.old source.new lead.new body.new) }
     ensures part { IfOk result (λ r. r.is_page ≡ false → IsPlainHere S.Source source.old) }
     ensures count { IfOk result (λ r. S.most source.new + (r.lead + r.body) ≤ S.most source.old) }
     ensures goes { OnOk result (Goes S.Source source.old source.new) }

@@ -2,7 +2,7 @@
 
 ghost use Rattle.std.specs.Prelude.{◌≡◌, ◌≤◌, ◌<◌, ◌+◌, ◌-◌, ◌++◌, ◌⊎◌, ◌&&◌, not, nat_eq, true, false, [], length, take, slice_set, IfOk, OnOk, OnErr};
 ghost use Rattle.flac_around.specs.EmptyPackets.{page_bytes, checked, given_for, leaves_out};
-ghost use Rattle.flac_around.specs.inner.Pages.{IsLead, IsGivenFor, page_of};
+ghost use Rattle.flac_around.specs.inner.Pages.{IsLead, IsGiven, page_of};
 ghost use Rattle.flac_around.specs.inner.Pulling.{Goes, Fails, Gives, KeepsComing, IsEnded};
 ghost use Rattle.flac_around.specs.Holding.{part};
 
@@ -50,8 +50,7 @@ fn put_kept(lead: &mut [u8], kept: usize, body: &[u8])
 fn leave_out(lead: &mut [u8], body: &[u8], left_out: bool) -> Given
     requires whole { IsLead lead.old }
     requires few { length lead.old ≤ 282 }
-    ensures bytes { IsGivenFor left_out (page_of lead.old body.now)
-        (take result.lead lead.new) (take result.body body.now) }
+    ensures bytes { IsGiven left_out (page_of lead.old body.now) lead.new body.now result }
     ensures left_out { result.left_out ≡ leaves_out left_out (page_of lead.old body.now) }
     ensures some { 0 < result.lead }
     ensures lead { result.lead ≤ length lead.old }
@@ -87,8 +86,7 @@ fn leave_out_of(lead: &mut [u8], end: usize, body: &[u8], left_out: bool) -> Giv
     requires end { end ≤ length lead.old }
     requires few { end ≤ 282 }
     requires whole { IsLead (take end lead.old) }
-    ensures bytes { IsGivenFor left_out (page_of (take end lead.old) body.now)
-        (take result.lead lead.new) (take result.body body.now) }
+    ensures bytes { IsGiven left_out (page_of (take end lead.old) body.now) lead.new body.now result }
     ensures left_out { result.left_out ≡ leaves_out left_out (page_of (take end lead.old) body.now) }
     ensures some { 0 < result.lead }
     ensures lead { result.lead ≤ end }

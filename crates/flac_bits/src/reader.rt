@@ -3,7 +3,7 @@
 ghost use Rattle.std.specs.Prelude.{◌≡◌, ◌≢◌, ◌<◌, ◌≤◌, ◌+◌, ◌^◌, ◌-◌, [], true, IfOk, IfErr, OnOk, ◌*◌, length, take, IfSome, None, Some, Ok, false, MatchResult};
 ghost use Rattle.flac_bits.specs.Reasons.{of_output};
 ghost use Rattle.flac_bits.specs.Bits.{bits_of};
-ghost use Rattle.flac_bits.specs.State.{State, short_of, started, without_fence};
+ghost use Rattle.flac_bits.specs.State.{State, short_of, started, without_fence, first_mark, with_short};
 ghost use Rattle.flac_bits.specs.Fencing.{fence_at, lifted};
 ghost use Rattle.flac_bits.specs.Store.{state_of};
 ghost use Rattle.flac_bits.specs.inner.Pulling.{Pulls};
@@ -13,7 +13,7 @@ ghost use Rattle.flac_bits.specs.Lists.{list_of};
 ghost use Rattle.flac_bits.specs.Rice.{rice, rice_value, IsResidual};
 ghost use Rattle.flac_bits.specs.Signed.{signed_field, FitsBits};
 ghost use Rattle.flac_bits.specs.Reading.{Counts, Gives, Reads, CallInPlace, PullsFor, PullsInside, ReadsRice, ReadsSigned, ConsumesBytes, PullsBytes, IsAtEnd, IsForetold, SaysOver, SaysShort};
-ghost use Rattle.flac_bits.specs.inner.Reading.{SameSource, TookHeld, values_from, DrawsValues, AreResiduals};
+ghost use Rattle.flac_bits.specs.inner.Reading.{SameSource, TookHeld, TookBits, FromWord, LeavesValues, values_from, DrawsValues, AreResiduals, TookZeros};
 ghost use Rattle.flac_bits.specs.inner.Unchecked.{FillsBytes, started_unless};
 
 use crate::held::Held;
@@ -95,7 +95,7 @@ impl<R: Source> BitReader<R> {
           most = 8 * R.most source;
           held = 0;
           names = R.names source;
-          cursor = record { left = bits_of (R.coming source); mark = record { unread = 0; bytes = 0; check8 = 0; check16 = 0; short = short_of ((R.after source).fails) } };
+          cursor = record { left = bits_of (R.coming source); mark = with_short (short_of ((R.after source).fails)) first_mark };
         } }
     {
         BitReader {
@@ -107,8 +107,7 @@ impl<R: Source> BitReader<R> {
     /// The next n bits, if the word has them.
     #[inline(always)]
     fn ready(&mut self, n: u32) -> Option<u64>
-        ensures some { IfSome result (λ v. (v < 2 ^ n) × (self.new.most + n ≡ self.old.most)
-            × SameSource self.old self.new × (number_at n self.old.cursor ≡ Ok (v, self.new.cursor))) }
+        ensures some { IfSome result (λ v. TookBits n v self.old self.new) }
         ensures none { result ≡ None → self.new ≡ self.old }
         // proof only
         ensures held { IfSome result (λ _. self.new.held + n ≡ self.old.held) }
@@ -208,8 +207,7 @@ impl<R: Source> BitReader<R> {
     /// Reads zeros and a one, if the word has them.
     #[inline(always)]
     fn ready_unary(&mut self, limit: u64) -> Option<u64>
-        ensures some { IfSome result (λ q. (q ≤ limit) × (self.new.most ≤ self.old.most) × SameSource self.old self.new
-            × (zeros_at limit self.old.cursor ≡ Ok (Some q, self.new.cursor))) }
+        ensures some { IfSome result (λ q. TookZeros limit q self.old self.new) }
         ensures none { result ≡ None → self.new ≡ self.old }
         // proof only
         ensures held { IfSome result (λ _. TookHeld self.old self.new) }
@@ -259,8 +257,7 @@ impl<R: Source> BitReader<R> {
     fn ready_rice(&mut self, k: u32, limit: u64) -> Option<u64>
         requires k { k ≤ 30 }
         requires limit { limit < 2 ^ 32 }
-        ensures some { IfSome result (λ v. (self.new.most ≤ self.old.most) × SameSource self.old self.new
-            × (run (rice k limit) self.old.cursor ≡ Ok (v, self.new.cursor))) }
+        ensures some { IfSome result (FromWord self.old self.new (run (rice k limit) self.old.cursor)) }
         ensures none { result ≡ None → self.new ≡ self.old }
         // proof only
         ensures held { IfSome result (λ _. TookHeld self.old self.new) }
@@ -338,8 +335,8 @@ impl<R: Source> BitReader<R> {
         ensures within { (from ≤ result) × (result ≤ length values.old) }
         // proof only
         ensures went { (self.new.most ≤ self.old.most) × SameSource self.old self.new }
-        ensures reads { values_from k (length values.old) values.old from self.old.cursor
-            ≡ values_from k (length values.old) values.new result self.new.cursor }
+        ensures reads { LeavesValues k (length values.old)
+            values.old from self.old.cursor values.new result self.new.cursor }
         // proof only
         ensures fits { AreResiduals values.old from → AreResiduals values.new result }
         // proof only

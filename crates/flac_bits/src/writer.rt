@@ -7,8 +7,8 @@ ghost use Rattle.flac_bits.specs.Meaning.{unary_bits};
 ghost use Rattle.flac_bits.specs.Rice.{IsResidual, value_bits};
 ghost use Rattle.flac_bits.specs.Signed.{signed, modulo};
 ghost use Rattle.flac_bits.specs.Standing.{standing, WritesTo, SendsWhole};
+ghost use Rattle.flac_bits.specs.State.{first_mark};
 ghost use Rattle.flac_bits.specs.Written.{Written, AreAll, Adds, Writes, Starts};
-ghost use Rattle.flac_bits.specs.declared.why.Why.TheVariants.{Truncated};
 
 use crate::signed::folded;
 use crate::stretch::eight_bytes;
@@ -109,7 +109,7 @@ impl<W: Target> BitWriter<W> {
           names = W.names target;
           sent = W.sent target;
           bits = bits_of (W.sent target);
-          mark = record { unread = 0; bytes = 0; check8 = 0; check16 = 0; short = Truncated };
+          mark = first_mark;
         } }
     {
         BitWriter {

@@ -118,6 +118,10 @@ pub record StandsIn (profile : Profile) (bytes : List ℕ) (c : FlacProvedCursor
 abbrev pub StartsIn : Profile → List ℕ → FlacProvedCursor → List Piece → Type 0
 StartsIn profile bytes c items = (front : List Piece) × (more : List Piece) × (items ≡ front ++ more) × (are_metadata front ≡ true) × StandsIn profile bytes c front more
 
+-- if the bytes are a native stream in some profile, the call of this status has started in it, unless memory ran out
+abbrev pub StartsIfStream : (bytes : List ℕ) → FlacProvedCursor → (status : ℕ) → Type 0
+StartsIfStream bytes c status = (profile : Profile) → OfStream profile bytes (λ all. IsDone status (StartsIn profile bytes c all))
+
 -- this holds of the parts of a stream in front of a cursor, the frame there, and the parts after it
 abbrev pub OfNextFrame : Profile → List ℕ → FlacProvedCursor → ((front more : List Piece) → Frame → Type 0) → Type 0
 OfNextFrame profile bytes c holds = (front : List Piece) → (more : List Piece) → (f : Frame) → StandsIn profile bytes c front (framed f ∷ more) → holds front more f

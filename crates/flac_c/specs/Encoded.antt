@@ -7,6 +7,7 @@ use Rattle.flac_meta.specs.declared.block.Block.{Block}
 use Rattle.flac_meta.specs.declared.block.Block.TheVariants.{VorbisComment}
 use Rattle.flac_meta.specs.declared.comments.Comments.{Comments}
 use Rattle.flac_header.specs.declared.subset.Profile.{Profile}
+use Rattle.flac_header.specs.declared.subset.Profile.TheVariants.{Subset}
 use Rattle.flac_frame.specs.Audio.{Sound, IsSound, audio_fault}
 use Rattle.flac_frame.specs.Setup as setup
 use Rattle.flac_frame.specs.declared.setup.SetupFault.{SetupFault}
@@ -101,6 +102,10 @@ IsRefused profile s samples t n =
 -- a stream of these samples and comments is written to the front of a buffer, as far as there is room
 abbrev pub WritesEncoded : Profile → (effort : ℕ) → FlacProvedSettings → List ℤ → FlacProvedTags → (out new : List ℕ) → (len : ℕ) → Type 0
 WritesEncoded profile effort s samples t out new len = (stream : List ℕ) × IsEncoded profile effort s samples t stream × IsCopied stream out new len
+
+-- the same of the streamable subset (RFC 9639, section 7), without a search
+abbrev pub WritesSubset : FlacProvedSettings → List ℤ → FlacProvedTags → (out new : List ℕ) → (len : ℕ) → Type 0
+WritesSubset s samples t out new len = WritesEncoded Subset 0 s samples t out new len
 
 -- the same by options: the profile, and the effort of the search
 abbrev pub WritesBy : FlacProvedOptions → FlacProvedSettings → List ℤ → FlacProvedTags → (out new : List ℕ) → (len : ℕ) → Type 0

@@ -4,7 +4,7 @@ ghost use Rattle.std.specs.Prelude.{◌≡◌, ◌≢◌, length, IfOk, IfErr, O
 ghost use Rattle.flac_frame.specs.Setup.{number_of};
 ghost use Rattle.flac_native.specs.Given.{fits_plan};
 ghost use Rattle.flac_c.specs.Bound.{FitsBound};
-ghost use Rattle.flac_c.specs.Encoded.{sound_of, serial_of, samples_fault, stream_fault, IsPlanned, IsMemoryOr, CanBeEncoded, EncodedBy, IsEncoded, IsRefused, WritesEncoded, WritesBy, RefusesBy};
+ghost use Rattle.flac_c.specs.Encoded.{sound_of, serial_of, samples_fault, stream_fault, IsPlanned, IsMemoryOr, CanBeEncoded, EncodedBy, IsEncoded, IsRefused, WritesSubset, WritesBy, RefusesBy};
 
 use crate::channels::channels_of;
 use crate::profiles::profile_of;
@@ -71,7 +71,7 @@ fn audio_of(
 ) -> Result<Audio, u32>
     ensures sound { IfOk result (λ a. a ≡ sound_of profile settings.now samples.now) }
     ensures good { OnOk result (CanBeEncoded profile settings.now samples.now) }
-    ensures refused { IfErr result (λ n. IsMemoryOr (option_map number_of (samples_fault profile settings.now samples.now)) n) }
+    ensures refused { IfErr result (IsMemoryOr (option_map number_of (samples_fault profile settings.now samples.now))) }
     ensures some { IfErr result (λ n. n ≢ 0) }
 {
     let count = settings.channels as usize;
@@ -190,7 +190,7 @@ pub extern "C" fn flac_proved_encode(
     out: &mut [u8],
     len: &mut usize,
 ) -> u32
-    ensures encoded { result ≡ 0 → WritesEncoded Profile.Subset 0 settings.now samples.now tags.now out.old out.new len.new }
+    ensures encoded { result ≡ 0 → WritesSubset settings.now samples.now tags.now out.old out.new len.new }
     ensures fits { result ≡ 0 → FitsBound settings.now (length samples.now) tags.now (length out.old) len.new }
     ensures refused { result ≢ 0 → IsRefused Profile.Subset settings.now samples.now tags.now result }
     ensures kept { result ≢ 0 → (out.new ≡ out.old) × (len.new ≡ len.old) }

@@ -2,7 +2,7 @@
 
 ghost use Rattle.std.specs.Prelude.{◌≡◌, true, [], None, Some, OnOk, IfOk, IfErr};
 ghost use Rattle.flac_header.specs.declared.subset.Profile.{Profile};
-ghost use Rattle.flac_c.specs.inner.Blocks.{Noted, IsFound, FoundOf, BlockRead, NoBlock, HeadRead, IsRefusedIn};
+ghost use Rattle.flac_c.specs.inner.Blocks.{Noted, IsFound, BlockRead, NoBlock, PartsFound, IsRefusedIn};
 
 use flac_bits::{BitReader, Memory, Why};
 use flac_meta::{Block, SeekPoint, Seen, StreamInfo, read_block};
@@ -75,7 +75,7 @@ pub(crate) fn read_parts(
 ) -> Result<(), Fault>
     requires known { bits.old.known ≡ true }
     requires none { (profile : Profile) → IsFound profile found.old.sample [] found.old }
-    ensures read { OnOk result ((profile : Profile) → HeadRead profile bits.old bits.new (FoundOf profile found.old.sample found.new)) }
+    ensures read { OnOk result (PartsFound bits.old bits.new found.old.sample found.new) }
     ensures refused { IfErr result (λ f. (profile : Profile) → IsRefusedIn profile bits.old bits.new f) }
 {
     bits.start_checks();

@@ -3,8 +3,8 @@
 ghost use Rattle.std.specs.Prelude.{◌≡◌, ◌≢◌, ◌⊎◌, [], IfOk, IfErr, Some, None};
 ghost use Rattle.flac_header.specs.declared.subset.Profile.{Profile};
 ghost use Rattle.flac_native.specs.Item.{fault_pair};
-ghost use Rattle.flac_c.specs.Cursors.{OfStream, StartsIn};
-ghost use Rattle.flac_c.specs.Answers.{IsAnswered, IsDone, in_c};
+ghost use Rattle.flac_c.specs.Cursors.{OfStream, StartsIfStream};
+ghost use Rattle.flac_c.specs.Answers.{IsAnswered, in_c};
 ghost use Rattle.flac_c.specs.inner.Blocks.{IsFound, FrontRead, IsStart};
 ghost use Rattle.flac_c.specs.Starts.{at_point, StandsFirst, StandsBefore, RefusesHead};
 
@@ -89,8 +89,7 @@ pub extern "C" fn flac_proved_start(
     fault: &mut FlacProvedFault,
 ) -> u32
     ensures first { result ≡ 0 → (profile : Profile) → StandsFirst profile bytes.now cursor.new }
-    ensures streams { (profile : Profile) →
-        OfStream profile bytes.now (λ all. IsDone result (StartsIn profile bytes.now cursor.new all)) }
+    ensures streams { StartsIfStream bytes.now cursor.new result }
     ensures refused { result ≢ 0 → (profile : Profile) → IsAnswered (RefusesHead profile bytes.now) fault.new }
     ensures kept { result ≢ 0 → cursor.new ≡ cursor.old }
     ensures number { result ≡ fault.new.number }

@@ -1,15 +1,13 @@
 //! The native stream in the packets of an Ogg stream.
 
 ghost use Rattle.std.specs.Prelude.{◌≡◌, ◌≢◌, ◌≤◌, [], true, false, length, None, Some, OnOk, IfOk, IfErr};
-ghost use Rattle.flac_bits.specs.Layout.{because};
 ghost use Rattle.flac_header.specs.declared.subset.Profile.{Profile};
 ghost use Rattle.flac_native.specs.Item.{fault_pair};
 ghost use Rattle.flac_pages.specs.Page.{went_on, goes_on_after};
 ghost use Rattle.flac_pages.specs.Pages.{next_page, end_fault};
 ghost use Rattle.flac_c.specs.Answers.{IsAnswered, in_c};
 ghost use Rattle.flac_c.specs.Unpacked.{HasMapping, Maps, RefusesPages, WritesNative, WritesAny};
-ghost use Rattle.flac_c.specs.inner.Blocks.{IfServed};
-ghost use Rattle.flac_c.specs.inner.Unpacked.{after_or_last, PageAdded, IsUnpacked, StopsAt};
+ghost use Rattle.flac_c.specs.inner.Unpacked.{after_or_last, PageAdded, IsUnpacked, StopsAt, RefusesPage, IsEndFault};
 
 use crate::fault::{FlacProvedFault, in_c};
 use crate::texts::copy;
@@ -81,8 +79,7 @@ fn add_page(
 ) -> Result<Option<Before>, Why>
     requires { bits.old.known ≡ true }
     ensures read { IfOk result (PageAdded before bits.old bits.new list.old.items list.new.items) }
-    ensures refused { IfErr result (λ why.
-        IfServed bits.old bits.new why (next_page before bits.old.cursor ≡ Err (because why))) }
+    ensures refused { IfErr result (RefusesPage before bits.old bits.new) }
 {
     match next_page(bits, room, before) {
         Ok(()) => {}
@@ -99,8 +96,7 @@ fn judge_end(bits: &mut BitReader<Memory<'_>>, count: u64) -> Result<(), PageFau
     requires known { bits.old.known ≡ true }
     requires short { bits.old.cursor.mark.short ≡ Why.Truncated }
     ensures over { OnOk result (end_fault bits.old.cursor ≡ None) }
-    ensures fault { IfErr result (λ e. bits.new.errors ≡ bits.old.errors
-        → (e.0 ≡ count) × (end_fault bits.old.cursor ≡ Some e.1)) }
+    ensures fault { IfErr result (IsEndFault count bits.old bits.new) }
 {
     match bits.at_end() {
         Ok(true) => Ok(()),

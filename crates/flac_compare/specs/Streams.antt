@@ -68,3 +68,13 @@ pub record AreSame (r s : InputReading Piece Place) : Type 0 where
   pub info_second : first_info others ≡ Some other
   pub format : AreOfOneFormat info other
   pub samples : samples_of frames ≡ samples_of rows
+
+-- ---- two sources, each before and after a call that compares them, in which neither failed
+
+-- what is said of the streams that they give
+abbrev pub ComparesBoth : {S T : Type 0} → (g : source.Ghosts S) → (h : source.Ghosts T) → Profile → (first next : S) → (second later : T) → Result (Option Difference) Unread → Type 0
+ComparesBoth g h profile first next second later result = ToldAll g first next → ToldAll h second later → ComparesInputs (input_of g profile first) (input_of h profile second) result
+
+-- these are of the same samples
+abbrev pub AreBothSame : {S T : Type 0} → (g : source.Ghosts S) → (h : source.Ghosts T) → Profile → (first next : S) → (second later : T) → Type 0
+AreBothSame g h profile first next second later = ToldAll g first next → ToldAll h second later → AreSame (input_of g profile first) (input_of h profile second)

@@ -1,12 +1,10 @@
 //! Compares what two readers have to give.
 
 ghost use Rattle.std.specs.Prelude.{◌≡◌, ◌≤◌, ◌&&◌, false, IfOk, IfSome, OnOk};
-ghost use Rattle.flac_native.specs.Giving.{stage_of};
-ghost use Rattle.flac_reader.specs.Coming.{IsCalm, size_of};
+ghost use Rattle.flac_reader.specs.Coming.{size_of};
 ghost use Rattle.flac_reader.specs.Giving.{last_frame};
 ghost use Rattle.flac_compare.specs.Format.{SaysFormat, is_of_format};
-ghost use Rattle.flac_compare.specs.Compared.{ComparesFrames};
-ghost use Rattle.flac_compare.specs.inner.Stepping.{Stays, MeetsNone};
+ghost use Rattle.flac_compare.specs.inner.Stepping.{Stays, MeetsNone, ComparesInCalm};
 ghost use Rattle.flac_compare.specs.inner.Comparing.{EntersBoth, FindsDifference, ComparesRest};
 
 use crate::difference::{Difference, Unread, format_difference};
@@ -116,9 +114,7 @@ fn compare_samples<C: Container, D: Container>(
     ensures first_stays { Stays first.old first.new }
     ensures second_stays { Stays second.old second.new }
     ensures kind { IfOk result (λ found. IfSome found (λ d. is_of_format d ≡ false)) }
-    ensures samples { IsCalm C.Container (stage_of first.old.decoder) (stage_of first.new.decoder) →
-        IsCalm D.Container (stage_of second.old.decoder) (stage_of second.new.decoder) →
-        ComparesFrames first.old second.old result }
+    ensures samples { ComparesInCalm first.old first.new second.old second.new result }
 {
     let mut left = 0;
     let mut other = 0;
@@ -166,9 +162,7 @@ pub fn compare<C: Container, D: Container>(
 ) -> Result<Option<Difference>, Unread>
     ensures format { IfOk result (λ d. SaysFormat first.old.info second.old.info d) }
     // If neither source returned an error in the call: of the frames that come, and of the ends after them.
-    ensures samples { IsCalm C.Container (stage_of first.old.decoder) (stage_of first.new.decoder) →
-        IsCalm D.Container (stage_of second.old.decoder) (stage_of second.new.decoder) →
-        ComparesFrames first.old second.old result }
+    ensures samples { ComparesInCalm first.old first.new second.old second.new result }
     // The metadata of the readers, and the references that they go through, stay.
     ensures first_stays { Stays first.old first.new }
     ensures second_stays { Stays second.old second.new }

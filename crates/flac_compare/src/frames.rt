@@ -1,11 +1,9 @@
 //! Where two frames differ.
 
-ghost use Rattle.std.specs.Prelude.{◌≡◌, ◌<◌, ◌≤◌, ◌+◌, MatchOption};
+ghost use Rattle.std.specs.Prelude.{◌≡◌, ◌<◌, ◌≤◌, ◌+◌};
 ghost use Rattle.flac_frame.specs.Viewed.{frame_of};
 ghost use Rattle.flac_frame.specs.Interleaved.{row};
-ghost use Rattle.flac_compare.specs.Samples.{samples_from};
-ghost use Rattle.flac_compare.specs.Compared.{DiffersIn};
-ghost use Rattle.flac_compare.specs.inner.Frames.{DiffersAfter};
+ghost use Rattle.flac_compare.specs.inner.Frames.{FindsChannel, FindsAfter};
 
 use flac_native::FrameView;
 
@@ -19,9 +17,7 @@ fn channel_of_difference(
 ) -> Option<usize>
     requires first { i < (frame_of first.now).size }
     requires second { j < (frame_of second.now).size }
-    ensures { MatchOption result
-        (row (frame_of first.now).channels i ≡ row (frame_of second.now).channels j)
-        (λ c. DiffersIn c (row (frame_of first.now).channels i) (row (frame_of second.now).channels j)) }
+    ensures { FindsChannel result (row (frame_of first.now).channels i) (row (frame_of second.now).channels j) }
 {
     let channels = first.channels().min(second.channels());
     for c in 0..channels {
@@ -46,9 +42,7 @@ pub(crate) fn first_difference(
 ) -> Option<(usize, usize)>
     requires first { i + n ≤ (frame_of first.now).size }
     requires second { j + n ≤ (frame_of second.now).size }
-    ensures { MatchOption result
-        (samples_from (frame_of first.now).channels n i ≡ samples_from (frame_of second.now).channels n j)
-        (λ p. DiffersAfter p.0 p.1 n (frame_of first.now).channels i (frame_of second.now).channels j) }
+    ensures { FindsAfter result n (frame_of first.now).channels i (frame_of second.now).channels j }
 {
     for k in 0..n {
         match channel_of_difference(first, i + k, second, j + k) {

@@ -1,11 +1,9 @@
 //! Compares two streams.
 
 ghost use Rattle.std.specs.Prelude.{◌≡◌, Ok, None};
-ghost use Rattle.flac_native.specs.Giving.{stage_of};
-ghost use Rattle.flac_reader.specs.Coming.{IsCalm};
-ghost use Rattle.flac_compare.specs.Streams.{ToldAll, ComparesInputs, input_of, AreSame};
+ghost use Rattle.flac_compare.specs.Streams.{ComparesBoth, AreBothSame};
 ghost use Rattle.flac_compare.specs.inner.Stepping.{Stays};
-ghost use Rattle.flac_compare.specs.inner.Opening.{ComparesWith};
+ghost use Rattle.flac_compare.specs.inner.Opening.{ComparesWithInput};
 
 use crate::comparing::compare;
 use crate::difference::{Difference, Unread};
@@ -23,9 +21,7 @@ fn compare_with<C: Container, S: Source>(
     // proof only
     ensures stays { Stays first.old first.new }
     ensures names { S.names second.new ≡ S.names second.old }
-    ensures says { IsCalm C.Container (stage_of first.old.decoder) (stage_of first.new.decoder) →
-        ToldAll S.Source second.old second.new →
-        ComparesWith first.old (input_of S.Source profile second.old) result }
+    ensures says { ComparesWithInput S.Source profile first.old first.new second.old second.new result }
 {
     let opened = match open(alloc, second, profile, Keep::Tags) {
         Ok(opened) => opened,
@@ -81,12 +77,9 @@ pub fn compare_streams<R: Source, S: Source>(
     profile: Profile,
 ) -> Result<Option<Difference>, Unread>
     // If the bytes of both sources are known, and they returned no error in the call: of what these bytes are.
-    ensures compares { ToldAll R.Source first.old first.new → ToldAll S.Source second.old second.new →
-        ComparesInputs (input_of R.Source profile first.old) (input_of S.Source profile second.old) result }
+    ensures compares { ComparesBoth R.Source S.Source profile first.old first.new second.old second.new result }
     // So if there is no difference, both are streams, of the same format and the same samples.
-    ensures same { result ≡ Ok None →
-        ToldAll R.Source first.old first.new → ToldAll S.Source second.old second.new →
-        AreSame (input_of R.Source profile first.old) (input_of S.Source profile second.old) }
+    ensures same { result ≡ Ok None → AreBothSame R.Source S.Source profile first.old first.new second.old second.new }
     ensures names { R.names first.new ≡ R.names first.old }
     ensures second_names { S.names second.new ≡ S.names second.old }
 {

@@ -163,9 +163,17 @@ abbrev pub after_line : CueAudio → Open → (line : List ℕ) → Result Open 
 after_line a o line = after_command a o (word_of line) (after_word line)
 
 -- lines of which the first has this number, or the number of the first line that is wrong, and why
+-- the lines of a text, without the line feeds (10) that end them
+abbrev pub lines_in : List ℕ → List (List ℕ)
+lines_in text = slice_split (λ byte. byte == 10) text
+
 unfoldable pub after_lines : CueAudio → (number : ℕ) → Open → (lines : List (List ℕ)) → Result Open (ℕ × CueWhy)
 after_lines a number o [] = Ok o
 after_lines a number o (line ∷ more) = elim (after_line a o line) [ Err e ↦ Err (number, e) | Ok p ↦ after_lines a (number + 1) p more ]
+
+-- the same of the lines of a text
+abbrev pub after_text : CueAudio → Open → (text : List ℕ) → Result Open (ℕ × CueWhy)
+after_text a o text = after_lines a 1 o (lines_in text)
 
 -- ---- the sheet
 

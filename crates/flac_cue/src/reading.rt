@@ -1,10 +1,9 @@
 //! Reading: the cue sheet that a text says.
 
-ghost use Rattle.std.specs.Prelude.{◌≡◌, ◌==◌, length, false, Ok, Err, IfOk, IfErr, MatchResult};
-ghost use Rattle.std.specs.List.{slice_split};
+ghost use Rattle.std.specs.Prelude.{◌≡◌, ◌==◌, length, false, Ok, Err, IfOk, IfErr};
 ghost use Rattle.flac_meta.specs.Listed.{is_bad_sheet};
-ghost use Rattle.flac_cue.specs.inner.Takes.{IfRule};
-ghost use Rattle.flac_cue.specs.Reading.{after_lines, lead_out, finished, without_mark, sheet_in, IfLine};
+ghost use Rattle.flac_cue.specs.inner.Takes.{IsFinished};
+ghost use Rattle.flac_cue.specs.Reading.{lead_out, finished, without_mark, sheet_in, IfLine, lines_in, after_text};
 
 use crate::audio::CueAudio;
 use crate::fault::{CueFault, CueWhy, Wrong};
@@ -19,10 +18,9 @@ fn take_lines(
     open: &mut Open,
     text: &[u8],
 ) -> Result<u64, CueFault>
-    ensures read { IfOk result (λ count. after_lines audio.now 1 open.old (slice_split (λ byte. byte == 10) text.now) ≡ Ok open.new) }
-    ensures counted { IfOk result (λ count. count ≡ length (slice_split (λ byte. byte == 10) text.now)) }
-    ensures refused { IfErr result (IfLine (λ line why.
-        after_lines audio.now 1 open.old (slice_split (λ byte. byte == 10) text.now) ≡ Err (line, why))) }
+    ensures read { IfOk result (λ count. after_text audio.now open.old text.now ≡ Ok open.new) }
+    ensures counted { IfOk result (λ count. count ≡ length (lines_in text.now)) }
+    ensures refused { IfErr result (IfLine (λ line why. after_text audio.now open.old text.now ≡ Err (line, why))) }
 {
     let mut count = 0;
     for (index, line) in text.split(|byte| *byte == b'\n').enumerate() {
@@ -52,7 +50,7 @@ fn lead_out(alloc: Global, audio: &CueAudio) -> CueTrack
 /// The sheet after the last line.
 #[tactic(auto, unfolding(crate::specs::Reading::finished))]
 fn finish(alloc: Global, audio: &CueAudio, mut ended: Open) -> Result<CueSheet, Wrong>
-    ensures { MatchResult result (λ sheet. finished audio.now ended ≡ Ok sheet) (IfRule (λ why. finished audio.now ended ≡ Err why)) }
+    ensures { IsFinished (finished audio.now ended) result }
 {
     if ended.track.number == 0 {
         return Err(Wrong::Rule(CueWhy::NoTrack));

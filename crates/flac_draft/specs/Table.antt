@@ -9,6 +9,7 @@ use Rattle.flac_native.specs.Seeking.{table_of, has_table}
 use Rattle.flac_native.specs.declared.fault.EncodeFault.{EncodeFault}
 use Rattle.flac_native.specs.declared.fault.EncodeFault.TheVariants.{RepeatedBlock, Setup}
 use Rattle.flac_encoder.specs.Pushing.{Shape, setup_fault}
+use Rattle.flac_encoder.specs.declared.stream_format.StreamFormat.{StreamFormat}
 
 -- How many samples of each channel were stated; the samples from one point to the next, 0 if there is no table; the points
 -- of the frames so far, and how many bytes these frames have.
@@ -64,6 +65,10 @@ reserved block_size t = replicate (points_before block_size t.total t.every (blo
 -- the list, and after it the place for the table, if there is one
 abbrev pub with_place : (block_size : ℕ) → Table → List Block → List Block
 with_place block_size t list = list ++ table_of (reserved block_size t)
+
+-- the same for the points of so many samples
+abbrev pub list_for : StreamFormat → (total every : ℕ) → List Block → List Block
+list_for format total every list = with_place format.block_size (table_for total every) list
 
 -- ---- its points
 

@@ -12,4 +12,5 @@ pub mod Listed
 pub mod Parts
 pub mod Named
 pub mod Valid
+pub mod Writing
 pub mod inner

@@ -7,6 +7,7 @@ use Rattle.flac_meta.specs.SeekTable.{in_order}
 use Rattle.flac_meta.specs.Spelling.{length_of}
 use Rattle.flac_meta.specs.Block.{seen_after}
 use Rattle.flac_meta.specs.declared.block.Seen.{Seen}
+use Rattle.flac_meta.specs.declared.comments.Comments.{Comments}
 use Rattle.flac_meta.specs.declared.cue_sheet.CueTrack.{CueTrack}
 use Rattle.flac_meta.specs.declared.cue_sheet.CueSheet.{CueSheet}
 use Rattle.flac_meta.specs.declared.block.Block.{Block}
@@ -56,6 +57,14 @@ fault_after seen b = cond (came seen b) (Some why.RepeatedBlock) (block_fault b)
 abbrev pub or_else : Option Why → Option Why → Option Why
 or_else None rest = rest
 or_else (Some w) rest = Some w
+
+-- why the block of these comments may not be written
+abbrev pub comments_fault : Comments → Option Why
+comments_fault c = block_fault (block_of.VorbisComment c)
+
+-- comments alone
+abbrev pub only_comments : Comments → List Block
+only_comments c = block_of.VorbisComment c ∷ []
 
 -- the fault of the first block that has one
 abbrev pub list_fault : Seen → List Block → Option Why

@@ -28,3 +28,7 @@ values_of name (text ∷ texts) = value_under name text ++ values_of name texts
 -- there are values, of which this is the first
 abbrev pub IsFirstOf : List ℕ → List (List ℕ) → Type 0
 IsFirstOf value values = (others : List (List ℕ)) × (values ≡ value ∷ others)
+
+-- there are comments of this name, and this is the value of the first
+abbrev pub IsFirstUnder : List ℕ → List (List ℕ) → List ℕ → Type 0
+IsFirstUnder name texts value = IsFirstOf value (values_of name texts)

@@ -2,8 +2,10 @@
 
 ghost use Rattle.std.specs.Prelude.{◌≡◌, None, false, min, length, IfOk, ◌<◌, ◌≤◌, ◌^◌, OnErr, true, Ok, Err, Some, IfSome, ◌∷◌, []};
 ghost use Rattle.flac_meta.specs.Spelling.{kind_of, length_of, header_spelling, content_spelling, block_spelling, comments_length};
-ghost use Rattle.flac_meta.specs.Listed.{is_forbidden, block_fault, has_bad_sheet};
+ghost use Rattle.flac_meta.specs.Writing.{WritesComments};
+ghost use Rattle.flac_meta.specs.Listed.{is_forbidden, block_fault, comments_fault, has_bad_sheet};
 ghost use Rattle.flac_meta.specs.Header.{nothing_seen, is_repeated, block_header};
+ghost use Rattle.flac_meta.specs.inner.Asked.{IsAllocated};
 ghost use Rattle.flac_meta.specs.Block.{seen_after, application, content, block, MemoryAsked};
 ghost use Rattle.flac_bits.specs.Reading.{Reads, ReadsGivenMemory, Call, MeansGivenMemory};
 ghost use Rattle.flac_meta.specs.declared.block.BlockHeader.{BlockHeader};
@@ -233,8 +235,7 @@ fn read_content<R: Source>(
     requires small { length < 2 ^ 24 }
     requires id { kind ≡ 2 → 4 ≤ length }
     ensures reading { Call 0 (ReadsGivenMemory (λ b. b) (content kind length)) bits.old bits.new result }
-    ensures spare { result ≡ Err Why.Memory → bits.old.known ≡ true → bits.new.errors ≡ bits.old.errors
-        → (bits.old.cursor.mark.short ≡ Why.Memory → ⊥) → 1 < kind }
+    ensures spare { IsAllocated kind bits.old bits.new result }
 {
     match kind {
         0 => read_stream_info(bits).map(Block::StreamInfo),
@@ -433,10 +434,9 @@ pub fn write_comments<W: Target>(
     last: bool,
     writer: &mut BitWriter<W>,
 ) -> Result<(), Why>
-    ensures refused { IfSome (block_fault (block_of.VorbisComment comments.now))
-        (λ why. (result ≡ Err why) × (writer.new ≡ writer.old)) }
-    ensures writes { block_fault (block_of.VorbisComment comments.now) ≡ None
-        → Writes (block_spelling last (block_of.VorbisComment comments.now)) writer.old writer.new result }
+    ensures refused { IfSome (comments_fault comments.now) (λ why. (result ≡ Err why) × (writer.new ≡ writer.old)) }
+    ensures writes { comments_fault comments.now ≡ None →
+        WritesComments last comments.now writer.old writer.new result }
 {
     if comments.length() > MOST_BYTES {
         return Err(Why::BlockLength);

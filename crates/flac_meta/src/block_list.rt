@@ -4,7 +4,7 @@ ghost use Rattle.flac_meta.specs.Valid.{AllAre, FitsFields};
 ghost use Rattle.std.specs.Prelude.{◌≡◌, ◌⊎◌, ◌∷◌, [], MatchResult, IfOk, IfErr, OnOk, None, Some};
 ghost use Rattle.std.specs.Cmp.{partial_equiv_from_equiv};
 ghost use Rattle.std.specs.Cmp.Lexicographic.{pointwise, lists_equiv};
-ghost use Rattle.flac_meta.specs.Listed.{fault_after, list_fault, info_seen};
+ghost use Rattle.flac_meta.specs.Listed.{fault_after, list_fault, info_seen, only_comments};
 
 use crate::block::{Block, Seen, fault_of, is_of_forbidden_kind};
 use crate::comments::Comments;
@@ -136,10 +136,10 @@ impl BlockList {
     /// [`Why::BlockLength`] if the comments have more bytes than a block may have; [`Why::Memory`] if an allocation
     /// fails.
     pub fn of_comments(alloc: Global, comments: Comments) -> Result<BlockList, Why>
-        ensures list { IfOk result (λ list. list ≡ Block.VorbisComment comments ∷ []) }
-        ensures good { OnOk result (list_fault info_seen (Block.VorbisComment comments ∷ []) ≡ None) }
-        ensures refused { IfErr result (λ e. (e ≡ Why.Memory)
-            ⊎ (list_fault info_seen (Block.VorbisComment comments ∷ []) ≡ Some e)) }
+        ensures list { IfOk result (λ list. list ≡ only_comments comments) }
+        ensures good { OnOk result (list_fault info_seen (only_comments comments) ≡ None) }
+        ensures refused { IfErr result (λ e. (e ≡ Why.Memory) ⊎
+            (list_fault info_seen (only_comments comments) ≡ Some e)) }
     {
         let mut blocks = Vec::with_capacity(alloc, 1)?;
         blocks.push(Block::VorbisComment(comments))?;

@@ -2,8 +2,9 @@
 
 ghost use Rattle.std.specs.Prelude.{◌≡◌, ◌<◌, ◌≤◌, ◌+◌, ◌++◌, [], ◌∷◌, length, take, drop, nat_eq, MatchOption, OnOk, OnErr, IfOk, slice_index, slice_index_or, min, ◌^◌};
 ghost use Rattle.std.specs.Iterator.{YieldsFirstRef, item_count};
-ghost use Rattle.flac_meta.specs.Parts.{HasNoEquals, LacksParts, AreParts};
-ghost use Rattle.flac_meta.specs.Named.{value_under, values_of, IsFirstOf};
+ghost use Rattle.flac_meta.specs.Parts.{HasNoEquals, IsAt, LacksParts, AreParts};
+ghost use Rattle.flac_meta.specs.Named.{value_under, values_of, IsFirstUnder};
+ghost use Rattle.flac_meta.specs.inner.Found.{IsFirstEquals, IsFirstAt};
 ghost use Rattle.flac_meta.specs.Spelling.{texts_length, comments_length, each_spelled, little_sized, comments_spelling};
 ghost use Rattle.flac_bits.specs.Reading.{ReadsGivenMemory, Call};
 ghost use Rattle.flac_meta.specs.Comments.{texts, comments};
@@ -26,8 +27,7 @@ pub struct Comments {
 
 /// The index of the first `=`.
 fn place_of_equals(text: &[u8]) -> Option<usize>
-    ensures { MatchOption result (HasNoEquals text.now)
-        (λ k. (k < length text.now) × (slice_index text.now k ≡ 61) × HasNoEquals (take k text.now)) }
+    ensures { MatchOption result (HasNoEquals text.now) (IsFirstEquals text.now) }
 {
     for (k, byte) in text.iter().enumerate() {
         if *byte == b'=' {
@@ -62,8 +62,8 @@ fn value_under<'a>(name: &[u8], text: &'a [u8]) -> Option<&'a [u8]>
 /// The first value of this name among some texts, and the index of its text.
 #[tactic(auto, unfolding(crate::specs::Named::values_of), using(crate::proofs::Named::values_more))]
 fn first_named<'a>(name: &[u8], texts: &'a [Bytes]) -> Option<(usize, &'a [u8])>
-    ensures { MatchOption result (values_of name.now texts.now ≡ []) (λ p. (p.0 < length texts.now)
-        × (values_of name.now texts.now ≡ p.1.now ∷ values_of name.now (drop (p.0 + 1) texts.now))) }
+    ensures { MatchOption result (values_of name.now texts.now ≡ [])
+        (λ p. IsFirstAt name.now texts.now p.0 p.1.now) }
 {
     for (i, text) in texts.iter().enumerate() {
         match value_under(name, text.as_slice()) {
@@ -156,7 +156,7 @@ impl Comments {
     /// Comment `i`, counted from 0, as it is in the block: `NAME=VALUE`. `None` if there is no such comment.
     pub fn get(&self, i: usize) -> Option<&[u8]>
         ensures { MatchOption result (length self.now.list ≤ i)
-            (λ t. (i < length self.now.list) × (t.now ≡ slice_index_or self.now.list i [])) }
+            (λ t. IsAt self.now.list i t.now) }
     {
         let list = self.list.as_slice();
         if i < list.len() {
@@ -191,7 +191,7 @@ impl Comments {
     /// ```
     pub fn find(&self, name: &[u8]) -> Option<&[u8]>
         ensures { MatchOption result (values_of name.now self.now.list ≡ [])
-            (λ v. IsFirstOf v.now (values_of name.now self.now.list)) }
+            (λ v. IsFirstUnder name.now self.now.list v.now) }
     {
         let (_, value) = first_named(name, self.list.as_slice())?;
         Some(value)

@@ -1,7 +1,7 @@
 //! Cue sheets (RFC 9639, section 8.7).
 
 ghost use Rattle.std.specs.Prelude.{◌≡◌, ◌+◌, ◌≤◌, min, false, OnOk, IfOk, ◌*◌, ◌<◌, ◌^◌, length};
-ghost use Rattle.flac_meta.specs.inner.Cues.{track_front_spelling, track_flags_spelling, sheet_front_spelling};
+ghost use Rattle.flac_meta.specs.inner.Cues.{fields_of, track_front_spelling, track_flags_spelling, sheet_front_spelling};
 ghost use Rattle.flac_meta.specs.Spelling.{tracks_length, each_spelled, index_spelling, track_spelling, sheet_spelling};
 ghost use Rattle.flac_meta.specs.Listed.{overflows, is_bad_sheet};
 ghost use Rattle.flac_bits.specs.Lists.{list_of};
@@ -158,8 +158,7 @@ struct TrackFront {
 /// Reads the fields of a track before its index points.
 #[tactic(auto, unfolding(crate::specs::CueSheet::track_front, crate::specs::Fields::reserved))]
 fn read_track_front<R: Source>(bits: &mut BitReader<R>) -> Result<TrackFront, Why>
-    ensures reading { Call 0 (Reads (λ f. (f.offset, f.number, f.isrc, f.audio, f.pre_emphasis)) track_front)
-        bits.old bits.new result }
+    ensures reading { Call 0 (Reads fields_of track_front) bits.old bits.new result }
 {
     let offset = bits.take(64)?;
     let number = bits.take(8)? as u8;

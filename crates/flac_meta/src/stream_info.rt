@@ -1,6 +1,7 @@
 //! How STREAMINFO is read and written (RFC 9639, section 8.2).
 
 ghost use Rattle.std.specs.Prelude.{IfOk, ◌<◌, ◌≤◌, ◌^◌};
+ghost use Rattle.flac_meta.specs.inner.Sizes.{sizes_of, FitsFields};
 ghost use Rattle.flac_meta.specs.Info.{info_sizes, info_format, stream_info};
 ghost use Rattle.flac_bits.specs.Reading.{Reads, Call};
 ghost use Rattle.flac_bits.specs.Written.{Writes};
@@ -24,9 +25,7 @@ struct Sizes {
 #[tactic(auto, unfolding(crate::specs::Info::info_sizes))]
 fn read_sizes<R: Source>(bits: &mut BitReader<R>) -> Result<Sizes, Why>
     ensures fit { IfOk result (λ s. (s.least_frame < 2 ^ 24) × (s.greatest_frame < 2 ^ 24)) }
-    ensures reading { Call 0
-        (Reads (λ s. (s.least_block, s.greatest_block, s.least_frame, s.greatest_frame)) info_sizes)
-        bits.old bits.new result }
+    ensures reading { Call 0 (Reads sizes_of info_sizes) bits.old bits.new result }
 {
     let least_block = bits.take(16)? as u16;
     let greatest_block = bits.take(16)? as u16;
@@ -52,8 +51,7 @@ struct Format {
 /// Reads the format and the number of samples.
 #[tactic(auto, unfolding(crate::specs::Info::info_format))]
 fn read_format<R: Source>(bits: &mut BitReader<R>) -> Result<Format, Why>
-    ensures fit { IfOk result (λ f. (f.rate < 2 ^ 20) × (1 ≤ f.channels) × (f.channels ≤ 8)
-        × (f.depth ≤ 32) × (f.total < 2 ^ 36)) }
+    ensures fit { IfOk result FitsFields }
     ensures reading { Call 0 (Reads (λ f. (f.rate, f.channels, f.depth, f.total)) info_format)
         bits.old bits.new result }
 {

@@ -1,5 +1,5 @@
 -- What is still to come of a stream, whatever container it is in, and what a sink takes of it.
-use Rattle.std.specs.Prelude.{◌≡◌, ◌≢◌, ◌<◌, ℕ, Bool, true, List, [], ◌∷◌, ◌++◌, Option, Some, None, Result, Ok, Err}
+use Rattle.std.specs.Prelude.{◌≡◌, ◌≢◌, ◌<◌, ℕ, Bool, true, List, [], ◌∷◌, ◌++◌, Option, Some, None, Result, Ok, Err, IfErr}
 use Rattle.flac_bits.specs.State.{Cursor, After, without_fence}
 use Rattle.flac_bits.specs.Items.{state_after}
 use Rattle.flac_bits.specs.Handing.{TakesAll, InputReading, by_grammar, IsOutside, reason_of}
@@ -79,3 +79,7 @@ abbrev pub GivesNext : {C : Type 0} → (known : C → Bool) → (errors raised 
 GivesNext known errors raised gives before after old new result =
     (p : Progress) → IsAt before p → known old ≡ true → errors new ≡ errors old → raised new ≡ raised old → (reason_of fault_pair result ≡ Err Memory → ⊥)
     → (parts : List Piece) (end : Option (Place × Why)) → gives old p parts end → IsNext (gives new) p (piece_of after) result parts end
+
+-- an error from outside, of the source or for want of memory, came where the container allows it
+abbrev pub BreaksOutside : {C X : Type 0} → (breaks : C → Progress → Place → Why → Type 0) → Track → C → Result X Fault → Type 0
+BreaksOutside breaks track new result = (p : Progress) → IsAt track p → IfErr result (λ f. IsOutside f.why → breaks new p f.at f.why)

@@ -1,6 +1,6 @@
 -- What retagging makes of a stream: the same STREAMINFO, the given comments, the other blocks in their order, and the
 -- rest of the input.
-use Rattle.std.specs.Prelude.{◌≡◌, ◌≢◌, Bool, true, false, cond, List, [], ◌∷◌, ◌++◌, Some, None, ◌≤◌, ◌⊎◌, Result, IsErrAnd}
+use Rattle.std.specs.Prelude.{◌≡◌, ◌≢◌, Bool, true, false, cond, List, [], ◌∷◌, ◌++◌, Some, None, ◌≤◌, ◌⊎◌, Result, IsErrAnd, IfErr, Err}
 use Rattle.flac_bits.specs.Bits.{bits_of}
 use Rattle.flac_bits.specs.State.{Mark, Cursor, State}
 use Rattle.flac_bits.specs.Fencing.{lifted}
@@ -180,6 +180,18 @@ no_memory = record { at = Some (place.Frame 0); why = why.Memory }
 -- a device failed after the blocks
 abbrev pub IsOfDevice : RetagFault → Type 0
 IsOfDevice f = (f ≡ not_read) ⊎ (f ≡ not_written)
+
+-- this holds if a device failed after the blocks
+abbrev pub IfOfDevice : {X : Type 0} → Result X RetagFault → Type 0 → Type 0
+IfOfDevice result Says = IfErr result (λ f. IsOfDevice f → Says)
+
+-- this holds if the source failed after the blocks
+abbrev pub IfUnread : {X : Type 0} → Result X RetagFault → Type 0 → Type 0
+IfUnread result Says = IfErr result (λ f. f ≡ not_read → Says)
+
+-- the comments are too long, and neither the source nor the target changed
+abbrev pub IsTooLong : {S T X : Type 0} → (from to : S) → (old new : T) → Result X RetagFault → Type 0
+IsTooLong from to old new result = (result ≡ Err too_long) × (to ≡ from) × (new ≡ old)
 
 -- after the blocks only the source or an allocation fails
 abbrev pub IsBeforeOrOutside : RetagFault → Place → Type 0

@@ -1,5 +1,5 @@
 -- What encoding writes, and that it is a stream of what was given.
-use Rattle.std.specs.Prelude.{◌≡◌, ℕ, ◌*◌, ◌<◌, ◌≤◌, Bool, true, List, [], ◌∷◌, ◌++◌, length, slice_index_or, None}
+use Rattle.std.specs.Prelude.{◌≡◌, ℕ, ◌*◌, ◌<◌, ◌≤◌, Bool, true, List, [], ◌∷◌, ◌++◌, length, slice_index_or, None, Result, IfErr}
 use Rattle.flac_bits.specs.Bits.{unsigned, is_nil, bits_of}
 use Rattle.flac_bits.specs.Forms.{joined}
 use Rattle.flac_bits.specs.Items.{Stream}
@@ -24,6 +24,8 @@ use Rattle.flac_native.specs.Decoding.{beginning}
 use Rattle.flac_native.specs.Stream.{grammar, opening}
 use Rattle.flac_native.specs.Given.{Cut, tried, fits_plan, blocks_in, plan_fault, info_of, sound_message, frame_of, given}
 use Rattle.flac_native.specs.Seeking.{points_of, table_of}
+use Rattle.flac_native.specs.declared.fault.EncodeFault.{EncodeFault}
+use Rattle.flac_native.specs.declared.fault.EncodeFault.TheVariants as encode
 use Rattle.md5.specs.Md5.{md5}
 
 -- ---- frames
@@ -151,3 +153,7 @@ SendsEncoded h p list a old new = h.known old ≡ true → Encodes p list a (bit
 -- it was sent a prefix of one
 abbrev pub SendsEncodedPrefix : {T : Type 0} → target.Ghosts T → Cut → List Block → Sound → T → T → Type 0
 SendsEncodedPrefix h p list a old new = h.known old ≡ true → BeginsEncoding p list a (bits_of (h.sent old)) (bits_of (h.sent new))
+
+-- this holds if the target failed
+abbrev pub IfUnwritten : {X : Type 0} → Result X EncodeFault → Type 0 → Type 0
+IfUnwritten result Says = IfErr result (λ e. e ≡ encode.Write → Says)

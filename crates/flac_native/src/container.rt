@@ -6,8 +6,8 @@ ghost use Rattle.flac_bits.specs.State.{After, Rises};
 ghost use Rattle.flac_bits.specs.Handing.{IsOutside};
 ghost use Rattle.flac_bits.specs.Reasons.{of_output};
 ghost use Rattle.flac_native.specs.Stream.{Progress, Stand};
-ghost use Rattle.flac_native.specs.Track.{IsAt, IsMadeAs, IsInOrder, ReadsPart, piece_of, stand_of};
-ghost use Rattle.flac_native.specs.Coming.{Coming, MeetsNone, StaysClear, ReadIsCounted, KeepsAfter, GivesNext};
+ghost use Rattle.flac_native.specs.Track.{IsMadeAs, IsInOrder, ReadsPart, piece_of, stand_of};
+ghost use Rattle.flac_native.specs.Coming.{Coming, MeetsNone, StaysClear, ReadIsCounted, KeepsAfter, GivesNext, BreaksOutside};
 ghost use Rattle.flac_native.specs.declared.track.Phase.TheVariants.{Frames};
 
 use crate::fault::{Fault, Place};
@@ -98,8 +98,7 @@ pub trait Container {
         // After the last metadata block no memory is allocated.
         ensures memory { (stand_of track.old).phase ≡ Frames → IfErr result (λ f. f.why ≢ Why.Memory) }
         ensures gives { GivesNext known errors raised gives track.old track.new self.old self.new result }
-        ensures broken { (p : Progress) → IsAt track.old p
-            → IfErr result (λ f. IsOutside f.why → breaks self.new p f.at f.why) }
+        ensures broken { BreaksOutside breaks track.old self.new result }
         ensures gave { IfOk result (λ o. IfSome o (λ _. gave self.old self.new)) }
         ensures broke { IfErr result (λ f. IsOutside f.why → broke self.old self.new f.why) }
         ensures made { IfOk result (λ o. IfSome o (λ part. IsMadeAs part track.old track.new)) }

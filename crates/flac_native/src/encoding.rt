@@ -3,7 +3,7 @@
 ghost use Rattle.std.specs.Prelude.{◌≡◌, ◌≢◌, ◌++◌, length, OnOk, IfErr, ◌≤◌, ◌<◌, ◌^◌, ◌↔◌, true, None, Err};
 ghost use Rattle.flac_bits.specs.Written.{Writes};
 ghost use Rattle.flac_native.specs.inner.InOrder.{WritesSome, FailsInSome};
-ghost use Rattle.flac_native.specs.Writing.{blocks_spelling, head_spelling, AreChoices, AreCounted, IsDigest, SendsEncoded, SendsEncodedPrefix};
+ghost use Rattle.flac_native.specs.Writing.{blocks_spelling, head_spelling, AreChoices, AreCounted, IsDigest, SendsEncoded, SendsEncodedPrefix, IfUnwritten};
 ghost use Rattle.flac_native.specs.inner.Writing.{WritesAll, WritesAfterHead, SendsAfterHead, blocks_with_table};
 ghost use Rattle.flac_bits.specs.State.{Rises};
 ghost use Rattle.flac_meta.specs.Listed.{block_fault};
@@ -251,8 +251,7 @@ pub fn encode<W: Target>(
     // Ok only if no error of the target was met, whatever is known of it.
     ensures known { OnOk result (W.known target.old ≡ true → W.known target.new ≡ true) }
     ensures counted { OnOk result (W.errors target.new ≡ W.errors target.old) }
-    ensures begun { IfErr result (λ e. e ≡ EncodeFault.Write
-        → SendsEncodedPrefix W.Target plan.now list.now audio.now target.old target.new) }
+    ensures begun { IfUnwritten result (SendsEncodedPrefix W.Target plan.now list.now audio.now target.old target.new) }
     ensures failed { IfErr result (λ e. e ≡ EncodeFault.Write → TargetFailed W.Target target.old target.new) }
     // An error of the target is counted, if the count can rise, whatever is known of it.
     ensures risen { IfErr result (λ e. e ≡ EncodeFault.Write → Rises (W.errors target.old) (W.errors target.new)) }

@@ -9,8 +9,8 @@ ghost use Rattle.flac_native.specs.Stream.{place_in};
 ghost use Rattle.flac_native.specs.Track.{is_after_blocks};
 ghost use Rattle.flac_native.specs.Item.{fault_pair};
 ghost use Rattle.flac_native.specs.Places.{retag_text};
-ghost use Rattle.flac_native.specs.Retag.{is_before_frames, IsPlaceAt, AreReadFrom, is_comment, HasHeadAt, RefusalIsDue, RefusalIsDueOf, EarlyRefusalIsDue, RefusesWhatIsDue, IsPlaceIn, OnlyTargetFails, SendsRetaggedOf, SendsEachRetagged, SendsPrefixOf, SendsHeadAndPartOf, IsOfDevice, IsBeforeOrOutside, not_read, not_written, too_long};
-ghost use Rattle.flac_native.specs.inner.Retag.{piece_in, kept_one, keeps, MayBeHead, new_head, ReadsNext, MovesOn, KeepsNext, RefusesNext, AreKeptFrom, CalmRefusalIsDue, RefusalIsDueEarly, CopiesAll, CopiesPrefix, SendsRetaggedFrom, SendsPrefixFrom, SendsHeadAndPartFrom, FailsInHead};
+ghost use Rattle.flac_native.specs.Retag.{is_before_frames, IsPlaceAt, AreReadFrom, is_comment, HasHeadAt, RefusalIsDue, RefusalIsDueOf, EarlyRefusalIsDue, RefusesWhatIsDue, IsPlaceIn, OnlyTargetFails, SendsRetaggedOf, SendsEachRetagged, SendsPrefixOf, SendsHeadAndPartOf, IsOfDevice, IsBeforeOrOutside, not_read, not_written, too_long, IfOfDevice, IfUnread, IsTooLong};
+ghost use Rattle.flac_native.specs.inner.Retag.{piece_in, kept_one, keeps, MayBeHead, new_head, ReadsNext, MovesOn, RefusesNext, AreKeptFrom, CalmRefusalIsDue, RefusalIsDueEarly, CopiesAll, CopiesPrefix, SendsRetaggedFrom, SendsPrefixFrom, SendsHeadAndPartFrom, FailsInHead, KeepsOne, IsPlaceFrom};
 ghost use Rattle.flac_native.specs.Sent.{TargetFailed};
 ghost use Rattle.flac_bits.specs.Bits.{bits_of};
 ghost use Rattle.flac_bits.specs.Written.{Adds};
@@ -133,8 +133,7 @@ fn keep_next<R: Source>(
     // proof only
     ensures spends { OnOk result (reader.new.most + 32 ≤ reader.old.most) }
     ensures counts { Counts (lifted reader.old) reader.new (reason_of fault_pair result) }
-    ensures keeps { OnOk result
-        (KeepsNext all position.old position.new reader.old reader.new kept.old.items kept.new.items) }
+    ensures keeps { KeepsOne all position.old position.new reader.old reader.new kept.old.items kept.new.items result }
     ensures refused { IfErr result (λ f. RefusesNext position.old reader.old reader.new f) }
     ensures place { IfErr result (λ f. f.at ≡ place_in position.old.phase position.old.index) }
     ensures at { IfErr result (λ f. is_before_frames f.at ≡ true) }
@@ -333,17 +332,14 @@ fn retag_from<R: Source, W: Target>(
     ensures written { OnOk result (SendsRetaggedFrom W.Target reader.old comments.now target.old target.new) }
     ensures refused { IfErr result (λ f. IfSome f.at (λ at. CalmRefusalIsDue reader.old reader.new at f.why)) }
     ensures foretold { IfErr result (λ f. IfSome f.at (λ at. RefusalIsDueEarly reader.old reader.new at f.why)) }
-    ensures placed { IfErr result (λ f. IfSome f.at (λ at. reader.old.known ≡ true
-        → IsPlaceAt (lifted reader.old).cursor at)) }
+    ensures placed { IfErr result (λ f. IsPlaceFrom reader.old f) }
     ensures memory { IfErr result (λ f. f.why ≡ Why.Memory → f.at ≢ Some Place.Marker) }
     ensures after { IfErr result (λ f. IfSome f.at (λ at. reader.old.known ≡ true → IsBeforeOrOutside f at)) }
     ensures head { OnOk result (reader.old.known ≡ true → HasHeadAt (lifted reader.old).cursor) }
     ensures found { IfErr result (λ f. IsOfDevice f → reader.old.known ≡ true → HasHeadAt (lifted reader.old).cursor) }
     ensures nothing { IfErr result (λ f. f ≢ not_read → f ≢ not_written → target.new ≡ target.old) }
-    ensures begun { IfErr result (λ f. IsOfDevice f
-        → SendsPrefixFrom W.Target reader.old comments.now target.old target.new) }
-    ensures copied { IfErr result (λ f. f ≡ not_read
-        → SendsHeadAndPartFrom W.Target reader.old comments.now target.old target.new) }
+    ensures begun { IfOfDevice result (SendsPrefixFrom W.Target reader.old comments.now target.old target.new) }
+    ensures copied { IfUnread result (SendsHeadAndPartFrom W.Target reader.old comments.now target.old target.new) }
     ensures output { IfErr result (λ f. IfSome f.at (λ _. of_output f.why ≡ false)) }
     ensures placeless { IfErr result (λ f. f.at ≡ None → f ≡ not_written) }
     ensures read { IfErr result (λ f. f.why ≡ Why.Read
@@ -412,8 +408,7 @@ pub fn retag<R: Source, W: Target>(
     target: &mut W,
 ) -> Result<(), RetagFault>
     // Comments that are too long are refused before anything is read, and nothing else is refused so.
-    ensures long { 16777215 < comments_length comments.now
-        → (result ≡ Err too_long) × (source.new ≡ source.old) × (target.new ≡ target.old) }
+    ensures long { 16777215 < comments_length comments.now → IsTooLong source.old source.new target.old target.new result }
     ensures short { result ≡ Err too_long → 16777215 < comments_length comments.now }
     // Ok only if the input begins with a marker and blocks; what was written is exactly these with the comments, and
     // the rest.
@@ -444,12 +439,10 @@ pub fn retag<R: Source, W: Target>(
     // At any error but that of a device after the blocks, nothing was written.
     ensures nothing { IfErr result (λ f. f ≢ not_read → f ≢ not_written → target.new ≡ target.old) }
     // If a device failed after the blocks, a prefix of the output was written.
-    ensures begun { IfErr result (λ f. IsOfDevice f
-        → SendsPrefixOf R.Source W.Target source.old comments.now target.old target.new) }
+    ensures begun { IfOfDevice result (SendsPrefixOf R.Source W.Target source.old comments.now target.old target.new) }
     // An error of the source is reported after the blocks only when the new blocks were written whole: the target's
     // bytes say so, and which prefix of the rest was copied.
-    ensures copied { IfErr result (λ f. f ≡ not_read
-        → SendsHeadAndPartOf R.Source W.Target source.old comments.now target.old target.new) }
+    ensures copied { IfUnread result (SendsHeadAndPartOf R.Source W.Target source.old comments.now target.old target.new) }
     // Only faults of the comments and of the target have no place. A device's error that is returned is counted.
     ensures placeless { IfErr result (λ f. f.at ≡ None → (f ≡ too_long) ⊎ (f ≡ not_written)) }
     // So an error of a target is never at a place, and none is of a sink.

@@ -11,6 +11,10 @@ use Rattle.flac_native.specs.FrameAt.{IsFrameAt, NoFrameAt}
 abbrev pub Stands : Profile → Info → List ℕ → (at : ℕ) → Frame → (n : ℕ) → Type 0
 Stands profile i bytes at f n = IsFrameAt profile i (drop at bytes) f n
 
+-- this holds of each frame that stands at an offset, and of the number of its bytes
+abbrev pub EachStanding : Profile → Info → List ℕ → (at : ℕ) → (Frame → ℕ → Type 0) → Type 0
+EachStanding profile i bytes at Says = (f : Frame) (n : ℕ) → Stands profile i bytes at f n → Says f n
+
 -- no frame stands at an offset
 abbrev pub NoneAt : Profile → Info → List ℕ → (at : ℕ) → Type 0
 NoneAt profile i bytes at = (f : Frame) (n : ℕ) → Stands profile i bytes at f n → ⊥

@@ -1,10 +1,10 @@
 //! The next whole frame in bytes.
 
-ghost use Rattle.std.specs.Prelude.{◌≡◌, ◌≤◌, ◌<◌, ℕ, IfOk, IfErr, OnErr, IsOkAnd, IfSome, Ok, Some, None, drop, ◌+◌, length, get_or, false};
+ghost use Rattle.std.specs.Prelude.{◌≡◌, ◌≤◌, ◌<◌, IfOk, IfErr, OnErr, IfSome, Ok, Some, None, ◌+◌, length, get_or, false};
+ghost use Rattle.flac_salvage.specs.inner.Finding.{EachFrameAt, IsHeldAs, IsNextIn, IsSpentAt};
 ghost use Rattle.flac_info.specs.Info.{KeepsRules};
-ghost use Rattle.flac_frame.specs.Frame.{Frame};
 ghost use Rattle.flac_salvage.specs.inner.Syncs.{IsSync};
-ghost use Rattle.flac_salvage.specs.Standing.{Stands, IsNextWhole, NoneStands, NoneBetween};
+ghost use Rattle.flac_salvage.specs.Standing.{Stands, NoneStands, EachStanding};
 ghost use Rattle.flac_native.specs.FrameAt.{IsFrameAt};
 
 use flac_bits::{BitReader, Memory, Why};
@@ -32,8 +32,7 @@ fn fill_frame(
     ensures room { (buffers.new.channels ≡ buffers.old.channels) × (buffers.new.max_block ≡ buffers.old.max_block) }
     ensures first { OnErr result (buffers.new.before ≡ None) }
     ensures found { IfOk result (λ n. IsFrameAt profile info.now bytes.now buffers.new.held n) }
-    ensures only { (f : Frame) → (n : ℕ) → IsFrameAt profile info.now bytes.now f n
-        → IsOkAnd result (λ m. (buffers.new.held ≡ f) × (m ≡ n)) }
+    ensures only { EachFrameAt profile info.now bytes.now (IsHeldAs result buffers.new.held) }
 {
     // Read only for the proof, which then knows that a slice is shorter than 2^64 bytes.
     let _len = bytes.len();
@@ -85,8 +84,7 @@ fn fill_at(
     ensures room { (buffers.new.channels ≡ buffers.old.channels) × (buffers.new.max_block ≡ buffers.old.max_block) }
     ensures first { OnErr result (buffers.new.before ≡ None) }
     ensures found { IfOk result (λ n. Stands profile info.now bytes.now at buffers.new.held n) }
-    ensures only { (f : Frame) → (n : ℕ) → Stands profile info.now bytes.now at f n
-        → IsOkAnd result (λ m. (buffers.new.held ≡ f) × (m ≡ n)) }
+    ensures only { EachStanding profile info.now bytes.now at (IsHeldAs result buffers.new.held) }
 {
     if !has_sync(bytes, at) {
         return Err(Why::BadSync);
@@ -108,8 +106,7 @@ pub fn whole_at(
     requires first { buffers.old.before ≡ None }
     ensures room { (buffers.new.channels ≡ buffers.old.channels) × (buffers.new.max_block ≡ buffers.old.max_block) }
     ensures found { IfSome result (λ n. Stands profile info.now bytes.now at buffers.new.held n) }
-    ensures only { (f : Frame) → (n : ℕ) → Stands profile info.now bytes.now at f n
-        → (buffers.new.held ≡ f) × (result ≡ Some n) }
+    ensures only { EachStanding profile info.now bytes.now at (λ f n. (buffers.new.held ≡ f) × (result ≡ Some n)) }
 {
     // Asked only for the proof, which then knows that STREAMINFO keeps its rules.
     let _channels = info.channels();
@@ -145,11 +142,9 @@ pub fn next_whole(
     requires block { info.now.greatest_block ≤ buffers.old.max_block }
     requires first { buffers.old.before ≡ None }
     ensures room { (buffers.new.channels ≡ buffers.old.channels) × (buffers.new.max_block ≡ buffers.old.max_block) }
-    ensures found { IfOk result (λ o. IfSome o (λ p.
-        IsNextWhole profile info.now bytes.now from p.0 buffers.new.held p.1)) }
+    ensures found { IfOk result (λ o. IfSome o (IsNextIn profile info.now bytes.now from buffers.new.held)) }
     ensures none { result ≡ Ok None → (buffers.new.before ≡ None) × NoneStands profile info.now bytes.now from }
-    ensures spent { IfErr result (λ at. (buffers.new.before ≡ None) × (budget.new ≡ 0) × (from ≤ at)
-        × NoneBetween profile info.now bytes.now from at) }
+    ensures spent { IfErr result (IsSpentAt profile info.now bytes.now from buffers.new.before budget.new) }
 {
     // Asked only for the proof, which then knows that STREAMINFO keeps its rules.
     let _channels = info.channels();

@@ -1,6 +1,7 @@
 -- What comes before the samples of a WAV file, for reading it part by part: how many bytes the samples have is judged when
 -- they have come.
 use Rattle.std.specs.Prelude.{◌≡◌, ◌≤◌, ℕ, ◌%◌, ◌&&◌, Bool, true, not, cond, nat_eq, List, [], ◌∷◌, ◌++◌, length, map, take, drop, Option, Some, None}
+use Rattle.flac_bits.specs.declared.source.Source as source
 use Rattle.flac_wave.specs.Chunks.{Leads, header_fault, seen_first, is_data, size_of, stated, is_unstated}
 use Rattle.flac_wave.specs.Format.{IsInRange, row_of}
 use Rattle.flac_wave.specs.Parts.{given, is_cut}
@@ -30,6 +31,10 @@ pub record IsFront (to_end : Bool) (bytes : List ℕ) (format : WaveFormat) (pie
 -- the same of what a call returns
 abbrev pub BeginsWith : (to_end : Bool) (bytes : List ℕ) → WaveFront → (rest : List ℕ) → Type 0
 BeginsWith to_end bytes f rest = IsFront to_end bytes f.format (map (λ p. p.items) f.pieces.items) f.size f.count rest
+
+-- the bytes of a source do, if they are known, and the others are still to come
+abbrev pub Begins : {S : Type 0} (g : source.Ghosts S) → (to_end : Bool) → (old new : S) → WaveFront → Type 0
+Begins g to_end old new f = g.known old ≡ true → BeginsWith to_end (g.coming old) f (g.coming new)
 
 -- Why what came is no samples: the file ended inside them (`cut`) and they may not go on to its end, or they are no whole
 -- number of inter-channel samples.

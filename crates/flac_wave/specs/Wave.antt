@@ -1,5 +1,5 @@
 -- What a WAV file is, and how it is made again of pieces and samples.
-use Rattle.std.specs.Prelude.{◌≡◌, ℕ, ◌%◌, ◌&&◌, Bool, true, false, cond, nat_eq, List, [], ◌∷◌, ◌++◌, length, take, drop, map, Option, Some, None}
+use Rattle.std.specs.Prelude.{◌≡◌, ℕ, ◌%◌, ◌&&◌, Bool, true, false, cond, nat_eq, List, [], ◌∷◌, ◌++◌, length, take, drop, map, Option, Some, None, Vec}
 use Rattle.flac_wave.specs.Chunks.{Leads, header_fault, seen_first, fault_at, is_data, data_len}
 use Rattle.flac_wave.specs.Cuts.{AreCuts}
 use Rattle.flac_wave.specs.declared.seen.Seen.{Seen}
@@ -8,6 +8,7 @@ use Rattle.flac_wave.specs.declared.waves.Wave.{Wave}
 use Rattle.flac_wave.specs.declared.waves.WaveError.{WaveError}
 use Rattle.flac_wave.specs.declared.waves.WaveError.TheVariants as error
 use Rattle.flac_wave.specs.declared.why.WaveWhy.{WaveWhy}
+use Rattle.std.specs.declared.alloc.Global.{Global}
 
 -- ---- the parts of a file
 
@@ -88,6 +89,10 @@ abbrev pub ArePiecesBy : (even zero : Bool) (back : List ℕ) (pieces : List (Li
 ArePiecesBy true zero back pieces = AreCuts pieces back
 ArePiecesBy false true back pieces = AreCuts pieces (drop 1 back)
 ArePiecesBy false false back pieces = (ps : List (List ℕ)) × (pieces ≡ [] ∷ ps) × AreCuts ps back
+
+-- vectors are these pieces
+abbrev pub AreCutBy : (even : Bool) (back : List ℕ) (pieces : List (Vec ℕ Global)) → Type 0
+AreCutBy even back pieces = ArePiecesBy even (begins_zero back) back (map (λ p. p.items) pieces)
 
 abbrev pub ArePiecesAfter : (samples back : List ℕ) (pieces : List (List ℕ)) → Type 0
 ArePiecesAfter samples back pieces = ArePiecesBy (nat_eq (length samples % 2) 0) (begins_zero back) back pieces

@@ -2,7 +2,7 @@
 
 ghost use Rattle.std.specs.Prelude.{◌≡◌, ◌≤◌, ◌<◌, length, map, not, true, IfOk, OnOk};
 ghost use Rattle.flac_wave.specs.Cuts.{piece_len, AddsCuts};
-ghost use Rattle.flac_wave.specs.Wave.{ArePiecesAfter, ArePiecesBy, begins_zero};
+ghost use Rattle.flac_wave.specs.Wave.{ArePiecesAfter, begins_zero, AreCutBy};
 
 use crate::chunks::{MOST_KEPT, chunk_len};
 use std::alloc::{AllocError, Global};
@@ -67,8 +67,7 @@ pub fn cut(alloc: Global, samples: &[u8], back: &[u8]) -> Result<Vec<Vec<u8>>, A
 /// # Errors
 /// An allocation fails.
 pub fn cut_after(alloc: Global, odd: bool, back: &[u8]) -> Result<Vec<Vec<u8>>, AllocError>
-    ensures { IfOk result (λ pieces.
-        ArePiecesBy (not odd) (begins_zero back.now) back.now (map (λ p. p.items) pieces.items)) }
+    ensures { IfOk result (λ pieces. AreCutBy (not odd) back.now pieces.items) }
 {
     let mut pieces = Vec::new(alloc);
     if !odd {

@@ -2,11 +2,11 @@
 
 ghost use Rattle.std.specs.Prelude.{◌≡◌, ◌≤◌, ◌<◌, ◌+◌, ◌++◌, [], true, false, cond, nat_lt, nat_eq, length, Some, None, IfOk, IfErr, OnOk};
 ghost use Rattle.flac_wave.specs.Calls.{IfRead};
-ghost use Rattle.flac_wave.specs.Chunks.{is_data, size_of, stated, data_fault};
+ghost use Rattle.flac_wave.specs.Chunks.{is_data, size_of, stated};
 ghost use Rattle.flac_wave.specs.Format.{IsInRange};
-ghost use Rattle.flac_wave.specs.Front.{BeginsWith, front_fault};
+ghost use Rattle.flac_wave.specs.Front.{front_fault, Begins};
 ghost use Rattle.flac_wave.specs.Wave.{IsErrorOf};
-ghost use Rattle.flac_wave.specs.inner.Pieces.{ReadsPiece, IsPieceError, KnownInRange, error_at};
+ghost use Rattle.flac_wave.specs.inner.Pieces.{ReadsPiece, IsPieceError, error_at, IsPieceErrorOf};
 
 use crate::chunks::{MOST_KEPT, chunk_len, header_fault, is_data, stated};
 use crate::format::{WaveFormat, long_at};
@@ -57,8 +57,7 @@ fn read_chunk<R: Source>(
     ensures known { OnOk result (R.known source.old ≡ true → R.known source.new ≡ true) }
     ensures counted { OnOk result (R.raised source.new ≡ R.raised source.old) }
     ensures most { OnOk result (R.most source.new ≤ R.most source.old) }
-    ensures fault { IfErr result (λ e. IfRead R.Source source.old source.new
-        (IsPieceError count (head.items ++ R.coming source.old) e)) }
+    ensures fault { IfErr result (IsPieceErrorOf R.Source source.old source.new count head.items) }
     ensures names { R.names source.new ≡ R.names source.old }
 {
     let left = chunk_len(head.as_slice()) - 8;
@@ -143,8 +142,7 @@ pub fn read_front<R: Source>(
     source: &mut R,
     to_end: bool,
 ) -> Result<WaveFront, WaveError>
-    ensures found { IfOk result (λ f. R.known source.old ≡ true →
-        BeginsWith to_end (R.coming source.old) f (R.coming source.new)) }
+    ensures found { IfOk result (Begins R.Source to_end source.old source.new) }
     ensures range { IfOk result (λ f. IsInRange f.format) }
     ensures known { OnOk result (R.known source.old ≡ true → R.known source.new ≡ true) }
     ensures counted { OnOk result (R.raised source.new ≡ R.raised source.old) }

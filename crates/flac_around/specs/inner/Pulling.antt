@@ -1,5 +1,5 @@
 -- For proofs: what calls of a source did, one after another.
-use Rattle.std.specs.Prelude.{◌≡◌, ◌≤◌, ◌<◌, ℕ, ◌+◌, min, true, List, [], ◌++◌, length, drop, is_some, None}
+use Rattle.std.specs.Prelude.{◌≡◌, ◌≤◌, ◌<◌, ℕ, ◌+◌, min, true, List, [], ◌++◌, length, take, drop, is_some, None}
 use Rattle.flac_around.specs.Around.{front_length, past_front}
 use Rattle.flac_bits.specs.Sources.{SameEnd, Ended}
 use Rattle.flac_bits.specs.State.{Rises}
@@ -44,6 +44,10 @@ GivesBoth g old new first second = g.known old ≡ true → g.coming old ≡ fir
 -- some of them, after `held`, so that `bytes` are held now
 abbrev pub GivesAfter : {S : Type 0} → source.Ghosts S → (old new : S) → (held bytes : List ℕ) → Type 0
 GivesAfter g old new held bytes = g.known old ≡ true → held ++ g.coming old ≡ bytes ++ g.coming new
+
+-- the same of places of which those up to `from` are held before, and those up to n now
+abbrev pub FillsPlaces : {S : Type 0} → source.Ghosts S → (old new : S) → (from : ℕ) (before after : List ℕ) → (n : ℕ) → Type 0
+FillsPlaces g old new from before after n = GivesAfter g old new (take from before) (take n after)
 
 -- of those that were held and those to come `bytes` go, and `held` are held now
 abbrev pub Slides : {S : Type 0} → source.Ghosts S → (old new : S) → (before bytes held : List ℕ) → Type 0

@@ -1,7 +1,7 @@
 -- For proofs of loops that read: what is still to be read.
-use Rattle.std.specs.Prelude.{◌≡◌, ◌≤◌, ◌<◌, ◌+◌, ◌-◌, ℕ, ℤ, pos, true, List, length, take, get_or, Result}
+use Rattle.std.specs.Prelude.{◌≡◌, ◌≤◌, ◌<◌, ◌+◌, ◌-◌, ℕ, ℤ, pos, true, List, length, take, get_or, Result, Ok, ◌^◌, Some}
 use Rattle.flac_bits.specs.State.{State, Cursor}
-use Rattle.flac_bits.specs.Layout.{Layout, Reason, run, and_then}
+use Rattle.flac_bits.specs.Layout.{Layout, Reason, run, and_then, number_at, zeros_at}
 use Rattle.flac_bits.specs.Lists.{list_of, after}
 use Rattle.flac_bits.specs.Reading.{HeldEnds}
 use Rattle.flac_bits.specs.Rice.{rice_value, IsResidual}
@@ -29,6 +29,18 @@ SameSource old new = (new.known ≡ old.known) × (new.errors ≡ old.errors) ×
 abbrev pub TookHeld : State → State → Type 0
 TookHeld old new = old.held + length new.cursor.left ≡ new.held + length old.cursor.left
 
+-- the word had these n bits, which are this number
+abbrev pub TookBits : (n v : ℕ) → State → State → Type 0
+TookBits n v old new = (v < 2 ^ n) × (new.most + n ≡ old.most) × SameSource old new × (number_at n old.cursor ≡ Ok (v, new.cursor))
+
+-- the word had these q zeros, of which there are at most `limit`, and the one after them
+abbrev pub TookZeros : (limit q : ℕ) → State → State → Type 0
+TookZeros limit q old new = (q ≤ limit) × (new.most ≤ old.most) × SameSource old new × (zeros_at limit old.cursor ≡ Ok (Some q, new.cursor))
+
+-- The word had what was read, a value, with the position after it.
+abbrev pub FromWord : {X : Type 0} (old new : State) → Result (X × Cursor) Reason → X → Type 0
+FromWord old new answer x = (new.most ≤ old.most) × SameSource old new × (answer ≡ Ok (x, new.cursor))
+
 -- n values under one Rice parameter, one after another
 abbrev pub rice_values : (k n : ℕ) → Layout (List ℤ)
 rice_values k n = list_of n (rice_value k)
@@ -36,6 +48,10 @@ rice_values k n = list_of n (rice_value k)
 -- the values from an index on are read from a position, after those before it
 abbrev pub values_from : (k n : ℕ) → List ℤ → ℕ → Cursor → Result (List ℤ × Cursor) Reason
 values_from k n values i at = and_then (run (rice_values k (n - i)) at) (after (take i values))
+
+-- the values from one index on at one position are those from a later index on at a later position
+abbrev pub LeavesValues : (k n : ℕ) → (old : List ℤ) → (from : ℕ) → Cursor → (new : List ℤ) → (to : ℕ) → Cursor → Type 0
+LeavesValues k n old from at new to later = values_from k n old from at ≡ values_from k n new to later
 
 -- a loop that reads n values pulled only for those from one index up to another
 abbrev pub DrawsValues : (k n from to : ℕ) → State → State → Type 0

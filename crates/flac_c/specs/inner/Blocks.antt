@@ -81,6 +81,10 @@ pub record HeadRead (profile : Profile) (start now : State) (Told : List Piece �
   pub read : PartsRead profile start now Told
   pub phase : (state_after grammar (opening profile) read.parts).stand.phase ≡ Frames
 
+-- the same in each profile, and what a cursor needs of the blocks is kept
+abbrev pub PartsFound : (start now : State) → (sample : ℕ) → Metadata → Type 0
+PartsFound start now sample found = (profile : Profile) → HeadRead profile start now (FoundOf profile sample found)
+
 -- what comes from the start on is refused at this place
 abbrev pub IsRefusedAt : Profile → State → Fault → Type 0
 IsRefusedAt profile start f = (parts : List Piece) × Refused grammar (opening profile) start.cursor.mark parts start.cursor.left f.at f.why

@@ -1,13 +1,15 @@
 -- For proofs of reading pages: pages that are read one after another.
-use Rattle.std.specs.Prelude.{◌≡◌, ℕ, cond, true, false, List, [], ◌++◌, Option, Some, None, Ok}
+use Rattle.std.specs.Prelude.{◌≡◌, ℕ, cond, true, false, List, [], ◌++◌, Option, Some, None, Ok, Err}
+use Rattle.flac_bits.specs.Layout.{because}
 use Rattle.flac_bits.specs.State.{State, Cursor}
 use Rattle.flac_bits.specs.Unchecked.{begun_anew}
 use Rattle.flac_bits.specs.declared.why.Why.{Why}
 use Rattle.flac_bits.specs.declared.why.Why.TheVariants.{Truncated}
 use Rattle.flac_pages.specs.declared.page.Before.{Before}
 use Rattle.flac_pages.specs.Page.{Page, is_last, after_page}
-use Rattle.flac_pages.specs.Pages.{next_page}
+use Rattle.flac_pages.specs.Pages.{next_page, end_fault}
 use Rattle.flac_pages.specs.Packets.{Place, ahead}
+use Rattle.flac_c.specs.inner.Blocks.{IfServed}
 
 -- what the page after a page must agree with, if it is not marked last
 abbrev pub after_or_last : Option Before → Page → Option Before
@@ -22,6 +24,15 @@ pub record PageAdded (before : Option Before) (old new : State) (list longer : L
   pub known : new.known ≡ true
   pub errors : new.errors ≡ old.errors
   pub short : new.cursor.mark.short ≡ old.cursor.mark.short
+
+-- the next page is refused for this reason, if the source returned no error and memory did not run out
+abbrev pub RefusesPage : Option Before → (old new : State) → Why → Type 0
+RefusesPage before old new why = IfServed old new why (next_page before old.cursor ≡ Err (because why))
+
+-- after this number of pages, the last of which is marked so, this is why nothing may come, if the source returned no
+-- error
+abbrev pub IsEndFault : (count : ℕ) → (old new : State) → ℕ × Why → Type 0
+IsEndFault count old new e = new.errors ≡ old.errors → (e.0 ≡ count) × (end_fault old.cursor ≡ Some e.1)
 
 -- a reader of packets in front of a page
 abbrev pub in_front : Option Before → (count : ℕ) → Cursor → Place

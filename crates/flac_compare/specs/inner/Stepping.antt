@@ -12,7 +12,9 @@ use Rattle.flac_reader.specs.Coming.{FramesCome, IsCalm}
 use Rattle.flac_reader.specs.Giving.{last_frame}
 use Rattle.flac_reader.specs.declared.reader.Reader.{Reader}
 use Rattle.flac_compare.specs.Samples.{samples_from, samples_of}
-use Rattle.flac_compare.specs.Compared.{counted}
+use Rattle.flac_compare.specs.Compared.{counted, ComparesFrames}
+use Rattle.flac_compare.specs.declared.difference.Difference.{Difference}
+use Rattle.flac_compare.specs.declared.difference.Unread.{Unread}
 
 -- the metadata of a reader stays, and so do the references that it goes through
 pub record Stays {C : Type 0} {g : container.Ghosts C} (old new : Reader C g) : Type 0 where
@@ -53,3 +55,7 @@ Enters old left new more (Err f) = IsCalmIn old new → f.why ≢ Memory → (sa
 abbrev pub CountsRest : {C : Type 0} {g : container.Ghosts C} → Reader C g → ℕ → Reader C g → Result ℕ Fault → Type 0
 CountsRest old left new (Ok n) = IsKnown old → (samples : List (List ℤ)) (end : Option (Place × Why)) → SamplesLeft old left samples end → (n ≡ counted (length samples)) × (end ≡ None)
 CountsRest old left new (Err f) = IsCalmIn old new → f.why ≢ Memory → (samples : List (List ℤ)) (end : Option (Place × Why)) → SamplesLeft old left samples end → end ≡ Some (fault_pair f)
+
+-- the samples of two streams are compared, if neither device failed
+abbrev pub ComparesInCalm : {C D : Type 0} {g : container.Ghosts C} {h : container.Ghosts D} → (first next : Reader C g) → (second later : Reader D h) → Result (Option Difference) Unread → Type 0
+ComparesInCalm first next second later result = IsCalmIn first next → IsCalmIn second later → ComparesFrames first second result

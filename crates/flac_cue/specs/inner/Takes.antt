@@ -1,5 +1,6 @@
 -- What a call that reads a line says of the sheet so far.
-use Rattle.std.specs.Prelude.{◌≡◌, ℕ, List, Result, Ok, Err}
+use Rattle.std.specs.Prelude.{◌≡◌, ℕ, List, Result, Ok, Err, MatchResult}
+use Rattle.flac_meta.specs.declared.cue_sheet.CueSheet.{CueSheet}
 use Rattle.flac_meta.specs.declared.cue_sheet.CueTrack.{CueTrack}
 use Rattle.flac_cue.specs.declared.fault.CueWhy.{CueWhy}
 use Rattle.flac_cue.specs.declared.fault.CueFault.{CueFault}
@@ -25,3 +26,7 @@ Closes (Err e) old new next r = IfRule (λ y. r ≡ Err y) e
 abbrev pub fault_at : (line : ℕ) → Wrong → CueFault
 fault_at line wrong.Memory = fault.Memory
 fault_at line (wrong.Rule e) = fault.Line line e
+
+-- the sheet is this one, or a rule is broken, as the definition says
+abbrev pub IsFinished : Result CueSheet CueWhy → Result CueSheet Wrong → Type 0
+IsFinished due result = MatchResult result (λ sheet. due ≡ Ok sheet) (IfRule (λ why. due ≡ Err why))

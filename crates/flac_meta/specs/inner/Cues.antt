@@ -1,14 +1,19 @@
 -- For proofs of writing: the fields of a cue sheet before its tracks, and of a track before its index points.
-use Rattle.std.specs.Prelude.{◌+◌, ◌*◌, Bool, List, [], ◌∷◌, length, not}
+use Rattle.std.specs.Prelude.{ℕ, ◌+◌, ◌*◌, Bool, List, [], ◌∷◌, length, not}
 use Rattle.flac_bits.specs.Bits.{unsigned, bits_of, bit_value}
 use Rattle.flac_bits.specs.Forms.{joined}
 use Rattle.flac_meta.specs.Spelling.{zero_bits}
 use Rattle.flac_meta.specs.declared.cue_sheet.CueTrack.{CueTrack}
+use Rattle.flac_meta.specs.declared.cue_sheet.TrackFront.{TrackFront}
 use Rattle.flac_meta.specs.declared.cue_sheet.CueSheet.{CueSheet}
 
 -- catalogue number, samples of the lead-in, whether it is a CD's, reserved bits (RFC 9639, section 8.7)
 abbrev pub sheet_front_spelling : CueSheet → List Bool
 sheet_front_spelling s = joined (bits_of s.catalogue ∷ unsigned 64 s.lead_in ∷ unsigned 1 (bit_value s.cd) ∷ zero_bits (7 + 8 * 258) ∷ [])
+
+-- the fields of a track before its index points (section 8.7.1), as they are read
+abbrev pub fields_of : TrackFront → ℕ × ℕ × List ℕ × Bool × Bool
+fields_of f = (f.offset, f.number, f.isrc, f.audio, f.pre_emphasis)
 
 -- offset, number and recording code (section 8.7.1)
 abbrev pub track_front_spelling : CueTrack → List Bool

@@ -1,5 +1,5 @@
 -- For proofs of retagging: which blocks are kept, and the head that is written.
-use Rattle.std.specs.Prelude.{◌≡◌, ◌≢◌, Bool, true, false, List, [], ◌∷◌, ◌++◌, length, Option, Some, None, ◌<◌, Result}
+use Rattle.std.specs.Prelude.{◌≡◌, ◌≢◌, Bool, true, false, List, [], ◌∷◌, ◌++◌, length, Option, Some, None, ◌<◌, Result, OnOk, IfSome}
 use Rattle.flac_bits.specs.Bits.{unsigned, bits_of}
 use Rattle.flac_bits.specs.State.{Cursor, State, started}
 use Rattle.flac_bits.specs.Fencing.{lifted}
@@ -20,10 +20,11 @@ use Rattle.flac_native.specs.Stream.{Piece, Stand, Progress, marked, block, fram
 use Rattle.flac_native.specs.Track.{position_of}
 use Rattle.flac_native.specs.declared.fault.Fault.{Fault}
 use Rattle.flac_native.specs.declared.fault.Place.{Place}
+use Rattle.flac_native.specs.declared.retagging.RetagFault.{RetagFault}
 use Rattle.flac_native.specs.declared.position.Position.{Position}
 use Rattle.flac_native.specs.inner.InOrder.{MayBeWritten}
 use Rattle.flac_native.specs.Writing.{blocks_spelling}
-use Rattle.flac_native.specs.Retag.{unless_comment, without_comments, BeginsWith, is_before_frames, IsRefusedAt, RefusalIsDue, SendsRetagged, SendsPrefix, SendsHeadAndPart}
+use Rattle.flac_native.specs.Retag.{unless_comment, without_comments, BeginsWith, is_before_frames, IsRefusedAt, RefusalIsDue, SendsRetagged, SendsPrefix, SendsHeadAndPart, IsPlaceAt}
 
 -- a stand at another position
 abbrev pub stand_at : Position → Stand → Stand
@@ -84,6 +85,10 @@ KeepsNext all at to old new before after =
     (p : Progress) → position_of p.stand ≡ at → (x : Piece) × (position_of (next p x).stand ≡ to) × keeps all before x after
     × (old.known ≡ true → step_at grammar p (lifted old).cursor ≡ item x new.cursor)
 
+-- so it is if the call succeeded
+abbrev pub KeepsOne : {X E : Type 0} → (all : Bool) → (at to : Position) → (old new : State) → (before after : List Block) → Result X E → Type 0
+KeepsOne all at to old new before after result = OnOk result (KeepsNext all at to old new before after)
+
 -- the next part is refused
 abbrev pub RefusesNext : Position → State → State → Fault → Type 0
 RefusesNext at old new f =
@@ -94,6 +99,10 @@ RefusesNext at old new f =
 -- if its bytes are known, these blocks are kept of it, after which the others are left
 abbrev pub AreKeptFrom : (all : Bool) → State → List Block → State → Type 0
 AreKeptFrom all old kept new = old.known ≡ true → AreKept all (lifted old).cursor kept new.cursor.left
+
+-- if the bytes are known, the place of a fault, if it has one, is that of an item
+abbrev pub IsPlaceFrom : State → RetagFault → Type 0
+IsPlaceFrom old f = IfSome f.at (λ at. old.known ≡ true → IsPlaceAt (lifted old).cursor at)
 
 -- a refusal is due if the source returned no error, foretold or not
 abbrev pub CalmRefusalIsDue : State → State → Place → Why → Type 0

@@ -11,6 +11,7 @@ use Rattle.flac_wave.specs.declared.waves.WaveError.{WaveError}
 use Rattle.flac_wave.specs.declared.waves.WaveError.TheVariants as error
 use Rattle.flac_wave.specs.declared.waves.WaveFault.{WaveFault}
 use Rattle.flac_wave.specs.declared.why.WaveWhy.{WaveWhy}
+use Rattle.flac_wave.specs.Calls.{IfRead}
 
 -- The bytes begin with this piece: the header of the chunk of samples, or another chunk, of which all is there that comes.
 pub record IsPiece (bytes piece rest : List ℕ) : Type 0 where
@@ -44,3 +45,7 @@ IsPieceError count bytes (error.Fault f) = (f.chunk ≡ Some count) × ((s : See
 abbrev pub KnownInRange : Option WaveFormat → Type 0
 KnownInRange None = Unit {0}
 KnownInRange (Some f) = IsInRange f
+
+-- the same of the bytes of a source after these, if they are known and it returned no error in the call
+abbrev pub IsPieceErrorOf : {S : Type 0} (g : source.Ghosts S) (old new : S) → (count : ℕ) (head : List ℕ) → WaveError → Type 0
+IsPieceErrorOf g old new count head e = IfRead g old new (IsPieceError count (head ++ g.coming old) e)
