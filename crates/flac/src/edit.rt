@@ -1,12 +1,13 @@
 //! `flac edit`: edits the metadata blocks of files.
 
-use crate::edited::tell_edited;
+use crate::edited::{end_edit, tell_edited};
+use crate::ogg_edit::edit_ogg_file;
 use flac_bits::Counted;
-use flac_cli::{EditPaths, edit_changes, edit_file, picture_of, removals_of};
+use flac_cli::{EditPaths, edit_changes, edit_file, picture_of, points_of, removals_of};
 use flac_edit::{BlockEdits, Removal};
 use flac_files::{FileRefused, TagFile, read_cue_sheet, read_picture};
 use flac_jobs::{Editing, PictureWord};
-use flac_meta::Picture;
+use flac_meta::{Picture, SeekPoint};
 
 /// Edits the metadata blocks of each file. Returns the status: 1 if one is refused.
 pub(crate) fn edit_files(rt: &HostRuntime, editing: &Editing<'_>) -> u8 {
@@ -55,6 +56,7 @@ fn edit_by<'a>(
     let edits = BlockEdits {
         removals,
         cue,
+        points: None,
         pictures,
         padding: editing.padding,
     };
@@ -122,6 +124,46 @@ fn edit_opened<'a>(
     file: &TagFile<'a>,
     edits: &BlockEdits<'_>,
 ) -> Result<Option<&'static str>, FileRefused<'a>> {
+    if file.is_ogg() {
+        return edit_ogg_file(rt, editing, path, file, edits);
+    }
+    let Some(every) = editing.seek_every else {
+        return edit_blocks(rt, editing, path, file, edits);
+    };
+    let Some(points) = points_in(rt, path, file, every)? else {
+        return Ok(None);
+    };
+    let with_table = BlockEdits {
+        points: Some(&points),
+        ..*edits
+    };
+    edit_blocks(rt, editing, path, file, &with_table)
+}
+
+/// The points of the seek table that a file gets; `None` if it is refused, and its line was printed.
+fn points_in<'a>(
+    rt: &HostRuntime,
+    path: &str,
+    file: &TagFile<'a>,
+    every: u32,
+) -> Result<Option<Vec<SeekPoint>>, FileRefused<'a>> {
+    if every == 0 {
+        return Ok(Some(Vec::new(rt.alloc())));
+    }
+    let bytes = file.contents(rt)?;
+    let mut err = Counted::new(rt.stderr());
+    Ok(points_of(rt.alloc(), path, &bytes, every, &mut err))
+}
+
+/// Edits the blocks of a file by these edits, if they change them. Returns what became of it; `None` if it is refused, and
+/// its line was printed.
+fn edit_blocks<'a>(
+    rt: &HostRuntime,
+    editing: &Editing<'_>,
+    path: &str,
+    file: &TagFile<'a>,
+    edits: &BlockEdits<'_>,
+) -> Result<Option<&'static str>, FileRefused<'a>> {
     let mut source = Counted::new(file.reader()?);
     let mut err = Counted::new(rt.stderr());
     let paths = EditPaths {
@@ -148,13 +190,12 @@ fn rewrite_opened<'a>(
     let mut target = Counted::new(output);
     let mut err = Counted::new(rt.stderr());
     let status = edit_file(rt.alloc(), paths, edits, &mut source, &mut target, &mut err);
-    let output = target.into_inner();
-    let kept = if editing.keep_times {
-        file.keep_time_of(&output)
-    } else {
-        Ok(())
-    };
-    ending.end(rt, output, if kept.is_ok() { status } else { 1 })?;
-    kept?;
-    Ok((status == 0).then_some("rewritten"))
+    end_edit(
+        rt,
+        file,
+        editing.keep_times,
+        target.into_inner(),
+        ending,
+        status,
+    )
 }

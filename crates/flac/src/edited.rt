@@ -1,6 +1,6 @@
 //! What became of a file that was edited.
 
-use flac_files::FileRefused;
+use flac_files::{FileRefused, NewFile, Output, TagFile};
 
 /// Tells what became of a file: with `verbose` prints the word for it; `None` if its refusal was printed. Returns the
 /// status.
@@ -16,6 +16,26 @@ pub(crate) fn tell_edited(
         Ok(None) => 1,
         Err(refused) => refused.tell(rt),
     }
+}
+
+/// Ends the edit of a file, to which a new one was written: with status 0 that takes its place, with the time at which it
+/// was changed if that is kept. Returns what became of it; `None` after another status.
+pub(crate) fn end_edit<'a>(
+    rt: &HostRuntime,
+    file: &TagFile<'a>,
+    keep_times: bool,
+    output: Output,
+    ending: NewFile<'a>,
+    status: u8,
+) -> Result<Option<&'static str>, FileRefused<'a>> {
+    let kept = if keep_times {
+        file.keep_time_of(&output)
+    } else {
+        Ok(())
+    };
+    ending.end(rt, output, if kept.is_ok() { status } else { 1 })?;
+    kept?;
+    Ok((status == 0).then_some("rewritten"))
 }
 
 /// Prints what became of a file. Returns the status.

@@ -1,8 +1,9 @@
 //! `flac export`: writes a part of the metadata of a stream to a file.
 
+use flac_around::Trimmed;
 use flac_bits::Counted;
-use flac_cli::export_file;
-use flac_files::JobFiles;
+use flac_cli::{export_file, export_ogg};
+use flac_files::{Input, JobFiles, Output, is_ogg_at};
 use flac_jobs::{ExportPart, Exporting, Job};
 
 /// Opens the files, and exports the part. Returns the status.
@@ -35,19 +36,40 @@ fn export_over(
         output,
         ending,
     } = files;
-    let mut source = Counted::new(input);
     let mut target = Counted::new(output);
-    let mut err = Counted::new(rt.stderr());
-    let status = export_file(
-        rt.alloc(),
-        exporting,
-        part,
-        &mut source,
-        &mut target,
-        &mut err,
-    );
+    let status = if is_ogg_at(rt, exporting.input) {
+        export_from_ogg(rt, exporting, part, input, &mut target)
+    } else {
+        export_from_native(rt, exporting, part, input, &mut target)
+    };
     match ending.end(rt, target.into_inner(), status) {
         Ok(()) => status,
         Err(refused) => refused.tell(rt),
     }
+}
+
+/// Exports the part of a native stream. Returns the status.
+fn export_from_native(
+    rt: &HostRuntime,
+    exporting: &Exporting<'_>,
+    part: ExportPart,
+    input: Input,
+    target: &mut Counted<Output>,
+) -> u8 {
+    let mut source = Counted::new(input);
+    let mut err = Counted::new(rt.stderr());
+    export_file(rt.alloc(), exporting, part, &mut source, target, &mut err)
+}
+
+/// Exports the part of an Ogg stream. Returns the status.
+fn export_from_ogg(
+    rt: &HostRuntime,
+    exporting: &Exporting<'_>,
+    part: ExportPart,
+    input: Input,
+    target: &mut Counted<Output>,
+) -> u8 {
+    let source = Trimmed::new(Counted::new(input));
+    let mut err = Counted::new(rt.stderr());
+    export_ogg(rt.alloc(), exporting, part, source, target, &mut err)
 }

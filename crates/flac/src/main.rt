@@ -2,19 +2,26 @@
 #![tactic(auto)]
 
 mod between;
+mod copy;
 mod edit;
 mod edited;
+mod encode_twice;
 mod excerpt;
 mod export;
 mod list;
+mod ogg_edit;
+mod ogg_tag;
 mod recode;
 mod salvage;
 mod same;
 mod tag;
+mod tag_out;
 mod verify;
 
 use crate::between::do_between;
+use crate::copy::copy;
 use crate::edit::edit_files;
+use crate::encode_twice::encode_twice;
 use crate::excerpt::excerpt;
 use crate::export::export;
 use crate::list::list_files;
@@ -24,8 +31,8 @@ use crate::same::same;
 use crate::tag::tag_files;
 use crate::verify::verify;
 use flac_bits::Counted;
-use flac_cli::{Task, run};
-use flac_files::JobFiles;
+use flac_cli::{Task, encodes_twice, run};
+use flac_files::{JobFiles, reads_twice};
 use flac_jobs::{CommandLine, Job, Request};
 use flac_words::{given_words, request};
 use std::process::ExitCode;
@@ -45,6 +52,7 @@ fn main(rt: HostRuntime) -> ExitCode {
         Ok(Request::Verify(verification)) => verify(&rt, &verification),
         Ok(Request::Same(comparison)) => same(&rt, &comparison),
         Ok(Request::Recode(recoding)) => recode(&rt, &recoding),
+        Ok(Request::Copy(asked)) => copy(&rt, &asked),
         Ok(Request::Excerpt(part)) => excerpt(&rt, &part),
         Ok(Request::Salvage(asked)) => salvage(&rt, &asked),
         Err(fault) => fault.tell(&rt),
@@ -53,6 +61,9 @@ fn main(rt: HostRuntime) -> ExitCode {
 
 /// Opens the files of the job, and does it. Returns the status.
 fn perform(rt: &HostRuntime, line: &CommandLine<'_>) -> u8 {
+    if encodes_twice(&line.job) && reads_twice(rt, &line.job) {
+        return encode_twice(rt, line);
+    }
     match JobFiles::open(rt, &line.job, line.force) {
         Ok(files) if line.any => do_between(rt, &line.job, files),
         Ok(files) => do_over(rt, &line.job, files),

@@ -1,11 +1,13 @@
 //! `flac tag`: edits the comments of files.
 
-use crate::edited::tell_edited;
+use crate::edited::{end_edit, tell_edited};
+use crate::ogg_tag::tag_ogg;
+use crate::tag_out::tag_to;
 use flac_bits::Counted;
 use flac_cli::{edits_of, refuse_lines, refuse_room, rewrite_file, tag_file};
 use flac_edit::{Edit, Tagged, comments_of_lines};
-use flac_files::{FileRefused, TagFile, read_comment_lines};
-use flac_jobs::{TagMode, Tagging};
+use flac_files::{FileRefused, TagFile, read_comment_lines, read_value};
+use flac_jobs::{TagEdit, TagMode, Tagging};
 use flac_meta::Bytes;
 
 /// Edits the comments of each file. Returns the status: 1 if one is refused.
@@ -34,10 +36,41 @@ fn tag_by_text(rt: &HostRuntime, tagging: &Tagging<'_>, path: &str, text: &[u8])
 
 /// Edits the comments of each file; `lines` are those of the file of lines. Returns the status: 1 if one is refused.
 fn tag_each(rt: &HostRuntime, tagging: &Tagging<'_>, lines: &[Bytes]) -> u8 {
-    let Ok(edits) = edits_of(rt.alloc(), &tagging.edits, lines) else {
+    match values_of(rt, tagging) {
+        Ok(files) => tag_with(rt, tagging, lines, &files),
+        Err(refused) => refused.tell(rt),
+    }
+}
+
+/// The values of comments that are in files.
+fn values_of<'a>(rt: &HostRuntime, tagging: &Tagging<'a>) -> Result<Vec<Bytes>, FileRefused<'a>> {
+    let mut values = Vec::new(rt.alloc());
+    for edit in &tagging.edits {
+        let (TagEdit::SetFile(word) | TagEdit::AddFile(word)) = edit else {
+            continue;
+        };
+        let path = match word.split_once('=') {
+            Some((_, path)) => path,
+            None => word,
+        };
+        let value = read_value(rt, path)?;
+        if values.push(Bytes::from_vec(value)).is_err() {
+            return Err(FileRefused { path, what: "read" });
+        }
+    }
+    Ok(values)
+}
+
+/// Edits the comments of each file; `lines` are those of the file of lines, `files` the values that are in files. Returns
+/// the status: 1 if one is refused.
+fn tag_with(rt: &HostRuntime, tagging: &Tagging<'_>, lines: &[Bytes], files: &[Bytes]) -> u8 {
+    let Ok(edits) = edits_of(rt.alloc(), &tagging.edits, lines, files) else {
         let _ = eprintln!(rt; "flac: command: 2 Memory");
         return 1;
     };
+    if let Some(output) = tagging.output {
+        return tag_to(rt, tagging, output, &edits);
+    }
     let mut status = 0;
     for path in &tagging.inputs {
         if tag_one(rt, tagging, path, &edits) != 0 {
@@ -65,6 +98,9 @@ fn tag_opened<'a>(
     file: &TagFile<'a>,
     edits: &[Edit<'_>],
 ) -> Result<Option<&'static str>, FileRefused<'a>> {
+    if file.is_ogg() {
+        return tag_ogg(rt, tagging, path, file, edits);
+    }
     let mode = tagging.mode.unwrap_or(TagMode::Either);
     if mode == TagMode::Rewrite {
         return rewrite_opened(rt, tagging, path, file, edits);
@@ -120,13 +156,12 @@ fn rewrite_opened<'a>(
         &mut target,
         &mut err,
     );
-    let output = target.into_inner();
-    let kept = if tagging.keep_times {
-        file.keep_time_of(&output)
-    } else {
-        Ok(())
-    };
-    ending.end(rt, output, if kept.is_ok() { status } else { 1 })?;
-    kept?;
-    Ok((status == 0).then_some("rewritten"))
+    end_edit(
+        rt,
+        file,
+        tagging.keep_times,
+        target.into_inner(),
+        ending,
+        status,
+    )
 }

@@ -6,9 +6,11 @@ pub mod NamedLines
 pub mod Objects
 pub mod OneReading
 pub mod Entries
+pub mod ReportRead
 pub mod Listing
 -- Streams that are read, and what is reported of them.
 pub mod BlocksFirst
+pub mod OggEdits
 pub mod Heading
 pub mod Holding
 pub mod Counting
@@ -37,6 +39,7 @@ pub mod Recoding
 pub mod Refused
 pub mod Salvages
 pub mod Searched
+pub mod Twice
 -- WAV files: those that a stream keeps, writing them, and why one is refused.
 pub mod HeldWaves
 pub mod Kept

@@ -1,15 +1,15 @@
 -- What loops that write the bytes of a text, or the members of an object, have written.
-use Rattle.std.proofs.Common.{◌≡◌, ◌<◌, ◌≤◌, ◌+◌, ◌/◌, ◌%◌, ℕ, List, [], ◌∷◌, ◌++◌, true, length, take, get_or, Result, Ok, Err, OnOk, OnErr, Option, Some, None, codes, ap, refl, sym, subst, ◌∙◌, append_assoc, append-nil, arith}
+use Rattle.std.proofs.Common.{◌≡◌, ◌<◌, ◌≤◌, ◌+◌, ℕ, List, [], ◌∷◌, ◌++◌, length, take, get_or, Ok, Option, Some, None, ap, refl, sym, ◌∙◌, append_assoc, append-nil, arith}
 use Rattle.std.proofs.lemmas.List.{take_more, take_all}
 use Rattle.flac_bits.specs.declared.target.Target as target
 use Rattle.flac_bits.specs.declared.why.Why.{Why}
 use Rattle.flac_shelf.specs.Shown.{shown_byte, shown}
-use Rattle.flac_json.specs.Texts.{escape, escapes, hex_digit, hex_digits, all_digits}
+use Rattle.flac_json.specs.Texts.{escape, escapes, hex_digits, all_digits}
 use Rattle.flac_cli.specs.Objects.{known_members}
 use Rattle.flac_cli.specs.declared.json.Member.{Member}
 use Rattle.flac_cli.specs.inner.Lined.{Adds}
 use Rattle.flac_cli.specs.inner.Objects.{more_text, next_text}
-use Rattle.flac_cli.proofs.Lined.{adds_then, adds_same, lost, lost_then, adds_lost}
+use Rattle.flac_cli.proofs.Lined.{adds_then, adds_same}
 
 -- a text that is put together of one for each item
 pub record IsJoined {A : Type 0} (one : A → List ℕ) (all : List A → List ℕ) : Type 0 where
@@ -69,14 +69,3 @@ module _ {T : Type 0} (g : target.Ghosts T) where
 
   pub all_joined : {A : Type 0} (all : List A → List ℕ) (xs : List A) (i : ℕ) {old new : T} {had has : List ℕ} → length xs ≤ i → HasJoined all xs i old new had has → Adds {X = Unit {0}} {E = Why} g (all xs) old new had has (Ok tt)
   all_joined all xs i le p = adds_same g (Ok tt) p (joined_all all xs i le)
-
--- ---- digits are written as themselves
-
-digit_plain : (n : ℕ) → escape (hex_digit n) ≡ hex_digit n ∷ []
-digit_plain n = grind arith
-
-pub escaped_digits : (bytes : List ℕ) → escapes (all_digits bytes) ≡ all_digits bytes
-escaped_digits [] = refl
-escaped_digits (x ∷ xs) =
-    ap (λ l. l ++ (escape (hex_digit (x % 16)) ++ escapes (all_digits xs))) (digit_plain (x / 16)) ∙ ap (λ l. hex_digit (x / 16) ∷ (l ++ escapes (all_digits xs))) (digit_plain (x % 16))
-    ∙ ap (λ l. hex_digit (x / 16) ∷ hex_digit (x % 16) ∷ l) (escaped_digits xs)

@@ -3,7 +3,8 @@ use Rattle.std.proofs.Common.{◌≡◌, List, [], ◌∷◌, ◌++◌, codes, a
 use Rattle.std.proofs.lemmas.List.{append_cancel_right}
 use Rattle.flac_json.specs.Json.{Json, object, Members, no_members, member, json_text}
 use Rattle.flac_json.proofs.Reading.{texts_have_one_reading}
-use Rattle.flac_cli.specs.Objects.{Member, members_of, object_line, LinesHaveOneReading}
+use Rattle.flac_report.specs.Objects.{Member, members_of, object_line}
+use Rattle.flac_cli.specs.Objects.{LinesHaveOneReading}
 
 -- the members of an object, as a list
 abbrev list_of : Members → List Member

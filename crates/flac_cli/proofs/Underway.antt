@@ -3,13 +3,14 @@ use Rattle.std.proofs.Common.{◌≡◌, ◌≤◌, ◌<◌, ◌⊎◌, ◌+◌,
 use Rattle.flac_bits.specs.declared.target.Target as target
 use Rattle.flac_shelf.specs.Listed.{Contents, Listed}
 use Rattle.flac_shelf.specs.declared.stamp.Stamp.{Stamp}
+use Rattle.flac_report.specs.Entries.{line_of}
 use Rattle.flac_cli.specs.Changes.{change_in, is_kept}
 use Rattle.flac_cli.specs.Counted.{printed}
 use Rattle.flac_cli.specs.Outcomes.{Fits}
 use Rattle.flac_cli.specs.Reports.{Serves}
 use Rattle.flac_cli.specs.Missing.{IsMissingIf, asks_missing, AreMissing, told_lines}
 use Rattle.flac_cli.specs.Verified.{IsFinding, HasNoMemory, AreFound, AreWhole, IsWhole, ok_of, bad_of, all_kept, ok_lines, printed_lines, last_line, good_count, bad_count}
-use Rattle.flac_cli.specs.Reported.{entry_line, is_sought_in, report_line, report_lines}
+use Rattle.flac_cli.specs.Reported.{entry_of, is_sought_in, report_line, report_lines}
 use Rattle.flac_cli.specs.Verifies.{Verifies}
 use Rattle.flac_cli.specs.inner.Verifying.{IsSent, IsTold, IsEntered, IsCounted, IsEnded, SoFar, Underway, good_after, bad_after}
 use Rattle.flac_cli.specs.declared.verify_facts.Facts.{Facts}
@@ -96,14 +97,14 @@ calm_so_far began before at after kept is more same = (omega (arith, kept, is, m
 
 -- the line of the report of a file whose size, time and kind were asked for
 pub line_is : (subset again sought : Bool) (file : Listed) (path : List ℕ) (stamp : Stamp) (finding : Finding) → sought ≡ (subset || again) → path ≡ file.path → stamp ≡ file.stamp → IfSome file.contents (λ of. again ≡ of.again)
-    → Fits HasNoMemory (IsFinding subset file.contents) finding → entry_line path stamp sought finding ≡ report_line subset file finding
+    → Fits HasNoMemory (IsFinding subset file.contents) finding → line_of (entry_of path stamp sought finding) ≡ report_line subset file finding
 line_is subset again sought file path stamp finding look paths stamps seen fits =
-    ap (λ b. entry_line path stamp b finding) look ∙ ap (λ l. entry_line l stamp (subset || again) finding) paths ∙ ap (λ s. entry_line file.path s (subset || again) finding) stamps ∙ kinds file.contents finding seen fits
+    ap (λ b. line_of (entry_of path stamp b finding)) look ∙ ap (λ l. line_of (entry_of l stamp (subset || again) finding)) paths ∙ ap (λ s. line_of (entry_of file.path s (subset || again) finding)) stamps ∙ kinds file.contents finding seen fits
   where
     kinds : (contents : Option Contents) (finding : Finding) → IfSome contents (λ of. again ≡ of.again) → Fits HasNoMemory (IsFinding subset contents) finding
-        → entry_line file.path file.stamp (subset || again) finding ≡ entry_line file.path file.stamp (is_sought_in subset contents) finding
+        → line_of (entry_of file.path file.stamp (subset || again) finding) ≡ line_of (entry_of file.path file.stamp (is_sought_in subset contents) finding)
     kinds None (Good facts) seen fits = elim fits.right [ inl out ↦ absurd out | inr is ↦ absurd is ]
-    kinds (Some of) (Good facts) seen fits = ap (λ a. entry_line file.path file.stamp (subset || a) (Good facts)) seen
+    kinds (Some of) (Good facts) seen fits = ap (λ a. line_of (entry_of file.path file.stamp (subset || a) (Good facts))) seen
     kinds contents (Bad fault) seen fits = refl
     kinds contents Unopened seen fits = refl
 

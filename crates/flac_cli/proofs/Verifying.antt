@@ -1,17 +1,16 @@
 -- What a file was found to be, by how it was read.
-use Rattle.std.proofs.Common.{◌≡◌, ◌≢◌, ◌⊎◌, ◌↔◌, ◌≤◌, ◌+◌, ℕ, Bool, true, false, List, [], ◌∷◌, Option, Some, None, IfSome, unwrap_or, refl, sym, ap, subst, ◌∙◌, arith, inl, inr}
+use Rattle.std.proofs.Common.{◌≡◌, ◌≢◌, ◌⊎◌, ◌↔◌, ◌≤◌, ℕ, Bool, true, false, List, [], ◌∷◌, Option, Some, None, IfSome, unwrap_or, refl, sym, ap, subst, ◌∙◌, arith, inl, inr}
 use Rattle.flac_bits.specs.Bits.{bits_of}
-use Rattle.flac_bits.specs.State.{Mark, After, short_of}
-use Rattle.flac_bits.specs.Handing.{InputReading, ReadsOnce, TakesAll}
+use Rattle.flac_bits.specs.State.{Mark, short_of}
+use Rattle.flac_bits.specs.Handing.{ReadsOnce, TakesAll}
 use Rattle.flac_bits.specs.declared.source.Source as source
 use Rattle.flac_bits.specs.declared.why.Why.{Why}
 use Rattle.flac_bits.specs.declared.why.Why.TheVariants as why
-use Rattle.flac_info.specs.Info.{Info}
 use Rattle.flac_header.specs.declared.subset.Profile.{Profile}
 use Rattle.flac_header.specs.declared.subset.Profile.TheVariants.{Subset, Lax}
 use Rattle.flac_native.specs.Decoding.{beginning, taken}
 use Rattle.flac_native.specs.Item.{Item}
-use Rattle.flac_native.specs.Stream.{Piece, marked, block, framed, opening, info_after}
+use Rattle.flac_native.specs.Stream.{Piece, marked, block, framed, opening}
 use Rattle.flac_native.specs.declared.fault.Fault.{Fault}
 use Rattle.flac_native.specs.declared.fault.Place.{Place}
 use Rattle.flac_native.proofs.Deciding.{one_answer}
@@ -20,7 +19,6 @@ use Rattle.flac_ogg.proofs.MeaningReadings.{one_ogg_reading}
 use Rattle.flac_ogg.proofs.LaxProfile as ogg
 use Rattle.flac_ogg.specs.Either.{begins_page, read_any}
 use Rattle.flac_shelf.specs.Listed.{Contents, Listed, Opens}
-use Rattle.flac_cli.specs.Counted.{frames_in, samples_in_all, printed}
 use Rattle.flac_cli.specs.Outcomes.{Outcome, Fits, Reads, IsOutOfMemory, IsReadAs, input_reading}
 use Rattle.flac_cli.specs.Verified.{asked_profile, info_in, Describes, IsStreamOf, IsOutside, IsFinding, HasNoMemory}
 use Rattle.flac_cli.specs.inner.Taking.{frames_after, samples_after, info_after_item}
@@ -30,7 +28,6 @@ use Rattle.flac_cli.specs.declared.verify_facts.Facts.{Facts}
 use Rattle.flac_cli.specs.declared.verify.Finding.{Finding}
 use Rattle.flac_cli.specs.declared.verify.Finding.TheVariants.{Good, Bad, Unopened}
 use Rattle.flac_cli.proofs.Counting.{Counts, counted_from_none}
-use Rattle.flac_cli.proofs.Reported.{memory_or_not}
 
 -- ---- readings
 

@@ -15,6 +15,7 @@ use Rattle.flac_wave.specs.Shift.{AreBytes, wave_width_of}
 use Rattle.flac_wave.specs.Wave.{Parts, IsWave, ArePiecesAfter, IsErrorOf}
 use Rattle.flac_wave.specs.declared.waves.WaveError.{WaveError}
 use Rattle.flac_wave.specs.declared.waves.WaveError.TheVariants as error
+use Rattle.flac_wave.specs.declared.waves.WaveFault.{WaveFault}
 use Rattle.flac_cli.specs.Asked.{Asked}
 use Rattle.flac_cli.specs.Encoded.{cut_as}
 use Rattle.flac_cli.specs.Predictors.{AreListed}
@@ -30,7 +31,7 @@ use Rattle.flac_cli.specs.declared.encode.Refusal.TheVariants.{Input, Setup, Out
 use Rattle.flac_cli.specs.declared.predictors.ListFault.{ListFault}
 use Rattle.flac_cli.specs.declared.predictors.ListFault.TheVariants as faults
 use Rattle.flac_cli.specs.declared.encode_wave.WaveRefusal.{WaveRefusal}
-use Rattle.flac_cli.specs.declared.encode_wave.WaveRefusal.TheVariants.{Refused}
+use Rattle.flac_cli.specs.declared.encode_wave.WaveRefusal.TheVariants.{Wave, Refused}
 use Rattle.flac_jobs.specs.declared.formats.RawFormat.{RawFormat}
 
 -- ---- the first reason, of samples and blocks
@@ -145,6 +146,9 @@ pub no_wave_write : {X : Type 0} (e : WaveError) → refusal_of_wave e ≡ Refus
 no_wave_write error.Memory h = absurd cc
 no_wave_write error.Read h = absurd cc
 no_wave_write (error.Fault f) h = absurd cc
+
+pub not_wave : {X : Type 0} (f : WaveFault) (s : Refusal) → Wave f ≡ Refused s → X
+not_wave f s h = absurd cc
 
 pub same_refused : (r s : Refusal) → Refused r ≡ Refused s → r ≡ s
 same_refused r s h = cc

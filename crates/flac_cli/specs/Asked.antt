@@ -7,19 +7,23 @@ use Rattle.flac_jobs.specs.declared.formats.ContainerKind.{ContainerKind}
 use Rattle.flac_jobs.specs.declared.search_effort.SearchEffort.{SearchEffort}
 use Rattle.flac_cli.specs.declared.encode.Encoding.{Encoding}
 
--- The profile of the stream, the format of the raw samples, the container, the words that are its comments, the text
--- of a list of predictors, how far others are sought for each block, whether any bytes are taken as samples, also those
--- that begin as a file that may hold a song, whether all of a WAV file is kept, and whether its samples may go on to the
--- end of a file that ends inside them.
 pub record Asked : Type 0 where
+  -- the profile of the stream
   pub profile : Profile
+  -- the format of the raw samples
   pub format : RawFormat
   pub container : ContainerKind
+  -- the words that are its comments
   pub words : List (List ℕ)
+  -- the text of a list of predictors
   pub list : List ℕ
+  -- how far other predictors are sought for each block
   pub effort : SearchEffort
+  -- any bytes are taken as samples, also those that begin as a file that may hold a song
   pub any : Bool
+  -- all of a WAV file is kept
   pub keep : Bool
+  -- the samples of a WAV file that ends inside them may go on to its end
   pub to_end : Bool
 
 abbrev pub asked_of : Encoding → Asked

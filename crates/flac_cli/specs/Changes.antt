@@ -20,7 +20,7 @@ use Rattle.flac_cli.specs.declared.verify_facts.Facts.{Facts}
 abbrev pub stated : (digest : List ℕ) → Option (List ℕ)
 stated digest = cond (is_unknown digest) None (Some digest)
 
--- of a stream with this STREAMINFO and so many samples
+-- of a stream with this STREAMINFO and this number of samples
 abbrev pub audio_in : Option Info → (samples : ℕ) → Audio
 audio_in None samples = record { digest = None; samples = samples; rate = None; channels = None; depth = None }
 audio_in (Some info) samples =

@@ -1,6 +1,10 @@
 -- What a test of a stream prints: how many frames it has, and how many samples each of its channels has.
 use Rattle.std.specs.Prelude.{ℕ, ◌+◌, ◌++◌, min, List, [], ◌∷◌, codes, decimal}
+use Rattle.flac_bits.specs.declared.source.Source as source
+use Rattle.flac_bits.specs.declared.target.Target as target
+use Rattle.flac_header.specs.declared.subset.Profile.{Profile}
 use Rattle.flac_native.specs.Stream.{Piece, marked, block, framed}
+use Rattle.flac_cli.specs.Streams.{SendsOfStream}
 use Rattle.flac_jobs.specs.declared.jobs.Job.{Job}
 use Rattle.flac_jobs.specs.declared.jobs.Job.TheVariants as job
 
@@ -34,3 +38,8 @@ line_of frames samples = codes "frames " ++ (decimal frames ++ (codes " samples 
 -- the line of a stream of these parts
 abbrev pub counts_line : List Piece → List ℕ
 counts_line parts = line_of (printed (frames_in parts)) (printed (samples_in_all parts))
+
+-- If the source did not fail, and the bytes of the target are known: the source gives a stream, and the target was sent
+-- exactly the line of its counts.
+abbrev pub SendsCounts : {S T : Type 0} (g : source.Ghosts S) (h : target.Ghosts T) → Profile → (from to : S) (old new : T) → Type 0
+SendsCounts g h profile from to old new = SendsOfStream g h profile counts_line from to old new

@@ -1,5 +1,7 @@
 -- What the words of `flac edit` and `flac export` ask for.
 use Rattle.std.specs.Prelude.{ℕ, List, [], codes, Option, Some, None, option_map, unwrap_or}
+use Rattle.flac_bits.specs.declared.source.Source as source
+use Rattle.flac_bits.specs.declared.target.Target as target
 use Rattle.flac_cue.specs.declared.fault.CueWhy.{CueWhy}
 use Rattle.flac_cue.specs.declared.fault.CueWhy.TheVariants as why
 use Rattle.flac_meta.specs.declared.picture.Picture.{Picture}
@@ -13,6 +15,7 @@ use Rattle.flac_jobs.specs.declared.editings.PictureWord.{PictureWord}
 use Rattle.flac_jobs.specs.declared.exportings.ExportPart.{ExportPart}
 use Rattle.flac_jobs.specs.declared.exportings.ExportPart.TheVariants as export
 use Rattle.flac_jobs.specs.declared.exportings.Exporting.{Exporting}
+use Rattle.flac_edit.specs.Parts.{SendsPart}
 use Rattle.flac_edit.specs.declared.exporting_parts.Part.{Part}
 use Rattle.flac_edit.specs.declared.exporting_parts.Part.TheVariants as part
 use Rattle.flac_edit.specs.declared.block_edits.Removal.{Removal}
@@ -37,6 +40,10 @@ part_of x export.Tags = part.Tags
 part_of x export.Picture = part.Picture
 part_of x export.CueSheet = part.CueSheet x.input
 part_of x (export.Block n) = part.Block n
+
+-- if the bytes of the source and of the target are known, the part of this name was written
+abbrev pub ExportsPart : {S T : Type 0} (g : source.Ghosts S) (h : target.Ghosts T) → Exporting → ExportPart → (from : S) (old new : T) → Type 0
+ExportsPart g h x name from old new = SendsPart g h from (part_of x name) old new
 
 -- ---- pictures
 

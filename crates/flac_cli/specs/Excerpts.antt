@@ -2,6 +2,8 @@
 use Rattle.std.specs.Prelude.{◌≡◌, ◌≢◌, ◌⊎◌, ◌≤◌, ◌<◌, ℕ, ℤ, ◌+◌, ◌*◌, ◌-◌, ◌%◌, Bool, true, false, cond, not, ◌&&◌, nat_eq, nat_lt, List, [], ◌∷◌, ◌++◌, length, take, drop, codes, option_map, Option, Some, None, Result, Ok, Err, ⊤}
 use Rattle.flac_bits.specs.Handing.{InputReading}
 use Rattle.flac_bits.specs.State.{After}
+use Rattle.flac_bits.specs.declared.source.Source as source
+use Rattle.flac_bits.specs.declared.target.Target as target
 use Rattle.flac_bits.specs.declared.why.Why.{Why}
 use Rattle.flac_bits.specs.declared.why.Why.TheVariants as why
 use Rattle.flac_info.specs.Info.{Info}
@@ -21,10 +23,11 @@ use Rattle.flac_compare.specs.Samples.{samples_of}
 use Rattle.flac_wave.specs.Format.{row_of}
 use Rattle.flac_wave.specs.Plain.{plain_format, plain_head}
 use Rattle.flac_wave.specs.declared.format.WaveFormat.{WaveFormat}
+use Rattle.flac_cli.specs.Calls.{Passed, old_of, new_of, IfAllServe}
 use Rattle.flac_cli.specs.Outcomes.{reason_text}
 use Rattle.flac_cli.specs.Reports.{fault_line}
 use Rattle.flac_cli.specs.Speakers.{mask_in}
-use Rattle.flac_cli.specs.Streams.{profile_of}
+use Rattle.flac_cli.specs.Streams.{profile_of, Tells}
 use Rattle.flac_cli.specs.Waves.{file_samples}
 use Rattle.flac_cli.specs.declared.excerpt.RangeFault.{RangeFault}
 use Rattle.flac_cli.specs.declared.excerpt.RangeFault.TheVariants as range
@@ -46,7 +49,7 @@ abbrev pub last_of : (from : ℕ) (to : Option ℕ) → ℕ
 last_of from None = from + 1
 last_of from (Some to) = to
 
--- inter-channel samples as bytes: one after another, channel by channel, each sample in so many bytes, the lowest first
+-- inter-channel samples as bytes: one after another, channel by channel, each sample in `width` bytes, the lowest first
 unfoldable pub row_text : (width : ℕ) → List ℤ → List ℕ
 row_text width [] = []
 row_text width (x ∷ xs) = sample_bytes width x ++ row_text width xs
@@ -117,8 +120,9 @@ IsShortOf None rows = ⊤
 IsShortOf (Some to) rows = length rows < to
 
 -- What is said of a part of a stream with this STREAMINFO, these comments, these inter-channel samples, and then this
--- end, which is a refusal or none: exactly the file of the part was added; why it is no part of the stream; or at what the
--- stream is refused before the end of the part, unless memory ran out. Nothing is said if the file could not be written.
+-- end, which is a refusal or none: exactly the file of the part was added; why it is no part of the stream; or at what
+-- the stream is refused before the end of the part, unless memory ran out. Nothing is said if the file could not be
+-- written.
 abbrev pub SaysPart : (wave : Bool) → Info → Option Comments → (from : ℕ) (to : Option ℕ) → (rows : List (List ℤ)) (end : Option (Place × Why)) → (before after : List ℕ) → Result ⊤ ExcerptFault → Type 0
 SaysPart wave info comments from to rows end before after (Ok done) =
     (range_fault from to info.total ≡ None) × (last_of from to ≤ length rows) × IsWholeFor to end
@@ -130,7 +134,8 @@ SaysPart wave info comments from to rows end before after (Err Write) = ⊤
 
 -- ---- what is asked for
 
--- the number of the first sample, and that of the one after the last, if it is given, by the rate that STREAMINFO states
+-- the number of the first sample, and that of the one after the last, if it is given, by the rate that STREAMINFO
+-- states
 abbrev pub start_of : Moment → Info → ℕ
 start_of from info = sample_at from info.rate
 
@@ -150,14 +155,18 @@ SaysStream e blocks frames end before after other = SaysAsked e blocks frames en
 abbrev pub excerpt_input : Excerpt → (bytes : List ℕ) → After → InputReading Piece Place
 excerpt_input e bytes follows = any_input (profile_of e.lax) bytes follows
 
--- The input is read as blocks and frames up to its end, or up to its first fault, which may be after the part; exactly the
--- file of those of their samples that are asked for was added.
+-- The input is read as blocks and frames up to its end, or up to its first fault, which may be after the part; exactly
+-- the file of those of their samples that are asked for was added.
 pub record HasDecoded (e : Excerpt) (r : InputReading Piece Place) (before after : List ℕ) : Type 0 where
   pub blocks : List Block
   pub frames : List Frame
   pub end : Option (Place × Why)
   pub read : IsReadAs r blocks frames end
   pub says : SaysAsked e blocks frames end before after (Ok tt)
+
+-- The same of a source that did not fail, and of a target whose bytes are known.
+abbrev pub DecodesPart : {S T : Type 0} (g : source.Ghosts S) (h : target.Ghosts T) → Excerpt → (from to : S) (old new : T) → Type 0
+DecodesPart g h e from to old new = Tells g from to → h.known old ≡ true → HasDecoded e (excerpt_input e (g.coming from) (g.after from)) (h.sent old) (h.sent new)
 
 -- ---- reports
 
@@ -194,6 +203,10 @@ pub record ReportsExcerpt (e : Excerpt) (r : InputReading Piece Place) (before a
 -- the same, in the order in which calls name it
 abbrev pub ReportsDecoding : Excerpt → (before after : List ℕ) → (status : ℕ) → List ℕ → After → (told later : List ℕ) → Type 0
 ReportsDecoding e before after status bytes follows told later = ReportsExcerpt e (excerpt_input e bytes follows) before after status told later
+
+-- the same of devices, if none of them failed
+abbrev pub ReportsPart : {S T E : Type 0} (g : source.Ghosts S) (h : target.Ghosts T) (k : target.Ghosts E) → Excerpt → (status : ℕ) → Passed S → Passed T → Passed E → Type 0
+ReportsPart g h k e status source target err = IfAllServe g h k source target err (ReportsDecoding e (h.sent (old_of target)) (h.sent (new_of target)) status)
 
 -- the line of an excerpt that failed, of the file at fault
 abbrev pub NamesExcerpt : Excerpt → (told later : List ℕ) → Type 0

@@ -8,8 +8,11 @@ use Rattle.flac_native.specs.Stream.{Piece, marked, block, framed}
 use Rattle.flac_native.specs.declared.fault.Place.{Place}
 use Rattle.flac_header.specs.declared.subset.Profile.TheVariants.{Lax}
 use Rattle.flac_bits.specs.declared.source.Source as source
+use Rattle.flac_bits.specs.declared.target.Target as target
+use Rattle.flac_cli.specs.Calls.{IfServed}
 use Rattle.flac_cli.specs.Outcomes.{reason_text, input_reading}
 use Rattle.flac_cli.specs.Reports.{fault_line}
+use Rattle.flac_cli.specs.Streams.{Tells}
 
 -- a metadata block that is marked as the last one (RFC 9639, section 8.1)
 abbrev pub is_last : Piece → Bool
@@ -50,3 +53,8 @@ IsFaultOf path before after = (at : Place) × (reason : Why) × (after ≡ befor
 -- how the bytes of a source, and what comes after them, are read
 abbrev pub any_reading : {S : Type 0} → source.Ghosts S → S → InputReading Piece Place
 any_reading g s = input_reading Lax (g.coming s) (g.after s)
+
+-- If neither the source nor standard error failed: the line of the refusal before the last block was added, or it says
+-- that memory ran out or that standard output took no more lines. `k` is that of the type of standard error.
+abbrev pub ReportsHead : {S E : Type 0} (g : source.Ghosts S) (k : target.Ghosts E) → (path : List ℕ) → (from to : S) (before after : E) → Type 0
+ReportsHead g k path from to before after = Tells g from to → IfServed k before after (HeadReport (any_reading g from) path)

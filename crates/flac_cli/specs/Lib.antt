@@ -1,6 +1,7 @@
 pub mod Asked
 pub mod Calls
 pub mod Changes
+pub mod Copies
 pub mod Counted
 pub mod Editing
 pub mod Encoded
@@ -11,12 +12,14 @@ pub mod ListedJson
 pub mod Missing
 pub mod Named
 pub mod Objects
+pub mod OggEdits
 pub mod Outcomes
 pub mod Predictors
 pub mod Raw
 pub mod RecodeRefusals
 pub mod Recoded
 pub mod Refusals
+pub mod ReportRead
 pub mod Reported
 pub mod Reports
 pub mod Retagged
@@ -27,6 +30,8 @@ pub mod Sought
 pub mod Speakers
 pub mod Streams
 pub mod TagLines
+pub mod Tasks
+pub mod Twice
 pub mod Verified
 pub mod Verifies
 pub mod WaveRefusals

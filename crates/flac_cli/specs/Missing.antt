@@ -24,8 +24,8 @@ IsOutOfMemory (Head fault) = fault.why ≡ why.Memory
 IsOutOfMemory Memory = ⊤
 IsOutOfMemory Unordered = ⊥
 
--- These bytes are refused by a survey, by what they are: the marker or a metadata block is refused, or too many frames are
--- out of order.
+-- These bytes are refused by a survey, by what they are: the marker or a metadata block is refused, or too many frames
+-- are out of order.
 pub record AreUnlisted (bytes : List ℕ) : Type 0 where
   pub fault : SurveyFault
   pub is : IsSurveyFault bytes fault
@@ -38,7 +38,8 @@ unlisted_line path = file_line path (codes "what is missing cannot be listed")
 abbrev pub memory_line : (path : List ℕ) → List ℕ
 memory_line path = file_line path (codes "what is missing cannot be listed: 2 Memory")
 
--- What is said of these bytes: the lines of their survey, or that they have none; or memory ran out, and the line says that.
+-- What is said of these bytes: the lines of their survey, or that they have none; or memory ran out, and the line says
+-- that.
 abbrev pub IsSaidOf : (path bytes text : List ℕ) → Type 0
 IsSaidOf path bytes text = IsSurveyed path bytes text ⊎ ((AreUnlisted bytes × (text ≡ unlisted_line path)) ⊎ (text ≡ memory_line path))
 

@@ -41,8 +41,8 @@ NamesWaveDecoding input output before after =
 abbrev pub NamesWaveEncoding : Files → (before after : List ℕ) → Type 0
 NamesWaveEncoding files before after = (e : WaveRefusal) × (after ≡ before ++ fault_line (wave_path files e) (wave_text e))
 
--- The line of a job that writes a file: 30 of a decoding, and 39 of each such job, name the output. The other lines of an
--- encoding name the file that is at fault.
+-- The line of a job that writes a file: 30 of a decoding, and 39 of each such job, name the output. The other lines of
+-- an encoding name the file that is at fault.
 abbrev pub NamesFault : Job → (before after : List ℕ) → Type 0
 NamesFault (job.Decode input output lax) before after = NamesDecoding input.now output.now before after
 NamesFault (job.Encode input output format c comments lax predictors effort raw) before after =

@@ -18,10 +18,11 @@ use Rattle.flac_native.specs.Stream.{Piece}
 use Rattle.flac_native.specs.declared.fault.Place.{Place}
 use Rattle.flac_ogg.specs.Either.{begins_page, read_any}
 use Rattle.flac_cli.specs.Asked.{Asked}
+use Rattle.flac_cli.specs.Calls.{Passed, HasServed, IfBothServe, IfAllServe}
 use Rattle.flac_cli.specs.Encoded.{comments_of}
 use Rattle.flac_cli.specs.Reports.{fault_line}
 use Rattle.flac_cli.specs.Streams.{profile_of, Tells}
-use Rattle.flac_cli.specs.Waves.{kept_fault, EncodesWave}
+use Rattle.flac_cli.specs.Waves.{kept_fault, wave_in, EncodesWave}
 use Rattle.flac_cli.specs.declared.held_wave.KeptFault.{KeptFault}
 use Rattle.flac_cli.specs.declared.held_wave.KeptFault.TheVariants as kept
 use Rattle.flac_jobs.specs.declared.jobs.Job.{Job}
@@ -61,6 +62,10 @@ SendsOfReading g h profile text from to old new = Tells g from to → h.known ol
 -- the same of a call that returned Ok
 abbrev pub HasSentOfReading : {S T X E : Type 0} (g : source.Ghosts S) (h : target.Ghosts T) → Profile → (text : List Piece → List ℕ) → (from to : S) (old new : T) → Result X E → Type 0
 HasSentOfReading g h profile text from to old new result = Tells g from to → h.known old ≡ true → OnOk result (IsReadAs g profile from (λ parts. h.sent new ≡ h.sent old ++ text parts))
+
+-- The same of a decoding to a WAV file: the target was sent exactly the WAV file of the stream.
+abbrev pub SendsWave : {S T : Type 0} (g : source.Ghosts S) (h : target.Ghosts T) → Profile → (from to : S) (old new : T) → Type 0
+SendsWave g h profile from to old new = SendsOfReading g h profile wave_in from to old new
 
 -- it is a stream, or is refused at this place and for this reason
 abbrev pub Reads : Profile → List ℕ → After → Outcome → Type 0
@@ -104,8 +109,8 @@ pub record Reports (outside is : Outcome → Type 0) (path : List ℕ) (status :
   pub answer : IsAnswer outcome path status before after
   pub fits : Fits outside is outcome
 
--- The same, in the order in which calls name what they were given and what they returned: of a stream that is read whole;
--- of one whose blocks are listed, which `printed` says could be; and of one that gets these words as comments.
+-- The same, in the order in which calls name what they were given and what they returned: of a stream that is read
+-- whole; of one whose blocks are listed, which `printed` says could be; and of one that gets these words as comments.
 abbrev pub ReportsStream : Profile → (path : List ℕ) → (status : ℕ) → List ℕ → After → (before later : List ℕ) → Type 0
 ReportsStream profile path status bytes after before later = Reports IsOutOfMemory (Reads profile bytes after) path status before later
 
@@ -114,6 +119,14 @@ ReportsListing printed profile path status bytes after before later = Reports (I
 
 abbrev pub ReportsRetagging : (words : List (List ℕ)) → (path : List ℕ) → (status : ℕ) → List ℕ → After → (before later : List ℕ) → Type 0
 ReportsRetagging words path status bytes after before later = Reports IsRetagOutOfMemory (IsRetagged words bytes after) path status before later
+
+-- the same of devices: the line was added to standard error, if none of them failed
+abbrev pub ReportsRead : {S T E : Type 0} (g : source.Ghosts S) (h : target.Ghosts T) (k : target.Ghosts E) → Profile → (path : List ℕ) → (status : ℕ) → Passed S → Passed T → Passed E → Type 0
+ReportsRead g h k profile path status source target err = IfAllServe g h k source target err (ReportsStream profile path status)
+
+-- if the source and standard error did not
+abbrev pub ReportsListed : {S T E : Type 0} (g : source.Ghosts S) (h : target.Ghosts T) (k : target.Ghosts E) → Profile → (path : List ℕ) → (status : ℕ) → Passed S → Passed T → Passed E → Type 0
+ReportsListed g h k profile path status source out err = IfBothServe g k source err (ReportsListing (HasServed h out) profile path status)
 
 -- ---- decoding to a WAV file
 
@@ -150,6 +163,9 @@ pub record ReportsWaveDecoding (profile : Profile) (bytes : List ℕ) (after : A
 -- the same, in the order in which calls name it
 abbrev pub ReportsWave : Profile → (path : List ℕ) → (status : ℕ) → List ℕ → After → (before later : List ℕ) → Type 0
 ReportsWave profile path status bytes after before later = ReportsWaveDecoding profile bytes after path status before later
+
+abbrev pub ReportsReadWave : {S T E : Type 0} (g : source.Ghosts S) (h : target.Ghosts T) (k : target.Ghosts E) → Profile → (path : List ℕ) → (status : ℕ) → Passed S → Passed T → Passed E → Type 0
+ReportsReadWave g h k profile path status source target err = IfAllServe g h k source target err (ReportsWave profile path status)
 
 -- The bytes of a stream that was encoded of a WAV file and keeps it are a stream that becomes a WAV file.
 abbrev pub KeptFilesAreRead : Type 0

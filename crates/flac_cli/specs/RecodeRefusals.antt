@@ -2,6 +2,8 @@
 use Rattle.std.specs.Prelude.{◌≡◌, ◌⊎◌, ℕ, ℤ, List, [], ◌++◌, Err, Option, Some, None, option_map, unwrap_or, false, true}
 use Rattle.std.specs.Option.{option_or}
 use Rattle.flac_bits.specs.State.{After}
+use Rattle.flac_bits.specs.declared.source.Source as source
+use Rattle.flac_bits.specs.declared.target.Target as target
 use Rattle.flac_bits.specs.declared.why.Why.{Why}
 use Rattle.flac_bits.specs.declared.why.Why.TheVariants as why
 use Rattle.flac_info.specs.Info.{Info}
@@ -17,12 +19,13 @@ use Rattle.flac_native.specs.Stream.{Piece}
 use Rattle.flac_native.specs.declared.fault.Fault.{Fault}
 use Rattle.flac_native.specs.declared.fault.Place.{Place}
 use Rattle.flac_cli.specs.Asked.{Asked}
+use Rattle.flac_cli.specs.Calls.{Passed, IfAllServe}
 use Rattle.flac_cli.specs.Encoded.{cut_as}
 use Rattle.flac_cli.specs.Outcomes.{input_reading, reason_text}
 use Rattle.flac_cli.specs.Predictors.{predictors_in, AreListed}
-use Rattle.flac_cli.specs.Recoded.{heard_in, sound_of, blocks_in, IsStreamOf}
+use Rattle.flac_cli.specs.Recoded.{heard_in, sound_of, blocks_in, IsStreamOf, WritesAnew, BeginsAnew}
 use Rattle.flac_cli.specs.Refusals.{stream_fault, IsOutside as IsOutsideOf}
-use Rattle.flac_cli.specs.Reports.{Files, fault_line, path_of, line_text}
+use Rattle.flac_cli.specs.Reports.{Files, fault_line, AddsLine, path_of, line_text}
 use Rattle.flac_cli.specs.Streams.{profile_of}
 use Rattle.flac_cli.specs.declared.encode.Refusal.{Refusal}
 use Rattle.flac_cli.specs.declared.encode.Refusal.TheVariants as refusal
@@ -49,6 +52,14 @@ asked_for r list = record {
 -- the paths of its files; that of the input in place of the list's if there is no list
 abbrev pub files_for : Recoding → Files
 files_for r = record { input = r.input.now; output = r.output.now; list = unwrap_or (option_map (λ path. path.now) r.predictors) r.input.now }
+
+-- what was written is what a recoding with this list asks for
+abbrev pub RecodesFile : {S T : Type 0} (g : source.Ghosts S) (h : target.Ghosts T) → Recoding → (list : List ℕ) → (from : S) (old new : T) → Type 0
+RecodesFile g h r list from old new = WritesAnew g h (asked_for r list) from old new
+
+-- nothing was written, or a prefix of that
+abbrev pub BeginsRecode : {S T : Type 0} (g : source.Ghosts S) (h : target.Ghosts T) → Recoding → (list : List ℕ) → (from : S) (old new : T) → Type 0
+BeginsRecode g h r list from old new = BeginsAnew g h (asked_for r list) from old new
 
 -- ---- reasons
 
@@ -81,6 +92,10 @@ IsRecodeReason asked bytes follows reason =
     ((number : ℕ) × (predictors_in asked.list ≡ Err number) × (reason ≡ Some (Refused (refusal.Line number))))
     ⊎ ((ps : List LinearPredictor) × AreListed asked.list ps × IsInputReason asked ps bytes follows reason)
 
+-- if the bytes of the source are known, there is no such reason
+abbrev pub CanBeRecoded : {S : Type 0} (g : source.Ghosts S) → Asked → S → Type 0
+CanBeRecoded g asked from = g.known from ≡ true → IsRecodeReason asked (g.coming from) (g.after from) None
+
 -- no fault of what was asked for: out of memory, or the target failed
 abbrev pub IsOutside : RecodeRefusal → Type 0
 IsOutside e = ((fault : Fault) × (e ≡ Unread fault) × (fault.why ≡ why.Memory)) ⊎ ((r : Refusal) × (e ≡ Refused r) × IsOutsideOf r)
@@ -95,6 +110,10 @@ recode_path files (Refused r) = path_of files r
 abbrev pub recode_text : RecodeRefusal → List ℕ
 recode_text (Unread fault) = fault_text fault
 recode_text (Refused r) = line_text r
+
+-- exactly the line of this error was added
+abbrev pub AddsRefusal : Files → RecodeRefusal → (before after : List ℕ) → Type 0
+AddsRefusal files e before after = AddsLine (recode_path files e) (recode_text e) before after
 
 -- The status, and what was added to standard error: 0 and nothing if there is no reason, else 1 and the line of the
 -- reason.
@@ -112,6 +131,10 @@ IsRecodeReport asked bytes follows files status before after =
 -- the same, in the order in which calls name it
 abbrev pub ReportsRecoding : Asked → Files → (status : ℕ) → List ℕ → After → (before after : List ℕ) → Type 0
 ReportsRecoding asked files status bytes follows before after = IsRecodeReport asked bytes follows files status before after
+
+-- the same of devices, if none of them failed; `list` is the text of the list of predictors
+abbrev pub ReportsRecode : {S T E : Type 0} (g : source.Ghosts S) (h : target.Ghosts T) (k : target.Ghosts E) → Recoding → (list : List ℕ) → (status : ℕ) → Passed S → Passed T → Passed E → Type 0
+ReportsRecode g h k recoding list status source target err = IfAllServe g h k source target err (ReportsRecoding (asked_for recoding list) (files_for recoding) status)
 
 -- the line of a recoding that failed, of the file at fault
 abbrev pub NamesRecoding : Files → (before after : List ℕ) → Type 0

@@ -1,6 +1,8 @@
 -- What `flac recode` writes of a stream: its samples, and its metadata blocks without STREAMINFO and the seek table.
 use Rattle.std.specs.Prelude.{◌≡◌, ◌⊎◌, ℕ, ℤ, Bool, true, false, not, List, [], ◌∷◌, ◌++◌, map, replicate}
 use Rattle.std.specs.List.{filter}
+use Rattle.flac_bits.specs.declared.source.Source as source
+use Rattle.flac_bits.specs.declared.target.Target as target
 use Rattle.flac_bits.specs.State.{After}
 use Rattle.flac_info.specs.Info.{Info}
 use Rattle.flac_meta.specs.declared.block.Block.{Block}
@@ -16,6 +18,7 @@ use Rattle.flac_native.specs.Whole.{head_parts}
 use Rattle.flac_ogg.specs.Either.{begins_page}
 pub use Rattle.flac_rescue.specs.Channels.{extended}
 use Rattle.flac_cli.specs.Asked.{Asked}
+use Rattle.flac_cli.specs.Calls.{HasWritten}
 use Rattle.flac_cli.specs.Encoded.{EncodesIn, BeginsIn, AreFound, cut_found}
 use Rattle.flac_cli.specs.Outcomes.{input_reading}
 use Rattle.flac_cli.specs.Predictors.{AreListed}
@@ -80,7 +83,8 @@ blocks_in c list = in_order c (carried list)
 
 -- ---- streams
 
--- its parts: the marker, STREAMINFO, these blocks and these frames; in Ogg the marker is no part of its own (section 10.1)
+-- its parts: the marker, STREAMINFO, these blocks and these frames; in Ogg the marker is no part of its own (section
+-- 10.1)
 abbrev pub stream_parts : (is_ogg : Bool) → Info → List Block → List Frame → List Piece
 stream_parts false info list frames = head_parts info list ++ map framed frames
 stream_parts true info list frames = closing (block_of.StreamInfo info ∷ list) ++ map framed frames
@@ -120,3 +124,13 @@ pub record BeginsRecoded (asked : Asked) (bytes : List ℕ) (follows : After) (b
 -- nothing was written, or such a prefix
 abbrev pub HasBegunRecoded : Asked → (bytes : List ℕ) → After → (before after : List Bool) → Type 0
 HasBegunRecoded asked bytes follows before after = (after ≡ before) ⊎ BeginsRecoded asked bytes follows before after
+
+-- ---- a source and a target, whose bytes are known
+
+-- a stream of those of the source was written as it is asked for
+abbrev pub WritesAnew : {S T : Type 0} (g : source.Ghosts S) (h : target.Ghosts T) → Asked → (from : S) (old new : T) → Type 0
+WritesAnew g h asked from old new = HasWritten g h from old new (λ bytes. Recodes asked bytes (g.after from))
+
+-- nothing was written, or a prefix of such a stream
+abbrev pub BeginsAnew : {S T : Type 0} (g : source.Ghosts S) (h : target.Ghosts T) → Asked → (from : S) (old new : T) → Type 0
+BeginsAnew g h asked from old new = HasWritten g h from old new (λ bytes. HasBegunRecoded asked bytes (g.after from))

@@ -1,5 +1,5 @@
--- The lines of the report of `flac verify`: for each file an object of JSON.
-use Rattle.std.specs.Prelude.{ℕ, Bool, true, false, cond, not, ◌||◌, List, [], ◌∷◌, ◌++◌, codes, nat_lt, drop, Option, Some, None}
+-- The lines of the report of `flac verify`: for each file that which `line_of` of flac_report has.
+use Rattle.std.specs.Prelude.{ℕ, Bool, true, false, cond, not, ◌||◌, List, [], ◌∷◌, flat_map, nat_lt, drop, Option, Some, None}
 use Rattle.flac_bits.specs.Reasons.{number_of, text_of}
 use Rattle.flac_bits.specs.declared.why.Why.{Why}
 use Rattle.flac_info.specs.Info.{Info}
@@ -9,27 +9,12 @@ use Rattle.flac_native.specs.declared.fault.Place.{Place}
 use Rattle.flac_native.specs.declared.fault.Place.TheVariants as place
 use Rattle.flac_shelf.specs.Listed.{Contents, Listed}
 use Rattle.flac_shelf.specs.declared.stamp.Stamp.{Stamp}
-use Rattle.flac_json.specs.Texts.{all_digits}
-use Rattle.flac_json.specs.Json.{Json, number, text, truth}
-use Rattle.flac_cli.specs.Objects.{Member, object_line}
+use Rattle.flac_report.specs.Entries.{GoodFile, BadFile, Found, good, bad, unopened, Entry, line_of}
+use Rattle.flac_cli.specs.Changes.{stated}
 use Rattle.flac_cli.specs.Verified.{lacks_digest}
 use Rattle.flac_cli.specs.declared.verify_facts.Facts.{Facts}
 use Rattle.flac_cli.specs.declared.verify.Finding.{Finding}
 use Rattle.flac_cli.specs.declared.verify.Finding.TheVariants.{Good, Bad, Unopened}
-
--- a member of this name; none if its value is not known
-abbrev pub valued : (name : List ℕ) → Json → Option Member
-valued name value = Some (record { name = name; value = value })
-
-abbrev pub counted : (name : List ℕ) → Option ℕ → Option Member
-counted name None = None
-counted name (Some n) = valued name (number n)
-
--- the members that there are
-abbrev pub present : List (Option Member) → List Member
-present [] = []
-present (None ∷ ms) = present ms
-present (Some m ∷ ms) = m ∷ present ms
 
 -- ---- what STREAMINFO says (RFC 9639, section 8.2)
 
@@ -46,15 +31,27 @@ depth_of None = None
 depth_of (Some info) = Some info.depth
 
 -- the digest of the samples, if it is stated; then the samples were compared with it
-abbrev pub digest_member : Option Info → Option Member
-digest_member None = None
-digest_member (Some info) = cond (lacks_digest (Some info)) None (valued (codes "md5") (text (all_digits info.digest)))
+abbrev pub digest_of : Option Info → Option (List ℕ)
+digest_of None = None
+digest_of (Some info) = stated info.digest
 
 -- whether a stream is in the streamable subset (section 7); not known if it was not looked for
-abbrev pub subset_member : (is_sought outside : Bool) → Option Member
-subset_member is_sought true = valued (codes "subset") (truth false)
-subset_member true false = valued (codes "subset") (truth true)
-subset_member false false = None
+abbrev pub subset_of : (is_sought outside : Bool) → Option Bool
+subset_of is_sought true = Some false
+subset_of true false = Some true
+subset_of false false = None
+
+abbrev pub good_file : (is_sought : Bool) → Facts → GoodFile
+good_file is_sought facts = record {
+  rate = rate_of facts.info;
+  channels = channels_of facts.info;
+  depth = depth_of facts.info;
+  frames = facts.counts.frames;
+  samples = facts.counts.samples;
+  digest = digest_of facts.info;
+  checked = not (lacks_digest facts.info);
+  subset = subset_of is_sought facts.outside;
+}
 
 -- ---- where and why a file is refused
 
@@ -70,42 +67,40 @@ index_of place.End = None
 abbrev pub name_of : Why → List ℕ
 name_of why = drop (cond (nat_lt (number_of why) 10) 2 3) (text_of why)
 
--- ---- a line
+abbrev pub bad_file : Fault → BadFile
+bad_file fault = record { place = kind_name fault.at; index = index_of fault.at; error = number_of fault.why; name = name_of fault.why }
 
-abbrev pub status_text : Finding → List ℕ
-status_text (Good facts) = codes "ok"
-status_text (Bad fault) = codes "bad"
-status_text Unopened = codes "unopened"
+-- ---- what is said of a file
 
--- what is said of what was found
-abbrev pub found_members : (is_sought : Bool) → Finding → List (Option Member)
-found_members is_sought (Good facts) =
-    counted (codes "rate") (rate_of facts.info) ∷ counted (codes "channels") (channels_of facts.info) ∷ counted (codes "depth") (depth_of facts.info)
-    ∷ valued (codes "frames") (number facts.counts.frames) ∷ valued (codes "samples") (number facts.counts.samples)
-    ∷ digest_member facts.info ∷ valued (codes "md5_checked") (truth (not (lacks_digest facts.info))) ∷ subset_member is_sought facts.outside ∷ []
-found_members is_sought (Bad fault) =
-    valued (codes "place") (text (kind_name fault.at)) ∷ counted (codes "index") (index_of fault.at)
-    ∷ valued (codes "error") (number (number_of fault.why)) ∷ valued (codes "name") (text (name_of fault.why)) ∷ []
-found_members is_sought Unopened = []
+abbrev pub found_of : (is_sought : Bool) → Finding → Found
+found_of is_sought (Good facts) = good (good_file is_sought facts)
+found_of is_sought (Bad fault) = bad (bad_file fault)
+found_of is_sought Unopened = unopened
 
--- the line of a file: its path, what was found, its size and its time
-abbrev pub entry_line : (path : List ℕ) → Stamp → (is_sought : Bool) → Finding → List ℕ
-entry_line path stamp is_sought finding =
-    object_line (record { name = codes "path"; value = text path }
-    ∷ present (valued (codes "status") (text (status_text finding)) ∷ counted (codes "bytes") stamp.bytes ∷ counted (codes "modified") stamp.modified
-    ∷ counted (codes "nanoseconds") stamp.nanoseconds ∷ found_members is_sought finding))
+-- its path, its size and its time, and what was found
+abbrev pub entry_of : (path : List ℕ) → Stamp → (is_sought : Bool) → Finding → Entry
+entry_of path stamp is_sought finding = record { path = path; stamp = stamp; found = found_of is_sought finding }
 
--- Whether it is looked for that a stream is in the streamable subset: if only that is asked for, or the file can be read
--- again.
+-- Whether it is looked for that a stream is in the streamable subset: if only that is asked for, or the file can be
+-- read again.
 abbrev pub is_sought_in : (subset : Bool) → Option Contents → Bool
 is_sought_in subset None = subset
 is_sought_in subset (Some of) = subset || of.again
 
-abbrev pub report_line : (subset : Bool) → Listed → Finding → List ℕ
-report_line subset file finding = entry_line file.path file.stamp (is_sought_in subset file.contents) finding
+abbrev pub report_entry : (subset : Bool) → Listed → Finding → Entry
+report_entry subset file finding = entry_of file.path file.stamp (is_sought_in subset file.contents) finding
 
--- the lines of all files, in order
+-- of all files, in order
+abbrev pub report_entries : (subset : Bool) → List Listed → List Finding → List Entry
+report_entries subset [] findings = []
+report_entries subset files [] = []
+report_entries subset (file ∷ files) (finding ∷ findings) = report_entry subset file finding ∷ report_entries subset files findings
+
+-- ---- the lines
+
+abbrev pub report_line : (subset : Bool) → Listed → Finding → List ℕ
+report_line subset file finding = line_of (report_entry subset file finding)
+
+-- those of all files, in order
 abbrev pub report_lines : (subset : Bool) → List Listed → List Finding → List ℕ
-report_lines subset [] findings = []
-report_lines subset files [] = []
-report_lines subset (file ∷ files) (finding ∷ findings) = report_line subset file finding ++ report_lines subset files findings
+report_lines subset files findings = flat_map line_of (report_entries subset files findings)

@@ -2,6 +2,8 @@
 use Rattle.std.specs.Prelude.{◌≡◌, ◌⊎◌, ◌&&◌, ℕ, ℤ, Bool, true, false, not, nat_lt, cond, List, [], ◌∷◌, ◌++◌, Option, Some, None, option_map}
 use Rattle.std.specs.List.{filter}
 use Rattle.flac_bits.specs.State.{After}
+use Rattle.flac_bits.specs.declared.source.Source as source
+use Rattle.flac_bits.specs.declared.target.Target as target
 use Rattle.flac_bits.specs.declared.why.Why.TheVariants as why
 use Rattle.flac_frame.specs.declared.setup.SetupFault.TheVariants as setup
 use Rattle.flac_meta.specs.declared.block.Block.{Block}
@@ -22,6 +24,7 @@ use Rattle.flac_jobs.specs.declared.salvages.Filling.{Filling}
 use Rattle.flac_jobs.specs.declared.salvages.Filling.TheVariants.{Silence, Nothing}
 use Rattle.flac_jobs.specs.declared.salvages.Salvage.{Salvage}
 use Rattle.flac_cli.specs.Asked.{Asked}
+use Rattle.flac_cli.specs.Calls.{HasWritten, IfServed}
 use Rattle.flac_cli.specs.Encoded.{EncodesIn, BeginsIn, AreFound, cut_found}
 use Rattle.flac_cli.specs.Outcomes.{reason_text}
 use Rattle.flac_cli.specs.Recoded.{blocks_in, sound_of}
@@ -76,8 +79,8 @@ pub record IsLeft (silence : Bool) (bytes : List ℕ) (s : Survey) (list : List 
   pub samples : AreSalvaged bytes s silence channels
   pub bounded : is_too_long silence s ≡ false
 
--- After the bits that were there, a stream was written as it is asked for: of these samples, with these blocks but for the
--- seek table. Each frame is a shortest one, as `Recodes` says.
+-- After the bits that were there, a stream was written as it is asked for: of these samples, with these blocks but for
+-- the seek table. Each frame is a shortest one, as `Recodes` says.
 pub record Salvages (asked : Asked) (silence : Bool) (bytes : List ℕ) (before after : List Bool) : Type 0 where
   pub survey : Survey
   pub list : List Block
@@ -101,9 +104,17 @@ pub record BeginsSalvaged (asked : Asked) (silence : Bool) (bytes : List ℕ) (b
 abbrev pub HasBegunSalvaged : Asked → (silence : Bool) → (bytes : List ℕ) → (before after : List Bool) → Type 0
 HasBegunSalvaged asked silence bytes before after = (after ≡ before) ⊎ BeginsSalvaged asked silence bytes before after
 
+-- what was written is what a salvage asks for of the bytes of the source
+abbrev pub SalvagesFile : {S T : Type 0} (g : source.Ghosts S) (h : target.Ghosts T) → Salvage → (from : S) (old new : T) → Type 0
+SalvagesFile g h s from old new = HasWritten g h from old new (Salvages (salvage_asks s) (fills s.filling))
+
+-- nothing was written, or a prefix of that
+abbrev pub BeginsSalvage : {S T : Type 0} (g : source.Ghosts S) (h : target.Ghosts T) → Salvage → (from : S) (old new : T) → Type 0
+BeginsSalvage g h s from old new = HasWritten g h from old new (HasBegunSalvaged (salvage_asks s) (fills s.filling))
+
 -- ---- reasons
 
--- the reason that is told of a stream that is not surveyed
+-- the reason that is reported of a stream that is not surveyed
 abbrev pub survey_refusal : SurveyFault → RecodeRefusal
 survey_refusal (surveying.Head fault) = Unread fault
 survey_refusal surveying.Memory = Refused (refusal.Input why.Memory)
@@ -122,6 +133,10 @@ IsSalvageReason asked silence bytes reason =
     ⊎ (((s : Survey) × IsSurvey bytes s × (is_too_long silence s ≡ true) × (reason ≡ Some (salvage_refusal salvaging.TooLong)))
     ⊎ ((s : Survey) × (list : List Block) × (channels : List (List ℤ)) × IsLeft silence bytes s list channels × (reason ≡ option_map Refused (held_refusal asked [] s.info list channels))))
 
+-- there is no such reason
+abbrev pub CanBeSalvaged : Asked → Salvage → (bytes : List ℕ) → Type 0
+CanBeSalvaged asked s bytes = IsSalvageReason asked (fills s.filling) bytes None
+
 -- ---- what is printed
 
 -- The line of the first reason was added; or memory ran out, maybe at a place of the stream, and it says that.
@@ -139,3 +154,7 @@ pub record TellsLeft (path bytes before after : List ℕ) : Type 0 where
   pub survey : Survey
   pub is : IsSurvey bytes survey
   pub printed : after ≡ before ++ report_text path survey
+
+-- if the bytes of the source are known, and standard error did not fail, it got these lines
+abbrev pub TellsMissing : {S E : Type 0} (g : source.Ghosts S) (k : target.Ghosts E) → Salvage → (from : S) (before after : E) → Type 0
+TellsMissing g k s from before after = g.known from ≡ true → IfServed k before after (TellsLeft s.input.now (g.coming from))

@@ -2,6 +2,7 @@
 use Rattle.std.specs.Prelude.{◌≡◌, ℕ, List, ◌++◌, codes, decimal, Option, Some, None, Result, Ok, Err}
 use Rattle.flac_bits.specs.Handing.{InputReading}
 use Rattle.flac_bits.specs.declared.source.Source as source
+use Rattle.flac_bits.specs.declared.target.Target as target
 use Rattle.flac_header.specs.declared.subset.Profile.TheVariants.{Lax}
 use Rattle.flac_native.specs.Stream.{Piece}
 use Rattle.flac_native.specs.Places.{fault_text}
@@ -12,13 +13,14 @@ use Rattle.flac_compare.specs.declared.difference.Difference.TheVariants.{Rate, 
 use Rattle.flac_compare.specs.declared.difference.Unread.{Unread}
 use Rattle.flac_compare.specs.declared.difference.Unread.TheVariants.{First, Second}
 use Rattle.flac_jobs.specs.declared.comparisons.Comparison.{Comparison}
+use Rattle.flac_cli.specs.Calls.{Passed, old_of, new_of, IfPrinted}
 use Rattle.flac_cli.specs.Reports.{fault_line}
 
 -- the bytes of a source as a native stream or an Ogg stream, also outside the streamable subset
 abbrev pub lax_input : {S : Type 0} → source.Ghosts S → S → InputReading Piece Place
 lax_input g s = input_of g Lax s
 
--- If all bytes of both sources are told, this holds of the two inputs.
+-- If the bytes of both sources are known, and neither failed, this holds of the two inputs.
 abbrev pub IfBothTold : {S T : Type 0} (g : source.Ghosts S) (h : source.Ghosts T) (old new : S) (from to : T) → (InputReading Piece Place → InputReading Piece Place → Type 0) → Type 0
 IfBothTold g h old new from to Says = ToldAll g old new → ToldAll h from to → Says (lax_input g old) (lax_input h from)
 
@@ -47,3 +49,8 @@ pub record ReportsComparison (r s : InputReading Piece Place) (paths : Compariso
   pub result : Result (Option Difference) Unread
   pub compares : ComparesInputs r s result
   pub answer : IsComparison result paths.first.now paths.second.now status out printed err told
+
+-- the same of devices: if both sources are known, and no device failed
+abbrev pub ReportsSame : {S T O E : Type 0} (g : source.Ghosts S) (h : source.Ghosts T) (o : target.Ghosts O) (k : target.Ghosts E) → Comparison → (status : ℕ) → Passed S → Passed T → Passed O → Passed E → Type 0
+ReportsSame g h o k paths status first second out err =
+    IfBothTold g h (old_of first) (new_of first) (old_of second) (new_of second) (λ r s. IfPrinted o k (old_of out) (new_of out) (old_of err) (new_of err) (ReportsComparison r s paths status))

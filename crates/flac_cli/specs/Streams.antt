@@ -37,8 +37,8 @@ GivesStream g profile s = (parts : List Piece) × IsStream profile parts (g.comi
 abbrev pub GivesStreamOf : {S : Type 0} (g : source.Ghosts S) → Profile → S → (List Piece → Type 0) → Type 0
 GivesStreamOf g profile s Says = (parts : List Piece) × IsStream profile parts (g.coming s) (g.after s) × Says parts
 
--- If the source did not fail, and the bytes of the target are known: the source gives a stream, of whose parts the target
--- was sent exactly this text.
+-- If the source did not fail, and the bytes of the target are known: the source gives a stream, of whose parts the
+-- target was sent exactly this text.
 abbrev pub SendsOfStream : {S T : Type 0} (g : source.Ghosts S) (h : target.Ghosts T) → Profile → (text : List Piece → List ℕ) → (from to : S) (old new : T) → Type 0
 SendsOfStream g h profile text from to old new = Tells g from to → h.known old ≡ true → GivesStreamOf g profile from (λ parts. h.sent new ≡ h.sent old ++ text parts)
 

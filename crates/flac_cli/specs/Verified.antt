@@ -1,6 +1,5 @@
 -- What `flac verify` finds of files, and what it prints.
 use Rattle.std.specs.Prelude.{◌≡◌, ◌↔◌, ℕ, ◌+◌, ◌&&◌, Bool, true, false, cond, nat_eq, List, [], ◌∷◌, ◌++◌, length, codes, decimal, Option, Some, None}
-use Rattle.flac_bits.specs.declared.target.Target as target
 use Rattle.flac_bits.specs.declared.why.Why.TheVariants as why
 use Rattle.flac_info.specs.Info.{Info}
 use Rattle.flac_header.specs.declared.subset.Profile.{Profile}
@@ -12,7 +11,7 @@ use Rattle.flac_shelf.specs.Shown.{shown}
 use Rattle.flac_cli.specs.Changes.{change_in, is_kept, word_of}
 use Rattle.flac_cli.specs.Counted.{frames_in, samples_in_all, printed}
 use Rattle.flac_cli.specs.Outcomes.{Fits, Reads, input_reading}
-use Rattle.flac_cli.specs.Reports.{fault_line, Serves}
+use Rattle.flac_cli.specs.Reports.{fault_line}
 use Rattle.flac_cli.specs.declared.verify_change.Change.{Change}
 use Rattle.flac_cli.specs.declared.verify_facts.Facts.{Facts}
 use Rattle.flac_cli.specs.declared.verify.Finding.{Finding}
@@ -41,8 +40,8 @@ pub record Describes (parts : List Piece) (facts : Facts) : Type 0 where
 abbrev pub IsStreamOf : Profile → Contents → Facts → Type 0
 IsStreamOf profile of facts = (parts : List Piece) × (input_reading profile of.bytes of.after).whole parts × Describes parts facts
 
--- A stream of FLAC that is none of the streamable subset. It is looked for only if all of FLAC is asked for and the file
--- can be read again.
+-- A stream of FLAC that is none of the streamable subset. It is looked for only if all of FLAC is asked for and the
+-- file can be read again.
 pub record IsOutside (subset : Bool) (of : Contents) : Type 0 where
   pub asked : subset ≡ false
   pub again : of.again ≡ true
@@ -83,6 +82,10 @@ AreWhole subset (file ∷ files) = IsWhole subset file.contents × AreWhole subs
 -- If the files of a list are known, and none was given back after its device had failed, this holds.
 abbrev pub IfNoneFails : {S : Type 0} (known : S → Bool) (faults : S → ℕ) (old new : S) → Type 0 → Type 0
 IfNoneFails known faults old new Says = known old ≡ true → faults new ≡ faults old → Says
+
+-- then each of its files is a stream
+abbrev pub FilesAreWhole : {S : Type 0} (known : S → Bool) (faults : S → ℕ) (files : S → List Listed) → (subset : Bool) → (old new : S) → Type 0
+FilesAreWhole known faults files subset old new = IfNoneFails known faults old new (AreWhole subset (files old))
 
 -- All files of a list have come: none is left, and what is gone of an older report is what was to be gone of it.
 pub record HaveCome {S : Type 0} (files : S → List Listed) (gone : S → List (List ℕ)) (old new : S) : Type 0 where

@@ -2,10 +2,12 @@
 use Rattle.std.specs.Prelude.{◌≡◌, ℕ, true, List, ◌++◌}
 use Rattle.flac_bits.specs.declared.target.Target as target
 use Rattle.flac_shelf.specs.Listed.{Listed}
+use Rattle.flac_shelf.specs.declared.shelf.Shelf as shelf
+use Rattle.flac_cli.specs.Calls.{Passed, old_of, new_of}
 use Rattle.flac_cli.specs.Reported.{report_lines}
 use Rattle.flac_cli.specs.Reports.{Serves}
 use Rattle.flac_cli.specs.Missing.{AreMissing, told_lines}
-use Rattle.flac_cli.specs.Verified.{AreFound, printed_lines, bad_count, all_kept}
+use Rattle.flac_cli.specs.Verified.{AreFound, printed_lines, bad_count, all_kept, IfNoneFails}
 use Rattle.flac_cli.specs.declared.verify.Checks.{Checks}
 use Rattle.flac_cli.specs.declared.verify.Finding.{Finding}
 
@@ -26,3 +28,9 @@ pub record Verifies {O E P : Type 0} (o : target.Ghosts O) (e : target.Ghosts E)
   pub printed_is : Serves o out printed_to → o.sent printed_to ≡ o.sent out ++ printed_lines files findings
   pub entered_is : Serves p report reported → p.sent reported ≡ p.sent report ++ report_lines checks.subset files findings
   pub told_is : Serves o out printed_to → Serves e err told → e.sent told ≡ e.sent err ++ told_lines files findings missing
+
+-- The same of devices, if the files of the list are known and the device of none failed. `s` is that of the type of the
+-- list.
+abbrev pub VerifiesFiles : {S F O E P : Type 0} (s : shelf.Ghosts S F) (o : target.Ghosts O) (e : target.Ghosts E) (p : target.Ghosts P) → Checks → (status : ℕ) → Passed S → Passed O → Passed E → Passed P → Type 0
+VerifiesFiles s o e p checks status list out err report =
+    IfNoneFails s.known s.faults (old_of list) (new_of list) (Verifies o e p checks (s.files (old_of list)) status (old_of out) (new_of out) (old_of err) (new_of err) (old_of report) (new_of report))

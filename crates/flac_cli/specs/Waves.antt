@@ -37,12 +37,13 @@ use Rattle.flac_jobs.specs.declared.jobs.Job.TheVariants as job
 abbrev pub turned : ℕ → ℕ
 turned byte = bit_xor byte 128
 
--- The samples of a WAV file as raw samples of this depth, or raw samples as those of a file: samples of up to 8 bits are
--- unsigned in a WAV file, and the others the same.
+-- The samples of a WAV file as raw samples of this depth, or raw samples as those of a file: samples of up to 8 bits
+-- are unsigned in a WAV file, and the others the same.
 abbrev pub wave_samples : (depth : ℕ) → List ℕ → List ℕ
 wave_samples depth samples = cond (nat_lt depth 9) (map turned samples) samples
 
--- Samples of `depth` bits as the highest bits of `wide` bytes each, where these have more bits: the bits below are zeros.
+-- Samples of `depth` bits as the highest bits of `wide` bytes each, where these have more bits: the bits below are
+-- zeros.
 abbrev pub high_samples : (wide depth : ℕ) → List ℕ → List ℕ
 high_samples wide depth samples =
     cond (nat_eq depth (8 * wide)) samples (raised (sample_width depth) wide (8 * wide - depth) (length samples / sample_width depth) samples)
@@ -132,11 +133,13 @@ plain_of p (framed f ∷ xs) = plain_of p xs
 abbrev pub has_room : (wide depth : ℕ) → Bool
 has_room wide depth = nat_lt wide 5 && (nat_lt 0 depth && not (nat_lt (8 * wide) depth))
 
--- Why there is no WAV file of samples of this depth: a file is kept, and the bytes of its samples have no room for them.
+-- Why there is no WAV file of samples of this depth: a file is kept, and the bytes of its samples have no room for
+-- them.
 abbrev pub piece_fault : (whole : Bool) (bits depth : ℕ) → Option KeptFault
 piece_fault whole bits depth = cond whole (cond (has_room ((bits + 7) / 8) depth) None (Some kept.OtherBits)) None
 
--- how many bytes a sample of the file has: those of the kept file's bits, or in a plain file those of the stream's depth
+-- how many bytes a sample of the file has: those of the kept file's bits, or in a plain file those of the stream's
+-- depth
 abbrev pub wave_width_by : (whole : Bool) (bits depth : ℕ) → ℕ
 wave_width_by whole bits depth = cond whole ((bits + 7) / 8) (sample_width depth)
 
@@ -144,8 +147,8 @@ wave_width_by whole bits depth = cond whole ((bits + 7) / 8) (sample_width depth
 abbrev pub kept_fault : List Piece → Option KeptFault
 kept_fault parts = piece_fault (are_file (pieces_in parts)) (bits_in 0 (pieces_in parts)) (depth_of 0 parts)
 
--- The pieces of a file: those that are kept, if they make one, else those of a plain file. They do not if another program
--- removed the block of the file's header, of its format or of the header of its samples.
+-- The pieces of a file: those that are kept, if they make one, else those of a plain file. They do not if another
+-- program removed the block of the file's header, of its format or of the header of its samples.
 abbrev pub file_pieces : (kept plain : List (List ℕ)) → List (List ℕ)
 file_pieces kept plain = cond (are_file kept) kept plain
 
@@ -194,8 +197,8 @@ format_as asked file = format_with asked file.format (depth_for file)
 abbrev pub asked_of_wave : Asked → Parts → Asked
 asked_of_wave asked file = record asked { format = format_as asked.format file }
 
--- This is a WAV file of these samples, which may go on to its end if that is asked for, and these are the blocks that keep
--- it, if that is asked for.
+-- This is a WAV file of these samples, which may go on to its end if that is asked for, and these are the blocks that
+-- keep it, if that is asked for.
 pub record Keeps (asked : Asked) (bytes : List ℕ) (format : RawFormat) (a : Sound) (list : List Block) : Type 0 where
   pub file : Parts
   pub pieces : List (List ℕ)
@@ -207,9 +210,10 @@ pub record Keeps (asked : Asked) (bytes : List ℕ) (format : RawFormat) (a : So
   pub blocks : list ≡ blocks_for asked file.format (file.pieces ++ pieces)
 
 -- After the bits that were there, a stream was written of the samples of the WAV file that these bytes are, with the
--- words and unusual speakers as comments, the pieces of the file in blocks `riff`, if it is kept, and the seek table. Each frame is a shortest one
--- over constant and verbatim subframes, the fixed predictors, those of the list, and those that were found for its block,
--- if any were sought. If it is kept, the WAV file of its blocks and frames is these bytes, byte for byte.
+-- words and unusual speakers as comments, the pieces of the file in blocks `riff`, if it is kept, and the seek table.
+-- Each frame is a shortest one over constant and verbatim subframes, the fixed predictors, those of the list, and those
+-- that were found for its block, if any were sought. If it is kept, the WAV file of its blocks and frames is these
+-- bytes, byte for byte.
 pub record EncodesWave (asked : Asked) (bytes : List ℕ) (before after : List Bool) : Type 0 where
   pub format : RawFormat
   pub audio : Sound
@@ -257,7 +261,8 @@ abbrev pub HasBegunWave : Option Asked → (bytes : List ℕ) → (before after 
 HasBegunWave (Some asked) bytes before after = MayBeginWave asked bytes before after
 HasBegunWave None bytes before after = Unit {0}
 
--- The bytes of a stream that keeps a WAV file are a stream of blocks and frames whose file is that file, and of no other.
+-- The bytes of a stream that keeps a WAV file are a stream of blocks and frames whose file is that file, and of no
+-- other.
 abbrev pub KeptFilesComeBack : Type 0
 KeptFilesComeBack =
     (asked : Asked) (bytes stream : List ℕ) → asked.keep ≡ true → AreBytes stream → EncodesWave asked bytes [] (bits_of stream) → (parts : List Piece) → (bytes_reading asked.profile stream).whole parts → wave_in parts ≡ bytes

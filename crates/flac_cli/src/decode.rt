@@ -1,14 +1,14 @@
 //! `flac decode` to raw samples.
 
 ghost use Rattle.std.specs.Prelude.{◌≡◌, ◌≢◌, ◌≤◌, Some, IfErr, OnOk};
-ghost use Rattle.flac_native.specs.Samples.{samples_from};
-ghost use Rattle.flac_cli.specs.Calls.{IfServed, IfAllServe};
-ghost use Rattle.flac_cli.specs.Streams.{Tells, GivesStream, SendsOfStream, HasSentOfStream};
-ghost use Rattle.flac_cli.specs.Samples.{all_samples};
-ghost use Rattle.flac_cli.specs.Outcomes.{ReportsStream};
-ghost use Rattle.flac_cli.specs.inner.Outcomes.{FitsStream};
+ghost use Rattle.flac_cli.specs.Calls.{IfServed};
+ghost use Rattle.flac_cli.specs.Streams.{Tells, GivesStream};
+ghost use Rattle.flac_cli.specs.Outcomes.{ReportsRead};
 ghost use Rattle.flac_cli.specs.Reports.{Serves};
 ghost use Rattle.flac_cli.specs.Named.{NamesDecoding};
+ghost use Rattle.flac_cli.specs.Samples.{SendsSamples};
+ghost use Rattle.flac_cli.specs.inner.Decoded.{HasSentSamples, SinkSends};
+ghost use Rattle.flac_cli.specs.inner.Outcomes.{ReturnsStream, ForPaths};
 
 use crate::report::{Paths, is_of_samples, refuse};
 use crate::streams::decode_stream;
@@ -26,10 +26,9 @@ fn decode_wave_into<R: Source, W: Target>(
     requires none { sink.old.failures.count ≡ 0 }
     requires began { sink.old.began.value ≡ sink.old.target }
     ensures stream { Tells R.Source source.old source.new → OnOk result (GivesStream R.Source profile source.old) }
-    ensures written { HasSentOfStream R.Source W.Target profile (samples_from sink.old.asked sink.old.depth)
+    ensures written { SinkSends R.Source profile source.old source.new sink.old sink.new result }
+    ensures outcome { ReturnsStream R.Source W.Target profile
         source.old source.new sink.old.target sink.new.target result }
-    ensures outcome { Tells R.Source source.old source.new → Serves W.Target sink.old.target sink.new.target →
-        FitsStream R.Source profile source.old result }
     ensures served { Serves W.Target sink.old.target sink.new.target → IfErr result (λ f. f.why ≢ Why.Sink) }
     ensures names { W.names sink.new.target ≡ W.names sink.old.target }
 {
@@ -47,10 +46,8 @@ fn decode_samples<R: Source, W: Target>(
     target: &mut W,
 ) -> Result<(), Fault>
     ensures stream { Tells R.Source source.old source.new → OnOk result (GivesStream R.Source profile source.old) }
-    ensures written { HasSentOfStream R.Source W.Target profile (all_samples 0)
-        source.old source.new target.old target.new result }
-    ensures outcome { Tells R.Source source.old source.new → Serves W.Target target.old target.new →
-        FitsStream R.Source profile source.old result }
+    ensures written { HasSentSamples R.Source W.Target profile source.old source.new target.old target.new result }
+    ensures outcome { ReturnsStream R.Source W.Target profile source.old source.new target.old target.new result }
     ensures served { Serves W.Target target.old target.new → IfErr result (λ f. f.why ≢ Why.Sink) }
 {
     let mut sink = SampleWriter::new(target, 0);
@@ -71,12 +68,9 @@ pub(crate) fn run_decode<R: Source, W: Target, E: Target>(
 ) -> u8
     ensures status { result ≤ 1 }
     ensures stream { result ≡ 0 → Tells R.Source source.old source.new → GivesStream R.Source profile source.old }
-    ensures decoded { result ≡ 0 → SendsOfStream R.Source W.Target profile (all_samples 0)
-        source.old source.new target.old target.new }
-    ensures reported { IfAllServe R.Source W.Target E.Target source.old source.new target.old target.new err.old err.new
-        (ReportsStream profile paths.now.input.now result) }
-    ensures named { result ≡ 1 →
-        IfServed E.Target err.old err.new (NamesDecoding paths.now.input.now paths.now.output.now) }
+    ensures decoded { result ≡ 0 → SendsSamples R.Source W.Target profile source.old source.new target.old target.new }
+    ensures reported { ReportsRead R.Source W.Target E.Target profile paths.now.input.now result source target err }
+    ensures named { result ≡ 1 → IfServed E.Target err.old err.new (ForPaths NamesDecoding paths.now) }
 {
     match decode_samples(alloc, source, profile, target) {
         Ok(()) => 0,

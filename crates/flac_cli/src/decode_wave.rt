@@ -5,16 +5,16 @@ ghost use Rattle.flac_bits.specs.Bits.{bit_value};
 ghost use Rattle.flac_frame.specs.Viewed.{frame_of};
 ghost use Rattle.flac_native.specs.Item.{frame as frame_item};
 ghost use Rattle.flac_native.specs.Message.{sample_width};
-ghost use Rattle.flac_native.specs.Samples.{frame_bytes};
 ghost use Rattle.flac_wave.specs.Wave.{all_of, begins_empty};
-ghost use Rattle.flac_cli.specs.Calls.{IfServed, IfAllServe, HasSent};
-ghost use Rattle.flac_cli.specs.Outcomes.{SendsOfReading, HasSentOfReading, ReportsWave, text_of_kept};
+ghost use Rattle.flac_cli.specs.Calls.{IfServed, HasSent};
+ghost use Rattle.flac_cli.specs.Outcomes.{ReportsReadWave, text_of_kept, SendsWave};
 ghost use Rattle.flac_cli.specs.Reports.{Serves, AddsLine};
 ghost use Rattle.flac_cli.specs.Streams.{Tells};
-ghost use Rattle.flac_cli.specs.Waves.{wave_samples, file_samples, wave_in};
-ghost use Rattle.flac_cli.specs.inner.Waving.{nothing_held, held_after, adds, front_left, end_pad, ending, Holds};
-ghost use Rattle.flac_cli.specs.inner.WaveOutcomes.{fault_by, FitsWave, IsOfInput};
+ghost use Rattle.flac_cli.specs.Waves.{wave_samples, file_samples};
+ghost use Rattle.flac_cli.specs.inner.Waving.{nothing_held, held_after, adds, front_left, end_pad, ending, Holds, frame_samples};
+ghost use Rattle.flac_cli.specs.inner.WaveOutcomes.{fault_by, IsOfInput, ReturnsWave, FailsByInput, HasSentWave, FailedUnless};
 ghost use Rattle.flac_cli.specs.Named.{NamesWaveDecoding};
+ghost use Rattle.flac_cli.specs.inner.Outcomes.{ForPaths};
 
 use crate::held_wave::{HeldWave, KeptFault};
 use crate::lines::{At, write_line};
@@ -97,8 +97,8 @@ fn send_turned<W: Target>(wide: usize, bytes: &mut [u8], target: &mut W) -> Resu
     Ok(bytes.len())
 }
 
-/// Sends samples of a stream as those of a WAV file, of `wide` bytes each. Their bytes may be changed for it. Returns how
-/// many bytes they are in the file.
+/// Sends samples of a stream as those of a WAV file, of `wide` bytes each. Their bytes may be changed for it. Returns
+/// how many bytes they are in the file.
 pub(crate) fn send_as_file<W: Target>(
     depth: u8,
     wide: usize,
@@ -125,8 +125,8 @@ pub(crate) fn send_as_file<W: Target>(
     send_turned(wide, &mut high[..end], target)
 }
 
-/// Sends the samples of a frame as those of a WAV file, of `wide` bytes each, by way of `bytes`. Returns whether the number
-/// of the file's bytes with those before is odd.
+/// Sends the samples of a frame as those of a WAV file, of `wide` bytes each, by way of `bytes`. Returns 1 if the
+/// number of these bytes and of those before them is odd, else 0.
 fn send_samples<W: Target>(
     frame: &FrameView<'_>,
     depth: u8,
@@ -139,10 +139,8 @@ fn send_samples<W: Target>(
     requires odd { odd < 2 }
     requires room { length bytes.old ≡ 131072 }
     ensures known { OnOk result (W.known target.old ≡ true → W.known target.new ≡ true) }
-    ensures sent { HasSent W.Target target.old target.new
-        (file_samples wide depth (frame_bytes 0 depth (frame_of frame.now))) result }
-    ensures odd { IfOk result (λ o. o ≡
-        (odd + length (file_samples wide depth (frame_bytes 0 depth (frame_of frame.now)))) % 2) }
+    ensures sent { HasSent W.Target target.old target.new (frame_samples wide depth (frame_of frame.now)) result }
+    ensures odd { IfOk result (λ o. o ≡ (odd + length (frame_samples wide depth (frame_of frame.now))) % 2) }
     ensures names { W.names target.new ≡ W.names target.old }
     ensures kept { W.errors target.old ≤ W.errors target.new }
     ensures rises { OnErr result (W.known target.old ≡ true → W.errors target.old < W.errors target.new) }
@@ -239,8 +237,8 @@ fn send_ending<W: Target>(held: &HeldWave, target: &mut W) -> Result<(), Why>
 }
 
 /// A sink that writes the WAV file of a stream: what comes before the samples at the first frame, the samples as they
-/// come, and what follows them when it is ended. It holds the pieces of the file, and no samples. If there is no WAV file
-/// of the stream's samples, it writes nothing.
+/// come, and what follows them when it is ended. It holds the pieces of the file, and no samples. If there is no WAV
+/// file of the stream's samples, it writes nothing.
 #[derive(Drop)]
 pub(crate) struct WaveWriter<W: Target> {
     target: W,
@@ -283,8 +281,8 @@ impl<W: Target> WaveWriter<W> {
         ensures count { result ≡ self.now.failures.count }
         // Each time is an error of the target, unless an allocation failed.
         ensures kept { W.errors self.now.began.value ≤ W.errors self.now.target }
-        ensures failed { W.known self.now.began.value ≡ true → 0 < self.now.failures.count → self.now.short ≡ false →
-            W.errors self.now.began.value < W.errors self.now.target }
+        ensures failed { FailedUnless W.Target self.now.short self.now.failures.count
+            self.now.began.value self.now.target }
     {
         self.failures.count()
     }
@@ -392,12 +390,11 @@ fn decode_wave_into<R: Source, W: Target>(
     requires none { sink.old.failures.count ≡ 0 }
     requires began { sink.old.began.value ≡ sink.old.target }
     requires held { sink.old.held ≡ nothing_held }
-    ensures written { HasSentOfReading R.Source W.Target profile wave_in
+    ensures written { HasSentWave R.Source W.Target profile
         source.old source.new sink.old.target sink.new.target result }
-    ensures outcome { Tells R.Source source.old source.new → Serves W.Target sink.old.target sink.new.target →
-        FitsWave R.Source profile source.old result }
-    ensures served { Tells R.Source source.old source.new → Serves W.Target sink.old.target sink.new.target →
-        IfErr result IsOfInput }
+    ensures outcome { ReturnsWave R.Source W.Target profile
+        source.old source.new sink.old.target sink.new.target result }
+    ensures served { FailsByInput R.Source W.Target source.old source.new sink.old.target sink.new.target result }
     ensures names { W.names sink.new.target ≡ W.names sink.old.target }
 {
     let decoded = decode_any(alloc, source, profile, sink);
@@ -415,8 +412,8 @@ fn decode_wave_into<R: Source, W: Target>(
     }
 }
 
-/// Decodes a stream, and writes its WAV file: the one that its blocks keep, or else a plain one. After an error nothing or
-/// a part of the file was written.
+/// Decodes a stream, and writes its WAV file: the one that its blocks keep, or else a plain one. After an error nothing
+/// or a part of the file was written.
 ///
 /// # Errors
 /// The first fault of the stream. If it has none: the file that it keeps has samples of other bytes. An error of the
@@ -427,10 +424,8 @@ pub(crate) fn decode_wave<R: Source, W: Target>(
     profile: Profile,
     target: &mut W,
 ) -> Result<(), WaveFailure>
-    ensures written { HasSentOfReading R.Source W.Target profile wave_in
-        source.old source.new target.old target.new result }
-    ensures outcome { Tells R.Source source.old source.new → Serves W.Target target.old target.new →
-        FitsWave R.Source profile source.old result }
+    ensures written { HasSentWave R.Source W.Target profile source.old source.new target.old target.new result }
+    ensures outcome { ReturnsWave R.Source W.Target profile source.old source.new target.old target.new result }
     ensures served { Tells R.Source source.old source.new → Serves W.Target target.old target.new →
         IfErr result IsOfInput }
 {
@@ -461,12 +456,9 @@ pub(crate) fn run_decode_wave<R: Source, W: Target, E: Target>(
     err: &mut E,
 ) -> u8
     ensures status { result ≤ 1 }
-    ensures decoded { result ≡ 0 → SendsOfReading R.Source W.Target profile wave_in
-        source.old source.new target.old target.new }
-    ensures reported { IfAllServe R.Source W.Target E.Target source.old source.new target.old target.new err.old err.new
-        (ReportsWave profile paths.now.input.now result) }
-    ensures named { result ≡ 1 →
-        IfServed E.Target err.old err.new (NamesWaveDecoding paths.now.input.now paths.now.output.now) }
+    ensures decoded { result ≡ 0 → SendsWave R.Source W.Target profile source.old source.new target.old target.new }
+    ensures reported { ReportsReadWave R.Source W.Target E.Target profile paths.now.input.now result source target err }
+    ensures named { result ≡ 1 → IfServed E.Target err.old err.new (ForPaths NamesWaveDecoding paths.now) }
 {
     match decode_wave(alloc, source, profile, target) {
         Ok(()) => 0,

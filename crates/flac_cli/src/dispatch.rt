@@ -1,19 +1,14 @@
 //! What the program does for a job: each command is in the file of its name.
 
 ghost use Rattle.std.specs.Prelude.{◌≡◌, ◌≤◌, true, List};
-ghost use Rattle.flac_cli.specs.Calls.{HasWritten, IfServed, IfBothServe, IfAllServe};
-ghost use Rattle.flac_cli.specs.Streams.{Tells, profile_for, GivesStream, SendsOfStream};
-ghost use Rattle.flac_jobs.specs.Asks.{AsksDecode, AsksDecodeWave, AsksStream};
-ghost use Rattle.flac_cli.specs.Samples.{all_samples};
-ghost use Rattle.flac_cli.specs.Counted.{AsksTest, counts_line};
-ghost use Rattle.flac_cli.specs.Encoded.{asked_by, HasEncoded, HasBegun};
-ghost use Rattle.flac_cli.specs.Outcomes.{ReportsJob, SendsOfReading};
+ghost use Rattle.flac_cli.specs.Calls.{IfServed, IfAllServe, IfKnown};
+ghost use Rattle.flac_cli.specs.Encoded.{asked_by};
 ghost use Rattle.flac_cli.specs.Refusals.{CanBeEncoded};
-ghost use Rattle.flac_cli.specs.Reports.{Serves, ReportsTask};
-ghost use Rattle.flac_cli.specs.Retagged.{HasRetagged};
+ghost use Rattle.flac_cli.specs.Reports.{ReportsTask};
 ghost use Rattle.flac_cli.specs.Named.{NamesFault};
-ghost use Rattle.flac_cli.specs.Waves.{wave_in, wave_asked_by, HasEncodedWave, HasBegunWave};
+ghost use Rattle.flac_cli.specs.Waves.{wave_asked_by};
 ghost use Rattle.flac_cli.specs.WaveRefusals.{CanBeKept, ReportsWaveTask};
+ghost use Rattle.flac_cli.specs.Tasks.{NeedsStream, PrintsCounts, WritesSamples, WritesWave, WritesEncoded, BeginsEncoded, WritesEncodedWave, BeginsEncodedWave, WritesRetagged, ReportsReading};
 
 use crate::decode::run_decode;
 use crate::decode_wave::run_decode_wave;
@@ -39,9 +34,12 @@ pub struct Task<'a> {
 
 /// Does a job, and returns the exit status: 0 if it is done, 1 if it failed.
 ///
-/// `task` has the job and the text of its list. `source` is the file that the job reads, `target` the one that it
-/// writes, if it writes one; `out` and `err` are standard output and standard error. After status 1 the line of the
-/// error was written to `err`, if that could be written.
+/// - `task`: the job, and the text of its list of predictors.
+/// - `source`: the file that the job reads.
+/// - `target`: the file that it writes, if it writes one.
+/// - `out`, `err`: standard output and standard error.
+///
+/// After status 1 the line of the error was written to `err`, if that could be written.
 pub fn run<R: Source, W: Target, O: Target, E: Target>(
     alloc: Global,
     task: &Task<'_>,
@@ -50,69 +48,50 @@ pub fn run<R: Source, W: Target, O: Target, E: Target>(
     out: &mut O,
     err: &mut E,
 ) -> u8
-    // Test, decode and list are done only if the input is a stream.
-    ensures stream { AsksStream task.now.job.now → result ≡ 0 → Tells R.Source source.old source.new →
-        GivesStream R.Source (profile_for task.now.job.now) source.old }
+    // A test, a decoding or a listing returns 0 only if the input is a stream.
+    ensures stream { NeedsStream R.Source task.now result source.old source.new }
     // After status 0, a test has added to standard output exactly the line of the stream's counts.
-    ensures tested { AsksTest task.now.job.now → result ≡ 0 →
-        SendsOfStream R.Source O.Target (profile_for task.now.job.now) counts_line
-        source.old source.new out.old out.new }
+    ensures tested { PrintsCounts R.Source O.Target task.now result source.old source.new out.old out.new }
     // After status 0, a decoding has added to the file exactly the samples of the stream's frames.
-    ensures decoded { AsksDecode task.now.job.now → result ≡ 0 →
-        SendsOfStream R.Source W.Target (profile_for task.now.job.now) (all_samples 0)
-        source.old source.new target.old target.new }
+    ensures decoded { WritesSamples R.Source W.Target task.now result source.old source.new target.old target.new }
     // After status 0, an encoding has added to the file a stream of exactly the samples that the input is, in the
     // profile that is asked for, each frame a shortest one also over the predictors of the list.
-    ensures encoded { result ≡ 0 →
-        HasWritten R.Source W.Target source.old target.old target.new (HasEncoded (asked_by task.now)) }
+    ensures encoded { result ≡ 0 → WritesEncoded R.Source W.Target task.now source.old target.old target.new }
     // After status 0 there was no reason to refuse the encoding, and each line of the list is a predictor or has no
     // word.
-    ensures accepted { result ≡ 0 → R.known source.old ≡ true → CanBeEncoded (asked_by task.now) (R.coming source.old) }
+    ensures accepted { result ≡ 0 → IfKnown R.Source source.old (CanBeEncoded (asked_by task.now)) }
     // After status 1, an encoding has added nothing, or a prefix of such a stream.
-    ensures begun { result ≡ 1 →
-        HasWritten R.Source W.Target source.old target.old target.new (HasBegun (asked_by task.now)) }
-    // If no device fails: if there is a reason to refuse the encoding, the status is 1, and the line of the first one
-    // was added to standard error; if there is none, the status is 0, and nothing was added. Or memory ran out: then
-    // the status is 1, and the line says that.
-    ensures refused { IfAllServe R.Source W.Target E.Target source.old source.new target.old target.new err.old err.new
-        (ReportsTask task.now result) }
+    ensures begun { result ≡ 1 → BeginsEncoded R.Source W.Target task.now source.old target.old target.new }
+    // If no device fails: the status is 1, and the line of the first reason to refuse the encoding was added to
+    // standard error; or there is no reason, the status is 0, and nothing was added; or memory ran out, the status is
+    // 1, and the line says that.
+    ensures refused { IfAllServe R.Source W.Target E.Target source target err (ReportsTask task.now result) }
     // After status 0, a retagging has added to the file the same STREAMINFO, the comments, the other blocks and the
     // rest of the input.
-    ensures retagged { result ≡ 0 → HasWritten R.Source W.Target source.old target.old target.new
-        (λ bytes. HasRetagged task.now.job.now bytes (R.after source.old)) }
-    // After status 0, the encoding of a WAV file has added to the file a stream of its samples. If it is asked to keep all of
-    // it, the WAV file of this stream is the input, byte for byte.
-    ensures wave_encoded { result ≡ 0 →
-        HasWritten R.Source W.Target source.old target.old target.new
-        (HasEncodedWave (wave_asked_by task.now)) }
+    ensures retagged { result ≡ 0 → WritesRetagged R.Source W.Target task.now source.old target.old target.new }
+    // After status 0, the encoding of a WAV file has added to the file a stream of its samples. If all of the WAV file
+    // is to be kept, the WAV file of this stream is the input, byte for byte.
+    ensures wave_encoded { result ≡ 0 → WritesEncodedWave R.Source W.Target task.now source.old target.old target.new }
     // After status 0 the input is a WAV file, and there was no reason to refuse its encoding.
-    ensures wave_accepted { result ≡ 0 → R.known source.old ≡ true →
-        CanBeKept (wave_asked_by task.now) (R.coming source.old) }
+    ensures wave_accepted { result ≡ 0 → IfKnown R.Source source.old (CanBeKept (wave_asked_by task.now)) }
     // After status 1, such an encoding has added nothing, or a prefix of such a stream.
-    ensures wave_begun { result ≡ 1 →
-        HasWritten R.Source W.Target source.old target.old target.new
-        (HasBegunWave (wave_asked_by task.now)) }
-    // If no device fails: if there is a reason to refuse the encoding of the WAV file, the status is 1, and the line of the
-    // first one was added to standard error; if there is none, the status is 0, and nothing was added. Or memory ran out:
-    // then the status is 1, and the line says that.
-    ensures wave_refused { IfAllServe R.Source W.Target E.Target source.old source.new target.old target.new
-        err.old err.new (ReportsWaveTask task.now result) }
+    ensures wave_begun { result ≡ 1 → BeginsEncodedWave R.Source W.Target task.now source.old target.old target.new }
+    // If no device fails: the same as `refused`, for the encoding of a WAV file.
+    ensures wave_refused { IfAllServe R.Source W.Target E.Target source target err (ReportsWaveTask task.now result) }
     // After status 0, a decoding to a WAV file has added to the file exactly the WAV file of the stream.
-    ensures wave_decoded { AsksDecodeWave task.now.job.now → result ≡ 0 →
-        SendsOfReading R.Source W.Target (profile_for task.now.job.now) wave_in
-        source.old source.new target.old target.new }
+    ensures wave_decoded { WritesWave R.Source W.Target task.now result source.old source.new target.old target.new }
     // The status is 0 or 1.
     ensures status { result ≤ 1 }
-    // If no device that the job uses fails: if the input is a stream, test, decode and list return 0 and add nothing to
-    // standard error; if it is refused, they return 1 and add exactly the line of its place and reason. So does retag
-    // for the marker, the blocks and comments that are too long. So does a decoding to a WAV file, which also refuses a
-    // stream that becomes no WAV file of its samples. Or memory ran out, or standard output failed while blocks were
-    // listed: then the line says that.
-    ensures reported { IfBothServe R.Source E.Target source.old source.new err.old err.new
-        (ReportsJob task.now.job.now (Serves W.Target target.old target.new) (Serves O.Target out.old out.new) result) }
-    // After status 1 of a decoding, an encoding or a retagging, also of WAV files, whatever failed, its line was added to
-    // standard error, if that did not fail. It names the output if that could not be written (30 of a decoding, 39), and
-    // else the file at fault.
+    // If no device that the job uses fails:
+    // - A test, a decoding or a listing returns 0 and adds nothing to standard error, if the input is a stream. If it
+    //   is refused, it returns 1 and adds exactly the line of the place and the reason.
+    // - A retagging does so for the marker, the blocks, and comments that are too long.
+    // - A decoding to a WAV file also refuses a stream that becomes no WAV file of its samples.
+    // - Or memory ran out, or standard output failed while blocks were listed: then the line says that.
+    ensures reported { ReportsReading R.Source W.Target O.Target E.Target task.now result source target out err }
+    // After status 1 of a decoding, an encoding or a retagging, whatever failed, its line was added to standard error,
+    // if that did not fail. It names the output if that could not be written (30 of a decoding, 39), and else the file
+    // at fault.
     ensures named { result ≡ 1 → IfServed E.Target err.old err.new (NamesFault task.now.job.now) }
 {
     match task.job {

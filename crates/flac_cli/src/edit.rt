@@ -51,8 +51,8 @@ pub fn removals_of(alloc: Global, names: &[BlockName]) -> Result<Vec<Removal>, A
     Ok(removals)
 }
 
-/// The media type and the sizes of a picture: those that the command line states, or else those of the header of the file;
-/// `None` if they are not there.
+/// The media type and the sizes of a picture: those that the command line states, or else those of the header of the
+/// file; `None` if they are not there.
 fn form_of<'a>(word: &PictureWord<'a>, bytes: &[u8]) -> Option<PictureForm<'a>>
     ensures { option_map form_given result ≡ form_of word.now bytes.now }
 {
@@ -168,8 +168,8 @@ pub(crate) fn refuse_edits<E: Target>(err: &mut E, paths: &EditPaths<'_>, fault:
     1
 }
 
-/// Whether edits change the metadata blocks of a native file, as [`blocks_change`] says; `None` if it is refused: then the
-/// line of the error was written to `err`, if that could be written.
+/// Whether edits change the metadata blocks of a native file, as [`blocks_change`] says; `None` if it is refused: then
+/// the line of the error was written to `err`, if that could be written.
 pub fn edit_changes<R: Source, E: Target>(
     alloc: Global,
     paths: &EditPaths<'_>,

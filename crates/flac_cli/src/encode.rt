@@ -1,18 +1,18 @@
 //! `flac encode` of raw samples.
 
-ghost use Rattle.std.specs.Prelude.{◌≡◌, ◌+◌, ◌++◌, length, ◌≢◌, ◌⊎◌, ◌&&◌, not, is_some, true, IfOk, IfErr, OnOk, OnErr, Some, None};
+ghost use Rattle.std.specs.Prelude.{◌≡◌, ◌+◌, ◌++◌, length, ◌≢◌, ◌&&◌, not, is_some, true, IfOk, IfErr, OnOk, OnErr, Some, None};
 ghost use Rattle.flac_jobs.specs.Kinds.{file_kind};
-ghost use Rattle.flac_meta.specs.Listed.{list_fault, info_seen};
 ghost use Rattle.flac_native.specs.Given.{cut_of, with_predictors, fits_plan, plan_fault, MakesPlan};
 ghost use Rattle.flac_native.specs.Sent.{TargetFailed};
-ghost use Rattle.flac_cli.specs.Calls.{HasWritten, IfServed, IfKnown, IfRead};
+ghost use Rattle.flac_cli.specs.Calls.{IfServed, IfKnown};
 ghost use Rattle.flac_cli.specs.Asked.{asked_of, texts_of};
 ghost use Rattle.flac_cli.specs.Encoded.{comments_of, comment_list, EncodesRaw, HasBegunRaw, SendsEncodedIn, SendsPrefixIn};
 ghost use Rattle.flac_cli.specs.Lined.{text_at};
 ghost use Rattle.flac_cli.specs.Raw.{IsRaw, raw_sound};
-ghost use Rattle.flac_cli.specs.Refusals.{raw_fault, input_fault, stream_fault, refusal_of, text_of, IsReason, IsOutside};
+ghost use Rattle.flac_cli.specs.Refusals.{raw_fault, input_fault, stream_fault, refusal_of, text_of, IsReason};
 ghost use Rattle.flac_cli.specs.Reports.{line_text, AddsLine, path_of, files_of};
 ghost use Rattle.flac_cli.specs.declared.encode.Refusal.TheVariants.{Input, Setup, Output};
+ghost use Rattle.flac_cli.specs.inner.Encoding.{AreRawFor, sound_for, CanBeInput, AreAllowed, IsListFault, WritesAs, RefusesRead, RefusesAsRaw, IsStreamFault};
 
 use crate::comments::comments_of;
 use crate::lines::{At, write_line};
@@ -191,8 +191,7 @@ pub(crate) fn audio_of<R: Source>(
     ensures raw { IfOk result (λ a. R.known source.old ≡ true → IsRaw profile format (R.coming source.old) a) }
     ensures sound { IfOk result (λ a. R.known source.old ≡ true → a ≡ raw_sound profile format (R.coming source.old)) }
     ensures accepted { OnOk result (R.known source.old ≡ true → raw_fault profile format (R.coming source.old) ≡ None) }
-    ensures refused { IfErr result (λ e. IfRead R.Source source.old source.new
-        (λ bytes. IsOutside e ⊎ (raw_fault profile format bytes ≡ Some e))) }
+    ensures refused { RefusesRead R.Source source.old source.new (raw_fault profile format) result }
     ensures unwritten { IfErr result (λ e. e ≢ Output EncodeFault.Write) }
     ensures names { R.names source.new ≡ R.names source.old }
 {
@@ -239,14 +238,10 @@ fn samples_of<R: Source>(
     encoding: &Encoding<'_>,
     source: &mut R,
 ) -> Result<Audio, Refusal>
-    ensures raw { IfOk result (λ a. IfKnown R.Source source.old
-        (λ bytes. IsRaw encoding.now.profile encoding.now.format bytes a)) }
-    ensures sound { IfOk result (λ a. IfKnown R.Source source.old
-        (λ bytes. a ≡ raw_sound encoding.now.profile encoding.now.format bytes)) }
-    ensures accepted { OnOk result (IfKnown R.Source source.old
-        (λ bytes. input_fault (asked_of encoding.now) bytes ≡ None)) }
-    ensures refused { IfErr result (λ e. IfRead R.Source source.old source.new
-        (λ bytes. IsOutside e ⊎ (input_fault (asked_of encoding.now) bytes ≡ Some e))) }
+    ensures raw { IfOk result (λ a. IfKnown R.Source source.old (AreRawFor encoding.now a)) }
+    ensures sound { IfOk result (λ a. IfKnown R.Source source.old (λ bytes. a ≡ sound_for encoding.now bytes)) }
+    ensures accepted { OnOk result (IfKnown R.Source source.old (CanBeInput encoding.now)) }
+    ensures refused { RefusesRead R.Source source.old source.new (input_fault (asked_of encoding.now)) result }
     ensures unwritten { IfErr result (λ e. e ≢ Output EncodeFault.Write) }
 {
     let format = encoding.format;
@@ -291,9 +286,8 @@ pub(crate) fn plan_of(
 /// The one block after STREAMINFO: comments of these words.
 fn comment_list(alloc: Global, words: &[&str]) -> Result<BlockList, Why>
     ensures list { IfOk result (λ list. list ≡ comment_list (texts_of words.now)) }
-    ensures accepted { OnOk result (list_fault info_seen (comment_list (texts_of words.now)) ≡ None) }
-    ensures refused { IfErr result (λ e. (e ≡ Why.Memory) ⊎
-        (list_fault info_seen (comment_list (texts_of words.now)) ≡ Some e)) }
+    ensures accepted { OnOk result (AreAllowed (comment_list (texts_of words.now))) }
+    ensures refused { IfErr result (λ e. IsListFault (comment_list (texts_of words.now)) e) }
 {
     let comments = comments_of(alloc, words)?;
     BlockList::of_comments(alloc, comments)
@@ -314,8 +308,7 @@ pub(crate) fn write_stream<W: Target>(
     ensures begun { OnErr result
         (SendsPrefixIn W.Target container plan.now list.now audio.now target.old target.new) }
     ensures accepted { OnOk result (stream_fault container plan.now list.now ≡ None) }
-    ensures refused { IfErr result (λ e. IsOutside (Refusal.Output e) ⊎
-        (stream_fault container plan.now list.now ≡ Some e)) }
+    ensures refused { IfErr result (λ e. IsStreamFault container plan.now list.now e) }
     ensures failed { IfErr result (λ e. e ≡ EncodeFault.Write → TargetFailed W.Target target.old target.new) }
 {
     match container {
@@ -327,10 +320,10 @@ pub(crate) fn write_stream<W: Target>(
 /// Encodes the raw samples of a source, and writes the stream. After an error, nothing or a prefix of the stream was
 /// sent.
 ///
-/// The encoder tries for each block constant and verbatim subframes, the fixed predictors and those of the list. If it is
-/// asked to, it also seeks linear predictors for each block before, and tries those that it finds: one for each channel
-/// that a frame is likely to keep, or several. They are found by floating-point arithmetic, and nothing is claimed of how
-/// good they are; the frame is a shortest one over all that are tried.
+/// The encoder tries for each block constant and verbatim subframes, the fixed predictors and those of the list. If it
+/// is asked to, it first seeks linear predictors for the block, and tries those that it finds: one for each channel
+/// that a frame is likely to keep, or several. They are found by floating-point arithmetic, and nothing is claimed of
+/// how good they are. The frame is a shortest one over all that are tried.
 ///
 /// # Errors
 /// The first reason for which the samples cannot be encoded as asked for: a line of the list, for which the source is
@@ -342,14 +335,13 @@ pub(crate) fn encode_raw<R: Source, W: Target>(
     source: &mut R,
     target: &mut W,
 ) -> Result<(), Refusal>
-    ensures written { OnOk result (HasWritten R.Source W.Target source.old target.old target.new
-        (EncodesRaw (asked_of encoding.now))) }
-    ensures begun { OnErr result (HasWritten R.Source W.Target source.old target.old target.new
-        (HasBegunRaw (asked_of encoding.now))) }
+    ensures written { OnOk result (WritesAs R.Source W.Target EncodesRaw encoding.now
+        source.old target.old target.new) }
+    ensures begun { OnErr result (WritesAs R.Source W.Target HasBegunRaw encoding.now
+        source.old target.old target.new) }
     ensures accepted { OnOk result (IfKnown R.Source source.old
         (λ bytes. IsReason (asked_of encoding.now) bytes None)) }
-    ensures refused { IfErr result (λ e. IfRead R.Source source.old source.new
-        (λ bytes. IsOutside e ⊎ IsReason (asked_of encoding.now) bytes (Some e))) }
+    ensures refused { RefusesAsRaw R.Source encoding.now source.old source.new result }
     ensures failed { IfErr result (λ e. e ≡ Output EncodeFault.Write → TargetFailed W.Target target.old target.new) }
 {
     let predictors = predictors_in(alloc, encoding.list)?;

@@ -1,22 +1,21 @@
 //! `flac encode` of WAV files.
 
-ghost use Rattle.std.specs.Prelude.{◌≡◌, ◌≢◌, ◌≤◌, ◌<◌, ◌++◌, ◌⊎◌, ℕ, List, [], true, map, IfOk, IfErr, OnOk, OnErr, Some, None};
-ghost use Rattle.flac_meta.specs.Listed.{list_fault, info_seen};
+ghost use Rattle.std.specs.Prelude.{◌≡◌, ◌≢◌, ◌≤◌, ◌<◌, ◌++◌, [], true, map, IfOk, IfErr, OnOk, OnErr, Some, None};
 ghost use Rattle.flac_native.specs.Given.{fits_plan};
-ghost use Rattle.flac_cli.specs.Calls.{HasWritten, IfKnown, IfServed};
-ghost use Rattle.flac_cli.specs.Asked.{asked_of};
+ghost use Rattle.flac_cli.specs.Calls.{IfKnown, IfServed, IfAllServe};
+ghost use Rattle.flac_cli.specs.Asked.{texts_of};
 ghost use Rattle.flac_cli.specs.Refusals.{refusal_of};
-ghost use Rattle.flac_cli.specs.WaveRefusals.{refusal_of_wave, IsFileReason, IsWaveReason, IsOutside, IsWaveReport, at_chunk, wave_text};
-ghost use Rattle.flac_cli.specs.Waves.{format_with, contents, kept_with, blocks_for, riff_block, EncodesWave, MayBeginWave};
-ghost use Rattle.flac_cli.specs.inner.Preparing.{IsReady};
-ghost use Rattle.flac_cli.specs.inner.WaveSamples.{IsTaken, MakesRaw};
-ghost use Rattle.flac_wave.specs.Calls.{IfRead};
+ghost use Rattle.flac_cli.specs.WaveRefusals.{refusal_of_wave, at_chunk, wave_text};
+ghost use Rattle.flac_cli.specs.Waves.{format_with, kept_with, riff_block, EncodesWave, MayBeginWave};
+ghost use Rattle.flac_cli.specs.inner.WaveSamples.{MakesRaw};
 ghost use Rattle.flac_cli.specs.declared.encode_wave.WaveRefusal.TheVariants.{Refused};
 ghost use Rattle.flac_cli.specs.declared.encode.Refusal.TheVariants as refusal;
 ghost use Rattle.flac_bits.specs.declared.why.Why.TheVariants as why;
-ghost use Rattle.flac_cli.specs.Reports.{fault_line, files_of, Serves};
-ghost use Rattle.flac_cli.specs.Streams.{Tells};
+ghost use Rattle.flac_cli.specs.Reports.{files_of, AddsLine};
 ghost use Rattle.flac_cli.specs.Named.{NamesWaveEncoding};
+ghost use Rattle.flac_cli.specs.inner.Encoding.{AreAllowed, IsListFault, WritesAs};
+ghost use Rattle.flac_cli.specs.inner.Preparing.{blocks_with, IsReadyFor, IsReadyFile, IsFileRefusal, RefusesFile, CanBeEncodedAs, RefusesAsWave, ReportsFile, not_written};
+ghost use Rattle.flac_native.specs.Sent.{TargetFailed};
 
 use crate::comments::comments_of;
 use crate::encode::{Encoding, Refusal, plan_of, refuse_encoding, write_stream};
@@ -147,12 +146,9 @@ fn kept_list(
     before: &[Vec<u8>],
     after: &[Vec<u8>],
 ) -> Result<BlockList, Why>
-    ensures list { IfOk result (λ list. list ≡
-        kept_with (map (λ word. word.now) words.now) mask before.now after.now) }
-    ensures accepted { OnOk result (list_fault info_seen
-        (kept_with (map (λ word. word.now) words.now) mask before.now after.now) ≡ None) }
-    ensures refused { IfErr result (λ e. (e ≡ why.Memory) ⊎ (list_fault info_seen
-        (kept_with (map (λ word. word.now) words.now) mask before.now after.now) ≡ Some e)) }
+    ensures list { IfOk result (λ list. list ≡ kept_with (texts_of words.now) mask before.now after.now) }
+    ensures accepted { OnOk result (AreAllowed (kept_with (texts_of words.now) mask before.now after.now)) }
+    ensures refused { IfErr result (λ e. IsListFault (kept_with (texts_of words.now) mask before.now after.now) e) }
 {
     let comments = comments_of(alloc, words)?;
     let all = with_mask(alloc, comments, mask)?;
@@ -163,8 +159,8 @@ fn kept_list(
     BlockList::new(blocks)
 }
 
-/// The blocks after STREAMINFO that an encoding asks for of a WAV file of this format: its comments, and the pieces of the
-/// file, if this is kept.
+/// The blocks after STREAMINFO that an encoding asks for of a WAV file of this format: its comments, and the pieces of
+/// the file, if this is kept.
 fn blocks_of(
     alloc: Global,
     encoding: &Encoding<'_>,
@@ -172,12 +168,9 @@ fn blocks_of(
     before: &[Vec<u8>],
     after: &[Vec<u8>],
 ) -> Result<BlockList, Why>
-    ensures list { IfOk result (λ list. list ≡
-        blocks_for (asked_of encoding.now) format.now (contents before.now ++ contents after.now)) }
-    ensures accepted { OnOk result (list_fault info_seen
-        (blocks_for (asked_of encoding.now) format.now (contents before.now ++ contents after.now)) ≡ None) }
-    ensures refused { IfErr result (λ e. (e ≡ why.Memory) ⊎ (list_fault info_seen
-        (blocks_for (asked_of encoding.now) format.now (contents before.now ++ contents after.now)) ≡ Some e)) }
+    ensures list { IfOk result (λ list. list ≡ blocks_with encoding.now format.now before.now after.now) }
+    ensures accepted { OnOk result (AreAllowed (blocks_with encoding.now format.now before.now after.now)) }
+    ensures refused { IfErr result (λ e. IsListFault (blocks_with encoding.now format.now before.now after.now) e) }
 {
     let mask = format.other_mask();
     if encoding.keep {
@@ -211,20 +204,18 @@ fn format_of(format: &WaveFormat, depth: u32, asked: RawFormat) -> RawFormat
 /// Makes a WAV file ready to be encoded with these predictors.
 ///
 /// # Errors
-/// The first reason for which it cannot be: its samples, the block size and the seek points, the predictors, the comments
-/// and the pieces. Out of memory.
+/// The first reason for which it cannot be: its samples, the block size and the seek points, the predictors, the
+/// comments and the pieces. Out of memory.
 fn ready_of(
     alloc: Global,
     encoding: &Encoding<'_>,
     predictors: Vec<LinearPredictor>,
     file: WaveFile,
 ) -> Result<Ready, Refusal>
-    ensures found { IfOk result (λ r. (bytes : List ℕ) → IsTaken encoding.now.to_end bytes file →
-        IsReady (asked_of encoding.now) predictors.items bytes r.format r.plan r.list r.audio) }
+    ensures found { IfOk result (λ r. IsReadyFile encoding.now predictors.items file r) }
     ensures fits { IfOk result (λ r. fits_plan r.plan r.audio ≡ true) }
     ensures none { IfOk result (λ r. r.plan.found ≡ []) }
-    ensures refused { IfErr result (λ e. (bytes : List ℕ) → IsTaken encoding.now.to_end bytes file →
-        IsOutside (Refused e) ⊎ IsFileReason (asked_of encoding.now) predictors.items bytes (Some (Refused e))) }
+    ensures refused { IfErr result (λ e. IsFileRefusal encoding.now predictors.items file e) }
     ensures unwritten { IfErr result (λ e. e ≢ refusal.Output EncodeFault.Write) }
 {
     let WaveFile {
@@ -262,12 +253,10 @@ fn taken_apart<R: Source>(
     predictors: Vec<LinearPredictor>,
     source: &mut R,
 ) -> Result<Ready, WaveRefusal>
-    ensures found { IfOk result (λ r. R.known source.old ≡ true →
-        IsReady (asked_of encoding.now) predictors.items (R.coming source.old) r.format r.plan r.list r.audio) }
+    ensures found { IfOk result (λ r. IfKnown R.Source source.old (IsReadyFor encoding.now predictors.items r)) }
     ensures fits { IfOk result (λ r. fits_plan r.plan r.audio ≡ true) }
     ensures none { IfOk result (λ r. r.plan.found ≡ []) }
-    ensures refused { IfErr result (λ e. IfRead R.Source source.old source.new
-        (IsOutside e ⊎ IsFileReason (asked_of encoding.now) predictors.items (R.coming source.old) (Some e))) }
+    ensures refused { RefusesFile R.Source encoding.now predictors.items source.old source.new result }
     ensures unwritten { IfErr result (λ e. e ≢ Refused (refusal.Output EncodeFault.Write)) }
 {
     let file = read_file(alloc, encoding.to_end, source)?;
@@ -275,10 +264,10 @@ fn taken_apart<R: Source>(
     Ok(ready)
 }
 
-/// Encodes a WAV file, and writes the stream, which keeps all of the file if that is asked for. After an error, nothing or a prefix of the
-/// stream was sent. The encoder tries the predictors that [`encode_raw`] tries.
+/// Encodes a WAV file, and writes the stream, which keeps all of the file if that is asked for. After an error, nothing
+/// or a prefix of the stream was sent. The encoder tries the predictors that [`encode_raw`] tries.
 ///
-/// [`encode_raw`]: crate::encoding::encode_raw
+/// [`encode_raw`]: crate::encode::encode_raw
 ///
 /// # Errors
 /// The first reason for which the file cannot be encoded as asked for: a line of the list, for which the source is not
@@ -290,16 +279,13 @@ pub(crate) fn encode_wave<R: Source, W: Target>(
     source: &mut R,
     target: &mut W,
 ) -> Result<(), WaveRefusal>
-    ensures written { OnOk result (HasWritten R.Source W.Target source.old target.old target.new
-        (EncodesWave (asked_of encoding.now))) }
-    ensures begun { OnErr result (HasWritten R.Source W.Target source.old target.old target.new
-        (MayBeginWave (asked_of encoding.now))) }
-    ensures accepted { OnOk result (IfKnown R.Source source.old
-        (λ bytes. IsWaveReason (asked_of encoding.now) bytes None)) }
-    ensures refused { IfErr result (λ e. IfRead R.Source source.old source.new
-        (IsOutside e ⊎ IsWaveReason (asked_of encoding.now) (R.coming source.old) (Some e))) }
-    ensures failed { IfErr result (λ e. e ≡ Refused (refusal.Output EncodeFault.Write) → W.known target.old ≡ true →
-        W.errors target.old < W.errors target.new) }
+    ensures written { OnOk result (WritesAs R.Source W.Target EncodesWave encoding.now
+        source.old target.old target.new) }
+    ensures begun { OnErr result (WritesAs R.Source W.Target MayBeginWave encoding.now
+        source.old target.old target.new) }
+    ensures accepted { OnOk result (IfKnown R.Source source.old (CanBeEncodedAs encoding.now)) }
+    ensures refused { RefusesAsWave R.Source encoding.now source.old source.new result }
+    ensures failed { IfErr result (λ e. e ≡ not_written → TargetFailed W.Target target.old target.new) }
 {
     let predictors = predictors_in(alloc, encoding.list)?;
     let ready = taken_apart(alloc, encoding, predictors, source)?;
@@ -328,8 +314,7 @@ fn chunk_at(chunk: Option<u64>) -> At
 /// Writes the line of a WAV file that is refused, and returns the status 1.
 fn refuse_wave<E: Target>(err: &mut E, path: &str, fault: WaveFault) -> u8
     ensures status { result ≡ 1 }
-    ensures line { IfServed E.Target err.old err.new
-        (λ before after. after ≡ before ++ fault_line path.now (wave_text (WaveRefusal.Wave fault))) }
+    ensures line { IfServed E.Target err.old err.new (AddsLine path.now (wave_text (WaveRefusal.Wave fault))) }
 {
     // If it cannot be written, there is no one left to report it to.
     let _ = write_line(err, path, chunk_at(fault.chunk), fault.why.as_str());
@@ -347,15 +332,10 @@ pub(crate) fn run_encode_wave<R: Source, W: Target, E: Target>(
 ) -> u8
     ensures status { result ≤ 1 }
     ensures encoded { result ≡ 0 →
-        HasWritten R.Source W.Target source.old target.old target.new (EncodesWave (asked_of encoding.now)) }
-    ensures accepted { result ≡ 0 →
-        IfKnown R.Source source.old (λ bytes. IsWaveReason (asked_of encoding.now) bytes None) }
-    ensures begun { result ≡ 1 →
-        HasWritten R.Source W.Target source.old target.old target.new (MayBeginWave (asked_of encoding.now)) }
-    ensures refused { Tells R.Source source.old source.new → Serves W.Target target.old target.new →
-        Serves E.Target err.old err.new →
-        IsWaveReport (asked_of encoding.now) (R.coming source.old) (files_of job.now) result
-        (E.sent err.old) (E.sent err.new) }
+        WritesAs R.Source W.Target EncodesWave encoding.now source.old target.old target.new }
+    ensures accepted { result ≡ 0 → IfKnown R.Source source.old (CanBeEncodedAs encoding.now) }
+    ensures begun { result ≡ 1 → WritesAs R.Source W.Target MayBeginWave encoding.now source.old target.old target.new }
+    ensures refused { IfAllServe R.Source W.Target E.Target source target err (ReportsFile encoding.now job.now result) }
     ensures named { result ≡ 1 → IfServed E.Target err.old err.new (NamesWaveEncoding (files_of job.now)) }
 {
     match encode_wave(alloc, encoding, source, target) {

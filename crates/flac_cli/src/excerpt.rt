@@ -5,13 +5,11 @@ ghost use Rattle.flac_frame.specs.Viewed.{frame_of};
 ghost use Rattle.flac_native.specs.Message.{sample_width};
 ghost use Rattle.flac_native.specs.Sent.{TargetFailed};
 ghost use Rattle.flac_wave.specs.Plain.{CanBeWritten, plain_head};
-ghost use Rattle.flac_compare.specs.Samples.{samples_from};
 ghost use Rattle.flac_compare.specs.inner.Stepping.{Stays, MeetsNone};
-ghost use Rattle.flac_cli.specs.Calls.{IfServed, HasSent, IfAllServe};
-ghost use Rattle.flac_cli.specs.Excerpts.{range_fault, range_text, samples_text, format_for, zero_after, start_of, stop_of, excerpt_path, excerpt_text, excerpt_input, HasDecoded, ReportsDecoding, NamesExcerpt};
-ghost use Rattle.flac_cli.specs.Reports.{AddsLine, Serves};
-ghost use Rattle.flac_cli.specs.Streams.{Tells};
-ghost use Rattle.flac_cli.specs.inner.Excerpts.{IsSpanOf, is_done, needs, count_of, Cuts, stated_in, bytes_text, IsOutside, Turns, SendsSpan, SendsFile, SendsPart, SaysInput};
+ghost use Rattle.flac_cli.specs.Calls.{IfServed, HasSent};
+ghost use Rattle.flac_cli.specs.Excerpts.{range_fault, range_text, format_for, zero_after, start_of, stop_of, excerpt_path, excerpt_text, ReportsPart, NamesExcerpt, DecodesPart};
+ghost use Rattle.flac_cli.specs.Reports.{AddsLine};
+ghost use Rattle.flac_cli.specs.inner.Excerpts.{IsSpanOf, is_done, needs, count_of, Cuts, stated_in, bytes_text, IsOutside, SendsSpan, SendsFile, part_fault, text_of, rows_in, SendsTurn, SendsAsked, SendsInput};
 
 use crate::decode_wave::{most_rows, send_as_file, send_pieces};
 use crate::lines::{At, write_line};
@@ -248,7 +246,7 @@ fn send_rows<W: Target>(
     requires room { length bytes.old ≡ 131072 }
     ensures known { OnOk result (W.known target.old ≡ true → W.known target.new ≡ true) }
     ensures sent { HasSent W.Target target.old target.new
-        (samples_text form.wave form.depth (samples_from (frame_of frame.now).channels (end - start) start)) result }
+        (text_of form (rows_in (frame_of frame.now) start end)) result }
     ensures names { W.names target.new ≡ W.names target.old }
     ensures kept { W.errors target.old ≤ W.errors target.new }
     ensures rises { OnErr result (W.known target.old ≡ true → W.errors target.old < W.errors target.new) }
@@ -278,8 +276,8 @@ fn send_next<C: Container, W: Target>(
     ensures stays { Stays reader.old reader.new }
     ensures met { OnOk result (MeetsNone reader.old reader.new) }
     ensures known { OnOk result (W.known target.old ≡ true → W.known target.new ≡ true) }
-    ensures turns { W.known target.old ≡ true → Turns (samples_text form.wave form.depth)
-        reader.old reader.new span.old span.new (W.sent target.old) (W.sent target.new) result }
+    ensures turns { SendsTurn W.Target (text_of form)
+        reader.old reader.new span.old span.new target.old target.new result }
     ensures kept { W.errors target.old ≤ W.errors target.new }
     ensures failed { IfErr result (λ e. e ≡ ExcerptFault.Write → TargetFailed W.Target target.old target.new) }
 {
@@ -311,8 +309,7 @@ fn send_span<C: Container, W: Target>(
     requires { (4 ≤ form.depth) × (form.depth ≤ 32) }
     ensures stays { Stays reader.old reader.new }
     ensures met { OnOk result (MeetsNone reader.old reader.new) }
-    ensures says { SendsSpan W.Target (samples_text form.wave form.depth)
-        reader.old reader.new span target.old target.new result }
+    ensures says { SendsSpan W.Target (text_of form) reader.old reader.new span target.old target.new result }
     ensures known { OnOk result (W.known target.old ≡ true → W.known target.new ≡ true) }
     ensures kept { W.errors target.old ≤ W.errors target.new }
     ensures failed { IfErr result (λ e. e ≡ ExcerptFault.Write → TargetFailed W.Target target.old target.new) }
@@ -345,9 +342,8 @@ pub(crate) fn span_of(
     to: Option<Moment>,
 ) -> Result<Span, RangeFault>
     ensures made { IfOk result (IsSpanOf (start_of from info.now) (stop_of to info.now)) }
-    ensures right { OnOk result (range_fault (start_of from info.now) (stop_of to info.now) info.now.total ≡ None) }
-    ensures refused { IfErr result (λ e.
-        range_fault (start_of from info.now) (stop_of to info.now) info.now.total ≡ Some e) }
+    ensures right { OnOk result (part_fault from to info.now ≡ None) }
+    ensures refused { IfErr result (λ e. part_fault from to info.now ≡ Some e) }
 {
     let start = from.sample_at(info.rate());
     match to {
@@ -425,7 +421,8 @@ fn send_zero<W: Target>(total: u64, row: u64, target: &mut W) -> Result<(), Exce
     }
 }
 
-/// Sends a plain WAV file, whose head states this length, of what is wanted of the frames that a reader has not read yet.
+/// Sends a plain WAV file, whose head states this length, of what is wanted of the frames that a reader has not read
+/// yet.
 fn send_wave<C: Container, W: Target>(
     alloc: Global,
     reader: &mut Reader<C>,
@@ -483,8 +480,7 @@ fn send_part<C: Container, W: Target>(
     target: &mut W,
 ) -> Result<(), ExcerptFault>
     ensures stays { Stays reader.old reader.new }
-    ensures says { SendsPart W.Target excerpt.now.wave reader.old reader.new excerpt.now.from excerpt.now.to
-        target.old target.new result }
+    ensures says { SendsAsked W.Target excerpt.now reader.old reader.new target.old target.new result }
     ensures failed { IfErr result (λ e. e ≡ ExcerptFault.Write → TargetFailed W.Target target.old target.new) }
 {
     let span = match span_of(reader.info(), excerpt.from, excerpt.to) {
@@ -505,9 +501,7 @@ fn send_excerpt<R: Source, W: Target>(
     source: &mut R,
     target: &mut W,
 ) -> Result<(), ExcerptFault>
-    ensures says { Tells R.Source source.old source.new → W.known target.old ≡ true →
-        SaysInput excerpt.now (excerpt_input excerpt.now (R.coming source.old) (R.after source.old))
-        (W.sent target.old) (W.sent target.new) result }
+    ensures says { SendsInput R.Source W.Target excerpt.now source.old source.new target.old target.new result }
     ensures failed { IfErr result (λ e. e ≡ ExcerptFault.Write → TargetFailed W.Target target.old target.new) }
 {
     let opened = match open(alloc, source, profile_of(excerpt.lax), Keep::Tags) {
@@ -562,14 +556,19 @@ pub(crate) fn refuse_excerpt<E: Target>(
     }
 }
 
-/// Decodes a part of a stream, native or Ogg: the inter-channel samples from [`Excerpt::from`] on, up to [`Excerpt::to`],
-/// which is not among them. Returns the exit status: 0 if exactly these were written, else 1.
+/// Decodes a part of a stream, native or Ogg. Returns the exit status: 0 if exactly the part was written, else 1.
 ///
-/// `source` is the stream, `target` the file that is written, `err` is standard error. A time becomes the number of a
-/// sample by the rate that STREAMINFO states (RFC 9639, section 8.2), rounded down. The stream is read from its beginning
-/// up to the frame in which the part ends, and no further: what comes after it may be damaged. After status 1 the line of
-/// the error was written to `err`: the first fault of the stream before the end of the part; 73 if the part has no
-/// sample; 74 if it begins or ends after the last sample; that the file could not be written.
+/// The part is the inter-channel samples from [`Excerpt::from`] on, up to [`Excerpt::to`], which is not among them. A
+/// time becomes the number of a sample by the rate that STREAMINFO states (RFC 9639, section 8.2), rounded down.
+///
+/// `source` is the stream, `target` the file that is written, `err` is standard error. The stream is read from its
+/// beginning up to the frame in which the part ends, and no further: what comes after it may be damaged.
+///
+/// After status 1 the line of the error was written to `err`:
+///
+/// - the first fault of the stream before the end of the part;
+/// - 73 if the part has no sample, 74 if it begins or ends after the last sample;
+/// - 39 if the file could not be written.
 pub fn decode_excerpt<R: Source, W: Target, E: Target>(
     alloc: Global,
     excerpt: &Excerpt<'_>,
@@ -580,15 +579,13 @@ pub fn decode_excerpt<R: Source, W: Target, E: Target>(
     // The status is 0 or 1.
     ensures status { result ≤ 1 }
     // After status 0 the input is read as a stream, at least up to the end of the part, and exactly the part was added.
-    ensures decoded { result ≡ 0 → Tells R.Source source.old source.new → W.known target.old ≡ true →
-        HasDecoded excerpt.now (excerpt_input excerpt.now (R.coming source.old) (R.after source.old))
-        (W.sent target.old) (W.sent target.new) }
-    // If no device fails, the status and the line are those of what the input is: the part is there, or the first reason
-    // for which it is not. Or memory ran out: then the line says that.
-    ensures reported { IfAllServe R.Source W.Target E.Target source.old source.new target.old target.new err.old err.new
-        (ReportsDecoding excerpt.now (W.sent target.old) (W.sent target.new) result) }
-    // After status 1, whatever failed, its line was added to standard error, if that did not fail. It names the output if
-    // that could not be written, and else the input.
+    ensures decoded { result ≡ 0 →
+        DecodesPart R.Source W.Target excerpt.now source.old source.new target.old target.new }
+    // If no device fails, the status and the line say what the input is: the part is there, or the first reason why it
+    // is not. Or memory ran out: then the line says that.
+    ensures reported { ReportsPart R.Source W.Target E.Target excerpt.now result source target err }
+    // After status 1, whatever failed, its line was added to standard error, if that did not fail. It names the output
+    // if that could not be written, and else the input.
     ensures named { result ≡ 1 → IfServed E.Target err.old err.new (NamesExcerpt excerpt.now) }
 {
     match send_excerpt(alloc, excerpt, source, target) {

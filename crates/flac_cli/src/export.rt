@@ -1,8 +1,9 @@
 //! `flac export`: a part of the metadata of a native stream.
 
 ghost use Rattle.std.specs.Prelude.{◌≡◌, ◌≤◌};
-ghost use Rattle.flac_edit.specs.Parts.{SendsPart};
-ghost use Rattle.flac_cli.specs.Editing.{part_of};
+ghost use Rattle.flac_cli.specs.Calls.{IfServed};
+ghost use Rattle.flac_cli.specs.Editing.{part_of, ExportsPart};
+ghost use Rattle.flac_cli.specs.OggEdits.{NamesExport};
 
 use crate::edit::{EditPaths, refuse_edits};
 use crate::report::refuse;
@@ -13,7 +14,7 @@ use flac_jobs::{ExportPart, Exporting};
 use std::alloc::Global;
 
 /// The part that a word names; a cue sheet is that of the file at the input's path.
-fn part_of<'a>(exporting: &Exporting<'a>, part: ExportPart) -> Part<'a>
+pub(crate) fn part_of<'a>(exporting: &Exporting<'a>, part: ExportPart) -> Part<'a>
     ensures { result ≡ part_of exporting.now part }
 {
     match part {
@@ -24,8 +25,32 @@ fn part_of<'a>(exporting: &Exporting<'a>, part: ExportPart) -> Part<'a>
     }
 }
 
-/// Writes a part of the metadata of a native stream, as [`export_part`] does. Returns the status: 1 if it failed, and the
-/// line of the error was written to `err`, if that could be written.
+/// Writes the line of a part that could not be exported, and returns the status 1.
+pub(crate) fn refuse_part<E: Target>(err: &mut E, exporting: &Exporting<'_>, fault: EditFault) -> u8
+    ensures status { result ≡ 1 }
+    ensures line { IfServed E.Target err.old err.new (NamesExport exporting.now) }
+{
+    match fault {
+        EditFault::Blocks(fault) => {
+            let paths = EditPaths {
+                stream: exporting.input,
+                sheet: None,
+            };
+            refuse_edits(err, &paths, fault)
+        }
+        EditFault::Stream(fault) => {
+            let path = if is_of_target(fault) {
+                exporting.output
+            } else {
+                exporting.input
+            };
+            refuse(err, path, fault.at, fault.why)
+        }
+    }
+}
+
+/// Writes a part of the metadata of a native stream, as [`export_part`] does. Returns the status: 1 if it failed, and
+/// the line of the error was written to `err`, if that could be written.
 pub fn export_file<R: Source, W: Target, E: Target>(
     alloc: Global,
     exporting: &Exporting<'_>,
@@ -36,27 +61,12 @@ pub fn export_file<R: Source, W: Target, E: Target>(
 ) -> u8
     ensures status { result ≤ 1 }
     // After status 0 that part of the input was written.
-    ensures exported { result ≡ 0 →
-        SendsPart R.Source W.Target source.old (part_of exporting.now part) target.old target.new }
+    ensures exported { result ≡ 0 → ExportsPart R.Source W.Target exporting.now part source.old target.old target.new }
     // After status 0 nothing was written to standard error.
     ensures silent { result ≡ 0 → err.new ≡ err.old }
 {
     match export_part(alloc, source, part_of(exporting, part), target) {
         Ok(()) => 0,
-        Err(EditFault::Blocks(fault)) => {
-            let paths = EditPaths {
-                stream: exporting.input,
-                sheet: None,
-            };
-            refuse_edits(err, &paths, fault)
-        }
-        Err(EditFault::Stream(fault)) => {
-            let path = if is_of_target(fault) {
-                exporting.output
-            } else {
-                exporting.input
-            };
-            refuse(err, path, fault.at, fault.why)
-        }
+        Err(fault) => refuse_part(err, exporting, fault),
     }
 }

@@ -25,8 +25,8 @@ pub(crate) struct Wanted<'a> {
     pub(crate) sample: u64,
 }
 
-/// Reads the bytes of a device from one of them on, as many as there are places or as it has, and returns how many: none
-/// or some of them if it returns an error.
+/// Reads the bytes of a device from one of them on, as many as there are places or as it has, and returns how many:
+/// none or some of them if it returns an error.
 fn read_from<T: Read + Seek>(device: &mut T, at: u64, places: &mut [u8]) -> usize
     ensures { result ≤ length places.new }
 {
@@ -61,9 +61,9 @@ impl Wanted<'_> {
         }
     }
 
-    /// Where a frame begins in a device, in bytes from its first, that begins at or before the sample, and not far before
-    /// it: by halving what is between `start`, where the first frame begins, and the end. The frames are taken as
-    /// numbered in order. `start` if there is no such frame, or the device returns an error.
+    /// Where a frame begins in a device, in bytes from its first, that begins at or before the sample, and not far
+    /// before it: by halving what is between `start`, where the first frame begins, and the end. The frames are taken
+    /// as numbered in order. `start` if there is no such frame, or the device returns an error.
     ///
     /// # Errors
     /// Out of memory.

@@ -1,15 +1,11 @@
 //! `flac list --head`: the lines of the metadata blocks, and no frame is read.
 
-ghost use Rattle.std.specs.Prelude.{◌≡◌, ◌≢◌, ◌≤◌, true, false, OnOk, IfErr};
-ghost use Rattle.flac_bits.specs.Handing.{TakesAll};
-ghost use Rattle.flac_native.specs.Decoding.{taken};
+ghost use Rattle.std.specs.Prelude.{◌≡◌, ◌≤◌, true, false, OnOk, IfErr};
 ghost use Rattle.flac_native.specs.Track.{is_going};
 ghost use Rattle.flac_native.specs.Giving.{stage_of};
-ghost use Rattle.flac_cli.specs.inner.Heading.{ReadsBlocks, RefusesBlocks, EndsBlocks, ReadsHead, RefusesHead};
+ghost use Rattle.flac_cli.specs.inner.Heading.{RefusesBlocks, EndsBlocks, ReadsHead, RefusesHead, DecoderReads, TakesHead, RefusesAnyHead};
 ghost use Rattle.flac_cli.specs.Calls.{IfServed};
-ghost use Rattle.flac_cli.specs.Headed.{HasHead, HasHeadRefused, HeadReport, IsFaultOf, any_reading};
-ghost use Rattle.flac_cli.specs.ListedJson.{HasHeadOf};
-ghost use Rattle.flac_cli.specs.Streams.{Tells};
+ghost use Rattle.flac_cli.specs.Headed.{HasHead, IsFaultOf, any_reading, ReportsHead};
 
 use crate::chosen::ListedFile;
 use crate::list::Listing;
@@ -39,8 +35,7 @@ fn pass_block<C: Container, S: Sink>(
     // proof only
     ensures going { OnOk result (is_going (stage_of decoder.new).course ≡ true) }
     ensures names { C.names (stage_of decoder.new).container ≡ C.names (stage_of decoder.old).container }
-    ensures reads { OnOk result
-        (ReadsBlocks C.Container S.known S.takes (stage_of decoder.old) (stage_of decoder.new) sink.old sink.new) }
+    ensures reads { OnOk result (DecoderReads C.Container S.known S.takes decoder.old decoder.new sink.old sink.new) }
     ensures refused { IfErr result (RefusesBlocks C.Container (stage_of decoder.old) (stage_of decoder.new)) }
 {
     match decoder.step() {
@@ -135,17 +130,15 @@ fn pass_as<R: Source, S: Sink>(
 /// Reads the blocks of a stream, native or Ogg, and passes them to the sink. No frame is read.
 ///
 /// # Errors
-/// The place and the reason: the stream is refused before its last block; [`Why::Sink`] at the block that the sink did not
-/// take; an error of the source, or out of memory.
+/// The place and the reason: the stream is refused before its last block; [`Why::Sink`] at the block that the sink did
+/// not take; an error of the source; out of memory.
 pub(crate) fn pass_head<R: Source, S: Sink>(
     alloc: Global,
     source: &mut R,
     sink: &mut S,
 ) -> Result<(), Fault>
-    ensures head { OnOk result (R.known source.old ≡ true → S.known sink.old ≡ true →
-        HasHeadOf (any_reading R.Source source.old) (λ head. TakesAll (taken S.takes) sink.old head sink.new)) }
-    ensures refused { IfErr result (λ f. Tells R.Source source.old source.new → f.why ≢ Why.Memory → f.why ≢ Why.Sink
-        → HasHeadRefused (any_reading R.Source source.old) f.at f.why) }
+    ensures head { OnOk result (TakesHead R.Source S.known S.takes source.old sink.old sink.new) }
+    ensures refused { IfErr result (λ f. RefusesAnyHead R.Source source.old source.new f) }
 {
     let front = match pull_front(source) {
         Ok(front) => front,
@@ -160,13 +153,15 @@ pub(crate) fn pass_head<R: Source, S: Sink>(
     outcome
 }
 
-/// Lists the metadata blocks of a stream, native or Ogg, that are chosen, as `flac list` does, and stops after the last
-/// one: no frame is read, so none is verified. Returns the exit status: 0 if the marker and all blocks were read and
-/// listed, else 1.
+/// Lists the chosen metadata blocks of a stream, native or Ogg, as `flac list` does, and stops after the last block. No
+/// frame is read, so none is verified. Returns the exit status: 0 if the marker and all blocks were read and listed,
+/// else 1.
 ///
-/// `file` has the path of the file that `source` is, and which blocks are listed. `out` and `err` are standard output and
-/// standard error. After status 1 the lines of the chosen blocks before the fault were written to `out`, and the line of
-/// the fault to `err`, if that could be written.
+/// - `file`: the path of the file that `source` is, and which blocks are listed.
+/// - `out`, `err`: standard output and standard error.
+///
+/// After status 1 the lines of the chosen blocks before the fault were written to `out`, and the line of the fault to
+/// `err`, if that could be written.
 pub fn list_head<R: Source, O: Target, E: Target>(
     alloc: Global,
     file: &ListedFile<'_>,
@@ -177,10 +172,10 @@ pub fn list_head<R: Source, O: Target, E: Target>(
     ensures status { result ≤ 1 }
     // After status 0 the input begins with the marker and blocks up to a last one.
     ensures head { result ≡ 0 → R.known source.old ≡ true → HasHead (any_reading R.Source source.old) }
-    // After status 1 it is refused before that, and the line of this refusal was added to standard error, if that did not
-    // fail; or the line says that memory ran out, or that standard output took no more.
-    ensures refused { result ≡ 1 → Tells R.Source source.old source.new → IfServed E.Target err.old err.new
-        (HeadReport (any_reading R.Source source.old) file.now.path.now) }
+    // After status 1 it is refused before that, and the line of this refusal was added to standard error, if that did
+    // not fail; or the line says that memory ran out, or that standard output took no more.
+    ensures refused { result ≡ 1 →
+        ReportsHead R.Source E.Target file.now.path.now source.old source.new err.old err.new }
     // After status 1 the line of a fault of this file was added, whatever failed.
     ensures named { result ≡ 1 → IfServed E.Target err.old err.new (IsFaultOf file.now.path.now) }
     // After status 0 nothing was added to standard error.

@@ -3,11 +3,13 @@
 
 mod chosen;
 mod comments;
+mod copy;
 mod decode;
 mod decode_wave;
 mod dispatch;
 mod edit;
 mod encode;
+mod encode_twice;
 mod encode_wave;
 mod excerpt;
 mod export;
@@ -20,6 +22,10 @@ mod laws;
 mod lines;
 mod list;
 mod list_json;
+mod ogg_edit;
+mod ogg_export;
+mod ogg_tag;
+mod points;
 mod predictors;
 mod raw;
 mod recode;
@@ -46,17 +52,24 @@ mod wave_file;
 mod wave_samples;
 
 pub use chosen::ListedFile;
+pub use copy::copy_file;
 pub use dispatch::{Task, run};
 pub use edit::{EditPaths, edit_changes, edit_file, picture_of, removals_of};
+pub use encode_twice::{TwiceFault, encode_file_twice, encodes_twice};
 pub use excerpt::decode_excerpt;
 pub use export::export_file;
 pub use flac_jobs::{ContainerKind, Job, LineFault, RawFormat, SearchEffort};
 pub use head::list_head;
 pub use laws::{
-    kept_files_are_read, kept_files_come_back, lines_have_one_reading, sought_parts_are_parts,
+    kept_files_are_read, kept_files_come_back, lines_have_one_reading, reports_are_read_back,
+    sought_parts_are_parts,
 };
 pub use list::list_stream;
 pub use list_json::{json_head, json_stream};
+pub use ogg_edit::{edit_ogg, ogg_edits_change};
+pub use ogg_export::export_ogg;
+pub use ogg_tag::{ogg_comments_change, retag_ogg};
+pub use points::points_of;
 pub use recode::recode_file;
 pub use salvage::salvage_file;
 pub use same::compare_files;

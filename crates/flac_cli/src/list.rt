@@ -4,11 +4,9 @@ ghost use Rattle.flac_cli.specs.inner.Lined.{Prints};
 ghost use Rattle.std.specs.Prelude.{◌≡◌, ◌≤◌, ◌<◌, ◌∷◌, ⊤, nat_lt, true, Some, OnOk};
 ghost use Rattle.flac_bits.specs.Bits.{bit_value};
 ghost use Rattle.flac_native.specs.Sent.{FailedIfCounted};
-ghost use Rattle.flac_cli.specs.Calls.{IfBothServe};
 ghost use Rattle.flac_cli.specs.Streams.{Tells, GivesStream, profile_of};
-ghost use Rattle.flac_cli.specs.Outcomes.{ReportsListing};
-ghost use Rattle.flac_cli.specs.inner.Outcomes.{FitsListing};
-ghost use Rattle.flac_cli.specs.Reports.{Serves};
+ghost use Rattle.flac_cli.specs.Outcomes.{ReportsListed};
+ghost use Rattle.flac_cli.specs.inner.Outcomes.{ReturnsListing, ReturnsLines};
 
 use crate::chosen::{ListedFile, is_chosen};
 use crate::lines::{Lines, Part};
@@ -285,8 +283,7 @@ fn list_into<R: Source, W: Target>(
     requires none { sink.old.failures.count ≡ 0 }
     requires began { sink.old.began.value ≡ sink.old.lines.target }
     ensures stream { Tells R.Source source.old source.new → OnOk result (GivesStream R.Source profile source.old) }
-    ensures outcome { Tells R.Source source.old source.new →
-        FitsListing R.Source (Serves W.Target sink.old.lines.target sink.new.lines.target) profile source.old result }
+    ensures outcome { ReturnsLines R.Source profile source.old source.new sink.old.lines sink.new.lines result }
     ensures names { W.names sink.new.lines.target ≡ W.names sink.old.lines.target }
 {
     let outcome = decode_stream(alloc, source, profile, sink);
@@ -304,8 +301,7 @@ fn list<R: Source, O: Target>(
     out: &mut O,
 ) -> Result<(), Fault>
     ensures stream { Tells R.Source source.old source.new → OnOk result (GivesStream R.Source profile source.old) }
-    ensures outcome { Tells R.Source source.old source.new →
-        FitsListing R.Source (Serves O.Target out.old out.new) profile source.old result }
+    ensures outcome { ReturnsListing R.Source O.Target profile source.old source.new out.old out.new result }
 {
     let mut sink = Listing::new(out, names);
     let outcome = list_into(alloc, source, profile, &mut sink);
@@ -325,8 +321,7 @@ pub(crate) fn run_list<R: Source, O: Target, E: Target>(
 ) -> u8
     ensures status { result ≤ 1 }
     ensures stream { result ≡ 0 → Tells R.Source source.old source.new → GivesStream R.Source profile source.old }
-    ensures reported { IfBothServe R.Source E.Target source.old source.new err.old err.new
-        (ReportsListing (Serves O.Target out.old out.new) profile input.now result) }
+    ensures reported { ReportsListed R.Source O.Target E.Target profile input.now result source out err }
 {
     match list(alloc, &[], source, profile, out) {
         Ok(()) => 0,
@@ -334,13 +329,15 @@ pub(crate) fn run_list<R: Source, O: Target, E: Target>(
     }
 }
 
-/// Decodes a stream, native or Ogg, and lists its metadata blocks that are chosen, as `flac list` does. Returns the exit
-/// status: 0 if all of the stream was read and its blocks were listed, else 1.
+/// Decodes a stream, native or Ogg, and lists its chosen metadata blocks, as `flac list` does. Returns the exit status:
+/// 0 if all of the stream was read and its blocks were listed, else 1.
 ///
-/// `file` has the path of the file that `source` is, and which blocks are listed. With `lax` streams outside the streamable
-/// subset (RFC 9639, section 7) are accepted too. `out` and `err` are standard output and standard error. After status 1
-/// the lines of the chosen blocks before the fault were written to `out`, and the line of the fault to `err`, if that could
-/// be written.
+/// - `file`: the path of the file that `source` is, and which blocks are listed.
+/// - `lax`: whether streams outside the streamable subset (RFC 9639, section 7) are accepted too.
+/// - `out`, `err`: standard output and standard error.
+///
+/// After status 1 the lines of the chosen blocks before the fault were written to `out`, and the line of the fault to
+/// `err`, if that could be written.
 pub fn list_stream<R: Source, O: Target, E: Target>(
     alloc: Global,
     file: &ListedFile<'_>,
@@ -351,11 +348,11 @@ pub fn list_stream<R: Source, O: Target, E: Target>(
 ) -> u8
     ensures status { result ≤ 1 }
     // After status 0 the input is a stream.
-    ensures stream { result ≡ 0 → Tells R.Source source.old source.new → GivesStream R.Source (profile_of lax) source.old }
-    // If the source and standard error did not fail, the status and the line are those of what the input is; or memory ran
-    // out, or standard output failed: then the line says that.
-    ensures reported { IfBothServe R.Source E.Target source.old source.new err.old err.new
-        (ReportsListing (Serves O.Target out.old out.new) (profile_of lax) file.now.path.now result) }
+    ensures stream { result ≡ 0 →
+        Tells R.Source source.old source.new → GivesStream R.Source (profile_of lax) source.old }
+    // If the source and standard error did not fail, the status and the line say what the input is; or memory ran out,
+    // or standard output failed: then the line says that.
+    ensures reported { ReportsListed R.Source O.Target E.Target (profile_of lax) file.now.path.now result source out err }
 {
     match list(alloc, file.names, source, profile_of(lax), out) {
         Ok(()) => 0,

@@ -1,16 +1,15 @@
 //! `flac list --json`: the metadata blocks of a file as a line of JSON.
 
-ghost use Rattle.std.specs.Prelude.{◌≡◌, ◌≢◌, ◌≤◌, ◌<◌, ◌++◌, ◌∷◌, ◌⊎◌, [], true, nat_lt, IfOk, IfErr, OnOk, IsErrAnd, is_ok};
+ghost use Rattle.std.specs.Prelude.{◌≡◌, ◌≤◌, ◌<◌, ◌++◌, ◌⊎◌, [], true, nat_lt, IfOk, IfErr, OnOk, IsErrAnd, is_ok};
 ghost use Rattle.flac_native.specs.Item.{metadata};
 ghost use Rattle.flac_json.specs.Json.{no_members};
 ghost use Rattle.flac_json.specs.Lines.{line_end};
-ghost use Rattle.flac_cli.specs.Calls.{IfServed, IfAllServe};
-ghost use Rattle.flac_cli.specs.Headed.{HasHeadRefused, HeadReport, any_reading};
-ghost use Rattle.flac_cli.specs.ListedJson.{listed_line, HasHeadOf, IsReasonOf, IsSame};
-ghost use Rattle.flac_cli.specs.Outcomes.{ReportsStream};
+ghost use Rattle.flac_cli.specs.Calls.{IfServed};
+ghost use Rattle.flac_cli.specs.ListedJson.{IsReasonOf, RefusesHead, IsSame, PrintsHead, PrintsBlocks};
+ghost use Rattle.flac_cli.specs.Outcomes.{ReportsRead};
 ghost use Rattle.flac_cli.specs.Reports.{Serves};
-ghost use Rattle.flac_cli.specs.Streams.{Tells, GivesStreamOf, SendsOfStream, profile_of};
-ghost use Rattle.flac_cli.specs.inner.Listing.{view_of, begun_of, begun_after, comma, one_more};
+ghost use Rattle.flac_cli.specs.Streams.{Tells, profile_of};
+ghost use Rattle.flac_cli.specs.inner.Listing.{view_of, begun_of, begun_after, comma, one_more, IsHeadLine, RefusesHeadLine, IsStreamLine};
 ghost use Rattle.flac_cli.specs.inner.Outcomes.{FitsStream};
 ghost use Rattle.flac_cli.specs.inner.WaveOutcomes.{fault_by};
 
@@ -203,10 +202,8 @@ fn line_of_head<R: Source>(
     file: &ListedFile<'_>,
     source: &mut R,
 ) -> Result<Vec<u8>, Fault>
-    ensures line { IfOk result (λ line. R.known source.old ≡ true →
-        HasHeadOf (any_reading R.Source source.old) (λ head. line.items ≡ listed_line file.now head)) }
-    ensures refused { IfErr result (λ f. Tells R.Source source.old source.new → f.why ≢ Why.Memory →
-        HasHeadRefused (any_reading R.Source source.old) f.at f.why) }
+    ensures line { IfOk result (λ line. IsHeadLine R.Source file.now source.old line.items) }
+    ensures refused { IfErr result (λ f. RefusesHeadLine R.Source source.old source.new f) }
 {
     let mut maker = match LineMaker::new(alloc, file) {
         Ok(maker) => maker,
@@ -226,8 +223,7 @@ fn line_of_stream<R: Source>(
     profile: Profile,
     source: &mut R,
 ) -> Result<Vec<u8>, Fault>
-    ensures line { IfOk result (λ line. Tells R.Source source.old source.new →
-        GivesStreamOf R.Source profile source.old (λ parts. line.items ≡ listed_line file.now parts)) }
+    ensures line { IfOk result (λ line. IsStreamLine R.Source profile file.now source.old source.new line.items) }
     ensures outcome { Tells R.Source source.old source.new → FitsStream R.Source profile source.old result }
 {
     let mut maker = match LineMaker::new(alloc, file) {
@@ -238,8 +234,8 @@ fn line_of_stream<R: Source>(
     finished(alloc, maker.into_line(), outcome)
 }
 
-/// Prints the line of a file. Returns the status: 1 if standard output does not take it, and the line of this was written
-/// to `err`, if that could be written.
+/// Prints the line of a file. Returns the status: 0, or 1 if standard output does not take it. Then the line that says
+/// so was written to `err`, if that could be written.
 fn print_line<O: Target, E: Target>(path: &str, line: &[u8], out: &mut O, err: &mut E) -> u8
     ensures status { result ≤ 1 }
     ensures printed { result ≡ 0 → O.known out.old ≡ true → O.sent out.new ≡ O.sent out.old ++ line.now }
@@ -253,10 +249,11 @@ fn print_line<O: Target, E: Target>(path: &str, line: &[u8], out: &mut O, err: &
     }
 }
 
-/// Lists the metadata blocks of a stream, native or Ogg, as a line of JSON, and stops after the last one: no frame is read,
-/// so none is verified. Returns the exit status: 0 if the marker and all blocks were read and the line was printed, else 1.
+/// Lists the metadata blocks of a stream, native or Ogg, as a line of JSON, and stops after the last block. No frame is
+/// read, so none is verified. Returns the exit status: 0 if the marker and all blocks were read and the line was
+/// printed, else 1.
 ///
-/// The line has the path of the file that `source` is, and an object for each block that is chosen. `out` and `err` are
+/// The line has the path of the file that `source` is, and an object for each chosen block. `out` and `err` are
 /// standard output and standard error. After status 1 the line of the fault was written to `err`, if that could be
 /// written, and nothing to `out`, unless that failed.
 pub fn json_head<R: Source, O: Target, E: Target>(
@@ -267,14 +264,12 @@ pub fn json_head<R: Source, O: Target, E: Target>(
     err: &mut E,
 ) -> u8
     ensures status { result ≤ 1 }
-    // After status 0 the input begins with the marker and blocks up to a last one, and exactly the line of these was added
-    // to standard output.
-    ensures listed { result ≡ 0 → R.known source.old ≡ true → O.known out.old ≡ true →
-        HasHeadOf (any_reading R.Source source.old) (λ head. O.sent out.new ≡ O.sent out.old ++ listed_line file.now head) }
+    // After status 0 the input begins with the marker and blocks up to a last one, and exactly the line of these was
+    // added to standard output.
+    ensures listed { result ≡ 0 → PrintsHead R.Source O.Target file.now source.old out.old out.new }
     // After status 1 it is refused before that, and the line of this refusal was added to standard error, if no device
     // failed; or the line says that memory ran out.
-    ensures refused { result ≡ 1 → Tells R.Source source.old source.new → Serves O.Target out.old out.new →
-        IfServed E.Target err.old err.new (HeadReport (any_reading R.Source source.old) file.now.path.now) }
+    ensures refused { result ≡ 1 → RefusesHead R.Source O.Target E.Target file.now.path.now source out err }
     // After status 1 the line of a reason of this file was added, whatever failed.
     ensures named { result ≡ 1 → IfServed E.Target err.old err.new (IsReasonOf file.now.path.now) }
     // After status 1 nothing was added to standard output, if it did not fail.
@@ -288,13 +283,13 @@ pub fn json_head<R: Source, O: Target, E: Target>(
     }
 }
 
-/// Decodes a stream, native or Ogg, and lists its metadata blocks as a line of JSON. Returns the exit status: 0 if all of
-/// the stream was read and the line was printed, else 1.
+/// Decodes a stream, native or Ogg, and lists its metadata blocks as a line of JSON. Returns the exit status: 0 if all
+/// of the stream was read and the line was printed, else 1.
 ///
-/// The line has the path of the file that `source` is, and an object for each block that is chosen. With `lax` streams
-/// outside the streamable subset (RFC 9639, section 7) are accepted too. `out` and `err` are standard output and standard
-/// error. After status 1 the line of the fault was written to `err`, if that could be written, and nothing to `out`, unless
-/// that failed.
+/// The line has the path of the file that `source` is, and an object for each chosen block. With `lax` streams outside
+/// the streamable subset (RFC 9639, section 7) are accepted too. `out` and `err` are standard output and standard
+/// error. After status 1 the line of the fault was written to `err`, if that could be written, and nothing to `out`,
+/// unless that failed.
 pub fn json_stream<R: Source, O: Target, E: Target>(
     alloc: Global,
     file: &ListedFile<'_>,
@@ -305,12 +300,10 @@ pub fn json_stream<R: Source, O: Target, E: Target>(
 ) -> u8
     ensures status { result ≤ 1 }
     // After status 0 the input is a stream, and exactly the line of its blocks was added to standard output.
-    ensures listed { result ≡ 0 → SendsOfStream R.Source O.Target (profile_of lax) (listed_line file.now)
-        source.old source.new out.old out.new }
-    // If no device fails, the status and the line on standard error are those of what the input is; or memory ran out: then
-    // the line says that.
-    ensures reported { IfAllServe R.Source O.Target E.Target source.old source.new out.old out.new err.old err.new
-        (ReportsStream (profile_of lax) file.now.path.now result) }
+    ensures listed { result ≡ 0 → PrintsBlocks R.Source O.Target lax file.now source.old source.new out.old out.new }
+    // If no device fails, the status and the line on standard error say what the input is; or memory ran out: then the
+    // line says that.
+    ensures reported { ReportsRead R.Source O.Target E.Target (profile_of lax) file.now.path.now result source out err }
     // After status 1 the line of a reason of this file was added, whatever failed.
     ensures named { result ≡ 1 → IfServed E.Target err.old err.new (IsReasonOf file.now.path.now) }
     // After status 1 nothing was added to standard output, if it did not fail.

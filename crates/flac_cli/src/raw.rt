@@ -1,11 +1,12 @@
 //! Reading of raw samples from a source.
 
-ghost use Rattle.std.specs.Prelude.{◌≡◌, ◌≢◌, ◌≤◌, ◌<◌, ◌+◌, ◌*◌, ◌%◌, ◌++◌, [], true, length, map, take, slice_index_or, ℕ, IfOk, IfErr, IfSome, OnOk, OnErr, None};
+ghost use Rattle.std.specs.Prelude.{◌≡◌, ◌≤◌, ◌<◌, ◌+◌, ◌*◌, ◌%◌, [], length, map, slice_index_or, ℕ, IfOk, IfErr, OnOk, None};
 ghost use Rattle.flac_bits.specs.Signed.{FitsBits};
 ghost use Rattle.flac_native.specs.Message.{sample_bytes};
 ghost use Rattle.flac_cli.specs.Raw.{number_of};
-ghost use Rattle.flac_cli.specs.inner.Raw.{IsPart, AreParts, IsMore, AreChannels};
-ghost use Rattle.flac_cli.specs.inner.Sources.{HasRead};
+ghost use Rattle.flac_cli.specs.inner.Raw.{IsPart, AddsColumn, AddsPiece, AreChannelsOf};
+ghost use Rattle.flac_cli.specs.inner.Sources.{HasRead, IfSomeRead, IfNoneRead, EndsWhole, EndsInside};
+ghost use Rattle.flac_wave.specs.Calls.{IfRead};
 
 use byteorder::{ByteOrder, LittleEndian};
 use flac_bits::{Source, Why};
@@ -82,8 +83,7 @@ fn push_samples_of(
     requires whole { length piece.now ≡ column.count * column.stride }
     requires width { (1 ≤ width) × (width ≤ 4) }
     requires within { column.start + width ≤ column.stride }
-    ensures more { OnOk result (IsMore (IsPart column.stride column.start width)
-        piece.now column.stride column.count samples.old.items samples.new.items) }
+    ensures more { OnOk result (AddsColumn column width piece.now samples.old.items samples.new.items) }
     ensures memory { IfErr result (λ e. e ≡ Why.Memory) }
 {
     let front = samples.len();
@@ -103,8 +103,7 @@ fn push_samples(piece: &[u8], column: Column, samples: &mut Vec<i32>) -> Result<
     requires whole { length piece.now ≡ column.count * column.stride }
     requires width { (1 ≤ column.width) × (column.width ≤ 4) }
     requires within { column.start + column.width ≤ column.stride }
-    ensures more { OnOk result (IsMore (IsPart column.stride column.start column.width)
-        piece.now column.stride column.count samples.old.items samples.new.items) }
+    ensures more { OnOk result (AddsColumn column column.width piece.now samples.old.items samples.new.items) }
     ensures memory { IfErr result (λ e. e ≡ Why.Memory) }
 {
     match column.width {
@@ -125,8 +124,7 @@ pub(crate) fn push_piece(
     requires channels { (1 ≤ length lists.old) × (length lists.old ≤ 8) }
     requires width { (1 ≤ width) × (width ≤ 4) }
     requires whole { length piece.now ≡ count * (length lists.old * width) }
-    ensures more { OnOk result (IsMore (AreParts (length lists.old) width) piece.now (length lists.old * width) count
-        (map (λ c. c.items) lists.old) (map (λ c. c.items) lists.new)) }
+    ensures more { OnOk result (AddsPiece width count piece.now lists.old lists.new) }
     ensures memory { IfErr result (λ e. e ≡ Why.Memory) }
 {
     let channels = lists.len();
@@ -171,15 +169,11 @@ pub(crate) fn read_channels<R: Source>(
 ) -> Result<Option<Vec<Vec<i32>>>, Why>
     requires channels { (1 ≤ channels) × (channels ≤ 8) }
     requires width { (1 ≤ width) × (width ≤ 4) }
-    ensures whole { IfOk result (λ o. IfSome o (λ lists. R.known source.old ≡ true →
-        length (R.coming source.old) % (channels * width) ≡ 0)) }
-    ensures channels { IfOk result (λ o. IfSome o (λ lists. R.known source.old ≡ true →
-        AreChannels (R.coming source.old) channels width (map (λ c. c.items) lists.items))) }
-    ensures part { IfOk result (λ o. o ≡ None → R.known source.old ≡ true →
-        length (R.coming source.old) % (channels * width) ≢ 0) }
+    ensures whole { IfSomeRead R.Source source.old (λ _. EndsWhole (channels * width)) result }
+    ensures channels { IfSomeRead R.Source source.old (AreChannelsOf channels width) result }
+    ensures part { IfNoneRead R.Source source.old (EndsInside (channels * width)) result }
     ensures read { OnOk result (HasRead R.Source source.old source.new) }
-    ensures memory { IfErr result (λ e. R.known source.old ≡ true → R.raised source.new ≡ R.raised source.old →
-        e ≡ Why.Memory) }
+    ensures memory { IfErr result (λ e. IfRead R.Source source.old source.new (e ≡ Why.Memory)) }
     ensures names { R.names source.new ≡ R.names source.old }
 {
     let stride = channels * width;

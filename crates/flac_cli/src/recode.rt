@@ -1,23 +1,22 @@
 //! `flac recode`: a stream whose samples are encoded anew.
 
-ghost use Rattle.std.specs.Prelude.{◌≡◌, ◌≢◌, ◌≤◌, ◌⊎◌, ◌++◌, ◌∷◌, ℤ, List, [], true, not, map, IfOk, IfErr, OnOk, OnErr, Some, None};
+ghost use Rattle.std.specs.Prelude.{◌≡◌, ◌≢◌, ◌≤◌, ◌++◌, ◌∷◌, [], true, not, map, IfOk, IfErr, OnOk, OnErr, Some};
 ghost use Rattle.std.specs.List.{filter};
 ghost use Rattle.flac_meta.specs.declared.block.Block.{Block};
-ghost use Rattle.flac_frame.specs.Audio.{audio_fault, MakesAudio};
+ghost use Rattle.flac_frame.specs.Audio.{MakesAudio};
 ghost use Rattle.flac_native.specs.Given.{fits_plan};
 ghost use Rattle.flac_native.specs.Sent.{TargetFailed};
 ghost use Rattle.flac_cli.specs.Asked.{asked_of};
-ghost use Rattle.flac_cli.specs.Calls.{HasWritten, IfServed, IfAllServe};
-ghost use Rattle.flac_cli.specs.Recoded.{is_comment, no_comments, comments_first, in_order, Recodes, HasBegunRecoded};
-ghost use Rattle.flac_cli.specs.RecodeRefusals.{asked_for, files_for, IsInputReason, IsRecodeReason, IsOutside, ReportsRecoding, NamesRecoding, recode_path, recode_text};
+ghost use Rattle.flac_cli.specs.Calls.{IfServed};
+ghost use Rattle.flac_cli.specs.Recoded.{is_comment, no_comments, comments_first, in_order, WritesAnew, BeginsAnew};
+ghost use Rattle.flac_cli.specs.RecodeRefusals.{asked_for, files_for, ReportsRecode, NamesRecoding, RecodesFile, BeginsRecode, CanBeRecoded, AddsRefusal};
 ghost use Rattle.flac_cli.specs.Refusals.{refusal_of};
-ghost use Rattle.flac_cli.specs.Reports.{AddsLine};
-ghost use Rattle.flac_cli.specs.Streams.{Tells};
-ghost use Rattle.flac_cli.specs.inner.Holding.{view_of, HoldsStream, IsReadyIn, IsReadyOf, IsHeldReason, IsFaultOf};
+ghost use Rattle.flac_cli.specs.inner.Holding.{view_of, IsHeldReason};
 ghost use Rattle.flac_cli.specs.inner.WaveOutcomes.{fault_by};
 ghost use Rattle.flac_cli.specs.declared.encode.Refusal.TheVariants as refusal;
 ghost use Rattle.flac_cli.specs.declared.recode.RecodeRefusal.TheVariants.{Unread, Refused};
 ghost use Rattle.flac_bits.specs.declared.why.Why.TheVariants as why;
+ghost use Rattle.flac_cli.specs.inner.Recoding.{CanBeAudio, IsReadyHeld, HoldsSource, IsReadyFrom, IsFaultIn, IsInputRefusal, IsRecodeRefusal, not_written};
 
 use crate::encode::{Encoding, Refusal, plan_of, refuse_encoding, write_stream};
 use crate::held_stream::{HeldStream, StreamHolder};
@@ -160,8 +159,7 @@ fn audio_of(
     channels: Vec<Vec<i32>>,
 ) -> Result<Audio, SetupFault>
     ensures made { MakesAudio profile info.now.rate info.now.depth (map (λ c. c.items) channels.items) result }
-    ensures good { OnOk result
-        (audio_fault profile info.now.rate info.now.depth (map (λ c. c.items) channels.items) ≡ None) }
+    ensures good { OnOk result (CanBeAudio profile info.now channels.items) }
 {
     let audio = Audio::new_in(profile, info.rate(), u32::from(info.depth()), channels)?;
     // Read only for the proof, which then knows what the model of an `Audio` keeps to.
@@ -180,16 +178,15 @@ pub(crate) struct Ready {
 /// Makes a stream that was read ready to be written with these predictors.
 ///
 /// # Errors
-/// The first reason for which it cannot be: its samples, the block size and the seek points, the predictors, the blocks.
-/// Out of memory.
+/// The first reason for which it cannot be: its samples, the block size and the seek points, the predictors, the
+/// blocks. Out of memory.
 pub(crate) fn ready_of(
     alloc: Global,
     encoding: &Encoding<'_>,
     predictors: Vec<LinearPredictor>,
     held: HeldStream,
 ) -> Result<Ready, Refusal>
-    ensures found { IfOk result (λ r.
-        IsReadyOf (asked_of encoding.now) predictors.items (view_of held) r.plan r.list r.audio) }
+    ensures found { IfOk result (λ r. IsReadyHeld encoding.now predictors.items held r) }
     ensures fits { IfOk result (λ r. fits_plan r.plan r.audio ≡ true) }
     ensures none { IfOk result (λ r. r.plan.found ≡ []) }
     ensures refused { IfErr result (λ e. IsHeldReason (asked_of encoding.now) predictors.items (view_of held) e) }
@@ -228,10 +225,8 @@ pub(crate) fn fault_of(fault: Fault) -> Fault
 /// # Errors
 /// The place and the reason. The stream is refused; an error of the source, or out of memory.
 fn read_stream<R: Source>(alloc: Global, source: &mut R) -> Result<HeldStream, Fault>
-    ensures held { IfOk result (λ held. R.known source.old ≡ true →
-        HoldsStream (R.coming source.old) (R.after source.old) (view_of held)) }
-    ensures refused { IfErr result (λ f. Tells R.Source source.old source.new → (f.why ≡ Why.Memory) ⊎
-        IsFaultOf (R.coming source.old) (R.after source.old) f) }
+    ensures held { IfOk result (λ held. HoldsSource R.Source source.old held) }
+    ensures refused { IfErr result (λ f. IsFaultIn R.Source source.old source.new f) }
 {
     let mut holder = StreamHolder::new(alloc);
     let outcome = decode_any(alloc, source, Profile::Lax, &mut holder);
@@ -257,13 +252,10 @@ fn prepared<R: Source>(
     predictors: Vec<LinearPredictor>,
     source: &mut R,
 ) -> Result<Ready, RecodeRefusal>
-    ensures found { IfOk result (λ r. R.known source.old ≡ true →
-        IsReadyIn (asked_of encoding.now) predictors.items (R.coming source.old) (R.after source.old)
-        r.plan r.list r.audio) }
+    ensures found { IfOk result (λ r. IsReadyFrom R.Source encoding.now predictors.items source.old r) }
     ensures fits { IfOk result (λ r. fits_plan r.plan r.audio ≡ true) }
     ensures none { IfOk result (λ r. r.plan.found ≡ []) }
-    ensures refused { IfErr result (λ e. Tells R.Source source.old source.new → IsOutside e ⊎
-        IsInputReason (asked_of encoding.now) predictors.items (R.coming source.old) (R.after source.old) (Some e)) }
+    ensures refused { IfErr result (λ e. IsInputRefusal R.Source encoding.now predictors.items source.old source.new e) }
     ensures unwritten { IfErr result (λ e. e ≢ Refused (refusal.Output EncodeFault.Write)) }
 {
     let held = read_stream(alloc, source)?;
@@ -271,8 +263,8 @@ fn prepared<R: Source>(
     Ok(ready)
 }
 
-/// Encodes the samples of a stream anew, and writes a stream of them with its metadata blocks. After an error, nothing or
-/// a prefix of the new stream was sent. The encoder tries the predictors that [`encode_raw`] tries.
+/// Encodes the samples of a stream anew, and writes a stream of them with its metadata blocks. After an error, nothing
+/// or a prefix of the new stream was sent. The encoder tries the predictors that [`encode_raw`] tries.
 ///
 /// [`encode_raw`]: crate::encode::encode_raw
 ///
@@ -286,16 +278,13 @@ fn recode_stream<R: Source, W: Target>(
     source: &mut R,
     target: &mut W,
 ) -> Result<(), RecodeRefusal>
-    ensures written { OnOk result (HasWritten R.Source W.Target source.old target.old target.new
-        (λ bytes. Recodes (asked_of encoding.now) bytes (R.after source.old))) }
-    ensures begun { OnErr result (HasWritten R.Source W.Target source.old target.old target.new
-        (λ bytes. HasBegunRecoded (asked_of encoding.now) bytes (R.after source.old))) }
-    ensures accepted { OnOk result (R.known source.old ≡ true →
-        IsRecodeReason (asked_of encoding.now) (R.coming source.old) (R.after source.old) None) }
-    ensures refused { IfErr result (λ e. Tells R.Source source.old source.new →
-        IsOutside e ⊎ IsRecodeReason (asked_of encoding.now) (R.coming source.old) (R.after source.old) (Some e)) }
-    ensures failed { IfErr result (λ e. e ≡ Refused (refusal.Output EncodeFault.Write) →
-        TargetFailed W.Target target.old target.new) }
+    ensures written { OnOk result (WritesAnew R.Source W.Target (asked_of encoding.now)
+        source.old target.old target.new) }
+    ensures begun { OnErr result (BeginsAnew R.Source W.Target (asked_of encoding.now)
+        source.old target.old target.new) }
+    ensures accepted { OnOk result (CanBeRecoded R.Source (asked_of encoding.now) source.old) }
+    ensures refused { IfErr result (λ e. IsRecodeRefusal R.Source encoding.now source.old source.new e) }
+    ensures failed { IfErr result (λ e. e ≡ not_written → TargetFailed W.Target target.old target.new) }
 {
     let predictors = predictors_in(alloc, encoding.list)?;
     let ready = prepared(alloc, encoding, predictors, source)?;
@@ -342,8 +331,7 @@ pub(crate) fn refuse_recoding<E: Target>(
     refused: RecodeRefusal,
 ) -> u8
     ensures status { result ≡ 1 }
-    ensures line { IfServed E.Target err.old err.new
-        (AddsLine (recode_path (files_for recoding.now) refused) (recode_text refused)) }
+    ensures line { IfServed E.Target err.old err.new (AddsRefusal (files_for recoding.now) refused) }
 {
     match refused {
         RecodeRefusal::Unread(fault) => refuse(err, recoding.input, Some(fault.at), fault.why),
@@ -354,12 +342,13 @@ pub(crate) fn refuse_recoding<E: Target>(
     }
 }
 
-/// Reads a stream, native or Ogg, also outside the streamable subset, encodes its samples anew, and writes a stream of
-/// them, with the same metadata blocks but for STREAMINFO and the seek table. Returns the exit status: 0 if it is
-/// written, else 1.
+/// Reads a stream, native or Ogg, also outside the streamable subset, and encodes its samples anew. The new stream has
+/// the same metadata blocks but for STREAMINFO and the seek table. Returns the exit status: 0 if it is written, else 1.
 ///
-/// `list` is the text of the recoding's list of predictors, empty if it has none. `source` is the stream, `target` the
-/// file that is written, `err` is standard error. After status 1 the line of the error was written to `err`.
+/// - `list`: the text of the recoding's list of predictors, empty if it has none.
+/// - `source`: the stream.
+/// - `target`: the file that is written.
+/// - `err`: standard error. After status 1 the line of the error was written to it.
 pub fn recode_file<R: Source, W: Target, E: Target>(
     alloc: Global,
     recoding: &Recoding<'_>,
@@ -371,21 +360,18 @@ pub fn recode_file<R: Source, W: Target, E: Target>(
     // The status is 0 or 1.
     ensures status { result ≤ 1 }
     // After status 0 the input is a stream, and exactly one of its samples and its blocks was added to the target.
-    ensures recoded { result ≡ 0 → HasWritten R.Source W.Target source.old target.old target.new
-        (λ bytes. Recodes (asked_for recoding.now list.now) bytes (R.after source.old)) }
+    ensures recoded { result ≡ 0 →
+        RecodesFile R.Source W.Target recoding.now list.now source.old target.old target.new }
     // After status 0 there was no reason to refuse it.
-    ensures accepted { result ≡ 0 → R.known source.old ≡ true →
-        IsRecodeReason (asked_for recoding.now list.now) (R.coming source.old) (R.after source.old) None }
+    ensures accepted { result ≡ 0 → CanBeRecoded R.Source (asked_for recoding.now list.now) source.old }
     // After status 1 nothing was added, or a prefix of such a stream.
-    ensures begun { result ≡ 1 → HasWritten R.Source W.Target source.old target.old target.new
-        (λ bytes. HasBegunRecoded (asked_for recoding.now list.now) bytes (R.after source.old)) }
-    // If no device fails: if there is a reason to refuse the recoding, the status is 1, and the line of the first one was
-    // added to standard error; if there is none, the status is 0, and nothing was added. Or memory ran out: then the
-    // status is 1, and the line says that.
-    ensures reported { IfAllServe R.Source W.Target E.Target source.old source.new target.old target.new err.old err.new
-        (ReportsRecoding (asked_for recoding.now list.now) (files_for recoding.now) result) }
-    // After status 1, whatever failed, its line was added to standard error, if that did not fail. It names the output if
-    // that could not be written (39), the list for its predictors, and else the input.
+    ensures begun { result ≡ 1 → BeginsRecode R.Source W.Target recoding.now list.now source.old target.old target.new }
+    // If no device fails: the status is 1, and the line of the first reason to refuse the recoding was added to
+    // standard error; or there is no reason, the status is 0, and nothing was added; or memory ran out, the status is
+    // 1, and the line says that.
+    ensures reported { ReportsRecode R.Source W.Target E.Target recoding.now list.now result source target err }
+    // After status 1, whatever failed, its line was added to standard error, if that did not fail. It names the output
+    // if that could not be written (39), the list for its predictors, and else the input.
     ensures named { result ≡ 1 → IfServed E.Target err.old err.new (NamesRecoding (files_for recoding.now)) }
 {
     let encoding = encoding_of(recoding, list);

@@ -3,13 +3,11 @@
 ghost use Rattle.std.specs.Prelude.{◌≡◌, ◌≢◌, true, OnOk, IfErr, ◌↔◌, ◌≤◌};
 ghost use Rattle.flac_native.specs.Retag.{not_written};
 ghost use Rattle.flac_cli.specs.Asked.{texts_of};
-ghost use Rattle.flac_cli.specs.Calls.{HasWritten, IfServed, IfAllServe};
-ghost use Rattle.flac_cli.specs.Outcomes.{ReportsRetagging};
-ghost use Rattle.flac_cli.specs.inner.Outcomes.{FitsRetagging};
+ghost use Rattle.flac_cli.specs.Calls.{IfServed};
 ghost use Rattle.flac_cli.specs.Reports.{Serves};
-ghost use Rattle.flac_cli.specs.Retagged.{RetagsWith};
-ghost use Rattle.flac_cli.specs.Streams.{Tells};
 ghost use Rattle.flac_cli.specs.Named.{NamesRetagging};
+ghost use Rattle.flac_cli.specs.Retagged.{RetagsTo};
+ghost use Rattle.flac_cli.specs.inner.Outcomes.{ReturnsRetagging, ReportsRetag, ForPaths};
 
 use crate::comments::comments_of;
 use crate::report::{Paths, refuse};
@@ -24,11 +22,9 @@ pub(crate) fn retag_with<R: Source, W: Target>(
     words: &[&str],
     target: &mut W,
 ) -> Result<(), RetagFault>
-    ensures written { OnOk result (HasWritten R.Source W.Target source.old target.old target.new
-        (λ bytes. RetagsWith (texts_of words.now) bytes (R.after source.old))) }
+    ensures written { OnOk result (RetagsTo R.Source W.Target (texts_of words.now) source.old target.old target.new) }
     // If no device failed, the outcome is what the input is.
-    ensures outcome { Tells R.Source source.old source.new → Serves W.Target target.old target.new →
-        FitsRetagging R.Source (texts_of words.now) source.old result }
+    ensures outcome { ReturnsRetagging R.Source W.Target words.now source.old source.new target.old target.new result }
     ensures served { IfErr result (λ f. Serves W.Target target.old target.new → f ≢ not_written) }
 {
     let Ok(comments) = comments_of(alloc, words) else {
@@ -57,12 +53,9 @@ pub(crate) fn run_retag<R: Source, W: Target, E: Target>(
     err: &mut E,
 ) -> u8
     ensures status { result ≤ 1 }
-    ensures retagged { result ≡ 0 → HasWritten R.Source W.Target source.old target.old target.new
-        (λ bytes. RetagsWith (texts_of words.now) bytes (R.after source.old)) }
-    ensures reported { IfAllServe R.Source W.Target E.Target source.old source.new target.old target.new err.old err.new
-        (ReportsRetagging (texts_of words.now) paths.now.input.now result) }
-    ensures named { result ≡ 1 →
-        IfServed E.Target err.old err.new (NamesRetagging paths.now.input.now paths.now.output.now) }
+    ensures retagged { result ≡ 0 → RetagsTo R.Source W.Target (texts_of words.now) source.old target.old target.new }
+    ensures reported { ReportsRetag R.Source W.Target E.Target words.now paths.now result source target err }
+    ensures named { result ≡ 1 → IfServed E.Target err.old err.new (ForPaths NamesRetagging paths.now) }
 {
     match retag_with(alloc, source, words, target) {
         Ok(()) => 0,

@@ -1,22 +1,20 @@
 //! `flac salvage`: a stream of what is left of a damaged one.
 
-ghost use Rattle.std.specs.Prelude.{◌≡◌, ◌≢◌, ◌≤◌, ◌⊎◌, ◌∷◌, ◌++◌, [], ℤ, List, true, Some, None, IfOk, IfErr, OnOk, OnErr};
-ghost use Rattle.flac_bits.specs.Bits.{bits_of};
+ghost use Rattle.std.specs.Prelude.{◌≡◌, ◌≢◌, ◌≤◌, ◌⊎◌, ◌∷◌, ◌++◌, [], true, Some, None, IfOk, IfErr, OnOk, OnErr};
 ghost use Rattle.flac_meta.specs.declared.block.Block.{Block};
 ghost use Rattle.flac_native.specs.Sent.{TargetFailed};
 ghost use Rattle.flac_rescue.specs.Report.{report_text};
-ghost use Rattle.flac_rescue.specs.Salvaged.{is_too_long};
 ghost use Rattle.flac_rescue.specs.Survey.{IsSurvey};
 ghost use Rattle.flac_rescue.specs.declared.survey.Survey.{Survey};
 ghost use Rattle.flac_cli.specs.Asked.{asked_of};
-ghost use Rattle.flac_cli.specs.Calls.{HasWritten, IfServed, IfAllServe};
-ghost use Rattle.flac_cli.specs.Streams.{Tells};
+ghost use Rattle.flac_cli.specs.Calls.{IfServed, IfAllServe, IfKnown};
 ghost use Rattle.flac_cli.specs.Recoded.{carried};
 ghost use Rattle.flac_cli.specs.RecodeRefusals.{IsOutside, NamesRecoding};
-ghost use Rattle.flac_cli.specs.Salvages.{salvage_asks, salvage_files, fills, keeps_wave, lack, is_shorter, fitting, IsLeft, Salvages, HasBegunSalvaged, salvage_refusal, IsSalvageReason, RefusesSalvage, TellsLeft};
-ghost use Rattle.flac_cli.specs.inner.Holding.{view_of, IsHeld};
+ghost use Rattle.flac_cli.specs.Salvages.{salvage_asks, salvage_files, fills, keeps_wave, lack, is_shorter, fitting, salvage_refusal, IsSalvageReason, RefusesSalvage, SalvagesFile, BeginsSalvage, CanBeSalvaged, TellsMissing};
 ghost use Rattle.flac_cli.specs.declared.encode.Refusal.TheVariants as refusal;
 ghost use Rattle.flac_cli.specs.declared.recode.RecodeRefusal.TheVariants.{Refused};
+ghost use Rattle.flac_cli.specs.inner.Salvaging.{HoldsLeft, IsTooMuchSilence, AreLinesOf, SalvagesBytes, BeginsBytes, SalvagesTo, BeginsTo, IsSalvageError};
+ghost use Rattle.flac_cli.specs.inner.Recoding.{not_written};
 
 use crate::encode::{Encoding, Refusal, write_stream};
 use crate::held_stream::{HeldStream, keep_block};
@@ -107,8 +105,8 @@ fn keep_fitting(blocks: &mut Vec<Block>, block: &Block, shorter: bool) -> Result
     keep_block(blocks, block)
 }
 
-/// Copies of the blocks that fit what is written but for STREAMINFO and the seek table, in their order. A WAV file that is
-/// kept states how many samples it has: it does not fit fewer.
+/// Copies of the blocks that fit what is written, in their order, without STREAMINFO and the seek table. A WAV file
+/// that is kept states how many samples it has: it does not fit fewer.
 ///
 /// # Errors
 /// [`Why::Memory`] if an allocation fails.
@@ -131,10 +129,8 @@ fn held_of(
     silence: bool,
 ) -> Result<HeldStream, RecodeRefusal>
     requires { IsSurvey bytes.now survey.now }
-    ensures held { IfOk result (λ held. (list : List Block) × (channels : List (List ℤ)) ×
-        IsLeft silence bytes.now survey.now list channels × IsHeld (view_of held) survey.now.info list channels) }
-    ensures refused { IfErr result (λ e. IsOutside e ⊎
-        ((e ≡ salvage_refusal SalvageFault.TooLong) × (is_too_long silence survey.now ≡ true))) }
+    ensures held { IfOk result (λ held. HoldsLeft silence bytes.now survey.now held) }
+    ensures refused { IfErr result (λ e. IsTooMuchSilence silence survey.now e) }
     ensures unwritten { IfErr result (λ e. e ≢ Refused (refusal.Output EncodeFault.Write)) }
 {
     let channels = salvage_samples(alloc, bytes, survey, silence)?;
@@ -160,14 +156,12 @@ fn write_left<W: Target>(
     target: &mut W,
 ) -> Result<(), RecodeRefusal>
     requires { IsSurvey bytes.now survey.now }
-    ensures written { OnOk result (W.known target.old ≡ true →
-        Salvages (asked_of encoding.now) silence bytes.now (bits_of (W.sent target.old)) (bits_of (W.sent target.new))) }
-    ensures begun { OnErr result (W.known target.old ≡ true →
-        HasBegunSalvaged (asked_of encoding.now) silence bytes.now (bits_of (W.sent target.old)) (bits_of (W.sent target.new))) }
+    ensures written { OnOk result (SalvagesBytes W.Target encoding.now silence bytes.now target.old target.new) }
+    ensures begun { OnErr result (BeginsBytes W.Target encoding.now silence bytes.now target.old target.new) }
     ensures accepted { OnOk result (IsSalvageReason (asked_of encoding.now) silence bytes.now None) }
-    ensures refused { IfErr result (λ e. IsOutside e ⊎ IsSalvageReason (asked_of encoding.now) silence bytes.now (Some e)) }
-    ensures failed { IfErr result (λ e. e ≡ Refused (refusal.Output EncodeFault.Write) →
-        TargetFailed W.Target target.old target.new) }
+    ensures refused { IfErr result (λ e.
+        IsOutside e ⊎ IsSalvageReason (asked_of encoding.now) silence bytes.now (Some e)) }
+    ensures failed { IfErr result (λ e. e ≡ not_written → TargetFailed W.Target target.old target.new) }
 {
     let held = held_of(alloc, bytes, survey, silence)?;
     let ready = ready_of(alloc, encoding, Vec::new(alloc), held)?;
@@ -195,15 +189,13 @@ fn salvage_bytes<W: Target>(
     silence: bool,
     target: &mut W,
 ) -> Result<Vec<u8>, RecodeRefusal>
-    ensures written { OnOk result (W.known target.old ≡ true →
-        Salvages (asked_of encoding.now) silence bytes.now (bits_of (W.sent target.old)) (bits_of (W.sent target.new))) }
-    ensures lines { IfOk result (λ text. (s : Survey) × IsSurvey bytes.now s × (text.items ≡ report_text path.now s)) }
-    ensures begun { OnErr result (W.known target.old ≡ true →
-        HasBegunSalvaged (asked_of encoding.now) silence bytes.now (bits_of (W.sent target.old)) (bits_of (W.sent target.new))) }
+    ensures written { OnOk result (SalvagesBytes W.Target encoding.now silence bytes.now target.old target.new) }
+    ensures lines { IfOk result (λ text. AreLinesOf path.now text.items bytes.now) }
+    ensures begun { OnErr result (BeginsBytes W.Target encoding.now silence bytes.now target.old target.new) }
     ensures accepted { OnOk result (IsSalvageReason (asked_of encoding.now) silence bytes.now None) }
-    ensures refused { IfErr result (λ e. IsOutside e ⊎ IsSalvageReason (asked_of encoding.now) silence bytes.now (Some e)) }
-    ensures failed { IfErr result (λ e. e ≡ Refused (refusal.Output EncodeFault.Write) →
-        TargetFailed W.Target target.old target.new) }
+    ensures refused { IfErr result (λ e.
+        IsOutside e ⊎ IsSalvageReason (asked_of encoding.now) silence bytes.now (Some e)) }
+    ensures failed { IfErr result (λ e. e ≡ not_written → TargetFailed W.Target target.old target.new) }
 {
     let survey = survey_bytes(alloc, bytes)?;
     let text = lines_of(alloc, path, &survey)?;
@@ -229,18 +221,14 @@ fn salvage_source<R: Source, W: Target>(
     source: &mut R,
     target: &mut W,
 ) -> Result<Vec<u8>, RecodeRefusal>
-    ensures written { OnOk result (HasWritten R.Source W.Target source.old target.old target.new
-        (Salvages (asked_of encoding.now) (fills salvage.now.filling))) }
-    ensures lines { IfOk result (λ text. R.known source.old ≡ true →
-        (s : Survey) × IsSurvey (R.coming source.old) s × (text.items ≡ report_text salvage.now.input.now s)) }
-    ensures begun { OnErr result (HasWritten R.Source W.Target source.old target.old target.new
-        (HasBegunSalvaged (asked_of encoding.now) (fills salvage.now.filling))) }
-    ensures accepted { OnOk result (R.known source.old ≡ true →
-        IsSalvageReason (asked_of encoding.now) (fills salvage.now.filling) (R.coming source.old) None) }
-    ensures refused { IfErr result (λ e. Tells R.Source source.old source.new → IsOutside e ⊎
-        IsSalvageReason (asked_of encoding.now) (fills salvage.now.filling) (R.coming source.old) (Some e)) }
-    ensures failed { IfErr result (λ e. e ≡ Refused (refusal.Output EncodeFault.Write) →
-        TargetFailed W.Target target.old target.new) }
+    ensures written { OnOk result (SalvagesTo R.Source W.Target encoding.now salvage.now
+        source.old target.old target.new) }
+    ensures lines { IfOk result (λ text. IfKnown R.Source source.old (AreLinesOf salvage.now.input.now text.items)) }
+    ensures begun { OnErr result (BeginsTo R.Source W.Target encoding.now salvage.now
+        source.old target.old target.new) }
+    ensures accepted { OnOk result (IfKnown R.Source source.old (CanBeSalvaged (asked_of encoding.now) salvage.now)) }
+    ensures refused { IfErr result (λ e. IsSalvageError R.Source encoding.now salvage.now source.old source.new e) }
+    ensures failed { IfErr result (λ e. e ≡ not_written → TargetFailed W.Target target.old target.new) }
 {
     let bytes = read_all(alloc, source)?;
     let silence = fills(salvage.filling);
@@ -248,15 +236,20 @@ fn salvage_source<R: Source, W: Target>(
     Ok(text)
 }
 
-/// Reads a native stream, damaged or not, also outside the streamable subset, and holds all of its bytes; finds the frames
-/// that stand whole in it, and encodes the samples of those that belong together anew, with the same metadata blocks but
-/// for STREAMINFO and the seek table. What is missing is silence, or is left out, and then the blocks that keep a WAV file
-/// are left out too. Returns the exit status: 0 if the new stream is written, whatever is missing, else 1.
+/// Writes a stream of what is left of a native stream, damaged or not, also outside the streamable subset. Returns the
+/// exit status: 0 if the new stream is written, whatever is missing, else 1.
+///
+/// All bytes of the stream are held. The whole frames in it that belong together are decoded, and their samples are
+/// encoded anew, with the same metadata blocks but for STREAMINFO and the seek table. What is missing is silence; or it
+/// is left out, and so are the blocks that keep a WAV file.
 ///
 /// `source` is the stream, `target` the file that is written, `err` is standard error. After status 0 the lines of
-/// [`report`] were written to `err`: what is missing, none if nothing is. After status 1 it was the line of the error: the
-/// fault of the marker or of a metadata block; 18 if its frames are out of order, and too many; 45 if there would be too
-/// much silence; else those of [`recode_file`](crate::recode_file).
+/// [`report`] were written to `err`: what is missing, none if nothing is. After status 1 it was the line of the error:
+///
+/// - the fault of the marker or of a metadata block;
+/// - 18 if its frames are out of order, and too many;
+/// - 45 if there would be too much silence;
+/// - else those of [`recode_file`](crate::recode_file).
 pub fn salvage_file<R: Source, W: Target, E: Target>(
     alloc: Global,
     salvage: &Salvage<'_>,
@@ -267,23 +260,18 @@ pub fn salvage_file<R: Source, W: Target, E: Target>(
     // The status is 0 or 1.
     ensures status { result ≤ 1 }
     // After status 0 exactly one stream of what is left was added to the target.
-    ensures salvaged { result ≡ 0 → HasWritten R.Source W.Target source.old target.old target.new
-        (Salvages (salvage_asks salvage.now) (fills salvage.now.filling)) }
-    // And the lines of what is missing were added to standard error, if it did not fail.
-    ensures told { result ≡ 0 → R.known source.old ≡ true → IfServed E.Target err.old err.new
-        (TellsLeft salvage.now.input.now (R.coming source.old)) }
+    ensures salvaged { result ≡ 0 → SalvagesFile R.Source W.Target salvage.now source.old target.old target.new }
+    // After status 0 the lines of what is missing were added to standard error, if that did not fail.
+    ensures told { result ≡ 0 → TellsMissing R.Source E.Target salvage.now source.old err.old err.new }
     // After status 0 there was no reason to refuse it.
-    ensures accepted { result ≡ 0 → R.known source.old ≡ true →
-        IsSalvageReason (salvage_asks salvage.now) (fills salvage.now.filling) (R.coming source.old) None }
+    ensures accepted { result ≡ 0 → IfKnown R.Source source.old (CanBeSalvaged (salvage_asks salvage.now) salvage.now) }
     // After status 1 nothing was added to the target, or a prefix of such a stream.
-    ensures begun { result ≡ 1 → HasWritten R.Source W.Target source.old target.old target.new
-        (HasBegunSalvaged (salvage_asks salvage.now) (fills salvage.now.filling)) }
-    // After status 1, if no device failed, the line of the first reason to refuse it was added to standard error; or memory
-    // ran out, and the line says that.
-    ensures refused { result ≡ 1 → IfAllServe R.Source W.Target E.Target source.old source.new target.old target.new err.old err.new
-        (RefusesSalvage salvage.now) }
-    // After status 1, whatever failed, its line was added to standard error, if that did not fail. It names the output if
-    // that could not be written (39), and else the input.
+    ensures begun { result ≡ 1 → BeginsSalvage R.Source W.Target salvage.now source.old target.old target.new }
+    // After status 1, if no device failed, the line of the first reason to refuse it was added to standard error; or
+    // memory ran out, and the line says that.
+    ensures refused { result ≡ 1 → IfAllServe R.Source W.Target E.Target source target err (RefusesSalvage salvage.now) }
+    // After status 1, whatever failed, its line was added to standard error, if that did not fail. It names the output
+    // if that could not be written (39), and else the input.
     ensures named { result ≡ 1 → IfServed E.Target err.old err.new (NamesRecoding (salvage_files salvage.now)) }
 {
     let recoding = salvage.to_recoding();

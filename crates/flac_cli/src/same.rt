@@ -1,10 +1,11 @@
 //! `flac same`: compares the samples of two streams.
 
-ghost use Rattle.std.specs.Prelude.{◌≡◌, ◌≤◌, ◌<◌, ◌++◌, true, [], OnOk, OnErr};
+ghost use Rattle.std.specs.Prelude.{◌≡◌, ◌≤◌, ◌<◌, true, OnOk, OnErr};
 ghost use Rattle.flac_compare.specs.Streams.{AreSame};
-ghost use Rattle.flac_cli.specs.Calls.{IfPrinted};
-ghost use Rattle.flac_cli.specs.Same.{two_numbers, difference_line, IfBothTold, ReportsComparison};
-ghost use Rattle.flac_cli.specs.inner.Lined.{Adds};
+ghost use Rattle.flac_cli.specs.Calls.{HasSent};
+ghost use Rattle.flac_cli.specs.Same.{two_numbers, difference_line, IfBothTold, ReportsSame};
+ghost use Rattle.flac_cli.specs.inner.Lines.{SendsLine};
+ghost use Rattle.flac_cli.specs.inner.Same.{PrintsDifference};
 
 use crate::lines::Lines;
 use crate::report::refuse;
@@ -23,8 +24,7 @@ fn put_two<O: Target>(
     second: u64,
 ) -> Result<(), Why>
     requires { lines.old.held ≡ 0 }
-    ensures { Adds O.Target (two_numbers what.now first between.now second)
-        lines.old.target lines.new.target [] [] result }
+    ensures { SendsLine O.Target (two_numbers what.now first between.now second) lines.old lines.new result }
 {
     lines.put_counted(what, first)?;
     lines.put_counted(between, second)?;
@@ -35,7 +35,7 @@ fn put_two<O: Target>(
 /// Sends the line of a difference through a buffer.
 fn put_difference<O: Target>(lines: &mut Lines<O>, difference: Difference) -> Result<(), Why>
     requires { lines.old.held ≡ 0 }
-    ensures { Adds O.Target (difference_line difference) lines.old.target lines.new.target [] [] result }
+    ensures { SendsLine O.Target (difference_line difference) lines.old lines.new result }
 {
     match difference {
         Difference::Rate(a, b) => put_two(lines, "rate ", u64::from(a), " ", u64::from(b)),
@@ -53,7 +53,7 @@ fn put_difference<O: Target>(lines: &mut Lines<O>, difference: Difference) -> Re
 fn write_difference<O: Target>(out: &mut O, difference: Difference) -> Result<(), Why>
     ensures kept { O.errors out.old ≤ O.errors out.new }
     ensures known { OnOk result (O.known out.old ≡ true → O.known out.new ≡ true) }
-    ensures sent { OnOk result (O.known out.old ≡ true → O.sent out.new ≡ O.sent out.old ++ difference_line difference) }
+    ensures sent { HasSent O.Target out.old out.new (difference_line difference) result }
     ensures failed { OnErr result (O.known out.old ≡ true → O.errors out.old < O.errors out.new) }
 {
     let mut lines = Lines::new(out);
@@ -63,8 +63,7 @@ fn write_difference<O: Target>(out: &mut O, difference: Difference) -> Result<()
 /// Prints the line of a difference, and returns the status 1.
 fn tell_difference<O: Target, E: Target>(out: &mut O, err: &mut E, difference: Difference) -> u8
     ensures status { result ≡ 1 }
-    ensures told { IfPrinted O.Target E.Target out.old out.new err.old err.new
-        (λ out printed err told. (printed ≡ out ++ difference_line difference) × (told ≡ err)) }
+    ensures told { PrintsDifference O.Target E.Target difference out.old out.new err.old err.new }
 {
     match write_difference(out, difference) {
         Ok(()) => 1,
@@ -75,9 +74,11 @@ fn tell_difference<O: Target, E: Target>(out: &mut O, err: &mut E, difference: D
 /// Compares two streams, each native or Ogg, also outside the streamable subset: their sample rates, channels, bits per
 /// sample, samples, and numbers of samples. Returns the exit status: 0 if all of these are the same, else 1.
 ///
-/// `paths` are those of the files that `first` and `second` are, `out` and `err` are standard output and standard error.
+/// - `paths`: those of the files that `first` and `second` are.
+/// - `out`, `err`: standard output and standard error.
+///
 /// After status 1 the line of the first difference was written to `out`: `rate A B`, `channels A B`, `bits A B`,
-/// `differ at sample N channel C`, or `samples A B`; or one of the streams is refused before any difference, and the
+/// `differ at sample N channel C`, or `samples A B`. Or one of the streams is refused before any difference, and the
 /// line of the fault of its file was written to `err`.
 pub fn compare_files<R: Source, S: Source, O: Target, E: Target>(
     alloc: Global,
@@ -94,8 +95,7 @@ pub fn compare_files<R: Source, S: Source, O: Target, E: Target>(
         IfBothTold R.Source S.Source first.old first.new second.old second.new AreSame }
     // If no device fails, the status and the line are those of what the two inputs are: nothing if they are the same,
     // the first difference, or the refusal of one of them. Or memory ran out: then the line says that.
-    ensures reported { IfBothTold R.Source S.Source first.old first.new second.old second.new
-        (λ r s. IfPrinted O.Target E.Target out.old out.new err.old err.new (ReportsComparison r s paths.now result)) }
+    ensures reported { ReportsSame R.Source S.Source O.Target E.Target paths.now result first second out err }
 {
     match compare_streams(alloc, first, second, Profile::Lax) {
         Ok(found) => match found {

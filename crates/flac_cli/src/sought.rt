@@ -3,7 +3,6 @@
 ghost use Rattle.std.specs.Prelude.{◌≡◌, ◌≢◌, ◌≤◌, Some, None, IfSome, OnOk};
 ghost use Rattle.flac_compare.specs.inner.Stepping.{Stays, MeetsNone};
 ghost use Rattle.flac_reader.specs.Giving.{last_frame};
-ghost use Rattle.flac_reader.specs.Moved.{IsMoved};
 ghost use Rattle.flac_reader.specs.Seeking.{IsNumbered};
 ghost use Rattle.flac_cli.specs.Calls.{IfServed};
 ghost use Rattle.flac_cli.specs.Excerpts.{NamesExcerpt};
@@ -16,9 +15,9 @@ use crate::streams::profile_of;
 use flac_bits::{Source, Target, Why};
 use flac_jobs::Excerpt;
 use flac_native::{Counted, Fault, Place, Profile};
-use flac_reader::{BitReader, Container, Keep, Opened, Reader, open};
+use flac_reader::{BitReader, Container, Keep, Opened, Reader, move_to, open};
 use std::alloc::Global;
-use std::io::{Read, Seek, SeekFrom};
+use std::io::{Read, Seek};
 
 /// Whether the frames of a stream are of one size, that of STREAMINFO, and numbered from 0 on (RFC 9639, section 9.1.5), as
 /// its first frame says, at which its reader is. Then each number says which samples a frame has.
@@ -114,7 +113,7 @@ fn found<R: Source + Drop, T: Read + Seek + Copy + Drop>(
     if offset == start {
         return None;
     }
-    let Some(device) = moved(device, offset) else {
+    let Ok(device) = move_to(device, offset) else {
         return None;
     };
     match reader.seek_from(alloc, Counted::new(device), profile, sample) {
@@ -131,17 +130,6 @@ fn at_frame<C: Container + Drop>(reader: Reader<C>) -> Option<Reader<C>>
     match reader.frame() {
         Some(_) => Some(reader),
         None => None,
-    }
-}
-
-/// A device that was moved to its byte of this number, counted from 0; `None` if it cannot be moved.
-fn moved<T: Seek + Copy + Drop>(device: T, at: u64) -> Option<T>
-    ensures { IfSome result (λ moved. IsMoved T.Seek device moved at) }
-{
-    let mut device = device;
-    match device.seek(SeekFrom::Start(at)) {
-        Ok(_) => Some(device),
-        Err(_) => None,
     }
 }
 

@@ -1,10 +1,11 @@
 //! `flac tag`: the comments of a native file, in place or in a new file.
 
-ghost use Rattle.std.specs.Prelude.{◌≡◌, ◌≢◌, ◌≤◌, ◌++◌, true, length, codes, Some, IfOk, IfSome};
+ghost use Rattle.std.specs.Prelude.{◌≡◌, ◌≢◌, ◌≤◌, true, length, codes, Some, IfOk, IfSome};
 ghost use Rattle.flac_edit.specs.Device.{Only};
 ghost use Rattle.flac_edit.specs.Tagged.{LeavesTagged, ReadsTagged, HasTagged, KeepsComments, IfNothingChanges, SendsRewritten};
 ghost use Rattle.flac_cli.specs.Calls.{IfServed};
-ghost use Rattle.flac_cli.specs.Reports.{fault_line};
+ghost use Rattle.flac_cli.specs.Reports.{AddsLine};
+ghost use Rattle.flac_edit.specs.declared.tagging.Tagged.TheVariants.{Flipped};
 
 use crate::lines::{At, write_line};
 use crate::report::refuse;
@@ -14,7 +15,8 @@ use flac_jobs::TagEdit;
 use flac_meta::Bytes;
 use std::alloc::{AllocError, Global};
 
-/// The edits that the command line gives; `lines` are the comments of its file of lines.
+/// The edits that the command line gives; `lines` are the comments of its file of lines, and `files` the bytes of the files
+/// that its edits name, in their order. A value whose file is not among them is empty.
 ///
 /// # Errors
 /// `AllocError` if an allocation fails.
@@ -22,12 +24,17 @@ pub fn edits_of<'a>(
     alloc: Global,
     words: &[TagEdit<'a>],
     lines: &'a [Bytes],
+    files: &'a [Bytes],
 ) -> Result<Vec<Edit<'a>>, AllocError>
     ensures { IfOk result (λ edits. length edits.items ≡ length words.now) }
 {
     let mut edits = Vec::with_capacity(alloc, words.len())?;
+    let mut left = files;
     for word in words {
-        edits.push(edit_of(word, lines))?;
+        edits.push(edit_of(word, lines, left))?;
+        if reads_file(word) {
+            left = left.get(1..).unwrap_or(&[]);
+        }
     }
     Ok(edits)
 }
@@ -40,12 +47,37 @@ fn parts_of(comment: &str) -> (&str, &str) {
     }
 }
 
-/// The edit that a word gives.
-fn edit_of<'a>(word: &TagEdit<'a>, lines: &'a [Bytes]) -> Edit<'a> {
+/// Whether the value of an edit is that of a file.
+fn reads_file(word: &TagEdit<'_>) -> bool {
+    matches!(word, TagEdit::SetFile(_) | TagEdit::AddFile(_))
+}
+
+/// The bytes of the first of these files; none if there is no file.
+fn first_of(files: &[Bytes]) -> &[u8] {
+    match files.split_first() {
+        Some((first, _)) => first.as_slice(),
+        None => &[],
+    }
+}
+
+/// The edit that a word gives; the first of these files has its value, if a file has it.
+fn edit_of<'a>(word: &TagEdit<'a>, lines: &'a [Bytes], files: &'a [Bytes]) -> Edit<'a> {
     match word {
         TagEdit::Clear => Edit::Clear,
         TagEdit::Lines => Edit::Replace(lines),
         TagEdit::Remove(name) => Edit::Remove(name.as_bytes()),
+        TagEdit::RemovePair(comment) => {
+            let (name, value) = parts_of(comment);
+            Edit::RemovePair(name.as_bytes(), value.as_bytes())
+        }
+        TagEdit::SetFile(word) => {
+            let (name, _) = parts_of(word);
+            Edit::Set(name.as_bytes(), first_of(files))
+        }
+        TagEdit::AddFile(word) => {
+            let (name, _) = parts_of(word);
+            Edit::Add(name.as_bytes(), first_of(files))
+        }
         TagEdit::Set(comment) => {
             let (name, value) = parts_of(comment);
             Edit::Set(name.as_bytes(), value.as_bytes())
@@ -67,9 +99,9 @@ fn tell_fault<E: Target>(err: &mut E, path: &str, fault: TagFault) {
     let _status = refuse(err, path, at, why);
 }
 
-/// Edits the comments of a native file in place, as [`tag_in_place`] does. `source` reads the file that `device` is, from
-/// its first byte on. Returns what became of it; `None` if it is refused or could not be edited: then the line of the
-/// error was written to `err`, if that could be written.
+/// Edits the comments of a native file in place, as [`tag_in_place`] does. `source` reads the file that `device` is,
+/// from its first byte on. Returns what became of it; `None` if it is refused or could not be edited. Then the line of
+/// the error was written to `err`, if that could be written.
 pub fn tag_file<R: Source, D: Device, E: Target>(
     alloc: Global,
     path: &str,
@@ -81,14 +113,13 @@ pub fn tag_file<R: Source, D: Device, E: Target>(
     requires same { D.known device.old ≡ true
         → (R.known source.old ≡ true) × (R.coming source.old ≡ D.seen device.old) }
     requires durable { D.known device.old ≡ true → Only (D.seen device.old) (D.time device.old) }
-    // A crash at any moment leaves a file that is read as the old blocks, or as those with the edited comments, before the
-    // same frames.
+    // A crash at any moment leaves a file that is read as the old blocks, or as those with the edited comments, before
+    // the same frames.
     ensures any_moment { LeavesTagged R.Source D.Device source.old edits.now device.old device.new }
     // Whatever is returned, a read finds the old blocks, or those with the edited comments.
     ensures reads { ReadsTagged R.Source D.Device source.old edits.now device.old device.new }
     // `Flipped`: it has the edited comments, and they are stored.
-    ensures flipped { result ≡ Some Tagged.Flipped →
-        HasTagged R.Source D.Device source.old edits.now device.old device.new }
+    ensures flipped { result ≡ Some Flipped → HasTagged R.Source D.Device source.old edits.now device.old device.new }
     ensures stored { IfSome result (λ _. D.known device.old ≡ true → Only (D.seen device.new) (D.time device.new)) }
     // `Same` and `NoRoom`: nothing was written.
     ensures untouched { IfSome result (λ done. done ≢ Tagged.Flipped → device.new ≡ device.old) }
@@ -110,8 +141,7 @@ pub fn tag_file<R: Source, D: Device, E: Target>(
 /// Writes the line that there is no room in a file for its comments, and returns the status 1.
 pub fn refuse_room<E: Target>(err: &mut E, path: &str) -> u8
     ensures status { result ≡ 1 }
-    ensures line { IfServed E.Target err.old err.new
-        (λ before after. after ≡ before ++ fault_line path.now (codes "54 NoRoom")) }
+    ensures line { IfServed E.Target err.old err.new (AddsLine path.now (codes "54 NoRoom")) }
 {
     // If it cannot be written, there is no one left to report it to.
     let _ = write_line(err, path, At::Whole, "54 NoRoom");

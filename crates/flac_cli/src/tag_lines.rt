@@ -1,10 +1,10 @@
 //! A file of lines that are comments.
 
-ghost use Rattle.std.specs.Prelude.{◌≡◌, ◌++◌};
+ghost use Rattle.std.specs.Prelude.{◌≡◌};
 ghost use Rattle.flac_cli.specs.Calls.{IfServed};
 ghost use Rattle.flac_cli.specs.Lined.{text_at};
-ghost use Rattle.flac_cli.specs.Reports.{fault_line};
 ghost use Rattle.flac_cli.specs.TagLines.{lines_place, lines_name};
+ghost use Rattle.flac_cli.specs.Reports.{AddsLine};
 
 use crate::lines::{At, write_line};
 use flac_bits::Target;
@@ -34,7 +34,7 @@ fn name_of(fault: LinesFault) -> &'static str
 pub fn refuse_lines<E: Target>(err: &mut E, path: &str, fault: LinesFault) -> u8
     ensures status { result ≡ 1 }
     ensures line { IfServed E.Target err.old err.new
-        (λ before after. after ≡ before ++ fault_line path.now (text_at (lines_place fault) (lines_name fault))) }
+        (AddsLine path.now (text_at (lines_place fault) (lines_name fault))) }
 {
     let at = place_of(fault);
     let name = name_of(fault);

@@ -1,13 +1,13 @@
 //! `flac test`: counts the frames and samples of a stream.
 
-ghost use Rattle.std.specs.Prelude.{◌≡◌, true, [], ◌≤◌, ◌<◌, Some, IfOk, OnErr};
-ghost use Rattle.flac_cli.specs.Calls.{HasSent, IfAllServe};
-ghost use Rattle.flac_cli.specs.inner.Taking.{frames_after, samples_after, HasCounted};
-ghost use Rattle.flac_cli.specs.Streams.{Tells, GivesStream, GivesStreamOf, SendsOfStream};
-ghost use Rattle.flac_cli.specs.Counted.{line_of, counts_line};
-ghost use Rattle.flac_cli.specs.inner.Lined.{Adds};
-ghost use Rattle.flac_cli.specs.Outcomes.{ReportsStream};
+ghost use Rattle.std.specs.Prelude.{◌≡◌, true, [], ◌≤◌, ◌<◌, Some, OnErr};
+ghost use Rattle.flac_cli.specs.Calls.{HasSent};
+ghost use Rattle.flac_cli.specs.inner.Taking.{frames_after, samples_after, CountsStream};
+ghost use Rattle.flac_cli.specs.Streams.{Tells, GivesStream};
+ghost use Rattle.flac_cli.specs.Counted.{line_of, SendsCounts};
+ghost use Rattle.flac_cli.specs.Outcomes.{ReportsRead};
 ghost use Rattle.flac_cli.specs.inner.Outcomes.{FitsStream};
+ghost use Rattle.flac_cli.specs.inner.Lines.{SendsLine};
 
 use crate::lines::Lines;
 use crate::report::refuse;
@@ -50,8 +50,7 @@ impl Sink for Counts {
 
 /// Decodes a stream, and counts its frames and samples.
 fn count<R: Source>(alloc: Global, source: &mut R, profile: Profile) -> Result<Counts, Fault>
-    ensures counts { Tells R.Source source.old source.new →
-        IfOk result (λ c. GivesStreamOf R.Source profile source.old (HasCounted c)) }
+    ensures counts { CountsStream R.Source profile source.old source.new result }
     ensures outcome { Tells R.Source source.old source.new → FitsStream R.Source profile source.old result }
 {
     let mut counts = Counts {
@@ -67,8 +66,7 @@ fn count<R: Source>(alloc: Global, source: &mut R, profile: Profile) -> Result<C
 /// Writes the line of counts through a buffer.
 fn put_counts<O: Target>(lines: &mut Lines<O>, counts: &Counts) -> Result<(), Why>
     requires { lines.old.held ≡ 0 }
-    ensures { Adds O.Target (line_of counts.now.frames counts.now.samples)
-        lines.old.target lines.new.target [] [] result }
+    ensures { SendsLine O.Target (line_of counts.now.frames counts.now.samples) lines.old lines.new result }
 {
     lines.put_counted("frames ", counts.frames)?;
     lines.put_counted(" samples ", counts.samples)?;
@@ -96,10 +94,8 @@ pub(crate) fn run_test<R: Source, O: Target, E: Target>(
 ) -> u8
     ensures status { result ≤ 1 }
     ensures stream { result ≡ 0 → Tells R.Source source.old source.new → GivesStream R.Source profile source.old }
-    ensures tested { result ≡ 0 → SendsOfStream R.Source O.Target profile counts_line
-        source.old source.new out.old out.new }
-    ensures reported { IfAllServe R.Source O.Target E.Target source.old source.new out.old out.new err.old err.new
-        (ReportsStream profile input.now result) }
+    ensures tested { result ≡ 0 → SendsCounts R.Source O.Target profile source.old source.new out.old out.new }
+    ensures reported { ReportsRead R.Source O.Target E.Target profile input.now result source out err }
 {
     match count(alloc, source, profile) {
         Ok(counts) => match write_counts(out, &counts) {

@@ -1,10 +1,9 @@
 //! `flac verify`: reads many files, and prints a line for each.
 
-ghost use Rattle.std.specs.Prelude.{◌≡◌, ◌≤◌, ◌↔◌, ◌||◌, true, false, IfSome};
-ghost use Rattle.flac_cli.specs.Outcomes.{Fits};
-ghost use Rattle.flac_cli.specs.Verified.{IsFound, AreWhole, HaveCome, IfNoneFails};
-ghost use Rattle.flac_cli.specs.Verifies.{Verifies};
-ghost use Rattle.flac_cli.specs.inner.Verifying.{IsReading, IsReadingOutside, IsFoundAgain, IsCounted, Stays};
+ghost use Rattle.std.specs.Prelude.{◌≡◌, ◌≤◌, ◌↔◌, ◌||◌, true};
+ghost use Rattle.flac_cli.specs.Verified.{HaveCome, IfNoneFails, FilesAreWhole};
+ghost use Rattle.flac_cli.specs.Verifies.{VerifiesFiles};
+ghost use Rattle.flac_cli.specs.inner.Verifying.{IsFoundAgain, IsCounted, Stays, ReadsIn, ReadsOutside, Finds, IsAllGood, IfAllGood};
 
 use crate::verify_change::{Change, compare};
 use crate::verify_facts::{Facts, read_facts};
@@ -71,8 +70,7 @@ impl Tally {
 
 /// Reads the current file in this profile.
 fn read_in<S: Shelf>(alloc: Global, shelf: &mut S, profile: Profile) -> Finding
-    ensures found { IfNoneFails S.known S.faults shelf.old shelf.new
-        (IsReading profile (S.current shelf.old).contents result) }
+    ensures found { IfNoneFails S.known S.faults shelf.old shelf.new (ReadsIn profile (S.current shelf.old) result) }
     ensures stays { Stays S.known S.current S.files S.gone S.faults S.most shelf.old shelf.new }
 {
     match shelf.open() {
@@ -92,8 +90,7 @@ fn read_in<S: Shelf>(alloc: Global, shelf: &mut S, profile: Profile) -> Finding
 
 /// Reads the current file without the limits of the streamable subset, which it does not keep.
 fn read_outside<S: Shelf>(alloc: Global, shelf: &mut S) -> Finding
-    ensures found { IfNoneFails S.known S.faults shelf.old shelf.new
-        (IsReadingOutside (S.current shelf.old).contents result) }
+    ensures found { IfNoneFails S.known S.faults shelf.old shelf.new (ReadsOutside (S.current shelf.old) result) }
     ensures stays { Stays S.known S.current S.files S.gone S.faults S.most shelf.old shelf.new }
 {
     match read_in(alloc, shelf, Profile::Lax) {
@@ -134,8 +131,7 @@ fn find_again<S: Shelf>(alloc: Global, shelf: &mut S) -> Finding
 
 /// Finds out what the current file is.
 fn find<S: Shelf>(alloc: Global, shelf: &mut S, subset: bool) -> Finding
-    ensures found { IfNoneFails S.known S.faults shelf.old shelf.new
-        (IsFound subset (S.current shelf.old).contents result) }
+    ensures found { IfNoneFails S.known S.faults shelf.old shelf.new (Finds subset (S.current shelf.old) result) }
     ensures stays { Stays S.known S.current S.files S.gone S.faults S.most shelf.old shelf.new }
 {
     if subset {
@@ -157,10 +153,8 @@ fn is_sought(subset: bool, again: bool) -> bool
 
 /// The status: 0 if every line was written, no file was bad, and each is as it was in the older report.
 fn status_of(is_written: bool, tally: &Tally) -> u8
-    ensures zero { result ≡ 0 →
-        (is_written ≡ true) × (tally.now.is_reported ≡ true) × (tally.now.is_kept ≡ true) × (tally.now.bad ≡ 0) }
-    ensures one { is_written ≡ true → tally.now.is_reported ≡ true → tally.now.is_kept ≡ true → tally.now.bad ≡ 0 →
-        result ≡ 0 }
+    ensures zero { result ≡ 0 → IsAllGood is_written tally.now }
+    ensures one { IfAllGood is_written tally.now (result ≡ 0) }
     ensures most { result ≤ 1 }
 {
     if is_written && tally.is_reported && tally.is_kept && tally.bad == 0 {
@@ -173,26 +167,35 @@ fn status_of(is_written: bool, tally: &Tally) -> u8
 /// Reads the files of a list, one after another, and prints a line for each. Returns the status: 0 if all of them are
 /// streams, native or Ogg, and every line was written; else 1.
 ///
-/// With [`Checks::subset`] a file must be in the streamable subset (RFC 9639, section 7); otherwise all of FLAC is read. The line
-/// of a stream is written to `out`, with its number of frames and of inter-channel samples, both up to 2^64 - 1:
-/// `ok PATH: frames N samples N`. Then come the words ` no-md5` and ` no-total`, if STREAMINFO does not state the digest
-/// of the samples or their number (section 8.2), and ` outside-subset`, if the file can be read again and is not in the
-/// streamable subset. The line of another file is written to `err`: `flac: PATH: PLACE: NUMBER NAME`, or
-/// `flac: PATH: cannot be opened`. Paths are printed as [`flac_shelf::shown`] gives them, so that each line is that of one
-/// file. After all files `out` gets the line `verified N ok N bad N`.
+/// With [`Checks::subset`] a file must be in the streamable subset (RFC 9639, section 7); otherwise all of FLAC is
+/// read.
 ///
-/// With [`Checks::all`] a file that is refused is read again, whole into memory, and the lines of [`flac_rescue::report`]
-/// come after its own: which samples of a native stream are missing, and at which bytes. Bytes are counted from the first
-/// that the file's source gives. If they cannot be listed, there is the line
-/// `flac: PATH: what is missing cannot be listed`: of an Ogg stream, if the marker or a metadata block is damaged, if too
-/// many frames are out of order, of a file that can be read only once, or if it cannot be read again. If memory runs out,
-/// the line ends with `: 2 Memory`.
+/// The line of a stream is written to `out`: `ok PATH: frames N samples N`, with its numbers of frames and of
+/// inter-channel samples, both up to 2^64 - 1. Then come these words:
 ///
-/// If there is an older report, a word of [`Change`] ends the line of each file. The status is 1 too if a file has other
-/// audio than in that report.
+/// - ` no-md5`, if STREAMINFO does not state the digest of the samples (section 8.2);
+/// - ` no-total`, if it does not state their number;
+/// - ` outside-subset`, if the file can be read again and is not in the streamable subset.
+///
+/// The line of another file is written to `err`: `flac: PATH: PLACE: NUMBER NAME`, or `flac: PATH: cannot be opened`.
+/// Paths are printed as [`flac_shelf::shown`] gives them, so that each line is that of one file. After all files `out`
+/// gets the line `verified N ok N bad N`.
+///
+/// With [`Checks::all`] a file that is refused is read again, whole into memory. The lines of [`flac_rescue::report`]
+/// come after its own: which samples of a native stream are missing, and at which bytes, counted from the first byte
+/// that the file's source gives. The line `flac: PATH: what is missing cannot be listed` is in their place:
+///
+/// - of an Ogg stream;
+/// - if the marker or a metadata block is damaged, or too many frames are out of order;
+/// - of a file that can be read only once, or that cannot be read again;
+/// - if memory runs out: then the line ends with `: 2 Memory`.
+///
+/// If there is an older report, a word of [`Change`] ends the line of each file. The status is 1 too if a file has
+/// other audio than in that report.
 ///
 /// `report_to` gets a line of JSON (RFC 8259) for each file, as it is done: an object of the path, the status `ok`,
-/// `bad` or `unopened`, and what else is known. After a line that it does not take it gets no other.
+/// `bad` or `unopened`, and what else is known. After a line that it does not take it gets no other. `recorded_of` of
+/// `flac_report` reads these lines back.
 pub fn verify_files<S: Shelf, O: Target, E: Target, P: Target>(
     alloc: Global,
     shelf: &mut S,
@@ -203,14 +206,12 @@ pub fn verify_files<S: Shelf, O: Target, E: Target, P: Target>(
 ) -> u8
     // The status is 0 or 1.
     ensures status { result ≤ 1 }
-    // If no file's device fails: the lines are those of what each file is, by its own bytes, in order, also those of the
-    // report, and the status is 0 exactly if all of them are streams and every line was written. Or memory ran out: then
-    // a line says that. After the line of a file that is refused come those of a survey of its bytes, if that is asked for.
-    ensures verified { IfNoneFails S.known S.faults shelf.old shelf.new (Verifies O.Target E.Target P.Target
-        checks (S.files shelf.old) result out.old out.new err.old err.new report_to.old report_to.new) }
+    // If no file's device fails: the lines say what each file is by its own bytes, in order, also those of the report;
+    // after the line of a file that is refused come those of a survey of its bytes, if that is asked for. The status is
+    // 0 exactly if all files are streams and every line was written. Or memory ran out: then a line says that.
+    ensures verified { VerifiesFiles S.Shelf O.Target E.Target P.Target checks result shelf out err report_to }
     // So after status 0 each file is a stream.
-    ensures streams { result ≡ 0 → IfNoneFails S.known S.faults shelf.old shelf.new
-        (AreWhole checks.subset (S.files shelf.old)) }
+    ensures streams { result ≡ 0 → FilesAreWhole S.known S.faults S.files checks.subset shelf.old shelf.new }
     // All files have come. So the paths that are left of an older report are those that no file of the list has.
     ensures gone { IfNoneFails S.known S.faults shelf.old shelf.new
         (HaveCome S.files S.gone shelf.old shelf.new) }

@@ -1,13 +1,11 @@
 //! What `flac verify` reports of a stream.
 
 ghost use Rattle.std.specs.Prelude.{◌≡◌, true, false, [], None, IfOk};
-ghost use Rattle.flac_bits.specs.Handing.{outcome_of};
 ghost use Rattle.flac_native.specs.Stream.{info_after, is_unknown};
-ghost use Rattle.flac_cli.specs.inner.Taking.{frames_after, samples_after, info_after_item};
-ghost use Rattle.flac_cli.specs.inner.Outcomes.{at_place};
-ghost use Rattle.flac_cli.specs.Outcomes.{Fits, Reads, IsOutOfMemory, IsReadAs};
+ghost use Rattle.flac_cli.specs.inner.Taking.{frames_after, samples_after, info_after_item, DescribesStream};
 ghost use Rattle.flac_cli.specs.Streams.{Tells};
-ghost use Rattle.flac_cli.specs.Verified.{Describes, lacks_digest, lacks_total};
+ghost use Rattle.flac_cli.specs.Verified.{lacks_digest, lacks_total};
+ghost use Rattle.flac_cli.specs.inner.Outcomes.{FitsStream};
 
 use crate::test::Counts;
 use flac_bits::Source;
@@ -111,10 +109,8 @@ pub(crate) fn read_facts<R: Source>(
     source: &mut R,
     profile: Profile,
 ) -> Result<Facts, Fault>
-    ensures facts { Tells R.Source source.old source.new →
-        IfOk result (λ facts. IsReadAs R.Source profile source.old (λ parts. Describes parts facts)) }
-    ensures outcome { Tells R.Source source.old source.new →
-        Fits IsOutOfMemory (Reads profile (R.coming source.old) (R.after source.old)) (outcome_of at_place result) }
+    ensures facts { DescribesStream R.Source profile source.old source.new result }
+    ensures outcome { Tells R.Source source.old source.new → FitsStream R.Source profile source.old result }
     ensures outside { IfOk result (λ facts. facts.outside ≡ false) }
 {
     let mut facts = Facts::none();

@@ -43,8 +43,8 @@ fn tell_gone<E: Target>(err: &mut E, path: &str)
     let _ = write_gone(err, path);
 }
 
-/// Prints the line `gone PATH`, with the path as [`flac_shelf::shown`] gives it, for each file of an older report that was
-/// not met, in the order of the bytes of the paths. Returns whether there is one.
+/// Prints the line `gone PATH`, with the path as [`flac_shelf::shown`] gives it, for each file of an older report that
+/// was not met, in the order of the bytes of the paths. Returns whether there is one.
 pub fn report_gone<E: Target>(older: &mut Older, err: &mut E) -> bool
     ensures gone { result ≡ false ↔ left_in older.old ≡ [] }
     ensures told { Serves E.Target err.old err.new → E.sent err.new ≡ E.sent err.old ++ gone_lines (left_in older.old) }

@@ -1,13 +1,12 @@
 //! The lines that `flac verify` prints.
 
-ghost use Rattle.std.specs.Prelude.{◌≡◌, ◌≤◌, ◌<◌, ◌+◌, ◌++◌, true, [], take, OnOk, OnErr};
+ghost use Rattle.std.specs.Prelude.{◌≡◌, ◌≤◌, ◌<◌, ◌+◌, ◌++◌, true, OnOk, OnErr};
 ghost use Rattle.flac_cli.specs.Calls.{HasSent};
-ghost use Rattle.flac_cli.specs.Changes.{word_of};
 ghost use Rattle.flac_cli.specs.Lined.{text_at};
 ghost use Rattle.flac_cli.specs.Reports.{fault_line};
 ghost use Rattle.flac_cli.specs.Verified.{file_line, ok_line, ok_part, bad_part, words_of, word_if, last_line};
-ghost use Rattle.flac_cli.specs.inner.Lined.{Adds};
 ghost use Rattle.flac_cli.specs.inner.Verifying.{IsEnded, IsSent, IsTold};
+ghost use Rattle.flac_cli.specs.inner.Lines.{SendsLine, AddsTo};
 
 use crate::lines::{At, Lines, write_line};
 use crate::verify::{Finding, Tally};
@@ -24,8 +23,7 @@ fn word_if(holds: bool, word: &'static str) -> &'static str
 
 /// Adds the words after the counts of a stream.
 fn put_words<O: Target>(lines: &mut Lines<O>, change: Change, facts: &Facts) -> Result<(), Why>
-    ensures { Adds O.Target (words_of change facts.now) lines.old.target lines.new.target
-        (take lines.old.held lines.old.bytes) (take lines.new.held lines.new.bytes) result }
+    ensures { AddsTo O.Target (words_of change facts.now) lines.old lines.new result }
 {
     lines.put(word_if(facts.lacks_digest(), " no-md5"))?;
     lines.put(word_if(facts.lacks_total(), " no-total"))?;
@@ -41,7 +39,7 @@ fn put_ok<O: Target>(
     facts: &Facts,
 ) -> Result<(), Why>
     requires { lines.old.held ≡ 0 }
-    ensures { Adds O.Target (ok_line path.now change facts.now) lines.old.target lines.new.target [] [] result }
+    ensures { SendsLine O.Target (ok_line path.now change facts.now) lines.old lines.new result }
 {
     lines.put_path("ok ", path)?;
     lines.put_counted(": frames ", facts.counts.frames)?;
@@ -63,7 +61,7 @@ pub(crate) fn write_ok<O: Target>(
 ) -> Result<(), Why>
     ensures kept { O.errors out.old ≤ O.errors out.new }
     ensures known { OnOk result (O.known out.old ≡ true → O.known out.new ≡ true) }
-    ensures sent { OnOk result (O.known out.old ≡ true → O.sent out.new ≡ O.sent out.old ++ ok_line path.now change facts.now) }
+    ensures sent { HasSent O.Target out.old out.new (ok_line path.now change facts.now) result }
     ensures failed { OnErr result (O.known out.old ≡ true → O.errors out.old < O.errors out.new) }
 {
     let mut lines = Lines::new(out);
@@ -73,8 +71,7 @@ pub(crate) fn write_ok<O: Target>(
 /// Sends the last line through a buffer.
 fn put_last<O: Target>(lines: &mut Lines<O>, tally: &Tally) -> Result<(), Why>
     requires { lines.old.held ≡ 0 }
-    ensures { Adds O.Target (last_line tally.now.files tally.now.good tally.now.bad)
-        lines.old.target lines.new.target [] [] result }
+    ensures { SendsLine O.Target (last_line tally.now.files tally.now.good tally.now.bad) lines.old lines.new result }
 {
     lines.put_counted("verified ", tally.files)?;
     lines.put_counted(" ok ", tally.good)?;
@@ -90,8 +87,7 @@ fn put_last<O: Target>(lines: &mut Lines<O>, tally: &Tally) -> Result<(), Why>
 fn write_last<O: Target>(out: &mut O, tally: &Tally) -> Result<(), Why>
     ensures kept { O.errors out.old ≤ O.errors out.new }
     ensures known { OnOk result (O.known out.old ≡ true → O.known out.new ≡ true) }
-    ensures sent { OnOk result (O.known out.old ≡ true →
-        O.sent out.new ≡ O.sent out.old ++ last_line tally.now.files tally.now.good tally.now.bad) }
+    ensures sent { HasSent O.Target out.old out.new (last_line tally.now.files tally.now.good tally.now.bad) result }
     ensures failed { OnErr result (O.known out.old ≡ true → O.errors out.old < O.errors out.new) }
 {
     let mut lines = Lines::new(out);
@@ -115,8 +111,7 @@ fn put_fault<E: Target>(
     word: &str,
 ) -> Result<(), Why>
     requires { lines.old.held ≡ 0 }
-    ensures { Adds E.Target (file_line path.now (text_at at text.now ++ word.now))
-        lines.old.target lines.new.target [] [] result }
+    ensures { SendsLine E.Target (file_line path.now (text_at at text.now ++ word.now)) lines.old lines.new result }
 {
     lines.put_path("flac: ", path)?;
     lines.put(": ")?;

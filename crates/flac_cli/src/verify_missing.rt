@@ -5,9 +5,8 @@ ghost use Rattle.flac_rescue.specs.Report.{report_text};
 ghost use Rattle.flac_rescue.specs.Survey.{IsSurvey};
 ghost use Rattle.flac_shelf.specs.Shown.{shown};
 ghost use Rattle.flac_cli.specs.Missing.{IsOutOfMemory, AreUnlisted, IsSaidOf, asks_missing};
-ghost use Rattle.flac_cli.specs.Verified.{IfNoneFails};
-ghost use Rattle.flac_cli.specs.inner.Missing.{IsContents, IsUnread, line_for, AreSaidAgain, IsUnsaidAgain, AreListed, IsUnlisted};
-ghost use Rattle.flac_cli.specs.inner.Verifying.{IsListed, IsTold, Stays};
+ghost use Rattle.flac_cli.specs.inner.Missing.{line_for, IsUnlisted, HasContents, IsUnreadFile, SaysAgain, IsUnsaid, SaysListed, ListsMissing, ListsIfAsked, OkOfCurrent, ErrOfCurrent};
+ghost use Rattle.flac_cli.specs.inner.Verifying.{IsTold, Stays};
 
 use crate::lines::At;
 use crate::verify::{Finding, is_memory};
@@ -97,10 +96,8 @@ fn lines_about(alloc: Global, path: &str, bytes: &[u8]) -> Result<Vec<u8>, Unlis
 
 /// The bytes of the current file, read again.
 fn bytes_of<S: Shelf>(alloc: Global, shelf: &mut S) -> Result<Vec<u8>, Unlisted>
-    ensures read { IfNoneFails S.known S.faults shelf.old shelf.new
-        (IfOk result (λ bytes. IsContents (S.current shelf.old).contents bytes.items)) }
-    ensures unread { IfNoneFails S.known S.faults shelf.old shelf.new
-        (IfErr result (IsUnread (S.current shelf.old).contents)) }
+    ensures read { OkOfCurrent S.known S.faults S.current shelf.old shelf.new HasContents result }
+    ensures unread { ErrOfCurrent S.known S.faults S.current shelf.old shelf.new IsUnreadFile result }
     ensures stays { Stays S.known S.current S.files S.gone S.faults S.most shelf.old shelf.new }
 {
     match shelf.open() {
@@ -120,10 +117,8 @@ fn bytes_of<S: Shelf>(alloc: Global, shelf: &mut S) -> Result<Vec<u8>, Unlisted>
 
 /// The lines about the current file, which is read again.
 fn survey_again<S: Shelf>(alloc: Global, shelf: &mut S) -> Result<Vec<u8>, Unlisted>
-    ensures lines { IfNoneFails S.known S.faults shelf.old shelf.new
-        (IfOk result (λ text. AreSaidAgain (S.current shelf.old) text.items)) }
-    ensures unlisted { IfNoneFails S.known S.faults shelf.old shelf.new
-        (IfErr result (IsUnsaidAgain (S.current shelf.old))) }
+    ensures lines { OkOfCurrent S.known S.faults S.current shelf.old shelf.new SaysAgain result }
+    ensures unlisted { ErrOfCurrent S.known S.faults S.current shelf.old shelf.new IsUnsaid result }
     ensures stays { Stays S.known S.current S.files S.gone S.faults S.most shelf.old shelf.new }
 {
     match bytes_of(alloc, shelf) {
@@ -134,10 +129,8 @@ fn survey_again<S: Shelf>(alloc: Global, shelf: &mut S) -> Result<Vec<u8>, Unlis
 
 /// The lines about the current file, if it can be read again.
 fn survey<S: Shelf>(alloc: Global, shelf: &mut S) -> Result<Vec<u8>, Unlisted>
-    ensures lines { IfNoneFails S.known S.faults shelf.old shelf.new
-        (IfOk result (λ text. AreListed (S.current shelf.old) text.items)) }
-    ensures unlisted { IfNoneFails S.known S.faults shelf.old shelf.new
-        (IfErr result (IsUnlisted (S.current shelf.old))) }
+    ensures lines { OkOfCurrent S.known S.faults S.current shelf.old shelf.new SaysListed result }
+    ensures unlisted { ErrOfCurrent S.known S.faults S.current shelf.old shelf.new IsUnlisted result }
     ensures stays { Stays S.known S.current S.files S.gone S.faults S.most shelf.old shelf.new }
 {
     let again = shelf.reads_again();
@@ -157,8 +150,7 @@ fn tell_all<E: Target>(err: &mut E, text: &[u8])
 
 /// Prints what is missing of the current file.
 fn tell_missing<S: Shelf, E: Target>(alloc: Global, shelf: &mut S, err: &mut E)
-    ensures told { IfNoneFails S.known S.faults shelf.old shelf.new
-        (IsListed E.Target true (S.current shelf.old) err.old err.new) }
+    ensures told { ListsMissing S.known S.faults S.current E.Target true shelf.old shelf.new err.old err.new }
     ensures stays { Stays S.known S.current S.files S.gone S.faults S.most shelf.old shelf.new }
 {
     match survey(alloc, shelf) {
@@ -186,8 +178,8 @@ pub(crate) fn list_missing<S: Shelf, E: Target>(
     finding: &Finding,
     err: &mut E,
 )
-    ensures told { IfNoneFails S.known S.faults shelf.old shelf.new
-        (IsListed E.Target (asks_missing all finding.now) (S.current shelf.old) err.old err.new) }
+    ensures told { ListsIfAsked S.known S.faults S.current E.Target all finding.now
+        shelf.old shelf.new err.old err.new }
     ensures stays { Stays S.known S.current S.files S.gone S.faults S.most shelf.old shelf.new }
 {
     if asks_missing(all, finding) {

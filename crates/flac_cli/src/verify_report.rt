@@ -2,11 +2,13 @@
 
 ghost use Rattle.std.specs.Prelude.{◌≡◌, codes};
 ghost use Rattle.flac_json.specs.Json.{number, text, truth};
+ghost use Rattle.flac_report.specs.Objects.{valued, counted};
+ghost use Rattle.flac_report.specs.Entries.{digest_member, subset_member};
 ghost use Rattle.flac_cli.specs.Objects.{member_of};
-ghost use Rattle.flac_cli.specs.Reported.{valued, counted, rate_of, channels_of, depth_of, digest_member, subset_member, index_of, name_of, entry_line};
+ghost use Rattle.flac_cli.specs.Reported.{rate_of, channels_of, depth_of, digest_of, subset_of, index_of, name_of};
 ghost use Rattle.flac_cli.specs.declared.verify.Finding.TheVariants.{Good, Bad, Unopened};
 ghost use Rattle.flac_cli.specs.inner.Objects.{given_member};
-ghost use Rattle.flac_cli.specs.inner.Reported.{digest_in, EntrySent};
+ghost use Rattle.flac_cli.specs.inner.Reported.{digest_in, EntrySent, entry_text};
 ghost use Rattle.flac_cli.specs.inner.Verifying.{IsEntered};
 
 use crate::json::{Member, Value, write_object};
@@ -102,7 +104,7 @@ fn digest_of(info: Option<StreamInfo>) -> [u8; 16]
 /// The member of the digest, if it is stated.
 fn md5_member<'a>(facts: &Facts, digest: &'a [u8; 16]) -> Option<Member<'a>>
     requires { digest.now ≡ digest_in facts.now.info }
-    ensures { given_member result ≡ digest_member facts.now.info }
+    ensures { given_member result ≡ digest_member (digest_of facts.now.info) }
 {
     if facts.lacks_digest() {
         return None;
@@ -115,7 +117,7 @@ fn md5_member<'a>(facts: &Facts, digest: &'a [u8; 16]) -> Option<Member<'a>>
 
 /// The member of the streamable subset, if it was looked for.
 fn subset_member(is_sought: bool, outside: bool) -> Option<Member<'static>>
-    ensures { given_member result ≡ subset_member is_sought outside }
+    ensures { given_member result ≡ subset_member (subset_of is_sought outside) }
 {
     if outside {
         return truth_member("subset", false);
@@ -231,8 +233,7 @@ pub(crate) fn enter<P: Target>(
     finding: &Finding,
     is_going: bool,
 ) -> bool
-    ensures { IsEntered P.Target is_going
-        (entry_line entry.now.path.now entry.now.stamp entry.now.is_sought finding.now) report.old report.new result }
+    ensures { IsEntered P.Target is_going (entry_text entry.now finding.now) report.old report.new result }
 {
     if is_going {
         return write_entry(report, entry, finding).is_ok();

@@ -1,12 +1,12 @@
 //! A WAV file, as it is read from a source.
 
-ghost use Rattle.std.specs.Prelude.{◌≡◌, true, ℕ, List, IfOk, IfErr, OnOk, Some, None};
+ghost use Rattle.std.specs.Prelude.{◌≡◌, true, IfOk, IfErr, OnOk, Some, None};
 ghost use Rattle.flac_wave.specs.Calls.{IfRead};
 ghost use Rattle.flac_wave.specs.Format.{IsInRange};
-ghost use Rattle.flac_wave.specs.Front.{BeginsWith};
-ghost use Rattle.flac_wave.specs.Parts.{given, beyond};
+ghost use Rattle.flac_wave.specs.Parts.{beyond};
 ghost use Rattle.flac_wave.specs.Wave.{IsErrorOf};
-ghost use Rattle.flac_cli.specs.inner.WaveSamples.{AreTaken, IsTaken, IsPart, states_none, IsJudged, samples_fault, IsSamplesError};
+ghost use Rattle.flac_cli.specs.inner.WaveSamples.{IsTaken, IsPart, states_none, IsJudged, TakesGiven, AreGood, IsReadError, IsRestTaken, IsRestError};
+ghost use Rattle.flac_cli.specs.Calls.{IfKnown};
 
 use crate::wave_samples::{WaveSamples, read_samples};
 use flac_bits::{Memory, Source};
@@ -64,16 +64,13 @@ fn read_data<R: Source>(
     source: &mut R,
 ) -> Result<WaveSamples, WaveError>
     requires range { IsInRange front.now.format }
-    ensures taken { IfOk result (λ s. R.known source.old ≡ true →
-        AreTaken front.now.format (given size (R.coming source.old)) s) }
-    ensures good { OnOk result (R.known source.old ≡ true →
-        samples_fault to_end front.now size (R.coming source.old) ≡ None) }
+    ensures taken { IfOk result (λ s. IfKnown R.Source source.old (TakesGiven front.now.format size s)) }
+    ensures good { OnOk result (IfKnown R.Source source.old (AreGood to_end front.now size)) }
     ensures left { OnOk result (R.known source.old ≡ true →
         R.coming source.new ≡ beyond size (R.coming source.old)) }
     ensures known { OnOk result (R.known source.old ≡ true → R.known source.new ≡ true) }
     ensures counted { OnOk result (R.raised source.new ≡ R.raised source.old) }
-    ensures fault { IfErr result (λ e. IfRead R.Source source.old source.new
-        (IsSamplesError to_end front.now size (R.coming source.old) e)) }
+    ensures fault { IfErr result (λ e. IsReadError R.Source to_end front.now size source.old source.new e) }
     ensures names { R.names source.new ≡ R.names source.old }
 {
     let mut part = Limited::new(source, size);
@@ -99,8 +96,7 @@ fn read_parts<R: Source>(
 ) -> Result<WaveFile, WaveError>
     requires range { IsInRange front.format }
     ensures taken { IfOk result (λ f. R.known source.old ≡ true → IsPart to_end front size (R.coming source.old) f) }
-    ensures fault { IfErr result (λ e. IfRead R.Source source.old source.new
-        (IsSamplesError to_end front size (R.coming source.old) e)) }
+    ensures fault { IfErr result (λ e. IsReadError R.Source to_end front size source.old source.new e) }
 {
     let samples = read_data(alloc, &front, size, to_end, source)?;
     let back = read_all(alloc, source)?;
@@ -131,10 +127,8 @@ fn read_unsized<R: Source>(
     source: &mut R,
 ) -> Result<WaveFile, WaveError>
     requires range { IsInRange front.format }
-    ensures taken { IfOk result (λ f. R.known source.old ≡ true → (bytes : List ℕ) →
-        BeginsWith to_end bytes front (R.coming source.old) → IsTaken to_end bytes f) }
-    ensures fault { IfErr result (λ e. IfRead R.Source source.old source.new ((bytes : List ℕ) →
-        BeginsWith to_end bytes front (R.coming source.old) → IsErrorOf to_end bytes e)) }
+    ensures taken { IfOk result (λ f. IsRestTaken R.Source to_end front source.old f) }
+    ensures fault { IfErr result (λ e. IsRestError R.Source to_end front source.old source.new e) }
 {
     let rest = read_all(alloc, source)?;
     let size = size_in(to_end, front.size, rest.as_slice());

@@ -1,14 +1,12 @@
 //! The samples of a WAV file, as they are read from a source.
 
-ghost use Rattle.std.specs.Prelude.{◌≡◌, ◌≢◌, ◌≤◌, ◌<◌, ◌*◌, ◌%◌, ◌/◌, not, nat_eq, [], true, map, length, ℕ, List, IfOk, IfErr, IfSome, OnOk, None};
+ghost use Rattle.std.specs.Prelude.{◌≡◌, ◌<◌, ◌*◌, ◌%◌, ◌/◌, not, nat_eq, [], map, length, ℕ, List, IfOk, IfErr, IfSome, OnOk, None};
 ghost use Rattle.flac_frame.specs.Audio.{samples_each};
 ghost use Rattle.flac_wave.specs.Calls.{IfRead};
 ghost use Rattle.flac_wave.specs.Format.{IsInRange, row_of};
-ghost use Rattle.flac_wave.specs.Shift.{wave_width_of};
-ghost use Rattle.flac_cli.specs.inner.HeldWaves.{shifted, HasRoom, IsHeld, AreHeld};
-ghost use Rattle.flac_cli.specs.inner.Raw.{IsMore};
-ghost use Rattle.flac_cli.specs.inner.Sources.{HasRead};
-ghost use Rattle.flac_cli.specs.inner.WaveSamples.{AreTaken};
+ghost use Rattle.flac_cli.specs.inner.HeldWaves.{shifted, HasRoom, IsHeld, AreHeld, HoldsMore, AreHeldOf};
+ghost use Rattle.flac_cli.specs.inner.Sources.{HasRead, IfSomeRead, IfNoneRead, EndsInside};
+ghost use Rattle.flac_cli.specs.inner.WaveSamples.{AreTaken, AreTakenOf};
 
 use crate::decode_wave::turn;
 use crate::raw::{PIECE, no_samples, push_piece};
@@ -118,8 +116,7 @@ fn hold_piece(format: &WaveFormat, piece: &mut [u8], held: &mut HeldSamples) -> 
     requires many { length held.old.channels.items ≡ format.now.channels }
     requires whole { length piece.old % row_of format.now ≡ 0 }
     requires room { HasRoom format.now held.old.depth }
-    ensures more { OnOk result (IsMore (IsHeld format.now) piece.old (row_of format.now)
-        (length piece.old / row_of format.now) held.old held.new) }
+    ensures more { OnOk result (HoldsMore format.now piece.old held.old held.new) }
     ensures many { OnOk result (length held.new.channels.items ≡ format.now.channels) }
     ensures room { OnOk result (HasRoom format.now held.new.depth) }
     ensures memory { IfErr result (λ e. e ≡ Why.Memory) }
@@ -143,11 +140,9 @@ fn read_held<R: Source>(
     source: &mut R,
 ) -> Result<Option<HeldSamples>, Why>
     requires range { IsInRange format.now }
-    ensures held { IfOk result (λ o. IfSome o (λ h. R.known source.old ≡ true →
-        AreHeld format.now (R.coming source.old) h)) }
+    ensures held { IfSomeRead R.Source source.old (AreHeldOf format.now) result }
     ensures room { IfOk result (λ o. IfSome o (λ h. HasRoom format.now h.depth)) }
-    ensures part { IfOk result (λ o. o ≡ None → R.known source.old ≡ true →
-        length (R.coming source.old) % row_of format.now ≢ 0) }
+    ensures part { IfNoneRead R.Source source.old (EndsInside (row_of format.now)) result }
     ensures read { OnOk result (HasRead R.Source source.old source.new) }
     ensures memory { IfErr result (λ e. IfRead R.Source source.old source.new (e ≡ Why.Memory)) }
     ensures names { R.names source.new ≡ R.names source.old }
@@ -182,10 +177,8 @@ pub(crate) fn read_samples<R: Source>(
     source: &mut R,
 ) -> Result<Option<WaveSamples>, Why>
     requires range { IsInRange format.now }
-    ensures taken { IfOk result (λ o. IfSome o (λ s. R.known source.old ≡ true →
-        AreTaken format.now (R.coming source.old) s)) }
-    ensures part { IfOk result (λ o. o ≡ None → R.known source.old ≡ true →
-        length (R.coming source.old) % row_of format.now ≢ 0) }
+    ensures taken { IfSomeRead R.Source source.old (AreTakenOf format.now) result }
+    ensures part { IfNoneRead R.Source source.old (EndsInside (row_of format.now)) result }
     ensures read { OnOk result (HasRead R.Source source.old source.new) }
     ensures memory { IfErr result (λ e. IfRead R.Source source.old source.new (e ≡ Why.Memory)) }
     ensures names { R.names source.new ≡ R.names source.old }

@@ -24,3 +24,4 @@ pub mod BlockContents
 pub mod LinesRead
 pub mod LinesWritten
 pub mod Alike
+pub mod RetaggedBlocks

@@ -1,10 +1,11 @@
 -- Edits of the metadata blocks of a stream (RFC 9639, section 8).
-use Rattle.std.specs.Prelude.{ℕ, ◌+◌, ◌%◌, Bool, true, false, not, ◌&&◌, ◌||◌, cond, nat_eq, nat_lt, nat_le, List, [], ◌∷◌, ◌++◌, length, take, drop, map, Option, Some, None, is_some, unwrap_or, Result, Ok, Err}
+use Rattle.std.specs.Prelude.{ℕ, ◌+◌, ◌%◌, Bool, true, false, not, ◌&&◌, ◌||◌, cond, nat_eq, nat_lt, nat_le, List, [], ◌∷◌, ◌++◌, length, take, drop, map, Option, Some, None, is_some, unwrap_or, Result, Ok, Err, option_map}
 use Rattle.std.specs.Str.{bytes_eq}
 use Rattle.flac_meta.specs.Spelling.{kind_of}
 use Rattle.flac_info.specs.Info.{Info}
 use Rattle.flac_meta.specs.declared.cue_sheet.CueSheet.{CueSheet}
 use Rattle.flac_meta.specs.declared.picture.Picture.{Picture}
+use Rattle.flac_meta.specs.declared.seek_table.SeekPoint.{SeekPoint}
 use Rattle.flac_meta.specs.declared.block.Block.{Block}
 use Rattle.flac_meta.specs.declared.block.Block.TheVariants as block_of
 use Rattle.flac_cue.specs.Reading.{sheet_in}
@@ -30,6 +31,10 @@ abbrev pub is_sheet : Block → Bool
 is_sheet (block_of.CueSheet s) = true
 is_sheet b = false
 
+abbrev pub is_table : Block → Bool
+is_table (block_of.SeekTable points) = true
+is_table b = false
+
 abbrev pub is_application : (id : List ℕ) → Block → Bool
 is_application id (block_of.Application other bytes) = bytes_eq other id
 is_application id b = false
@@ -44,9 +49,9 @@ abbrev pub is_named : List Removal → (number : ℕ) → Block → Bool
 is_named [] number b = false
 is_named (r ∷ rs) number b = is_meant r number b || is_named rs number b
 
--- STREAMINFO stays. Padding goes if there is to be other padding, and cue sheets if there is to be another one.
+-- STREAMINFO stays. Padding goes if there is to be other padding, and so do cue sheets and seek tables.
 abbrev pub is_removed : BlockEdits → (number : ℕ) → Block → Bool
-is_removed e number b = not (is_info b) && ((is_some e.padding && is_padding b) || ((is_some e.cue && is_sheet b) || is_named e.removals.now number b))
+is_removed e number b = not (is_info b) && ((is_some e.padding && is_padding b) || ((is_some e.cue && is_sheet b) || ((is_some e.points && is_table b) || is_named e.removals.now number b)))
 
 -- a block that stays as a list of one, and one that is removed as the empty list
 abbrev pub left_of : BlockEdits → (number : ℕ) → Block → List Block
@@ -105,6 +110,19 @@ abbrev pub sheet_blocks : Option CueSheet → List Block
 sheet_blocks None = []
 sheet_blocks (Some s) = block_of.CueSheet s ∷ []
 
+-- the seek table of these points, if there are some (section 8.5)
+abbrev pub table_blocks : List SeekPoint → List Block
+table_blocks [] = []
+table_blocks (x ∷ xs) = block_of.SeekTable (x ∷ xs) ∷ []
+
+abbrev pub point_blocks : Option (List SeekPoint) → List Block
+point_blocks None = []
+point_blocks (Some points) = table_blocks points
+
+-- the new seek table and the sheet, if there are any, and the new pictures
+abbrev pub new_blocks : BlockEdits → Option CueSheet → List Block
+new_blocks e sheet = point_blocks (option_map (λ p. p.now) e.points) ++ (sheet_blocks sheet ++ map picture_block e.pictures.now)
+
 -- new blocks come before the comments and the padding
 abbrev pub with_new : (new list : List Block) → List Block
 with_new new list = take (front_len list) list ++ (new ++ drop (front_len list) list)
@@ -113,13 +131,13 @@ with_new new list = take (front_len list) list ++ (new ++ drop (front_len list) 
 abbrev pub padding_of : ℕ → List Block
 padding_of n = cond (nat_eq n 0) [] (block_of.Padding n ∷ [])
 
--- STREAMINFO and the other blocks that stay, the new cue sheet and pictures before the comments and the padding, the new
--- padding last
+-- STREAMINFO and the other blocks that stay, the new seek table, cue sheet and pictures before the comments and the
+-- padding, the new padding last
 abbrev pub arranged : BlockEdits → Option CueSheet → List Block → List Block
 arranged e sheet list =
-    with_new (sheet_blocks sheet ++ map picture_block e.pictures.now) (remaining e 0 list) ++ padding_of (unwrap_or e.padding 0)
+    with_new (new_blocks e sheet) (remaining e 0 list) ++ padding_of (unwrap_or e.padding 0)
 
-abbrev pub edited_blocks : BlockEdits → List Block → List Block
+unfoldable pub edited_blocks : BlockEdits → List Block → List Block
 edited_blocks e list = arranged e (elim (new_sheet e list) [ Err f ↦ None | Ok sheet ↦ sheet ]) list
 
 -- ---- what is refused

@@ -1,10 +1,11 @@
 -- What a crash may leave of a file that had some calls.
-use Rattle.std.specs.Prelude.{◌≡◌, ◌≤◌, ◌⊎◌, ℕ, ◌+◌, cond, nat_le, List, [], ◌∷◌, ◌++◌, length, take, drop}
+use Rattle.std.specs.Prelude.{◌≡◌, ◌≤◌, ◌⊎◌, ℕ, ◌+◌, cond, nat_le, List, [], ◌∷◌, ◌++◌, length, take, drop, Vec}
 use Rattle.std.proofs.Common.{inl, refl, sym, subst, arith}
 use Rattle.std.proofs.lemmas.List.{take_all}
 use Rattle.flac_edit.specs.Device.{Timeline, Torn, Whole, IsWord}
 use Rattle.flac_edit.specs.declared.crash_file.Call.{Call}
 use Rattle.flac_edit.specs.declared.crash_file.Call.TheVariants as call
+use Rattle.std.specs.declared.alloc.Global.{Global}
 
 -- A file after some calls: what is stored for certain, the writes since, the last one first, each an offset and bytes,
 -- and what a read returns.
@@ -68,3 +69,7 @@ shows i (call.Sync ∷ cs) left = shows (after_one i call.Sync) cs refl
 
 pub leaves_shown : (first : List ℕ) (calls : List Call) → MayLeave first calls (shown_after first calls)
 leaves_shown first calls = shows (record { stored = first; writes = []; shown = first }) calls refl
+
+-- after these calls a write of these bytes at this offset was noted
+abbrev pub NotesWrite : (at : ℕ) → (bytes : List ℕ) → (before after : List Call) → Type 0
+NotesWrite at bytes before after = (v : Vec ℕ Global) × (v.items ≡ bytes) × (after ≡ before ++ call.Write at v ∷ [])

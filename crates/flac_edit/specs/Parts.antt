@@ -40,6 +40,14 @@ Lacks part.Picture list why = (first_picture list ≡ None) × (why ≡ fault.No
 Lacks (part.CueSheet name) list why = (first_sheet list ≡ None) × (why ≡ fault.NoCueSheet)
 Lacks (part.Block n) list why = (length list ≤ n) × (why ≡ fault.NoBlock n)
 
+-- after the bytes that were there, that part of these blocks was written
+abbrev pub WritesPart : Part → List Block → (before after : List ℕ) → Type 0
+WritesPart p list before after = (bytes : List ℕ) × IsPart p list bytes × (after ≡ before ++ bytes)
+
+-- if the bytes of a target are known, it was sent that part of these blocks
+abbrev pub SendsPartOf : {T : Type 0} (h : target.Ghosts T) → List Block → Part → (old new : T) → Type 0
+SendsPartOf h list p old new = h.known old ≡ true → WritesPart p list (h.sent old) (h.sent new)
+
 -- After the bytes that were there, that part of the input was written.
 pub record Exports (m : Mark) (text : List Bool) (p : Part) (before after : List ℕ) : Type 0 where
   pub info : Info

@@ -1,5 +1,5 @@
 -- Edits of the blocks of a stream that are written to another file.
-use Rattle.std.specs.Prelude.{◌≡◌, ◌≢◌, Bool, true, false, List, ◌∷◌, ◌++◌, Option, Some, None, Result, Ok, Err}
+use Rattle.std.specs.Prelude.{◌≡◌, ◌≢◌, Bool, true, List, ◌∷◌, ◌++◌, Option, Some, None, Result, Ok, Err}
 use Rattle.flac_bits.specs.Bits.{bits_of}
 use Rattle.flac_bits.specs.Fencing.{lifted}
 use Rattle.flac_bits.specs.State.{Mark, Cursor, State}

@@ -1,5 +1,5 @@
 -- Edits of the comments of a stream, and of a file that has it.
-use Rattle.std.specs.Prelude.{◌≡◌, ℕ, Bool, true, false, cond, nat_eq, List, [], ◌∷◌, ◌++◌, Result, IfOk}
+use Rattle.std.specs.Prelude.{◌≡◌, ℕ, ◌+◌, Bool, true, false, cond, nat_eq, List, [], ◌∷◌, ◌++◌, take, drop, Result, IfOk}
 use Rattle.flac_bits.specs.Bits.{bits_of}
 use Rattle.flac_bits.specs.Fencing.{lifted}
 use Rattle.flac_bits.specs.State.{Mark, Cursor, State}
@@ -40,6 +40,22 @@ new_comments edits list = edited edits (comments_among list)
 -- the edits change none of them
 abbrev pub KeepComments : List Edit → List Block → Type 0
 KeepComments edits list = new_comments edits list ≡ comments_among list
+
+-- ---- in a list of blocks
+
+-- how many blocks come before the first comment block
+abbrev pub comments_at : List Block → ℕ
+comments_at [] = 0
+comments_at (block_of.VorbisComment found ∷ bs) = 0
+comments_at (b ∷ bs) = 1 + comments_at bs
+
+-- the blocks with these comments in the place of the comment block; after all others if there is none
+abbrev pub with_comments : Comments → List Block → List Block
+with_comments new list = take (comments_at list) list ++ block_of.VorbisComment new ∷ drop (comments_at list + 1) list
+
+-- the blocks with the edited comments in their place; all others, also padding, stay
+abbrev pub retagged : List Edit → List Block → List Block
+retagged edits list = with_comments (new_comments edits list) list
 
 -- ---- in place
 

@@ -1,10 +1,10 @@
 //! Edits of the metadata blocks of a stream.
 
-ghost use Rattle.std.specs.Prelude.{◌≡◌, ◌≤◌, ◌++◌, ◌∷◌, [], take, drop, length, map, IfOk, OnOk, IfErr};
-ghost use Rattle.flac_edit.specs.BlockEdits.{is_info, is_padding, is_sheet, is_application, is_meant, is_named, is_removed, left_of, remaining, is_tail, front_len, picture_block, sheet_blocks, with_new, padding_of, arranged, removal_fault, missing, adds, is_picture, count_of, second, pictures_fault};
+ghost use Rattle.std.specs.Prelude.{◌≡◌, ◌≤◌, ◌++◌, ◌∷◌, [], length, map, IfOk, OnOk, option_map};
+ghost use Rattle.flac_edit.specs.BlockEdits.{is_info, is_padding, is_sheet, is_application, is_meant, is_named, is_removed, left_of, remaining, is_tail, front_len, picture_block, sheet_blocks, with_new, padding_of, arranged, removal_fault, missing, adds, is_picture, count_of, second, pictures_fault, new_blocks, is_table, point_blocks};
 
 use flac_cue::CueWhy;
-use flac_meta::{Block, CueSheet, Picture};
+use flac_meta::{Block, CueSheet, Picture, SeekPoint, SeekTable};
 use std::alloc::{AllocError, Global};
 
 /// Which metadata blocks are removed. STREAMINFO is never one of them.
@@ -26,6 +26,9 @@ pub struct BlockEdits<'a> {
     /// The text of a cue sheet ([`flac_cue::cue_sheet`]), which takes the place of all cue sheets (section 8.7), before the
     /// comments and the padding; `None` to keep them.
     pub cue: Option<&'a [u8]>,
+    /// The points of a seek table that takes the place of all seek tables (section 8.5), before the comments and the
+    /// padding; none to remove them all, and `None` to keep them. They must be in order (section 8.5.1).
+    pub points: Option<&'a [SeekPoint]>,
     /// Pictures that are added, before the comments and the padding.
     pub pictures: &'a [Picture],
     /// How many bytes of padding come last in place of all other padding, 0 for none; `None` to keep the padding.
@@ -68,6 +71,13 @@ fn is_sheet(block: &Block) -> bool
     ensures { result ≡ is_sheet block.now }
 {
     matches!(block, Block::CueSheet(_))
+}
+
+/// Whether a block is a seek table.
+fn is_table(block: &Block) -> bool
+    ensures { result ≡ is_table block.now }
+{
+    matches!(block, Block::SeekTable(_))
 }
 
 /// Whether a block is that of an application of this identifier.
@@ -113,7 +123,8 @@ fn is_removed(edits: &BlockEdits<'_>, number: usize, block: &Block) -> bool
     !is_info(block)
         && ((edits.padding.is_some() && is_padding(block))
             || ((edits.cue.is_some() && is_sheet(block))
-                || is_named(edits.removals, number, block)))
+                || ((edits.points.is_some() && is_table(block))
+                    || is_named(edits.removals, number, block))))
 }
 
 /// Keeps a copy of the block of this number, unless it is removed.
@@ -186,7 +197,7 @@ fn add_picture(list: &mut Vec<Block>, picture: &Picture) -> Result<(), AllocErro
 }
 
 /// Adds copies of blocks.
-fn add_blocks(list: &mut Vec<Block>, blocks: &[Block]) -> Result<(), AllocError>
+pub(crate) fn add_blocks(list: &mut Vec<Block>, blocks: &[Block]) -> Result<(), AllocError>
     ensures { OnOk result (list.new.items ≡ list.old.items ++ blocks.now) }
 {
     for block in blocks {
@@ -215,20 +226,38 @@ fn add_sheet(list: &mut Vec<Block>, sheet: Option<CueSheet>) -> Result<(), Alloc
     Ok(())
 }
 
-/// The blocks with this cue sheet and these pictures before the comments and the padding.
+/// Adds the block of a seek table of these points, if there are some.
+fn add_points(
+    alloc: Global,
+    list: &mut Vec<Block>,
+    points: Option<&[SeekPoint]>,
+) -> Result<(), AllocError>
+    ensures { OnOk result (list.new.items ≡ list.old.items ++ point_blocks (option_map (λ p. p.now) points.entry)) }
+{
+    if let Some(points) = points {
+        if !points.is_empty() {
+            let copy = Vec::from_slice(alloc, points)?;
+            list.push(Block::SeekTable(SeekTable::from_vec(copy)))?;
+        }
+    }
+    Ok(())
+}
+
+/// The blocks with the seek table, this cue sheet and the pictures of edits before the comments and the padding.
 fn with_new(
     alloc: Global,
+    edits: &BlockEdits<'_>,
     sheet: Option<CueSheet>,
-    pictures: &[Picture],
     blocks: &[Block],
 ) -> Result<Vec<Block>, AllocError>
-    ensures { IfOk result (λ list. list.items ≡ with_new (sheet_blocks sheet ++ map picture_block pictures.now) blocks.now) }
+    ensures { IfOk result (λ list. list.items ≡ with_new (new_blocks edits.now sheet) blocks.now) }
 {
     let (front, tail) = blocks.split_at(front_len(blocks));
     let mut list = Vec::new(alloc);
     add_blocks(&mut list, front)?;
+    add_points(alloc, &mut list, edits.points)?;
     add_sheet(&mut list, sheet)?;
-    add_pictures(&mut list, pictures)?;
+    add_pictures(&mut list, edits.pictures)?;
     add_blocks(&mut list, tail)?;
     Ok(list)
 }
@@ -256,7 +285,7 @@ pub(crate) fn arranged(
     ensures { IfOk result (λ list. list.items ≡ arranged edits.now sheet blocks.now) }
 {
     let left = remaining(alloc, edits, blocks)?;
-    let mut list = with_new(alloc, sheet, edits.pictures, &left)?;
+    let mut list = with_new(alloc, edits, sheet, &left)?;
     add_padding(&mut list, edits.padding.unwrap_or(0))?;
     Ok(list)
 }

@@ -38,9 +38,21 @@ fn are_alike(alloc: Global, ones: &[Block], others: &[Block]) -> Result<bool, Wh
     Ok(true)
 }
 
-/// Whether edits change blocks.
-fn change_in(alloc: Global, edits: &BlockEdits<'_>, blocks: &[Block]) -> Result<bool, EditFault>
+/// Whether edits change these metadata blocks of a stream, of which STREAMINFO is the first, in any container (RFC 9639,
+/// section 8). False only if the edited blocks ([`edited_blocks`]) would be written with the bits of the old ones, so
+/// that nothing need be written.
+///
+/// # Errors
+/// - [`EditFault::Blocks`]: the edits do not fit the blocks, as [`crate::rewrite_blocks`] says.
+/// - [`EditFault::Stream`] without a place: a block is too long to be written, or an allocation failed.
+pub fn edits_change(
+    alloc: Global,
+    blocks: &[Block],
+    edits: &BlockEdits<'_>,
+) -> Result<bool, EditFault>
+    // `false`: the edited blocks are written as the old ones are.
     ensures kept { IfOk result (λ changes. changes ≡ false → AreAlike (edited_blocks edits.now blocks.now) blocks.now) }
+    // It succeeds only if the edits fit the blocks, and else names why they do not.
     ensures judged { Judges result (block_fault edits.now blocks.now) }
 {
     let list = edited_blocks(alloc, edits, blocks)?;
@@ -100,7 +112,7 @@ fn change_from<R: Source>(
             }));
         }
     };
-    let outcome = change_in(alloc, edits, &blocks);
+    let outcome = edits_change(alloc, &blocks, edits);
     drop(blocks);
     outcome
 }

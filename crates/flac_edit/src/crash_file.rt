@@ -1,9 +1,9 @@
 //! A file in memory that keeps its first content and each call, so that all that a crash might have left is known.
 
-ghost use Rattle.std.specs.Prelude.{◌≡◌, ◌++◌, ◌∷◌, [], true, length, IfOk, OnOk, OnErr};
+ghost use Rattle.std.specs.Prelude.{◌≡◌, ◌++◌, ◌∷◌, [], true, OnOk, OnErr};
 ghost use Rattle.flac_edit.specs.declared.crash_file.Call.TheVariants as call;
 ghost use Rattle.flac_edit.specs.Device.{Only};
-ghost use Rattle.flac_edit.specs.Crashes.{shown_after, crash_time, counts, only, leaves_shown};
+ghost use Rattle.flac_edit.specs.Crashes.{shown_after, crash_time, counts, only, leaves_shown, NotesWrite};
 
 use crate::device::{Device, DeviceError};
 use std::alloc::{AllocError, AllocFailed, Global};
@@ -63,8 +63,7 @@ fn note_write(
     at: usize,
     bytes: &[u8],
 ) -> Result<(), AllocError>
-    ensures ok { OnOk result ((v : _) × (v.items ≡ bytes.now)
-        × (calls.new.items ≡ calls.old.items ++ call.Write at v ∷ [])) }
+    ensures ok { OnOk result (NotesWrite at bytes.now calls.old.items calls.new.items) }
     ensures err { OnErr result (calls.new.items ≡ calls.old.items) }
 {
     let copy = Vec::from_slice(alloc, bytes)?;

@@ -8,7 +8,7 @@ ghost use Rattle.flac_native.specs.Retag.{not_written};
 ghost use Rattle.flac_edit.specs.Tagged.{comments_among};
 ghost use Rattle.flac_edit.specs.Exported.{comment_lines, first_picture, first_sheet};
 ghost use Rattle.flac_edit.specs.Rewritten.{IfRefused};
-ghost use Rattle.flac_edit.specs.Parts.{IsPart, Lacks, SendsPart, LacksOf, IsPartFrom, LacksFrom};
+ghost use Rattle.flac_edit.specs.Parts.{IsPart, Lacks, SendsPartOf, SendsPart, LacksOf, IsPartFrom, LacksFrom};
 ghost use Rattle.flac_edit.specs.declared.rewriting_blocks.EditFault.TheVariants as fault;
 
 use crate::block_edits::BlockFault;
@@ -115,6 +115,50 @@ fn part_of(alloc: Global, part: Part<'_>, blocks: &[Block]) -> Result<Vec<u8>, E
     }
 }
 
+/// Sends the bytes of a part.
+fn send_part<W: Target>(bytes: Vec<u8>, target: &mut W) -> Result<(), EditFault>
+    ensures sent { OnOk result (W.known target.old ≡ true → W.sent target.new ≡ W.sent target.old ++ bytes.items) }
+    ensures failed { IfErr result (λ f. f ≡ fault.Stream not_written) }
+{
+    let sent = send_all(target, &bytes);
+    drop(bytes);
+    match sent {
+        Ok(()) => Ok(()),
+        Err(_) => Err(whole(Why::Write)),
+    }
+}
+
+/// Writes a part of the metadata blocks of a stream, of which STREAMINFO is the first, to a target, in whatever container
+/// they were (RFC 9639, section 8).
+///
+/// ```
+/// part_of_blocks(rt.alloc(), &blocks, Part::Tags, &mut target)?;
+/// ```
+///
+/// # Errors
+/// - [`EditFault::Blocks`]: there is no such block, no picture or no cue sheet. Nothing was written.
+/// - [`EditFault::Stream`] without a place: an allocation failed, or the block cannot be written as bytes. Nothing was
+///   written.
+/// - The same with [`Why::Write`]: the target returned an error. A prefix of the part was written.
+pub fn part_of_blocks<W: Target>(
+    alloc: Global,
+    blocks: &[Block],
+    part: Part<'_>,
+    target: &mut W,
+) -> Result<(), EditFault>
+    // What was written is that part of the blocks.
+    ensures written { OnOk result (SendsPartOf W.Target blocks.now part.entry target.old target.new) }
+    // A part is refused only if the blocks have none, for that reason.
+    ensures refused { IfErr result (IfRefused (Lacks part.entry blocks.now)) }
+    // Unless the target failed, nothing was written.
+    ensures nothing { IfErr result (λ f. f ≢ fault.Stream not_written → target.new ≡ target.old) }
+{
+    match part_of(alloc, part, blocks) {
+        Ok(bytes) => send_part(bytes, target),
+        Err(fault) => Err(fault),
+    }
+}
+
 /// Writes a part of the metadata of a native stream to a target (RFC 9639, section 8). It reads the blocks, and no frame.
 ///
 /// ```
@@ -143,15 +187,9 @@ pub fn export_part<R: Source, W: Target>(
     let mut reader = BitReader::new(source);
     let read = part_from(alloc, &mut reader, part);
     let _source = reader.into_source(); // for its clauses alone
-    let bytes = match read {
-        Ok(bytes) => bytes,
-        Err(fault) => return Err(fault),
-    };
-    let sent = send_all(target, &bytes);
-    drop(bytes);
-    match sent {
-        Ok(()) => Ok(()),
-        Err(_) => Err(whole(Why::Write)),
+    match read {
+        Ok(bytes) => send_part(bytes, target),
+        Err(fault) => Err(fault),
     }
 }
 

@@ -40,8 +40,13 @@ fn others_of(alloc: Global, blocks: &[Block]) -> Result<Vec<Block>, AllocError>
     Ok(kept)
 }
 
-/// The blocks of a stream with edited comments: the others, the comments, and padding of that many bytes.
-fn arranged(
+/// The metadata blocks of a stream, of which STREAMINFO is the first, with edited comments, as [`rewrite`] writes them:
+/// the other blocks in their order, the edited comments, and `padding` bytes of padding, no such block if that is 0. Old
+/// padding is left out (RFC 9639, section 8).
+///
+/// # Errors
+/// `AllocError` if an allocation fails.
+pub fn rewritten_blocks(
     alloc: Global,
     blocks: &[Block],
     edits: &[Edit<'_>],
@@ -117,7 +122,7 @@ fn rewrite_from<R: Source, W: Target>(
             });
         }
     };
-    let made = arranged(alloc, &blocks, edits, padding);
+    let made = rewritten_blocks(alloc, &blocks, edits, padding);
     drop(blocks);
     let list = match made {
         Ok(list) => list,

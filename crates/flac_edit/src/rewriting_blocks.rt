@@ -28,6 +28,7 @@ pub enum EditFault {
 ///
 /// # Errors
 /// The edits do not fit the blocks, as [`rewrite_blocks`] says, or an allocation failed ([`Why::Memory`], without a place).
+#[tactic(auto, unfolding(crate::specs::BlockEdits::edited_blocks))]
 pub fn edited_blocks(
     alloc: Global,
     edits: &BlockEdits<'_>,
@@ -53,11 +54,13 @@ pub fn edited_blocks(
 }
 
 /// Writes a native stream with edited metadata blocks (RFC 9639, sections 6 and 8): the marker, the blocks that are not
-/// removed, with a new cue sheet and new pictures before the comments and the padding, new padding last, and then all bytes that follow the
-/// metadata. These are copied as they are, and not verified; so the offsets of a seek table stay right.
+/// removed, with a new seek table, cue sheet and new pictures before the comments and the padding, new padding last, and then all
+/// bytes that follow the metadata. These are copied as they are, and not verified; so the offsets of a seek table stay
+/// right.
 ///
 /// ```
-/// let edits = BlockEdits { removals: &[Removal::Kind(6)], cue: None, pictures: &[], padding: Some(8192) };
+/// let removals = &[Removal::Kind(6)];
+/// let edits = BlockEdits { removals, cue: None, points: None, pictures: &[], padding: Some(8192) };
 /// rewrite_blocks(rt.alloc(), &mut source, &edits, &mut target)?; // without its pictures
 /// ```
 ///

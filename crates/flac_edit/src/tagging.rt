@@ -48,8 +48,12 @@ fn no_comments(alloc: Global) -> Comments
     }
 }
 
-/// The comments among the blocks of a stream; none if there is no comment block.
-pub(crate) fn comments_among(alloc: Global, blocks: &[Block]) -> Result<Comments, AllocError>
+/// The comments among the metadata blocks of a stream: those of the comment block, of which there is one at most (RFC
+/// 9639, section 8.6); no comments and no vendor if there is no such block.
+///
+/// # Errors
+/// `AllocError` if an allocation fails.
+pub fn comments_among(alloc: Global, blocks: &[Block]) -> Result<Comments, AllocError>
     ensures { IfOk result (λ found. found ≡ comments_among blocks.now) }
 {
     for block in blocks {
@@ -90,7 +94,7 @@ fn slots_of(alloc: Global, blocks: &[Block]) -> Result<Option<Vec<Slot>>, AllocE
 }
 
 /// Whether these are the same comments, by the same program.
-fn are_same(one: &Comments, other: &Comments) -> bool
+pub(crate) fn are_same(one: &Comments, other: &Comments) -> bool
     ensures { (result ≡ true) ↔ (one.now ≡ other.now) }
 {
     one == other

@@ -11,13 +11,13 @@ use std::io::{ErrorKind, Read, Stdin, Stdout, Write};
 use std::os::unix::fs::{FileExt, MetadataExt};
 
 /// The path that stands for standard input and standard output.
-const STANDARD: &str = "-";
+pub(crate) const STANDARD: &str = "-";
 
 /// The path that the system has for standard input.
 const STANDARD_INPUT: &str = "/dev/stdin";
 
 /// The path that the system has for standard output.
-const STANDARD_OUTPUT: &str = "/dev/stdout";
+pub(crate) const STANDARD_OUTPUT: &str = "/dev/stdout";
 
 /// What a job reads.
 #[derive(Drop)]
@@ -184,6 +184,12 @@ impl Rule<'_> {
         })
     }
 
+    /// Whether a new file to which nothing was written is removed if the job fails: that of a job of WAV files. One of raw
+    /// samples, or of a stream that is tagged anew, stays, empty.
+    fn removes_empty(&self) -> bool {
+        matches!(self.job, Job::DecodeWave { .. } | Job::EncodeWave { .. })
+    }
+
     /// Whether a stream is encoded anew.
     fn is_recoding(&self) -> bool {
         self.is_whole && matches!(self.job, Job::EncodeWave { .. })
@@ -309,7 +315,7 @@ pub(crate) fn create(
         return Ok((Output::Standard(rt.stdout()), Place::Old));
     }
     if is_vacant(rt, path)? {
-        return create_new(rt, path, rule.is_whole);
+        return create_new(rt, path, &rule);
     }
     create_over(rt, path, input, list, rule)
 }
@@ -319,8 +325,8 @@ pub(crate) fn create(
 ///
 /// # Errors
 /// The file cannot be created.
-fn create_new(rt: &HostRuntime, path: &str, is_whole: bool) -> io::Result<(Output, Place)> {
-    if is_whole {
+fn create_new(rt: &HostRuntime, path: &str, rule: &Rule<'_>) -> io::Result<(Output, Place)> {
+    if rule.is_whole {
         let (file, replacement) = create_for(rt, path)?;
         return Ok((Output::File(file), Place::Beside(replacement)));
     }
@@ -330,7 +336,12 @@ fn create_new(rt: &HostRuntime, path: &str, is_whole: bool) -> io::Result<(Outpu
         .open(rt, path)?;
     let found = file.metadata()?;
     hold(rt, path, &file, &found)?;
-    Ok((Output::File(file), Place::Made))
+    let place = if rule.removes_empty() {
+        Place::Made
+    } else {
+        Place::Old
+    };
+    Ok((Output::File(file), place))
 }
 
 /// Opens what a job writes to, a path that has a file already. A file that another job writes to is refused.

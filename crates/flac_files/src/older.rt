@@ -2,7 +2,7 @@
 
 ghost use Rattle.std.specs.Prelude.{◌≡◌};
 
-use crate::recorded::{BEGINNING, Recorded, is_line, recorded_of};
+use flac_report::{BEGINNING, Recorded, is_line, recorded_of};
 use flac_shelf::Older;
 use std::alloc::{AllocError, Global};
 use std::fs::File;

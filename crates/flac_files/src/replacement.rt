@@ -13,9 +13,9 @@ const MOST_OF_NAME: usize = 255;
 /// Where the bytes go that a job writes to a path.
 #[derive(Drop)]
 pub(crate) enum Place {
-    /// To what was there before: an empty file, a device, or standard output.
+    /// To what stays there whatever becomes of the job: an empty file, a device, standard output, or a new file.
     Old,
-    /// To a file that the job made there.
+    /// To a new file there, which is removed if the job writes nothing and fails.
     Made,
     /// To a new file beside it.
     Beside(Replacement),
@@ -23,7 +23,7 @@ pub(crate) enum Place {
 
 impl Place {
     /// Ends a job of this status, which wrote to `output`, with this path. If the status is 0, a regular file is stored,
-    /// and a new file beside the path gets it. Otherwise a file that the job made is removed if nothing was written to it.
+    /// and a new file beside the path gets it. Otherwise a file that is of no use while it is empty is removed if it is.
     ///
     /// # Errors
     /// What cannot be done with the file.

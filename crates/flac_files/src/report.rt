@@ -2,9 +2,9 @@
 
 use crate::files::{Output, hold};
 use crate::job_files::FileRefused;
-use crate::recorded::{Recorded, is_line, path_of, recorded_of};
 use crate::replacement::create_beside;
 use flac_jobs::Verification;
+use flac_report::{Recorded, is_line, path_of, recorded_of};
 use flac_shelf::Record;
 use std::alloc::{AllocError, Global};
 use std::collections::BTreeMap;

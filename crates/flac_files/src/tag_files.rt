@@ -1,6 +1,6 @@
 //! The files of `flac tag`.
 
-ghost use Rattle.std.specs.Prelude.{[], false};
+ghost use Rattle.std.specs.Prelude.{[], false, ◌≡◌, IfErr};
 ghost use Rattle.flac_files.specs.Unknown.{nothing_known, not_known};
 
 use crate::files::{Output, holds_alone};
@@ -9,7 +9,7 @@ use crate::replacement::{Replacement, create_beside};
 use flac_edit::{Device, DeviceError};
 use std::fs::{File, Metadata, OpenOptions};
 use std::io;
-use std::io::{ErrorKind, Seek, SeekFrom};
+use std::io::{ErrorKind, Read, Seek, SeekFrom};
 use std::os::unix::fs::{FileExt, MetadataExt, fchown};
 
 /// A file of the system that is written in place. No contract knows its bytes.
@@ -53,19 +53,16 @@ impl Device for FileDevice {
 struct Refusals {
     not_regular: &'static str,
     held: &'static str,
-    ogg: &'static str,
 }
 
 const TAGGED: Refusals = Refusals {
     not_regular: "tagged: it is no regular file",
     held: "tagged: another program edits it",
-    ogg: "tagged: it is an Ogg stream",
 };
 
 const EDITED: Refusals = Refusals {
     not_regular: "edited: it is no regular file",
     held: "edited: another program edits it",
-    ogg: "edited: it is an Ogg stream",
 };
 
 /// A file whose comments or blocks are edited, opened for reading and writing.
@@ -81,8 +78,8 @@ impl<'a> TagFile<'a> {
     /// it begins, and stores what was written to it before.
     ///
     /// # Errors
-    /// The file cannot be opened for reading and writing, is no regular file, is locked by another program, is an Ogg
-    /// stream, or cannot be stored.
+    /// The file cannot be opened for reading and writing, is no regular file, is locked by another program, or cannot be
+    /// stored.
     pub fn open(rt: &HostRuntime, path: &'a str) -> Result<TagFile<'a>, FileRefused<'a>> {
         TagFile::open_as(rt, path, TAGGED)
     }
@@ -122,12 +119,6 @@ impl<'a> TagFile<'a> {
                 what: words.held,
             });
         }
-        if is_ogg(&file) {
-            return Err(FileRefused {
-                path,
-                what: words.ogg,
-            });
-        }
         if file.sync_all().is_err() {
             return Err(FileRefused {
                 path,
@@ -137,6 +128,22 @@ impl<'a> TagFile<'a> {
         Ok(TagFile { path, file, found })
     }
 
+    /// Whether the file begins as an Ogg stream does: with `OggS` (RFC 3533, section 6). A file that cannot be read does not.
+    pub fn is_ogg(&self) -> bool {
+        is_ogg(&self.file)
+    }
+
+    /// That the file is refused in these words.
+    pub fn refused(&self, what: &'static str) -> FileRefused<'a>
+        ensures path { result.path.now ≡ self.now.path.now }
+        ensures what { result.what.now ≡ what.now }
+    {
+        FileRefused {
+            path: self.path,
+            what,
+        }
+    }
+
     /// The file as a source of bytes, from its first byte on.
     ///
     /// # Errors
@@ -144,6 +151,22 @@ impl<'a> TagFile<'a> {
     pub fn reader(&self) -> Result<File, FileRefused<'a>> {
         match from_start(&self.file) {
             Ok(file) => Ok(file),
+            Err(_) => Err(FileRefused {
+                path: self.path,
+                what: "read",
+            }),
+        }
+    }
+
+    /// All bytes of the file.
+    ///
+    /// # Errors
+    /// That of the system, or memory ran out.
+    pub fn contents(&self, rt: &HostRuntime) -> Result<Vec<u8>, FileRefused<'a>> {
+        let mut file = self.reader()?;
+        let mut bytes = Vec::new(rt.alloc());
+        match file.read_to_end(&mut bytes) {
+            Ok(_) => Ok(bytes),
             Err(_) => Err(FileRefused {
                 path: self.path,
                 what: "read",
@@ -273,6 +296,22 @@ fn is_ogg(file: &File) -> bool {
         Ok(()) => front == *b"OggS",
         Err(_) => false,
     }
+}
+
+/// Whether a regular file at this path begins as an Ogg stream. A file that cannot be opened does not.
+pub fn is_ogg_at(rt: &HostRuntime, path: &str) -> bool {
+    matches!(begins_as_ogg(rt, path), Ok(true))
+}
+
+/// Whether a regular file is at this path that begins as an Ogg stream.
+///
+/// # Errors
+/// That of the system.
+fn begins_as_ogg(rt: &HostRuntime, path: &str) -> io::Result<bool> {
+    if !std::fs::metadata(rt, path)?.is_file() {
+        return Ok(false);
+    }
+    Ok(is_ogg(&File::open(rt, path)?))
 }
 
 /// The same opened file, to be read from its first byte on.

@@ -3,6 +3,7 @@
 #![tactic(auto)]
 
 mod comparisons;
+mod copies;
 mod editings;
 mod excerpts;
 mod exportings;
@@ -19,6 +20,7 @@ mod taggings;
 mod verifications;
 
 pub use comparisons::Comparison;
+pub use copies::StreamCopy;
 pub use editings::{BlockName, Editing, PictureForm, PictureWord};
 pub use excerpts::{Excerpt, Moment};
 pub use exportings::{ExportPart, Exporting};

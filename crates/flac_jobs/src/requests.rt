@@ -1,6 +1,7 @@
 //! Requests: what a command line asks for.
 
 use crate::comparisons::Comparison;
+use crate::copies::StreamCopy;
 use crate::editings::Editing;
 use crate::excerpts::Excerpt;
 use crate::exportings::Exporting;
@@ -30,6 +31,8 @@ pub enum Request<'a> {
     Same(Comparison<'a>),
     /// A stream is encoded anew.
     Recode(Recoding<'a>),
+    /// The frames of a stream are copied to a new one.
+    Copy(StreamCopy<'a>),
     /// A part of the samples of a stream is decoded.
     Excerpt(Excerpt<'a>),
     /// The whole frames of a damaged stream are encoded anew.

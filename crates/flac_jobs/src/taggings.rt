@@ -10,8 +10,14 @@ pub enum TagEdit<'a> {
     Lines,
     /// Takes all comments of this name away.
     Remove(&'a str),
+    /// Takes all comments of the name and the value of this comment away.
+    RemovePair(&'a str),
     /// Puts this comment in the place of all of its name.
     Set(&'a str),
+    /// Puts a comment in the place of all of its name; the word is `NAME=PATH`, and the file at that path has its value.
+    SetFile(&'a str),
+    /// Adds such a comment at the end.
+    AddFile(&'a str),
     /// Adds this comment at the end.
     Add(&'a str),
 }
@@ -36,6 +42,8 @@ pub struct Tagging<'a> {
     pub edits: Vec<TagEdit<'a>>,
     /// The path of the file of lines, `-` for standard input; `None` if there is no edit [`TagEdit::Lines`].
     pub lines: Option<&'a str>,
+    /// The path of the stream that has the edited comments, `-` for standard output; `None` if each file is edited itself.
+    pub output: Option<&'a str>,
     /// How a file may be edited; `None` if the command line asks for both modes.
     pub mode: Option<TagMode>,
     /// How many bytes of padding a new file has after the comments; 0 for none.

@@ -5,3 +5,4 @@ pub mod Adding
 pub mod Told
 pub mod Extending
 pub mod Salvaging
+pub mod Pointing

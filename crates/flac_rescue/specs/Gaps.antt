@@ -1,5 +1,5 @@
 -- What is missing of a stream of which some frames were kept (RFC 9639, sections 8.2 and 9.1.5).
-use Rattle.std.specs.Prelude.{◌≡◌, ℕ, ◌+◌, ◌-◌, ◌≤◌, ◌^◌, cond, nat_eq, List, [], ◌∷◌, ⊤}
+use Rattle.std.specs.Prelude.{◌≡◌, ℕ, ◌+◌, ◌-◌, ◌≤◌, ◌^◌, cond, nat_eq, List, [], ◌∷◌, ⊤, ◌<◌, length, slice_index_or, true}
 use Rattle.flac_salvage.specs.Chain.{end_of}
 use Rattle.flac_salvage.specs.declared.find.WholeFrame.{WholeFrame}
 use Rattle.flac_rescue.specs.declared.missing.Gap.{Gap}
@@ -26,6 +26,10 @@ gaps total end start first (f ∷ more) =
 -- a frame that is not there
 abbrev pub no_frame : WholeFrame
 no_frame = record { at = 0; bytes = 0; first = 0; size = 0 }
+
+-- the frame of this index is there, and stands at this offset
+abbrev pub IsKeptAt : List WholeFrame → (index at : ℕ) → Type 0
+IsKeptAt kept index at = (index < length kept) × (nat_eq (slice_index_or kept index no_frame).at at ≡ true)
 
 -- the frames that were found and not kept
 unfoldable pub others : (found kept : List WholeFrame) → List WholeFrame

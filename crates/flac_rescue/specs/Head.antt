@@ -1,13 +1,14 @@
 -- The metadata blocks with which a stream begins (RFC 9639, sections 6 and 8).
-use Rattle.std.specs.Prelude.{◌≡◌, ℕ, ◌+◌, ◌-◌, ◌^◌, min, Bool, List, [], ◌∷◌}
+use Rattle.std.specs.Prelude.{◌≡◌, ℕ, ◌+◌, ◌-◌, ◌^◌, min, Bool, List, [], ◌∷◌, ◌⊎◌}
 use Rattle.flac_bits.specs.Bits.{bits_of}
-use Rattle.flac_bits.specs.declared.why.Why.TheVariants.{Truncated}
+use Rattle.flac_bits.specs.declared.why.Why.TheVariants.{Truncated, Memory}
 use Rattle.flac_info.specs.Info.{Info}
 use Rattle.flac_meta.specs.Spelling.{length_of}
 use Rattle.flac_meta.specs.declared.block.Block.{Block}
 use Rattle.flac_meta.specs.declared.block.Block.TheVariants.{StreamInfo}
 use Rattle.flac_native.specs.Decoding.{beginning}
-use Rattle.flac_native.specs.Retag.{BeginsWith}
+use Rattle.flac_native.specs.Retag.{BeginsWith, IsRefused}
+use Rattle.flac_native.specs.declared.fault.Fault.{Fault}
 
 -- so many bytes, and those of a block: its header has 4 (section 8.1); at most 2^64 - 1
 abbrev pub and_block : ℕ → Block → ℕ
@@ -30,3 +31,7 @@ pub record IsHead (bytes : List ℕ) (blocks : List Block) (front : ℕ) : Type 
   pub begins : BeginsWith (beginning Truncated) (bits_of bytes) info list rest
   pub are : blocks ≡ StreamInfo info ∷ list
   pub long : front ≡ head_bytes blocks
+
+-- memory ran out, or the marker or a block is refused at the place of this fault for its reason, as decoding refuses it
+abbrev pub IsHeadRefusal : (bytes : List ℕ) → Fault → Type 0
+IsHeadRefusal bytes fault = (fault.why ≡ Memory) ⊎ IsRefused (beginning Truncated) (bits_of bytes) fault.at fault.why

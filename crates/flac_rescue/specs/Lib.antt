@@ -4,3 +4,4 @@ pub mod Survey
 pub mod Report
 pub mod Channels
 pub mod Salvaged
+pub mod Points

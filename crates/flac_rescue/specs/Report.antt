@@ -1,5 +1,6 @@
 -- What is printed of a stream in which something is missing.
-use Rattle.std.specs.Prelude.{◌≡◌, ℕ, ◌+◌, ◌-◌, ◌*◌, ◌/◌, ◌%◌, cond, nat_eq, nat_lt, List, [], ◌∷◌, ◌++◌, flat_map, length, codes, decimal, min, ◌^◌, Option, Some, None}
+use Rattle.std.specs.Prelude.{◌≡◌, ℕ, ◌+◌, ◌-◌, ◌*◌, ◌/◌, ◌%◌, cond, nat_eq, nat_lt, List, [], ◌∷◌, ◌++◌, flat_map, length, codes, decimal, min, ◌^◌, Option, Some, None, true}
+use Rattle.flac_bits.specs.declared.target.Target as target
 use Rattle.flac_salvage.specs.declared.find.WholeFrame.{WholeFrame}
 use Rattle.flac_rescue.specs.declared.missing.Gap.{Gap}
 use Rattle.flac_rescue.specs.Survey.{IsSurvey}
@@ -85,3 +86,7 @@ pub record Tells (bytes path before after : List ℕ) : Type 0 where
   pub survey : Survey
   pub is : IsSurvey bytes survey
   pub printed : after ≡ before ++ report_text path survey
+
+-- this was printed, if the bytes of the target are known and it did not fail
+abbrev pub HasTold : {T : Type 0} → target.Ghosts T → (bytes path : List ℕ) → (old new : T) → Type 0
+HasTold h bytes path old new = h.known old ≡ true → h.errors new ≡ h.errors old → Tells bytes path (h.sent old) (h.sent new)

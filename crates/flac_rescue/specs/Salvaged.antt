@@ -1,5 +1,5 @@
 -- The samples that are made of what is left of a damaged stream (RFC 9639, sections 8.2 and 9).
-use Rattle.std.specs.Prelude.{◌≡◌, ◌⊎◌, ℕ, ℤ, ◌+◌, ◌-◌, ◌*◌, ◌^◌, min, Bool, true, ◌&&◌, cond, nat_lt, List, [], ◌∷◌, replicate}
+use Rattle.std.specs.Prelude.{◌≡◌, ◌⊎◌, ℕ, ℤ, ◌+◌, ◌-◌, ◌*◌, ◌^◌, min, Bool, true, ◌&&◌, cond, nat_lt, List, [], ◌∷◌, replicate, Vec, map}
 use Rattle.std.specs.List.{AllZip}
 use Rattle.flac_info.specs.Info.{Info}
 use Rattle.flac_header.specs.declared.subset.Profile.TheVariants.{Lax}
@@ -9,7 +9,10 @@ use Rattle.flac_salvage.specs.declared.find.WholeFrame.{WholeFrame}
 use Rattle.flac_rescue.specs.Channels.{extended, with_silence}
 use Rattle.flac_rescue.specs.Gaps.{last_of}
 use Rattle.flac_rescue.specs.declared.missing.Gap.{Gap}
+use Rattle.flac_rescue.specs.declared.salvage.SalvageFault.{SalvageFault}
+use Rattle.flac_rescue.specs.declared.salvage.SalvageFault.TheVariants as fault
 use Rattle.flac_rescue.specs.declared.survey.Survey.{Survey}
+use Rattle.std.specs.declared.alloc.Global.{Global}
 
 -- ---- the frames
 
@@ -37,6 +40,10 @@ salvaged silence block_size total from channels (f ∷ more) =
 abbrev pub AddsFrames : Info → (bytes : List ℕ) → (silence : Bool) → List WholeFrame → (old new : List (List ℤ)) → Type 0
 AddsFrames i bytes silence kept old new = (frames : List Frame) → AllZip (IsKept i bytes) kept frames → new ≡ salvaged silence i.greatest_block i.total 0 old frames
 
+-- the same of vectors of samples
+abbrev pub HasAddedFrames : Info → (bytes : List ℕ) → (silence : Bool) → List WholeFrame → (old new : List (Vec ℤ Global)) → Type 0
+HasAddedFrames i bytes silence kept old new = AddsFrames i bytes silence kept (map (λ c. c.items) old) (map (λ c. c.items) new)
+
 -- These are the samples of each channel that are made of what was found of a stream: of the frames that are kept.
 pub record AreSalvaged (bytes : List ℕ) (s : Survey) (silence : Bool) (channels : List (List ℤ)) : Type 0 where
   pub frames : List Frame
@@ -53,3 +60,7 @@ and_missing n (g ∷ more) = and_missing (min (n + (g.next - g.first)) (2 ^ 64 -
 -- the silence would have more than 2^30 samples, those of all channels counted (own)
 abbrev pub is_too_long : (silence : Bool) → Survey → Bool
 is_too_long silence s = silence && nat_lt (2 ^ 30) (min (and_missing 0 s.gaps.items * s.info.channels) (2 ^ 64 - 1))
+
+-- memory ran out, or that is so
+abbrev pub IsSalvageFault : (silence : Bool) → Survey → SalvageFault → Type 0
+IsSalvageFault silence s e = (e ≡ fault.Memory) ⊎ ((e ≡ fault.TooLong) × (is_too_long silence s ≡ true))

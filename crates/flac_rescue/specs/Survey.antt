@@ -1,5 +1,5 @@
 -- What a survey of a damaged stream says (RFC 9639, sections 8 and 9).
-use Rattle.std.specs.Prelude.{◌≡◌, ◌⊎◌, ℕ, ◌<◌, List, ◌∷◌, length, Option, ⊤}
+use Rattle.std.specs.Prelude.{◌≡◌, ◌⊎◌, ℕ, ◌<◌, List, ◌∷◌, length, Option, ⊤, Some}
 use Rattle.flac_bits.specs.Bits.{bits_of}
 use Rattle.flac_bits.specs.declared.why.Why.TheVariants as why
 use Rattle.flac_info.specs.Info.{Info}
@@ -22,6 +22,10 @@ use Rattle.flac_rescue.specs.declared.survey.SurveyFault.TheVariants.{Head, Memo
 pub record BeginsWithInfo (info : Info) (blocks : List Block) : Type 0 where
   pub more : List Block
   pub is : blocks ≡ StreamInfo info ∷ more
+
+-- this STREAMINFO is the first block, if some is
+abbrev pub IsFirstInfo : List Block → Option Info → Type 0
+IsFirstInfo blocks found = (info : Info) (more : List Block) → blocks ≡ StreamInfo info ∷ more → found ≡ Some info
 
 -- All whole frames from an offset on were found; the best chain of them is kept, with no sample past the total; and the
 -- gaps are what is missing between the kept ones, the others those that are not kept.
@@ -64,6 +68,10 @@ pub record AreUnordered (bytes : List ℕ) : Type 0 where
   pub frames : List WholeFrame
   pub found : AreFound Lax info bytes front cut frames
   pub many : 524288 < length frames
+
+-- memory ran out, or there are more whole frames than a chain is sought among
+abbrev pub IsOrderFault : List WholeFrame → SurveyFault → Type 0
+IsOrderFault found e = (e ≡ Memory) ⊎ ((e ≡ Unordered) × (524288 < length found))
 
 abbrev pub IsSurveyFault : (bytes : List ℕ) → SurveyFault → Type 0
 IsSurveyFault bytes (Head fault) = IsHeadFault bytes fault

@@ -2,7 +2,7 @@
 
 ghost use Rattle.std.specs.Prelude.{◌≡◌, [], ◌++◌, pos, map, replicate, IfOk, OnOk};
 ghost use Rattle.flac_frame.specs.Viewed.{frame_of};
-ghost use Rattle.flac_rescue.specs.Channels.{extended, with_silence};
+ghost use Rattle.flac_rescue.specs.Channels.{with_silence, IsExtended};
 
 use flac_frame::FrameView;
 use std::alloc::{AllocError, Global};
@@ -36,8 +36,7 @@ fn add_samples(samples: &mut Vec<i32>, more: &[i32]) -> Result<(), AllocError>
 /// # Errors
 /// An allocation fails. Some channels may have them then.
 pub fn extend_channels(channels: &mut [Vec<i32>], frame: &FrameView<'_>) -> Result<(), AllocError>
-    ensures { OnOk result (map (λ c. c.items) channels.new ≡
-        extended (map (λ c. c.items) channels.old) (frame_of frame.now).channels) }
+    ensures { OnOk result (IsExtended channels.old (frame_of frame.now) channels.new) }
 {
     let count = channels.len().min(frame.channels());
     for channel in 0..count {

@@ -1,10 +1,7 @@
 //! The metadata blocks before the frames.
 
 ghost use Rattle.std.specs.Prelude.{◌≡◌, ◌⊎◌, ◌+◌, ◌*◌, ◌≤◌, ◌<◌, ◌^◌, IfOk, IfErr, length};
-ghost use Rattle.flac_bits.specs.Bits.{bits_of};
-ghost use Rattle.flac_native.specs.Decoding.{beginning};
-ghost use Rattle.flac_native.specs.Retag.{IsRefused};
-ghost use Rattle.flac_rescue.specs.Head.{IsHead, head_bytes};
+ghost use Rattle.flac_rescue.specs.Head.{IsHead, head_bytes, IsHeadRefusal};
 
 use flac_bits::{BitReader, Memory, Why};
 use flac_meta::Block;
@@ -35,8 +32,7 @@ pub(crate) struct Head {
 /// Those of [`read_blocks`].
 pub(crate) fn read_head(alloc: Global, bytes: &[u8]) -> Result<Head, Fault>
     ensures head { IfOk result (λ h. IsHead bytes.now h.blocks.items h.front) }
-    ensures fault { IfErr result (λ f. (f.why ≡ Why.Memory) ⊎
-        IsRefused (beginning Why.Truncated) (bits_of bytes.now) f.at f.why) }
+    ensures fault { IfErr result (IsHeadRefusal bytes.now) }
 {
     let mut reader = BitReader::new(Memory::new(bytes));
     let outcome = read_blocks(alloc, &mut reader);

@@ -6,12 +6,14 @@
 //! | know what is missing between them | [`gaps`] |
 //! | print it | [`report`], [`tell_missing`] |
 //! | make samples of what is left | [`salvage_samples`] |
+//! | make a seek table of a stream that is whole | [`seek_points`] |
 #![tactic(auto)]
 
 mod channels;
 mod head;
 mod lines;
 mod missing;
+mod points;
 mod salvage;
 mod survey;
 mod tell;
@@ -22,6 +24,7 @@ mod texts;
 pub use channels::{empty_channels, extend_channels};
 pub use lines::report;
 pub use missing::{Gap, gaps, others};
+pub use points::{PointsFault, seek_points};
 pub use salvage::{MOST_SILENCE, SalvageFault, salvage_samples};
 pub use survey::{Survey, SurveyFault, survey_bytes};
 pub use tell::tell_missing;

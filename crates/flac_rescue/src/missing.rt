@@ -2,7 +2,7 @@
 
 ghost use Rattle.std.specs.Prelude.{◌≡◌, ◌≤◌, ◌<◌, true, false, nat_eq, length, slice_index_or, IfOk};
 ghost use Rattle.flac_salvage.specs.Chain.{Rise};
-ghost use Rattle.flac_rescue.specs.Gaps.{gaps, last_of, AreWithin, others, limit_of, no_frame};
+ghost use Rattle.flac_rescue.specs.Gaps.{gaps, last_of, AreWithin, others, limit_of, no_frame, IsKeptAt};
 
 use flac_salvage::WholeFrame;
 use std::alloc::{AllocError, Global};
@@ -29,7 +29,7 @@ pub(crate) fn last_of(total: u64, first: u64) -> u64
 
 /// Whether the kept frame of this index is at an offset.
 fn is_kept(kept: &[WholeFrame], index: usize, at: usize) -> bool
-    ensures yes { result ≡ true → (index < length kept.now) × (nat_eq (slice_index_or kept.now index no_frame).at at ≡ true) }
+    ensures yes { result ≡ true → IsKeptAt kept.now index at }
     ensures not { result ≡ false → index < length kept.now → nat_eq (slice_index_or kept.now index no_frame).at at ≡ false }
 {
     index < kept.len() && kept[index].at == at

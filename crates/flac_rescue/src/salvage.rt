@@ -1,12 +1,11 @@
 //! The samples that are made of what is left of a damaged stream.
 
-ghost use Rattle.std.specs.Prelude.{◌≡◌, ◌⊎◌, ◌≤◌, ℕ, map, true, false, OnOk, IfOk, IfErr};
-ghost use Rattle.flac_frame.specs.Frame.{Frame};
+ghost use Rattle.std.specs.Prelude.{◌≡◌, ◌⊎◌, ◌≤◌, map, false, OnOk, IfOk, IfErr, None};
 ghost use Rattle.flac_salvage.specs.Chain.{Rise};
-ghost use Rattle.flac_salvage.specs.Standing.{Stands};
-ghost use Rattle.flac_rescue.specs.Channels.{extended};
+ghost use Rattle.flac_salvage.specs.Standing.{EachStanding};
+ghost use Rattle.flac_rescue.specs.Channels.{IsExtendedBy};
 ghost use Rattle.flac_rescue.specs.Gaps.{limit_of};
-ghost use Rattle.flac_rescue.specs.Salvaged.{AddsFrames, AreSalvaged, and_missing, is_too_long, with_missing};
+ghost use Rattle.flac_rescue.specs.Salvaged.{AreSalvaged, and_missing, is_too_long, with_missing, HasAddedFrames, IsSalvageFault};
 ghost use Rattle.flac_rescue.specs.Survey.{IsSurvey};
 
 use crate::channels::{add_silence, empty_channels, extend_channels};
@@ -84,8 +83,7 @@ fn add_frame(
     requires channels { info.now.channels ≤ buffers.old.channels }
     requires block { info.now.greatest_block ≤ buffers.old.max_block }
     ensures room { (buffers.new.channels ≡ buffers.old.channels) × (buffers.new.max_block ≡ buffers.old.max_block) }
-    ensures added { OnOk result ((f : Frame) → (n : ℕ) → Stands Profile.Lax info.now bytes.now at f n →
-        map (λ c. c.items) channels.new ≡ extended (map (λ c. c.items) channels.old) f.channels) }
+    ensures added { OnOk result (EachStanding Profile.Lax info.now bytes.now at (IsExtendedBy channels.old channels.new)) }
 {
     buffers.anew();
     match whole_at(bytes, at, info, Profile::Lax, buffers) {
@@ -106,8 +104,7 @@ fn add_frames(
     requires rise { Rise (limit_of info.now.total) 0 kept.now }
     requires channels { info.now.channels ≤ buffers.old.channels }
     requires block { info.now.greatest_block ≤ buffers.old.max_block }
-    ensures { OnOk result (AddsFrames info.now bytes.now silence kept.now
-        (map (λ c. c.items) channels.old) (map (λ c. c.items) channels.new)) }
+    ensures { OnOk result (HasAddedFrames info.now bytes.now silence kept.now channels.old channels.new) }
 {
     let total = info.total();
     let mut from: u64 = 0;
@@ -121,7 +118,8 @@ fn add_frames(
 }
 
 /// Buffers for the frames of a stream.
-fn buffers_for(alloc: Global, info: &StreamInfo) -> Result<FrameBuffers, AllocError>
+pub(crate) fn buffers_for(alloc: Global, info: &StreamInfo) -> Result<FrameBuffers, AllocError>
+    ensures before { IfOk result (λ b. b.before ≡ None) }
     ensures channels { IfOk result (λ b. info.now.channels ≤ b.channels) }
     ensures block { IfOk result (λ b. info.now.greatest_block ≤ b.max_block) }
 {
@@ -148,8 +146,7 @@ pub fn salvage_samples(
     requires { IsSurvey bytes.now survey.now }
     ensures made { IfOk result (λ channels. AreSalvaged bytes.now survey.now silence (map (λ c. c.items) channels.items)) }
     ensures accepted { OnOk result (is_too_long silence survey.now ≡ false) }
-    ensures fault { IfErr result (λ e. (e ≡ SalvageFault.Memory) ⊎
-        ((e ≡ SalvageFault.TooLong) × (is_too_long silence survey.now ≡ true))) }
+    ensures fault { IfErr result (IsSalvageFault silence survey.now) }
 {
     if is_too_long(silence, survey) {
         return Err(SalvageFault::TooLong);

@@ -1,12 +1,10 @@
 //! Surveys of damaged streams.
 
-ghost use Rattle.std.specs.Prelude.{◌≡◌, ◌≤◌, ◌<◌, ◌⊎◌, ◌∷◌, List, length, Some, IfOk, IfErr, IfSome};
-ghost use Rattle.flac_info.specs.Info.{Info};
-ghost use Rattle.flac_meta.specs.declared.block.Block.{Block as TheBlock};
+ghost use Rattle.std.specs.Prelude.{◌≡◌, ◌≤◌, ◌<◌, ◌⊎◌, ◌∷◌, length, Some, IfOk, IfErr, IfSome};
 ghost use Rattle.flac_meta.specs.declared.block.Block.TheVariants as block_of;
 ghost use Rattle.flac_salvage.specs.Kept.{AreFound};
 ghost use Rattle.flac_salvage.specs.Chain.{chain, IsBest};
-ghost use Rattle.flac_rescue.specs.Survey.{BeginsWithInfo, IsSurvey, IsSurveyFault};
+ghost use Rattle.flac_rescue.specs.Survey.{BeginsWithInfo, IsSurvey, IsSurveyFault, IsFirstInfo, IsOrderFault};
 ghost use Rattle.flac_rescue.specs.Head.{IsHead};
 ghost use Rattle.flac_rescue.specs.Gaps.{limit_of, AreWithin};
 
@@ -72,9 +70,9 @@ fn limit_of(total: u64) -> u64
 }
 
 /// STREAMINFO, if it is the first of these blocks.
-fn info_of(blocks: &[Block]) -> Option<StreamInfo>
+pub(crate) fn info_of(blocks: &[Block]) -> Option<StreamInfo>
     ensures some { IfSome result (λ info. BeginsWithInfo info blocks.now) }
-    ensures first { (info : Info) → (list : List TheBlock) → blocks.now ≡ block_of.StreamInfo info ∷ list → result ≡ Some info }
+    ensures first { IsFirstInfo blocks.now result }
 {
     match blocks.first() {
         Some(Block::StreamInfo(info)) => Some(*info),
@@ -89,8 +87,7 @@ fn info_of(blocks: &[Block]) -> Option<StreamInfo>
 fn choose(alloc: Global, found: &[WholeFrame], total: u64) -> Result<Vec<WholeFrame>, SurveyFault>
     ensures kept { IfOk result (λ kept. kept.items ≡ chain (limit_of total) 0 found.now) }
     ensures best { IfOk result (λ kept. IsBest (limit_of total) 0 found.now kept.items) }
-    ensures fault { IfErr result (λ e. (e ≡ SurveyFault.Memory) ⊎
-        ((e ≡ SurveyFault.Unordered) × (524288 < length found.now))) }
+    ensures fault { IfErr result (IsOrderFault found.now) }
 {
     match best_chain(alloc, found, limit_of(total))? {
         Some(kept) => Ok(kept),

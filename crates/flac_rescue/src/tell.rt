@@ -1,7 +1,7 @@
 //! Prints what is missing of a stream.
 
-ghost use Rattle.std.specs.Prelude.{◌≡◌, true, OnOk, OnErr};
-ghost use Rattle.flac_rescue.specs.Report.{Tells};
+ghost use Rattle.std.specs.Prelude.{◌≡◌, OnOk, OnErr};
+ghost use Rattle.flac_rescue.specs.Report.{HasTold};
 
 use crate::lines::report;
 use crate::survey::{SurveyFault, survey_bytes};
@@ -19,8 +19,7 @@ pub fn tell_missing<E: Target>(
     bytes: &[u8],
     err: &mut E,
 ) -> Result<(), SurveyFault>
-    ensures told { OnOk result (E.known err.old ≡ true → E.errors err.new ≡ E.errors err.old →
-        Tells bytes.now path.now (E.sent err.old) (E.sent err.new)) }
+    ensures told { OnOk result (HasTold E.Target bytes.now path.now err.old err.new) }
     ensures nothing { OnErr result (err.new ≡ err.old) }
 {
     let survey = survey_bytes(alloc, bytes)?;

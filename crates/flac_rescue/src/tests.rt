@@ -1,7 +1,8 @@
 //! Surveys of small streams.
 
 use crate::{
-    MOST_SILENCE, SalvageFault, SurveyFault, report, salvage_samples, survey_bytes, tell_missing,
+    MOST_SILENCE, PointsFault, SalvageFault, SurveyFault, report, salvage_samples, seek_points,
+    survey_bytes, tell_missing,
 };
 use flac_bits::Collected;
 use std::alloc::Global;
@@ -178,4 +179,63 @@ fn silence_is_bounded(rt: HostRuntime) -> Result<(), Fail> {
     assert!(rt; !is_too_long(rt.alloc(), false, 0x40));
     assert!(rt; !is_too_long(rt.alloc(), true, 0));
     Ok(())
+}
+
+/// Whether the seek points of frames in this order are these: sample, offset, and always 16 samples.
+fn has_points(alloc: Global, order: &[usize], every: u32, due: &[(u64, u64)]) -> bool {
+    let Some(bytes) = damaged(alloc, order) else {
+        return false;
+    };
+    let Ok(points) = seek_points(alloc, &bytes, every) else {
+        return false;
+    };
+    for (place, point) in points.iter().enumerate() {
+        match due.get(place) {
+            Some((sample, offset)) if point.sample == *sample && point.offset == *offset => {}
+            _ => return false,
+        }
+        if point.length != 16 {
+            return false;
+        }
+    }
+    points.len() == due.len()
+}
+
+/// Why frames in this order get no seek points.
+fn points_fault(alloc: Global, order: &[usize]) -> Option<PointsFault> {
+    let bytes = damaged(alloc, order)?;
+    match seek_points(alloc, &bytes, 16) {
+        Ok(_) => None,
+        Err(fault) => Some(fault),
+    }
+}
+
+// The points of the four frames are those of `metaflac --add-seekpoint` for the multiples.
+#[test]
+fn seek_points_are_frames(rt: HostRuntime) -> Result<(), Fail> {
+    assert!(rt; has_points(rt.alloc(), &[0, 1, 2, 3], 40, &[(0, 0), (32, 22)]));
+    assert!(rt;
+        has_points(
+            rt.alloc(),
+            &[0, 1, 2, 3],
+            20,
+            &[(0, 0), (16, 11), (32, 22), (48, 33)]
+        )
+    );
+    assert!(rt; has_points(rt.alloc(), &[0, 1, 2, 3], 64, &[(0, 0)]));
+    assert!(rt; has_points(rt.alloc(), &[0, 1, 2, 3], 0, &[]));
+    assert!(rt; has_points(rt.alloc(), &[], 1, &[]));
+    Ok(())
+}
+
+#[test]
+fn other_streams_have_no_seek_points(rt: HostRuntime) -> Result<(), Fail> {
+    for order in [[1, 2, 3], [0, 2, 3], [0, 1, 1]] {
+        assert!(rt; points_fault(rt.alloc(), &order) == Some(PointsFault::NotWhole));
+    }
+    assert!(rt; points_fault(rt.alloc(), &[0, 1, 2, 3, 0]) == Some(PointsFault::NotWhole));
+    match seek_points(rt.alloc(), b"fLaC", 1) {
+        Err(PointsFault::Head(_)) => Ok(()),
+        _ => Err(Fail::new("a stream without blocks")),
+    }
 }

@@ -8,7 +8,7 @@ use crate::usage::edit::{edit_request, fault_of_editing};
 use crate::usage::encode::encode_job;
 use crate::usage::export::{export_request, fault_of_exporting};
 use crate::usage::list::{fault_of_listing, list_request};
-use crate::usage::recode::{fault_of_recoding, recode_request};
+use crate::usage::recode::{copy_request, fault_of_recoding, recode_request};
 use crate::usage::retag::retag_job;
 use crate::usage::salvage::salvage_request;
 use crate::usage::same::{fault_of_comparison, same_request};
@@ -248,6 +248,8 @@ fn parsed<'a>(alloc: Global, words: &'a [String]) -> Result<Request<'a>, NoReque
 fn asked<'a>(alloc: Global, name: &str, given: &ArgMatches<'a>) -> Result<Request<'a>, NoRequest> {
     let request = if name == "decode" && asks_excerpt(given) {
         excerpt_request(given)?
+    } else if name == "recode" && given.get_flag("copy") {
+        copy_request(given)?
     } else if name == "salvage" {
         salvage_request(given)?
     } else {
@@ -326,6 +328,7 @@ fn fault_of(alloc: Global, request: &Request<'_>) -> Option<LineFault>
         Request::Same(comparison) => fault_of_comparison(comparison),
         Request::Recode(recoding) => fault_of_recoding(recoding),
         Request::Excerpt(excerpt) => fault_of_excerpt(excerpt),
+        Request::Copy(_) => None,
         Request::Salvage(_) => None,
     }
 }

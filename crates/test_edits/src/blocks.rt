@@ -6,7 +6,7 @@ use flac_edit::{
     BlockEdits, BlockFault, EditFault, Part, Removal, blocks_change, comment_lines, content_of,
     edited_blocks, export_part, first_picture, first_sheet, rewrite_blocks,
 };
-use flac_meta::{Block, Bytes, Picture};
+use flac_meta::{Block, Bytes, Picture, SeekPoint};
 use flac_native::RetagFault;
 use std::alloc::{AllocError, Global};
 use std::test::Fail;
@@ -26,6 +26,19 @@ const NEW: [u8; 122] = [
     103, 101, 47, 120, 0, 0, 0, 0, 0, 0, 0, 5, 0, 0, 0, 3, 0, 0, 0, 8, 0, 0, 0, 2, 0, 0, 0, 2, 7,
     8, 4, 0, 0, 16, 1, 0, 0, 0, 118, 1, 0, 0, 0, 3, 0, 0, 0, 65, 61, 49, 129, 0, 0, 3, 0, 0, 0,
     255, 248, 102, 114, 97, 109, 101, 115,
+];
+
+/// STREAMINFO alone.
+const PLAIN: [u8; 42] = [
+    102, 76, 97, 67, 128, 0, 0, 34, 0, 16, 0, 16, 0, 0, 0, 0, 0, 0, 10, 196, 64, 112, 0, 0, 0, 64,
+    0, 0, 0, 0, 0, 0, 0, 0, 0, 0, 0, 0, 0, 0, 0, 0,
+];
+
+/// The same with two seek points.
+const WITH_TABLE: [u8; 82] = [
+    102, 76, 97, 67, 0, 0, 0, 34, 0, 16, 0, 16, 0, 0, 0, 0, 0, 0, 10, 196, 64, 112, 0, 0, 0, 64, 0,
+    0, 0, 0, 0, 0, 0, 0, 0, 0, 0, 0, 0, 0, 0, 0, 131, 0, 0, 36, 0, 0, 0, 0, 0, 0, 0, 0, 0, 0, 0, 0,
+    0, 0, 0, 0, 0, 16, 0, 0, 0, 0, 0, 0, 0, 32, 0, 0, 0, 0, 0, 0, 0, 22, 0, 16,
 ];
 
 /// A picture of 5 by 3 pixels.
@@ -74,6 +87,7 @@ fn edits_of<'a>(
     BlockEdits {
         removals,
         cue,
+        points: None,
         pictures,
         padding,
     }
@@ -93,6 +107,7 @@ fn blocks_stay(rt: HostRuntime) -> Result<(), Fail> {
     let edits = BlockEdits {
         removals: &[Removal::Kind(0), Removal::Kind(5)],
         cue: None,
+        points: None,
         pictures: &[],
         padding: None,
     };
@@ -105,6 +120,7 @@ fn edits_are_refused(rt: HostRuntime) -> Result<(), Fail> {
     let mut edits = BlockEdits {
         removals: &[Removal::Number(3), Removal::Number(4)],
         cue: None,
+        points: None,
         pictures: &[],
         padding: Some(1),
     };
@@ -122,6 +138,7 @@ fn a_second_icon_is_refused(rt: HostRuntime) -> Result<(), Fail> {
     let edits = BlockEdits {
         removals: &[],
         cue: None,
+        points: None,
         pictures: &icons,
         padding: None,
     };
@@ -134,6 +151,7 @@ fn padding_that_is_too_long(rt: HostRuntime) -> Result<(), Fail> {
     let edits = BlockEdits {
         removals: &[],
         cue: None,
+        points: None,
         pictures: &[],
         padding: Some(16_777_216),
     };
@@ -171,12 +189,38 @@ fn parts_are_exported(rt: HostRuntime) -> Result<(), Fail> {
     Ok(())
 }
 
+/// A stream without comments and padding gets a seek table as by `metaflac --add-seekpoint=0 --add-seekpoint=40`, and then
+/// none.
+#[test]
+fn seek_tables_are_replaced(rt: HostRuntime) -> Result<(), Fail> {
+    let point = |sample, offset| SeekPoint {
+        sample,
+        offset,
+        length: 16,
+    };
+    let points = [point(0, 0), point(32, 22)];
+    let mut edits = BlockEdits {
+        removals: &[],
+        cue: None,
+        points: Some(&points),
+        pictures: &[],
+        padding: None,
+    };
+    assert!(rt; gives(rt.alloc(), &PLAIN, &edits, &WITH_TABLE));
+    assert!(rt; gives(rt.alloc(), &WITH_TABLE, &edits, &WITH_TABLE));
+    edits.points = Some(&[]);
+    assert!(rt; gives(rt.alloc(), &WITH_TABLE, &edits, &PLAIN));
+    assert!(rt; gives(rt.alloc(), &PLAIN, &edits, &PLAIN));
+    Ok(())
+}
+
 #[test]
 fn lists_of_blocks(rt: HostRuntime) -> Result<(), Fail> {
     let blocks = [Block::Padding(4), Block::Picture(picture(rt.alloc())?)];
     let edits = BlockEdits {
         removals: &[Removal::Number(1)],
         cue: None,
+        points: None,
         pictures: &[],
         padding: Some(0),
     };
@@ -209,6 +253,7 @@ fn changes(alloc: Global, old: &[u8], removals: &[Removal], padding: Option<u32>
     let edits = BlockEdits {
         removals,
         cue: None,
+        points: None,
         pictures: &[],
         padding,
     };
@@ -239,6 +284,7 @@ fn cue_edits(text: &[u8]) -> BlockEdits<'_> {
     BlockEdits {
         removals: &[],
         cue: Some(text),
+        points: None,
         pictures: &[],
         padding: None,
     }

@@ -3,6 +3,8 @@
 #![tactic(auto)]
 
 #[cfg(test)]
+mod copying;
+#[cfg(test)]
 mod excerpts;
 #[cfg(test)]
 mod heads;
@@ -12,6 +14,8 @@ mod hostile;
 mod listing;
 #[cfg(test)]
 mod parts;
+#[cfg(test)]
+mod points;
 #[cfg(test)]
 mod program;
 #[cfg(test)]

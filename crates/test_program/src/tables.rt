@@ -682,6 +682,13 @@ flac recode a.flac b.flac | Recode(Recoding { input: "a.flac", output: "b.flac",
 flac recode a.flac b.oga --ogg --serial 7 --lax --force --block 16 --predictors a.txt --search full | Recode(Recoding { input: "a.flac", output: "b.oga", block: 16, seek_every: 0, container: Ogg { serial: 7 }, lax: true, predictors: Some("a.txt"), effort: Full, force: true })
 flac recode - - --seek-every 5 | Recode(Recoding { input: "-", output: "-", block: 4096, seek_every: 5, container: Native, lax: false, predictors: None, effort: Quick, force: false })
 flac recode a.flac b.oga --ogg --seek-every 5 | 2 flac: command: --ogg with --seek-every;
+flac recode a.flac b.oga --copy --ogg --serial 7 | Copy(StreamCopy { input: "a.flac", output: "b.oga", container: Ogg { serial: 7 }, force: false })
+flac recode --copy --lax a.oga - --force | Copy(StreamCopy { input: "a.oga", output: "-", container: Native, force: true })
+flac recode a.flac b.flac --copy --block 4096 | 2 flac: command: --copy with --block, --seek-every, --search or --predictors;
+flac recode a.flac b.flac --copy --seek-every 0 | 2 flac: command: --copy with --block, --seek-every, --search or --predictors;
+flac recode a.flac b.flac --copy --search none | 2 flac: command: --copy with --block, --seek-every, --search or --predictors;
+flac recode a.flac b.flac --copy --predictors a.txt | 2 flac: command: --copy with --block, --seek-every, --search or --predictors;
+flac recode --copy a.flac | 2 error: the following required arguments were not provided:*
 flac recode a.flac b.flac A=b | 2 error: unexpected argument 'A=b' found*
 flac recode a.flac | 2 error: the following required arguments were not provided:*
 flac retag a.flac b.flac A=b | Retag { input: "a.flac", output: "b.flac", comments: ["A=b"] }
@@ -750,12 +757,18 @@ flac tag a.flac --set TITLE | 2 flac: command: comment without =;
 flac tag a.flac --from a.txt --add =x | 2 flac: command: 55 FieldName;
 flac tag a.flac --from a.txt --from b.txt | 2 error: the argument '--from <LINES>' cannot be used multiple times*
 flac tag a.flac | 2 flac: command: tag needs --clear, --from, --remove, --set, --add or --rewrite;
+flac tag a.flac --remove GENRE=Other --remove X --set-file L=l.txt --set-file l=m=.txt --set K=k --out b.flac | Tag(Tagging { inputs: ["a.flac"], edits: [RemovePair("GENRE=Other"), Remove("X"), Set("K=k"), SetFile("L=l.txt"), AddFile("l=m=.txt")], lines: None, output: Some("b.flac"), mode: Some(Either), padding: 8192, keep_times: false, verbose: false })
+flac tag a.flac b.flac --set A=b --out c.flac | 2 flac: command: --out with several files;
+flac tag a.flac --out c.flac --in-place | 2 flac: command: --in-place with --out;
+flac tag a.flac --out c.flac --keep-times | 2 flac: command: --keep-times with --out;
+flac tag a.flac --set-file L | 2 flac: command: comment without =;
+flac tag a.flac --remove =x | 2 flac: command: 55 FieldName;
 flac tag a.flac --padding 0 | 2 flac: command: to set the padding alone: flac edit --padding N FILE;
 flac tag a.flac --padding 8192 --in-place | 2 flac: command: tag needs --clear, --from, --remove, --set, --add or --rewrite;
 flac tag TITLE=x a.flac | 2 flac: command: to set a comment: flac tag --set NAME=VALUE FILE;
 flac tag a=b/c.flac --in-place | 2 flac: command: to set a comment: flac tag --set NAME=VALUE FILE;
 flac tag ./a=b.flac | 2 flac: command: tag needs --clear, --from, --remove, --set, --add or --rewrite;
-flac edit a.flac | 2 flac: command: edit needs --remove-block, --picture, --cuesheet or --padding;
+flac edit a.flac | 2 flac: command: edit needs --remove-block, --picture, --cuesheet, --seek-every or --padding;
 flac edit a.flac --cuesheet a.cue --cuesheet b.cue | 2 error: the argument '--cuesheet <SHEET>' cannot be used multiple times*
 flac edit a.flac --remove-block 0 | 2 flac: command: --remove-block takes a number from 1 on, or a type other than STREAMINFO;
 flac edit a.flac --remove-block streaminfo | 2 flac: command: --remove-block takes a number from 1 on, or a type other than STREAMINFO;

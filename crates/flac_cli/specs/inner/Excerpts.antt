@@ -3,7 +3,9 @@ use Rattle.std.specs.Prelude.{◌≡◌, ◌≢◌, ◌≤◌, ◌<◌, ℕ, ◌
 use Rattle.flac_bits.specs.Handing.{InputReading}
 use Rattle.flac_bits.specs.declared.why.Why.{Why}
 use Rattle.flac_bits.specs.declared.why.Why.TheVariants as why
+use Rattle.flac_bits.specs.declared.source.Source as source
 use Rattle.flac_bits.specs.declared.target.Target as target
+use Rattle.flac_info.specs.Info.{Info}
 use Rattle.flac_meta.specs.declared.block.Block.{Block}
 use Rattle.flac_frame.specs.Frame.{Frame}
 use Rattle.flac_native.specs.Item.{fault_pair}
@@ -14,11 +16,15 @@ use Rattle.flac_native.specs.declared.container.Container as container
 use Rattle.flac_reader.specs.Kept.{first_comments}
 use Rattle.flac_reader.specs.Opening.{IsReadAs}
 use Rattle.flac_reader.specs.declared.reader.Reader.{Reader}
+use Rattle.flac_compare.specs.Samples.{samples_from}
 use Rattle.flac_compare.specs.inner.Stepping.{SamplesLeft, IsCalmIn, IsKnown}
-use Rattle.flac_cli.specs.Excerpts.{last_of, file_text, start_of, stop_of, SaysPart, SaysStream}
+use Rattle.flac_cli.specs.Excerpts.{last_of, file_text, samples_text, range_fault, start_of, stop_of, excerpt_input, SaysPart, SaysStream}
+use Rattle.flac_cli.specs.Streams.{Tells}
 use Rattle.flac_cli.specs.Waves.{file_samples}
 use Rattle.flac_cli.specs.declared.excerpt.Span.{Span}
 use Rattle.flac_cli.specs.declared.excerpt.Cut.{Cut}
+use Rattle.flac_cli.specs.declared.excerpt.Form.{Form}
+use Rattle.flac_cli.specs.declared.excerpt.RangeFault.{RangeFault}
 use Rattle.flac_cli.specs.declared.excerpt.RangeFault.TheVariants as range
 use Rattle.flac_cli.specs.declared.excerpt.ExcerptFault.{ExcerptFault}
 use Rattle.flac_cli.specs.declared.excerpt.ExcerptFault.TheVariants.{Unread, Range, Write}
@@ -52,6 +58,10 @@ pub record IsSpanOf (from : ℕ) (to : Option ℕ) (s : Span) : Type 0 where
   pub unbounded : s.unbounded ≡ is_none to
   pub needs : needs s ≡ last_of from to
 
+-- why there is no such part of a stream with this STREAMINFO
+abbrev pub part_fault : (from : Moment) (to : Option Moment) → Info → Option RangeFault
+part_fault from to info = range_fault (start_of from info) (stop_of to info) info.total
+
 -- nothing is wanted any more, whatever comes
 abbrev pub is_done : Span → Bool
 is_done s = not s.unbounded && nat_eq (needs s) 0
@@ -77,6 +87,14 @@ pub record Cuts (s : Span) (size : ℕ) (cut : Cut) : Type 0 where
 abbrev pub bytes_text : (wave : Bool) (depth : ℕ) → List ℕ → List ℕ
 bytes_text false depth bytes = bytes
 bytes_text true depth bytes = file_samples (sample_width depth) depth bytes
+
+-- inter-channel samples as those of a file of this form
+abbrev pub text_of : Form → List (List ℤ) → List ℕ
+text_of form rows = samples_text form.wave form.depth rows
+
+-- those of a frame, from an index up to another one, which is not among them
+abbrev pub rows_in : Frame → (start end : ℕ) → List (List ℤ)
+rows_in f start end = samples_from f.channels (end - start) start
 
 -- memory ran out, or the target failed
 abbrev pub IsOutside : ExcerptFault → Type 0
@@ -108,6 +126,10 @@ Turns text old new span later before after (Err (Unread f)) = IsCalmIn old new �
 Turns text old new span later before after (Err (Range r)) = ⊥
 Turns text old new span later before after (Err Write) = ⊤
 
+-- the same of a target whose bytes are known
+abbrev pub SendsTurn : {C W : Type 0} {g : container.Ghosts C} → target.Ghosts W → (text : List (List ℤ) → List ℕ) → (old new : Reader C g) → (span later : Span) → (from to : W) → Result Bool ExcerptFault → Type 0
+SendsTurn h text old new span later from to result = h.known from ≡ true → Turns text old new span later (h.sent from) (h.sent to) result
+
 -- ---- a whole span
 
 -- what is said of all that is wanted of these samples, before this end
@@ -136,6 +158,14 @@ SendsPart h wave old new start stop from to result =
     IsCalmIn old new → h.known from ≡ true → (rows : List (List ℤ)) (end : Option (Place × Why)) → RowsCome old rows end
     → SaysPart wave old.info (first_comments old.blocks.items) (start_of start old.info) (stop_of stop old.info) rows end (h.sent from) (h.sent to) result
 
+-- the same of the part that is asked for
+abbrev pub SendsAsked : {C W : Type 0} {g : container.Ghosts C} → target.Ghosts W → Excerpt → (old new : Reader C g) → (from to : W) → Result ⊤ ExcerptFault → Type 0
+SendsAsked h e old new from to result = SendsPart h e.wave old new e.from e.to from to result
+
 -- what is said of all that the input may be read as
 abbrev pub SaysInput : Excerpt → InputReading Piece Place → (before after : List ℕ) → Result ⊤ ExcerptFault → Type 0
 SaysInput e r before after result = (blocks : List Block) (frames : List Frame) (end : Option (Place × Why)) → IsReadAs r blocks frames end → SaysStream e blocks frames end before after result
+
+-- the same of a source that did not fail, and of a target whose bytes are known
+abbrev pub SendsInput : {S W : Type 0} (g : source.Ghosts S) (h : target.Ghosts W) → Excerpt → (old new : S) → (from to : W) → Result ⊤ ExcerptFault → Type 0
+SendsInput g h e old new from to result = Tells g old new → h.known from ≡ true → SaysInput e (excerpt_input e (g.coming old) (g.after old)) (h.sent from) (h.sent to) result

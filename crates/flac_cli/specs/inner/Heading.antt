@@ -13,11 +13,12 @@ use Rattle.flac_bits.specs.declared.why.Why.TheVariants as why
 use Rattle.flac_native.specs.Item.{Item}
 use Rattle.flac_native.specs.Stream.{Piece, Progress, grammar}
 use Rattle.flac_native.specs.Track.{IsAt, is_after_blocks}
-use Rattle.flac_native.specs.Giving.{Stage, PassesParts}
+use Rattle.flac_native.specs.Giving.{Stage, stage_of, PassesParts}
 use Rattle.flac_native.specs.declared.fault.Fault.{Fault}
 use Rattle.flac_native.specs.declared.fault.Place.{Place}
 use Rattle.flac_native.specs.declared.container.Container as container
-use Rattle.flac_cli.specs.Headed.{has_last, IsHeadRefused, HasHeadRefused}
+use Rattle.flac_native.specs.declared.decoder.Decoder.{Decoder}
+use Rattle.flac_cli.specs.Headed.{has_last, IsHeadRefused, HasHeadRefused, any_reading}
 use Rattle.flac_cli.specs.ListedJson.{head_of, HasHeadOf}
 
 -- From this progress on, before the last block, these parts were read, and the last block is one of them if the frames
@@ -38,6 +39,10 @@ pub record ReadsBlocks {C K : Type 0} (g : container.Ghosts C) (is_known : K →
   pub counted : is_known from ≡ true → is_known to ≡ true
   pub passed : (p : Progress) → IsAt old.track p → is_after_blocks p.stand.phase ≡ false → PassesBlocks g is_known takes p old now from to
 
+-- the same of a decoder
+abbrev pub DecoderReads : {C K : Type 0} (g : container.Ghosts C) → (is_known : K → Bool) → (takes : K → Item → K → Type 0) → (old now : Decoder C g) → (from to : K) → Type 0
+DecoderReads g is_known takes old now from to = ReadsBlocks g is_known takes (stage_of old) (stage_of now) from to
+
 -- If the device returned no error, memory did not run out and the output took the lines, what was to come is refused in
 -- this way, before the last block.
 pub record RefusesBlocks {C : Type 0} (g : container.Ghosts C) (old now : Stage C) (f : Fault) : Type 0 where
@@ -56,3 +61,10 @@ ReadsHead g is_known takes is_ogg s from to =
 
 abbrev pub RefusesHead : {S : Type 0} → source.Ghosts S → (is_ogg : Bool) → (old new : S) → Fault → Type 0
 RefusesHead g is_ogg old new f = Tells g old new → f.why ≢ why.Memory → f.why ≢ why.Sink → HasHeadRefused (read_either Lax is_ogg (start_mark (g.after old)) (bits_of (g.coming old))) f.at f.why
+
+-- the same of a source that is read as its first byte says
+abbrev pub TakesHead : {S K : Type 0} → source.Ghosts S → (is_known : K → Bool) → (takes : K → Item → K → Type 0) → S → (from to : K) → Type 0
+TakesHead g is_known takes s from to = g.known s ≡ true → is_known from ≡ true → HasHeadOf (any_reading g s) (λ head. TakesAll (taken takes) from head to)
+
+abbrev pub RefusesAnyHead : {S : Type 0} → source.Ghosts S → (old new : S) → Fault → Type 0
+RefusesAnyHead g old new f = Tells g old new → f.why ≢ why.Memory → f.why ≢ why.Sink → HasHeadRefused (any_reading g old) f.at f.why

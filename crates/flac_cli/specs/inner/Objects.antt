@@ -1,7 +1,8 @@
 -- For proofs of lines of JSON: the parts of a line.
 use Rattle.std.specs.Prelude.{ℕ, List, [], ◌++◌, codes, Option, Some, None}
 use Rattle.flac_json.specs.Json.{member_text, more_members}
-use Rattle.flac_cli.specs.Objects.{Member, members_of, member_of}
+use Rattle.flac_report.specs.Objects.{Member, members_of}
+use Rattle.flac_cli.specs.Objects.{member_of}
 use Rattle.flac_cli.specs.declared.json.Member.{Member as Given}
 
 -- a member

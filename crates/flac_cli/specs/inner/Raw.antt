@@ -1,9 +1,11 @@
 -- For proofs of reading raw samples part by part.
-use Rattle.std.specs.Prelude.{◌≡◌, ◌<◌, ◌+◌, ◌*◌, ℕ, ℤ, pos, List, [], ◌++◌, length, take, drop, All, slice_index_or}
+use Rattle.std.specs.Prelude.{◌≡◌, ◌<◌, ◌+◌, ◌*◌, ℕ, ℤ, pos, List, [], ◌++◌, length, map, take, drop, Vec, All, slice_index_or}
+use Rattle.std.specs.Global.{Global}
 use Rattle.flac_bits.specs.Signed.{FitsBits}
 use Rattle.flac_frame.specs.Audio.{samples_each}
 use Rattle.flac_native.specs.Message.{sample_bytes, rows_bytes}
 use Rattle.flac_cli.specs.Raw.{samples_at, raw_channels}
+use Rattle.flac_cli.specs.declared.raw.Column.{Column}
 
 -- These are the samples of one channel in inter-channel samples of `row` bytes: each has `width` bytes, from the byte
 -- `start` of its inter-channel sample on.
@@ -26,6 +28,14 @@ pub record AreParts (count width : ℕ) (bytes : List ℕ) (rows : ℕ) (channel
 abbrev pub IsMore : {X : Type 0} (Is : List ℕ → ℕ → X → Type 0) (piece : List ℕ) (row rows : ℕ) (old new : X) → Type 0
 IsMore Is piece row rows old new = (bytes : List ℕ) (before : ℕ) → length bytes ≡ before * row → Is bytes before old → Is (bytes ++ piece) (before + rows) new
 
+-- the samples of one channel of a piece were added, of `width` bytes each
+abbrev pub AddsColumn : Column → (width : ℕ) → (piece : List ℕ) → (old new : List ℤ) → Type 0
+AddsColumn c width piece old new = IsMore (IsPart c.stride c.start width) piece c.stride c.count old new
+
+-- those of all channels of a piece of `count` inter-channel samples
+abbrev pub AddsPiece : (width count : ℕ) → (piece : List ℕ) → (old new : List (Vec ℤ Global)) → Type 0
+AddsPiece width count piece old new = IsMore (AreParts (length old) width) piece (length old * width) count (map (λ c. c.items) old) (map (λ c. c.items) new)
+
 -- these are the samples of `count` channels, each of `width` bytes
 pub record AreChannels (bytes : List ℕ) (count width : ℕ) (channels : List (List ℤ)) : Type 0 where
   pub many : length channels ≡ count
@@ -33,3 +43,7 @@ pub record AreChannels (bytes : List ℕ) (count width : ℕ) (channels : List (
   pub spelled : rows_bytes width channels (samples_each channels) 0 ≡ bytes
   pub fits : All (λ c. All (FitsBits (8 * width)) c) channels
   pub numbers : channels ≡ raw_channels count width bytes
+
+-- the same, in the order in which calls name it
+abbrev pub AreChannelsOf : (count width : ℕ) → Vec (Vec ℤ Global) Global → (bytes : List ℕ) → Type 0
+AreChannelsOf count width lists bytes = AreChannels bytes count width (map (λ c. c.items) lists.items)

@@ -2,7 +2,8 @@
 use Rattle.std.specs.Prelude.{◌≡◌, ◌≤◌, ◌<◌, ℕ, true, List, ◌++◌, replicate, Option, Some, None, Result, OnOk, OnErr}
 use Rattle.flac_bits.specs.declared.target.Target as target
 use Rattle.flac_info.specs.Info.{Info}
-use Rattle.flac_cli.specs.Reported.{entry_line}
+use Rattle.flac_report.specs.Entries.{line_of}
+use Rattle.flac_cli.specs.Reported.{entry_of}
 use Rattle.flac_cli.specs.declared.verify.Finding.{Finding}
 use Rattle.flac_cli.specs.declared.verify_report.Entry.{Entry}
 
@@ -11,9 +12,13 @@ abbrev pub digest_in : Option Info → List ℕ
 digest_in None = replicate 16 0
 digest_in (Some info) = info.digest
 
+-- the line of a file that was found to be this
+abbrev pub entry_text : Entry → Finding → List ℕ
+entry_text entry finding = line_of (entry_of entry.path.now entry.stamp entry.is_sought finding)
+
 -- a call that was to send the line of a file
 pub record EntrySent {T X E : Type 0} (g : target.Ghosts T) (entry : Entry) (finding : Finding) (old new : T) (result : Result X E) : Type 0 where
   pub kept : g.errors old ≤ g.errors new
   pub known : OnOk result (g.known old ≡ true → g.known new ≡ true)
-  pub sent : OnOk result (g.known old ≡ true → g.sent new ≡ g.sent old ++ entry_line entry.path.now entry.stamp entry.is_sought finding)
+  pub sent : OnOk result (g.known old ≡ true → g.sent new ≡ g.sent old ++ entry_text entry finding)
   pub failed : OnErr result (g.known old ≡ true → g.errors old < g.errors new)

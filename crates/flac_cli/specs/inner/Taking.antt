@@ -1,10 +1,16 @@
 -- For proofs of the sinks: what they make of an item.
-use Rattle.std.specs.Prelude.{◌≡◌, ℕ, ◌+◌, min, List, Option}
+use Rattle.std.specs.Prelude.{◌≡◌, ℕ, ◌+◌, min, List, Option, Result, IfOk}
+use Rattle.flac_bits.specs.declared.source.Source as source
 use Rattle.flac_info.specs.Info.{Info}
+use Rattle.flac_header.specs.declared.subset.Profile.{Profile}
 use Rattle.flac_native.specs.Stream.{Piece, info_after}
 use Rattle.flac_native.specs.Item.{Item, metadata, frame}
 use Rattle.flac_cli.specs.Counted.{frames_in, samples_in_all, printed}
+use Rattle.flac_cli.specs.Outcomes.{IsReadAs}
+use Rattle.flac_cli.specs.Streams.{Tells, GivesStreamOf}
+use Rattle.flac_cli.specs.Verified.{Describes}
 use Rattle.flac_cli.specs.declared.test.Counts.{Counts}
+use Rattle.flac_cli.specs.declared.verify_facts.Facts.{Facts}
 
 -- the count of frames after this item; it stops at 2^64 - 1
 abbrev pub frames_after : ℕ → Item → ℕ
@@ -24,3 +30,13 @@ info_after_item info (frame f) = info
 -- the counts of these parts
 abbrev pub HasCounted : Counts → List Piece → Type 0
 HasCounted c parts = (c.frames ≡ printed (frames_in parts)) × (c.samples ≡ printed (samples_in_all parts))
+
+-- ---- at Ok of a call that reads a source, if this did not fail
+
+-- it gives a stream, and these are its counts
+abbrev pub CountsStream : {S E : Type 0} (g : source.Ghosts S) → Profile → (from to : S) → Result Counts E → Type 0
+CountsStream g profile from to result = Tells g from to → IfOk result (λ c. GivesStreamOf g profile from (HasCounted c))
+
+-- it gives a stream, which these facts describe
+abbrev pub DescribesStream : {S E : Type 0} (g : source.Ghosts S) → Profile → (from to : S) → Result Facts E → Type 0
+DescribesStream g profile from to result = Tells g from to → IfOk result (λ facts. IsReadAs g profile from (λ parts. Describes parts facts))

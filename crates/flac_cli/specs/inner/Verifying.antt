@@ -8,7 +8,7 @@ use Rattle.flac_cli.specs.Changes.{is_kept}
 use Rattle.flac_cli.specs.Counted.{printed}
 use Rattle.flac_cli.specs.Outcomes.{Fits, Reads, IsOutOfMemory}
 use Rattle.flac_cli.specs.Reported.{report_lines}
-use Rattle.flac_cli.specs.Missing.{IsMissingIf, asks_missing, AreMissing, told_lines}
+use Rattle.flac_cli.specs.Missing.{IsMissingIf, AreMissing, told_lines}
 use Rattle.flac_cli.specs.Verified.{IsStreamOf, IsFound, AreFound, ok_lines, last_line, good_count, bad_count, all_kept}
 use Rattle.flac_cli.specs.declared.verify.Checks.{Checks}
 use Rattle.flac_cli.specs.declared.verify.Finding.{Finding}
@@ -67,6 +67,20 @@ IsReadingOutside contents finding = ⊥
 abbrev pub IsFoundAgain : Option Contents → Finding → Type 0
 IsFoundAgain contents finding = IfSome contents (λ of. of.again ≡ true) → IsFound false contents finding
 
+-- ---- the same of a file of a list
+
+abbrev pub ReadsIn : Profile → Listed → Finding → Type 0
+ReadsIn profile file finding = IsReading profile file.contents finding
+
+abbrev pub ReadsOutside : Listed → Finding → Type 0
+ReadsOutside file finding = IsReadingOutside file.contents finding
+
+-- what it was found to be
+abbrev pub Finds : (subset : Bool) → Listed → Finding → Type 0
+Finds subset file finding = IsFound subset file.contents finding
+
+-- ---- counts
+
 -- one more of the files that are streams, and of the others
 abbrev pub good_after : ℕ → Finding → ℕ
 good_after n (Good facts) = printed (n + 1)
@@ -84,6 +98,14 @@ pub record IsCounted (finding : Finding) (change : Change) (sent entered : Bool)
   pub written : new.is_written ≡ (old.is_written && sent)
   pub reported : new.is_reported ≡ entered
   pub kept : new.is_kept ≡ (old.is_kept && is_kept change)
+
+-- every line was written, also those of the report, no file was bad, and each is as it was in the older report
+abbrev pub IsAllGood : (is_written : Bool) → Tally → Type 0
+IsAllGood is_written tally = (is_written ≡ true) × (tally.is_reported ≡ true) × (tally.is_kept ≡ true) × (tally.bad ≡ 0)
+
+-- if so, this holds
+abbrev pub IfAllGood : (is_written : Bool) → Tally → Type 0 → Type 0
+IfAllGood is_written tally Says = is_written ≡ true → tally.is_reported ≡ true → tally.is_kept ≡ true → tally.bad ≡ 0 → Says
 
 -- The last line was sent, if those before were.
 pub record IsEnded {O E : Type 0} (o : target.Ghosts O) (e : target.Ghosts E) (tally : Tally) (out ended : O) (err told : E) (done : Bool) : Type 0 where

@@ -1,14 +1,16 @@
 -- For the proof of reading a WAV file from a source: its samples, and what comes after them.
 use Rattle.std.specs.Prelude.{◌≡◌, ℕ, ℤ, ◌*◌, ◌%◌, Bool, true, false, not, nat_eq, List, length, map, Option, Some, None, is_some, Result, Ok, Err}
+use Rattle.flac_bits.specs.declared.source.Source as source
 use Rattle.flac_header.specs.declared.subset.Profile.{Profile}
 use Rattle.flac_frame.specs.Audio.{Sound}
 use Rattle.flac_frame.specs.declared.setup.SetupFault.{SetupFault}
 use Rattle.flac_native.specs.Message.{sample_width}
 use Rattle.flac_wave.specs.Format.{row_of}
 use Rattle.flac_wave.specs.Shift.{wave_width_of, depth_in, AreBytes as AreSmall}
-use Rattle.flac_wave.specs.Wave.{Parts, IsWave, ArePiecesAfter}
+use Rattle.flac_wave.specs.Calls.{IfRead}
+use Rattle.flac_wave.specs.Wave.{Parts, IsWave, ArePiecesAfter, IsErrorOf}
 use Rattle.flac_wave.specs.declared.format.WaveFormat.{WaveFormat}
-use Rattle.flac_wave.specs.Front.{front_fault, are_whole}
+use Rattle.flac_wave.specs.Front.{front_fault, are_whole, BeginsWith}
 use Rattle.flac_wave.specs.Parts.{given, beyond, is_cut}
 use Rattle.flac_wave.specs.declared.front.WaveFront.{WaveFront}
 use Rattle.flac_wave.specs.declared.waves.WaveError.{WaveError}
@@ -36,6 +38,14 @@ pub record AreTaken (f : WaveFormat) (bytes : List ℕ) (s : WaveSamples) : Type
   pub raw : AreRaw f.channels (sample_width s.depth) (stream_samples (wave_width_of f) s.depth bytes) (map (λ c. c.items) s.channels.items)
   pub odd : not s.odd ≡ nat_eq (length bytes % 2) 0
 
+-- the same, in the order in which calls name it
+abbrev pub AreTakenOf : WaveFormat → WaveSamples → (bytes : List ℕ) → Type 0
+AreTakenOf f s bytes = AreTaken f bytes s
+
+-- of those of these bytes that samples of this size are
+abbrev pub TakesGiven : WaveFormat → (size : Option ℕ) → WaveSamples → (bytes : List ℕ) → Type 0
+TakesGiven f size s bytes = AreTaken f (given size bytes) s
+
 -- a file of this format and these pieces, with these samples and what follows them
 abbrev pub parts_with : WaveFile → (samples back : List ℕ) → Parts
 parts_with f samples back = record { format = f.format; pieces = contents f.pieces.items; samples = samples; back = back }
@@ -51,6 +61,10 @@ pub record IsTaken (to_end : Bool) (bytes : List ℕ) (f : WaveFile) : Type 0 wh
 -- why the samples of this size are none that come of these bytes after what comes before them
 abbrev pub samples_fault : (to_end : Bool) → WaveFront → (size : Option ℕ) → (bytes : List ℕ) → Option WaveWhy
 samples_fault to_end f size bytes = front_fault to_end (is_cut size bytes) (are_whole f.format size bytes)
+
+-- there is no such reason
+abbrev pub AreGood : (to_end : Bool) → WaveFront → (size : Option ℕ) → (bytes : List ℕ) → Type 0
+AreGood to_end f size bytes = samples_fault to_end f size bytes ≡ None
 
 -- the header of the samples states 0 bytes
 abbrev pub states_none : (size : Option ℕ) → Bool
@@ -79,6 +93,22 @@ abbrev pub IsSamplesError : (to_end : Bool) → WaveFront → (size : Option ℕ
 IsSamplesError to_end f size bytes error.Memory = Unit {0}
 IsSamplesError to_end f size bytes error.Read = ⊥
 IsSamplesError to_end f size bytes (error.Fault e) = (e.chunk ≡ Some f.count) × (samples_fault to_end f size bytes ≡ Some e.why)
+
+-- ---- a source
+
+-- the same of its bytes, if they are known and it returned no error
+abbrev pub IsReadError : {S : Type 0} (g : source.Ghosts S) → (to_end : Bool) → WaveFront → (size : Option ℕ) → (from to : S) → WaveError → Type 0
+IsReadError g to_end f size from to e = IfRead g from to (IsSamplesError to_end f size (g.coming from) e)
+
+-- its bytes, if they are known, are the rest of this file, which begins so
+abbrev pub IsRestTaken : {S : Type 0} (g : source.Ghosts S) → (to_end : Bool) → WaveFront → S → WaveFile → Type 0
+IsRestTaken g to_end front from f = g.known from ≡ true → (bytes : List ℕ) → BeginsWith to_end bytes front (g.coming from) → IsTaken to_end bytes f
+
+-- this error says why there is no such file, if it returned no error, either
+abbrev pub IsRestError : {S : Type 0} (g : source.Ghosts S) → (to_end : Bool) → WaveFront → (from to : S) → WaveError → Type 0
+IsRestError g to_end front from to e = IfRead g from to ((bytes : List ℕ) → BeginsWith to_end bytes front (g.coming from) → IsErrorOf to_end bytes e)
+
+-- ---- samples in memory
 
 -- These are the samples of any bytes that they are of in this format, or this is why those cannot be encoded.
 abbrev pub MakesRaw : Profile → RawFormat → (channels : List (List ℤ)) → Result Sound SetupFault → Type 0

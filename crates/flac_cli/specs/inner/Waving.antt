@@ -12,8 +12,8 @@ use Rattle.flac_cli.specs.Speakers.{mask_in}
 use Rattle.flac_cli.specs.Waves.{Plain, plain_with, no_plain, is_riff, file_samples, piece_fault, wave_width_by}
 use Rattle.flac_cli.specs.declared.held_wave.KeptFault.{KeptFault}
 
--- the pieces so far; how many there are up to the header of the samples, 0 before it came; the bits of a sample that the
--- pieces before it state; a plain file, and how many of its pieces come before the samples; the depth; whether a
+-- the pieces so far; how many there are up to the header of the samples, 0 before it came; the bits of a sample that
+-- the pieces before it state; a plain file, and how many of its pieces come before the samples; the depth; whether a
 -- frame came; whether the bytes of the samples so far are of odd number: 1 or 0
 pub record Held : Type 0 where
   pub pieces : List (List ℕ)
@@ -94,7 +94,11 @@ pub record Holds (wide depth : ℕ) : Type 0 where
   pub room : depth ≤ 8 * wide
   pub some : 0 < wide → 0 < depth
 
--- the samples of a frame, as those of the file
+-- the samples of a frame, as those of a file with `wide` bytes a sample
+abbrev pub frame_samples : (wide depth : ℕ) → Frame → List ℕ
+frame_samples wide depth f = file_samples wide depth (frame_bytes 0 depth f)
+
+-- the same, as those of this file
 abbrev pub frame_text : Held → Frame → List ℕ
 frame_text s f = file_samples (held_wave_width s) s.depth (frame_bytes 0 s.depth f)
 

@@ -12,6 +12,7 @@ const EDIT_EXAMPLE: &str = "Examples:
   $ flac edit --picture cover.jpg song.flac                adds a front cover
   $ flac edit --remove-block picture --padding 4096 *.flac
   $ flac edit --cuesheet album.cue album.flac              puts in a cue sheet
+  $ flac edit --seek-every 441000 song.flac                a seek point every 10 seconds
 
 A block is named by its number, as list has it, or by its type: padding, application,
 application:ID, seektable, vorbis_comment, cuesheet, picture, or type_7 to type_126. ID is
@@ -28,20 +29,27 @@ FLAGS, ISRC and INDEX is not kept. It is that of a CD if the stream has 44100 Hz
 or two channels and a whole number of frames of 588 samples: then places are mm:ss:ff, else
 also numbers of samples. A stream for which a line breaks a rule is refused.
 
+With --seek-every all old seek tables are replaced by one before comments and padding, which
+has a point for each frame with a sample whose number is a multiple of N; by none with 0. The
+file is read into memory and verified first: a damaged stream is refused.
+
 With --padding all old padding is replaced by one block at the end. A file whose blocks are
 so already is not written; a new file takes the place of any other. Frames are copied as
-they are and not verified. A file that is refused stays as it was, and a line says why; the
-exit status is then 1. Ogg streams are refused.";
+they are, and not verified without --seek-every. A file that is refused stays as it was, and
+a line says why; the exit status is then 1.
+
+An Ogg stream keeps its serial number, and its comments come first; its frames are verified.
+It has no seek table: with --seek-every other than 0 it is refused.";
 
 pub(crate) static EDIT: Usage = Usage {
     name: "edit",
-    about: "Removes metadata blocks of streams, adds pictures and cue sheets, sets the padding",
+    about: "Removes metadata blocks of streams, adds pictures, cue sheets, seek tables, padding",
     words: &EDIT_WORDS,
     example: EDIT_EXAMPLE,
 };
 
 /// The arguments of `edit`.
-const EDIT_WORDS: [Word; 7] = [
+const EDIT_WORDS: [Word; 8] = [
     Word {
         name: "FILE",
         kind: WordKind::Files,
@@ -61,6 +69,11 @@ const EDIT_WORDS: [Word; 7] = [
         name: "cuesheet",
         kind: WordKind::Text("SHEET"),
         help: "Puts in a cue sheet in place of the old; - for standard input",
+    },
+    Word {
+        name: "seek-every",
+        kind: WordKind::Wanted,
+        help: "Samples from one seek point to the next, in place of the old; 0: none",
     },
     Word {
         name: "padding",
@@ -94,6 +107,7 @@ pub(crate) fn edit_request<'a>(
         removals: removals_of(alloc, given.get_strs("remove-block").unwrap_or(&[]))?,
         pictures: pictures_of(alloc, given.get_strs("picture").unwrap_or(&[]))?,
         sheet: given.get_str("cuesheet"),
+        seek_every: given.get_one("seek-every"),
         padding: given.get_one("padding"),
         keep_times: given.get_flag("keep-times"),
         verbose: given.get_flag("verbose"),
@@ -204,10 +218,12 @@ pub(crate) fn fault_of_editing(editing: &Editing<'_>) -> Option<LineFault>
             "flac: command: --picture takes [TYPE:]FILE or TYPE:MEDIA:WIDTHxHEIGHTxDEPTH:FILE, the type 0 to 20\n",
         ));
     };
-    let is_idle = editing.padding.is_none() && editing.sheet.is_none();
+    let is_idle = editing.padding.is_none()
+        && editing.sheet.is_none()
+        && editing.seek_every.is_none();
     if removals.is_empty() && pictures.is_empty() && is_idle {
         return Some(LineFault::refused(
-            "flac: command: edit needs --remove-block, --picture, --cuesheet or --padding\n",
+            "flac: command: edit needs --remove-block, --picture, --cuesheet, --seek-every or --padding\n",
         ));
     }
     None

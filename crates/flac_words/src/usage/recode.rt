@@ -5,11 +5,14 @@ ghost use Rattle.std.specs.Prelude.{◌≤◌, IfSome};
 use super::encode::{container_of, effort_of};
 use super::{FORCE, STREAM, STREAM_OUT, Usage, Word, WordKind};
 use clap::ArgMatches;
-use flac_jobs::{ContainerKind, LineFault, Recoding, Request, SearchEffort};
+use flac_jobs::{ContainerKind, LineFault, Recoding, Request, SearchEffort, StreamCopy};
 
 const RECODE_EXAMPLE: &str = "Example, smaller, and as an Ogg stream:
   $ flac recode song.flac smaller.flac --search full
   $ flac recode song.flac song.oga --ogg
+Example, the same frames in another container:
+  $ flac recode song.flac song.oga --ogg --copy
+  $ flac recode song.oga song.flac --copy
 
 IN is a native stream or one in Ogg, also outside the streamable subset, and also between an
 ID3v2 tag before it and an ID3v1 tag after it, which are left out. OUT has exactly its
@@ -19,6 +22,10 @@ of the same length. STREAMINFO is written anew. A seek table is left out, since 
 are those of the old frames; --seek-every writes a new one.
 
 In an Ogg stream the comments come first; a stream without comments gets an empty block.
+
+With --copy no sample is encoded anew: each frame is copied byte by byte, and decoded to verify
+it. STREAMINFO stays as it is, and so do all blocks but a seek table, which an Ogg stream does
+not have. A stream is then copied also if it is outside the streamable subset.
 
 A stream with an error is refused, and a line says where and why. Without --lax a stream
 with a rate or a depth outside the streamable subset is refused (40, 41).
@@ -40,18 +47,23 @@ pub(crate) static RECODE: Usage = Usage {
 const EFFORTS: [&str; 3] = ["none", "quick", "full"];
 
 /// The arguments of `recode`.
-const RECODE_WORDS: [Word; 10] = [
+const RECODE_WORDS: [Word; 11] = [
     STREAM,
     STREAM_OUT,
     Word {
+        name: "copy",
+        kind: WordKind::Flag,
+        help: "Copies the frames as they are",
+    },
+    Word {
         name: "block",
-        kind: WordKind::Number("4096"),
-        help: "Samples of a block, 16 to 16384; to 4608 at rates up to 48000; with --lax to 65535",
+        kind: WordKind::Wanted,
+        help: "Samples of a block, 16 to 16384; to 4608 at rates up to 48000; with --lax to 65535; if not given, 4096",
     },
     Word {
         name: "seek-every",
-        kind: WordKind::Number("0"),
-        help: "Samples from one point of a seek table to the next; 0: no table",
+        kind: WordKind::Wanted,
+        help: "Samples from one point of a seek table to the next; 0, or not given: no table",
     },
     Word {
         name: "search",
@@ -86,12 +98,47 @@ pub(crate) fn recode_request<'a>(given: &ArgMatches<'a>) -> Option<Request<'a>> 
     Some(Request::Recode(Recoding {
         input: given.get_str("IN")?,
         output: given.get_str("OUT")?,
-        block: given.get_one("block")?,
-        seek_every: given.get_one("seek-every")?,
+        block: given.get_one("block").unwrap_or(4096),
+        seek_every: given.get_one("seek-every").unwrap_or(0),
         container: container_of(given)?,
         lax: given.get_flag("lax"),
         predictors: given.get_str("predictors"),
         effort: effort_of(given, SearchEffort::Quick),
+        force: given.get_flag("force"),
+    }))
+}
+
+/// The line of a copy whose words say how samples are encoded.
+const COPY_ENCODES: &str =
+    "flac: command: --copy with --block, --seek-every, --search or --predictors\n";
+
+/// Whether the words say how samples are encoded.
+fn says_how(given: &ArgMatches<'_>) -> bool {
+    given.get_one::<u32>("block").is_some()
+        || given.get_one::<u32>("seek-every").is_some()
+        || given.get_str("search").is_some()
+        || given.get_str("predictors").is_some()
+}
+
+/// What `recode --copy` asks for; `None` if a path is missing.
+///
+/// # Errors
+/// A line, if the words also say how samples are encoded.
+pub(crate) fn copy_request<'a>(
+    given: &ArgMatches<'a>,
+) -> Result<Option<Request<'a>>, &'static str> {
+    if says_how(given) {
+        return Err(COPY_ENCODES);
+    }
+    Ok(copy_of(given))
+}
+
+/// The copy that the words ask for; `None` if a path is missing.
+fn copy_of<'a>(given: &ArgMatches<'a>) -> Option<Request<'a>> {
+    Some(Request::Copy(StreamCopy {
+        input: given.get_str("IN")?,
+        output: given.get_str("OUT")?,
+        container: container_of(given)?,
         force: given.get_flag("force"),
     }))
 }

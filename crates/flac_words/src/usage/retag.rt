@@ -8,6 +8,9 @@ use std::alloc::Global;
 const RETAG_EXAMPLE: &str = "Example:
   $ flac retag song.flac other.flac TITLE=Song ARTIST=Someone
 
+For daily use take flac tag: it edits some comments and keeps the others and the vendor, in
+place or, with --out, in another file.
+
 The comments take the place of all that IN has: without a COMMENT, OUT has none. The
 vendor, which names the program that wrote the stream, becomes \"flac profile 1\".
 

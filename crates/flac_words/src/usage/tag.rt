@@ -11,10 +11,12 @@ use std::alloc::{AllocError, Global};
 const TAG_EXAMPLE: &str = "Examples:
   $ flac tag --set TITLE=Air --remove COMMENT --add ARTIST=Someone song.flac
   $ flac export song.flac tags song.txt; flac tag --from song.txt song.flac
+  $ flac tag --set-file LYRICS=words.txt --remove GENRE=Other --out copy.flac song.flac
 
 The edits are made in this order, whatever that of the words: --clear, --from, --remove,
---set, --add. Names are compared but for the case of ASCII letters. A second --set of a
-name adds its value. All other comments stay byte for byte, and so does the vendor.
+--set, --set-file, --add. Names are compared but for the case of ASCII letters, values byte
+by byte. A second --set or --set-file of a name adds its value. All other comments stay byte
+for byte, and so does the vendor.
 
 --from takes all comments away and adds those of LINES, one a line: NAME=VALUE, as export
 writes them. A backslash, x and two hexadecimal digits are a byte; the backslash itself,
@@ -25,11 +27,14 @@ If padding beside the comments has room, some hundred bytes are written in place
 every moment of a crash the file has the old comments or the new ones, and no byte of
 the frames is written. Else a new file takes the place of the old one, with the comments
 and padding after the other blocks, so that the next edit is in place. With --in-place
-no new file is written; with --rewrite always.
+no new file is written; with --rewrite always. With --out the one FILE stays as it is, and
+OUT gets the stream with the edited comments, if it is new or another copy of that stream.
+
+An Ogg stream is written anew if its comments change, with its serial number and each frame
+byte by byte; its frames are verified. It gets no padding, and --in-place refuses it with 54.
 
 Each file is done or refused by itself. One that is refused stays as it was, and a line
-says why; the exit status is then 1. The frames are not verified. Ogg streams are
-refused.";
+says why; the exit status is then 1. The frames of native streams are not verified.";
 
 /// The bytes of padding of a new file if their number is not given.
 const USUAL_PADDING: u32 = 8192;
@@ -42,7 +47,7 @@ pub(crate) static TAG: Usage = Usage {
 };
 
 /// The arguments of `tag`.
-const TAG_WORDS: [Word; 11] = [
+const TAG_WORDS: [Word; 13] = [
     Word {
         name: "FILE",
         kind: WordKind::Files,
@@ -60,13 +65,18 @@ const TAG_WORDS: [Word; 11] = [
     },
     Word {
         name: "remove",
-        kind: WordKind::Texts("NAME"),
-        help: "Takes all comments of this name away",
+        kind: WordKind::Texts("NAME[=VALUE]"),
+        help: "Takes all comments of this name away, or those of this name and value",
     },
     Word {
         name: "set",
         kind: WordKind::Texts("NAME=VALUE"),
         help: "Puts this comment in the place of all of its name",
+    },
+    Word {
+        name: "set-file",
+        kind: WordKind::Texts("NAME=FILE"),
+        help: "The same with the bytes of a file as its value",
     },
     Word {
         name: "add",
@@ -82,6 +92,11 @@ const TAG_WORDS: [Word; 11] = [
         name: "rewrite",
         kind: WordKind::Flag,
         help: "Writes a new file, also if there is room in place",
+    },
+    Word {
+        name: "out",
+        kind: WordKind::Text("OUT"),
+        help: "Writes the stream to this file, and leaves FILE as it is; - for standard output",
     },
     Word {
         name: "padding",
@@ -114,6 +129,7 @@ pub(crate) fn tag_request<'a>(
         inputs,
         edits: edits_of(alloc, given)?,
         lines: given.get_str("from"),
+        output: given.get_str("out"),
         mode: mode_of(given.get_flag("in-place"), given.get_flag("rewrite")),
         padding,
         keep_times: given.get_flag("keep-times"),
@@ -146,6 +162,9 @@ fn edits_of<'a>(alloc: Global, given: &ArgMatches<'a>) -> Result<Vec<TagEdit<'a>
     if let Some(comments) = given.get_strs("set") {
         add_settings(&mut edits, comments)?;
     }
+    if let Some(words) = given.get_strs("set-file") {
+        add_files(&mut edits, words)?;
+    }
     if let Some(comments) = given.get_strs("add") {
         add_additions(&mut edits, comments)?;
     }
@@ -155,7 +174,12 @@ fn edits_of<'a>(alloc: Global, given: &ArgMatches<'a>) -> Result<Vec<TagEdit<'a>
 /// Adds an edit for each `--remove`.
 fn add_removals<'a>(edits: &mut Vec<TagEdit<'a>>, names: &[&'a str]) -> Result<(), AllocError> {
     for name in names {
-        edits.push(TagEdit::Remove(name))?;
+        let edit = if name.contains('=') {
+            TagEdit::RemovePair(name)
+        } else {
+            TagEdit::Remove(name)
+        };
+        edits.push(edit)?;
     }
     Ok(())
 }
@@ -173,6 +197,19 @@ fn add_settings<'a>(edits: &mut Vec<TagEdit<'a>>, comments: &[&'a str]) -> Resul
     Ok(())
 }
 
+/// Adds an edit for each `--set-file`, as [`add_settings`] does.
+fn add_files<'a>(edits: &mut Vec<TagEdit<'a>>, words: &[&'a str]) -> Result<(), AllocError> {
+    for word in words {
+        let edit = if has_setting(edits, word) {
+            TagEdit::AddFile(word)
+        } else {
+            TagEdit::SetFile(word)
+        };
+        edits.push(edit)?;
+    }
+    Ok(())
+}
+
 /// Adds an edit for each `--add`.
 fn add_additions<'a>(edits: &mut Vec<TagEdit<'a>>, comments: &[&'a str]) -> Result<(), AllocError> {
     for comment in comments {
@@ -184,7 +221,7 @@ fn add_additions<'a>(edits: &mut Vec<TagEdit<'a>>, comments: &[&'a str]) -> Resu
 /// Whether one of the edits sets a comment of the name of this one.
 fn has_setting(edits: &[TagEdit<'_>], comment: &str) -> bool {
     for edit in edits {
-        if let TagEdit::Set(other) = edit {
+        if let TagEdit::Set(other) | TagEdit::SetFile(other) = edit {
             if name_of(other).eq_ignore_ascii_case(name_of(comment)) {
                 return true;
             }
@@ -208,7 +245,11 @@ pub(crate) fn fault_of_tagging(tagging: &Tagging<'_>) -> Option<LineFault>
     if tagging.mode.is_none() {
         return Some(LineFault::refused("flac: command: --in-place with --rewrite\n"));
     }
-    if tagging.edits.is_empty() && tagging.mode != Some(TagMode::Rewrite) {
+    if let Some(line) = line_of_output(tagging) {
+        return Some(LineFault::refused(line));
+    }
+    let writes = tagging.mode == Some(TagMode::Rewrite) || tagging.output.is_some();
+    if tagging.edits.is_empty() && !writes {
         return Some(LineFault::refused(line_of_none(tagging)));
     }
     for edit in &tagging.edits {
@@ -218,6 +259,21 @@ pub(crate) fn fault_of_tagging(tagging: &Tagging<'_>) -> Option<LineFault>
         if has_bad_name(edit) {
             return Some(LineFault::refused("flac: command: 55 FieldName\n"));
         }
+    }
+    None
+}
+
+/// What to print of a tagging to another file, if its words do not fit.
+fn line_of_output(tagging: &Tagging<'_>) -> Option<&'static str> {
+    let _output = tagging.output?;
+    if tagging.mode == Some(TagMode::InPlace) {
+        return Some("flac: command: --in-place with --out\n");
+    }
+    if tagging.keep_times {
+        return Some("flac: command: --keep-times with --out\n");
+    }
+    if tagging.inputs.len() != 1 {
+        return Some("flac: command: --out with several files\n");
     }
     None
 }
@@ -236,15 +292,22 @@ fn line_of_none(tagging: &Tagging<'_>) -> &'static str {
 /// Whether the comment of an edit has no `=`.
 fn lacks_equals(edit: &TagEdit<'_>) -> bool {
     match edit {
-        TagEdit::Set(comment) | TagEdit::Add(comment) => !comment.contains('='),
-        TagEdit::Clear | TagEdit::Lines | TagEdit::Remove(_) => false,
+        TagEdit::Set(comment)
+        | TagEdit::SetFile(comment)
+        | TagEdit::AddFile(comment)
+        | TagEdit::Add(comment) => !comment.contains('='),
+        TagEdit::Clear | TagEdit::Lines | TagEdit::Remove(_) | TagEdit::RemovePair(_) => false,
     }
 }
 
 /// Whether the name of an edit is none (RFC 9639, section 8.6).
 fn has_bad_name(edit: &TagEdit<'_>) -> bool {
     match edit {
-        TagEdit::Set(comment) | TagEdit::Add(comment) => !is_name(name_of(comment)),
+        TagEdit::RemovePair(comment)
+        | TagEdit::Set(comment)
+        | TagEdit::SetFile(comment)
+        | TagEdit::AddFile(comment)
+        | TagEdit::Add(comment) => !is_name(name_of(comment)),
         TagEdit::Remove(name) => !is_name(name),
         TagEdit::Clear | TagEdit::Lines => false,
     }

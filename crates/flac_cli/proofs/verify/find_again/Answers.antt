@@ -1,4 +1,4 @@
-use Rattle.std.proofs.Common.{◌≡◌, true, false, IfSome, subst}
+use Rattle.std.proofs.Common.{false, subst}
 use Rattle.flac_cli.specs.inner.Verifying.{IsReadingOutside}
 use Rattle.flac_cli.proofs.Verifying.{first_good, first_unopened, memory_fits, again_fits, again_is, stays_then, still, not_true}
 use Rattle.flac_cli.proofs.verify.find_again.Goals as goal

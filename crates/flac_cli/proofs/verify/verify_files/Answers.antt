@@ -1,6 +1,5 @@
-use Rattle.std.proofs.Common.{◌≡◌, ◌≤◌, ◌∙◌, ◌||◌, ℕ, IfSome, ap, refl, sym, arith, subst}
+use Rattle.std.proofs.Common.{◌≡◌, ◌∙◌, IfSome, ap, refl, sym, arith, subst}
 use Rattle.flac_cli.specs.Changes.{change_of}
-use Rattle.flac_cli.specs.Reported.{entry_line}
 use Rattle.flac_cli.specs.Verified.{ok_part, bad_part}
 use Rattle.flac_cli.specs.inner.Verifying.{IsCounted}
 use Rattle.flac_cli.specs.Missing.{IsMissingIf, asks_missing}

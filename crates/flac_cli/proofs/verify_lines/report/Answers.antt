@@ -1,4 +1,4 @@
-use Rattle.std.proofs.Common.{◌≡◌, ◌∙◌, ◌++◌, refl, ap, sym, codes}
+use Rattle.std.proofs.Common.{◌∙◌, ◌++◌, ap, sym, codes}
 use Rattle.flac_native.specs.Places.{place_text}
 use Rattle.flac_cli.specs.Changes.{word_of}
 use Rattle.flac_cli.specs.Verified.{file_line, ok_part, bad_part}

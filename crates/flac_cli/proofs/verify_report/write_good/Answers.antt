@@ -1,8 +1,7 @@
-use Rattle.std.proofs.Common.{◌≡◌, ◌∙◌, not, codes, ap}
+use Rattle.std.proofs.Common.{◌∙◌, not, codes, ap}
 use Rattle.flac_json.specs.Json.{truth}
-use Rattle.flac_cli.specs.Reported.{valued, counted}
-use Rattle.flac_cli.specs.declared.verify.Finding.TheVariants.{Good}
-use Rattle.flac_cli.proofs.Entries.{none_known, one_known, line_of, sent_as}
+use Rattle.flac_report.specs.Objects.{valued, counted}
+use Rattle.flac_cli.proofs.Entries.{none_known, one_known, line_same, sent_as}
 use Rattle.flac_cli.proofs.verify_report.write_good.Goals as goal
 
 pub returns : goal.returns
@@ -16,4 +15,4 @@ returns g c =
     let are = one_known c.text_member.result c.text_member.ensures (one_known c.counted_member.result c.counted_member.ensures (one_known c.counted_member-2.result c.counted_member-2.ensures (one_known c.counted_member-3.result c.counted_member-3.ensures stream)))
     in
     let w = c.write_object.ensures in
-    sent_as g.P.Target c.args.entry.now _ c.write_object.result (line_of c.path_member.result c.path_member.ensures are) w.kept w.known w.sent w.failed
+    sent_as g.P.Target c.args.entry.now _ c.write_object.result (line_same c.path_member.result c.path_member.ensures are) w.kept w.known w.sent w.failed

@@ -5,4 +5,4 @@ use Rattle.flac_edit.proofs.changing.change_from.Goals as goal
 
 pub returns-clause-kept : goal.returns-clause-kept
 returns-clause-kept g c =
-    kept_from c.change_in-outcome.result (lifted c.args.reader.now).cursor c.args.edits.now c.in-Ok.blocks.items c.deref.result.now _ (c.args.reader.now.known ≡ true) c.in-Ok.ensures.read c.deref.ensures.value c.change_in-outcome.ensures.kept c.change_in-outcome.ensures.judged
+    kept_from c.edits_change-outcome.result (lifted c.args.reader.now).cursor c.args.edits.now c.in-Ok.blocks.items c.deref.result.now _ (c.args.reader.now.known ≡ true) c.in-Ok.ensures.read c.deref.ensures.value c.edits_change-outcome.ensures.kept c.edits_change-outcome.ensures.judged

@@ -1,4 +1,4 @@
-use Rattle.std.proofs.Common.{ap, ◌∙◌, nat_lt, false, Result}
+use Rattle.std.proofs.Common.{ap, ◌∙◌, nat_lt, false}
 use Rattle.std.proofs.lemmas.Result.{IfOk-weaker}
 use Rattle.flac_bits.specs.Bits.{bits_of}
 use Rattle.flac_bits.specs.Written.{Written}

@@ -1,6 +1,6 @@
 use Rattle.std.proofs.Common.{◌++◌, ◌∷◌, [], ap, sym}
 use Rattle.flac_cli.proofs.Lined.{adds_then, adds_same}
-use Rattle.flac_cli.proofs.Objects.{escaped_digits}
+use Rattle.flac_json.proofs.Digits.{escaped_digits}
 use Rattle.flac_cli.proofs.lines.Lines.put_quoted_digits.Goals as goal
 
 pub returns : goal.returns
