@@ -6,7 +6,8 @@ usage: conformance/checks/edit.py [--quick] [--seed N]
 Cue sheets of several formats have to give the block that metaflac --import-cuesheet-from gives, and be exported as by metaflac
 --export-cuesheet-to. They differ on purpose in a stream with the format of a CD that is no whole number of frames of 588 samples:
 its sheet is that of no CD here (lead-out 255, lead-in 0, places as numbers of samples), where metaflac keeps lead-out 170 and
-lead-in 88200; and in where a new sheet is put, before comments and padding. Layouts of blocks are those of tag.py. What has to hold
+lead-in 88200; and in where a new sheet is put, before comments and padding. Seek tables have to be those of metaflac
+--add-seekpoint for the same samples, in the place of the old ones. Layouts of blocks are those of tag.py. What has to hold
 of each edit: the file is the marker, the blocks of the model, and the frames byte for byte. Pictures by pnmtopng, pngquant and
 cjpeg have to give the block that metaflac --import-picture-from gives, and come back by metaflac --export-picture-to and `flac
 export`. A file that is refused stays as it was, and the next one is edited. FLAC names the program. Status 1 if anything is wrong.
@@ -27,7 +28,7 @@ import folders  # noqa: F401  (the path of the modules below)
 from program import PROGRAM, Wrong, expect, read
 from tag import COMMENTS, PADDING, blocks_of, content_of, layout, stream_of
 
-PICTURE, APPLICATION, CUESHEET = 6, 2, 5
+PICTURE, APPLICATION, CUESHEET, SEEKTABLE = 6, 2, 5, 3
 NAMES = {1: "padding", 2: "application", 3: "seektable", 4: "vorbis_comment", 5: "cuesheet", 6: "picture"}
 
 
@@ -60,11 +61,12 @@ def is_meant(removal, number, block):
     return name.lower() == NAMES.get(kind, f"type_{kind}")
 
 
-def edited(blocks, removals, pictures, padding, sheets=()):
-    kept = [b for i, b in enumerate(blocks) if i == 0 or not (any(is_meant(r, i, b) for r in removals)
-                                                               or padding is not None and b[0] == PADDING or sheets and b[0] == CUESHEET)]
+def edited(blocks, removals, pictures, padding, sheets=(), tables=None):
+    gone = [PADDING] * (padding is not None) + [CUESHEET] * bool(sheets) + [SEEKTABLE] * (tables is not None)
+    kept = [b for i, b in enumerate(blocks) if i == 0 or not (any(is_meant(r, i, b) for r in removals) or b[0] in gone)]
     at = next((i for i, b in enumerate(kept) if b[0] in (PADDING, COMMENTS)), len(kept))
-    kept = kept[:at] + [(CUESHEET, body) for body in sheets] + [(PICTURE, body) for body in pictures] + kept[at:]
+    new = [(SEEKTABLE, body) for body in tables or ()] + [(CUESHEET, body) for body in sheets] + [(PICTURE, body) for body in pictures]
+    kept = kept[:at] + new + kept[at:]
     return kept + ([(PADDING, bytes(padding))] if padding else [])
 
 
@@ -387,6 +389,81 @@ def cue_sheets(rng, folder, rounds):
     expect(read(path), unknown)
 
 
+# ---- seek tables
+
+def tables_in(path):
+    return [body for kind, body in blocks_of(read(path))[0] if kind == SEEKTABLE]
+
+
+def without_placeholders(body):
+    """The points of a table; metaflac leaves a placeholder in place of a second point of a frame."""
+    points = [body[at:at + 18] for at in range(0, len(body), 18)]
+    return b"".join(point for point in points if point[:8] != b"\xff" * 8)
+
+
+def table_by_metaflac(path, other, every, total):
+    """The seek table that metaflac makes for the samples that are multiples of `every`."""
+    shutil.copyfile(path, other)
+    subprocess.run(["metaflac", "--remove", "--block-type=SEEKTABLE", "--dont-use-padding", other], check=True)
+    if total > 0:
+        subprocess.run(["metaflac", "--dont-use-padding", *(f"--add-seekpoint={k}" for k in range(0, total, every)), other], check=True)
+    return [without_placeholders(body) for body in tables_in(other)]
+
+
+def one_table(rng, folder):
+    """A table takes the place of those that are there; its points are those of metaflac."""
+    path, other, raw = (os.path.join(folder, name) for name in ("points.flac", "points_other.flac", "points.raw"))
+    rate, channels, bits = rng.choice([(8000, 1, 8), (44100, 2, 16), (48000, 3, 16), (96000, 2, 24)])
+    size, total = rng.choice([16, 192, 1152, 4096, 4608]), rng.choice([1, 15, rng.randrange(20000), rng.randrange(100000)])
+    with open(raw, "wb") as file:
+        file.write(b"".join(rng.randbytes(n) + bytes(n) for n in [total * channels * bits // 16 // 10 + 1] * 10)[:total * channels * bits // 8])
+    words = rng.choice([["--no-seektable"], ["-S", "3x"], ["-S", "2s"], ["-S", "5x", "-S", "X"], ["--no-seektable", "--no-padding"]])
+    subprocess.run(["flac", "-s", "-f", "--force-raw-format", "--sign=signed", "--endian=little", f"--channels={channels}", f"--bps={bits}", "--lax",
+                    f"--sample-rate={rate}", "-b", str(size), *words, "-o", path, raw], check=True)
+    every = rng.choice([max(1, total // 300), size, 3 * size + 1, rate, total + 1])
+    every = max(every, total // 1000 + 1)
+    due = table_by_metaflac(path, other, every, total)
+    blocks, frames = blocks_of(read(path))
+    whole = stream_of(edited(blocks, [], [], None, (), due), frames)
+    same = "same" if whole == read(path) else "rewritten"
+    expect(run("edit", "-v", "--seek-every", str(every), path), (0, f"{path}: {same}\n".encode(), b""))
+    expect(read(path), whole)
+    expect(run("edit", "-v", "--seek-every", str(every), path), (0, f"{path}: same\n".encode(), b""))
+    if due:
+        expect(len(due), 1)
+        expect(int.from_bytes(due[0][:8], "big"), 0)
+    return path, frames
+
+
+def seek_tables(rng, folder, rounds):
+    """Tables that are put in and taken out, and streams that are refused."""
+    for number in range(rounds):
+        try:
+            path, frames = one_table(rng, folder)
+        except Wrong as wrong:
+            raise Wrong(f"seek table {number}: {wrong}") from None
+    path = song(folder, (44100, 2, 16, 100000), "points.flac")
+    subprocess.run(["metaflac", "--remove", "--block-type=SEEKTABLE", "--dont-use-padding", path], check=True)
+    expect(run("edit", "--seek-every", "44100", "--padding", "7", "--remove-block", "padding", path), (0, b"", b""))
+    blocks, frames = blocks_of(read(path))
+    expect([kind for kind, _ in blocks], [0, 3, 4, 1])
+    expect(len(tables_in(path)[0]), 3 * 18)
+    expect(run("edit", "-v", "--seek-every", "0", path), (0, f"{path}: rewritten\n".encode(), b""))
+    without = [block for block in blocks if block[0] != SEEKTABLE]
+    expect(read(path), stream_of(without, frames))
+    # a damaged stream is refused by the line of `test`, and stays as it was
+    whole = read(path)
+    for data in (whole[:-1], whole + b"\0", whole[:-3] + bytes([whole[-3] ^ 1]) + whole[-2:], whole[:len(whole) - len(frames)] + frames[9:]):
+        with open(path, "wb") as file:
+            file.write(data)
+        status, out, line = run("test", "--lax", path)
+        expect((status, out), (1, b""))
+        expect(run("edit", "-v", "--seek-every", "9", path), (1, b"", line))
+        expect(read(path), data)
+    for word in ("", "-1", "x", "4294967296"):
+        expect(run("edit", "--seek-every", word, path)[0], 2)
+
+
 # ---- words and files
 
 def fixed(folder, info, frames):
@@ -417,7 +494,7 @@ def fixed(folder, info, frames):
         expect(run("edit", f"--remove-block={word}", path), (2, b"", name))
     for word in ("21:cover.png", "4294967295:x", "3:image/png:64x64:cover.png", "3:image/png:64x64x/2:cover.png"):
         expect(run("edit", "--picture", word, path), (2, b"", b"flac: command: --picture takes [TYPE:]FILE or TYPE:MEDIA:WIDTHxHEIGHTxDEPTH:FILE, the type 0 to 20\n"))
-    expect(run("edit", path), (2, b"", b"flac: command: edit needs --remove-block, --picture, --cuesheet or --padding\n"))
+    expect(run("edit", path), (2, b"", b"flac: command: edit needs --remove-block, --picture, --cuesheet, --seek-every or --padding\n"))
     expect(run("edit", "--padding", "1")[0], 2)
     expect(run("edit", "--padding", "x", path)[0], 2)
     expect(read(path), stream)
@@ -458,7 +535,7 @@ def fixed(folder, info, frames):
     absent = os.path.join(folder, "absent")
     status, out, err = run("edit", "-v", "--remove-block", "padding", good, wave, ogg, cut, folder, absent, other)
     expect((status, out), (1, f"{good}: rewritten\n{other}: rewritten\n".encode()))
-    lines = [f"flac: {wave}: marker: 4 BadMarker", f"flac: {ogg}: cannot be edited: it is an Ogg stream", f"flac: {cut}: block 2: 3 Truncated",
+    lines = [f"flac: {wave}: marker: 4 BadMarker", f"flac: {ogg}: page 0: 32 PageCheck", f"flac: {cut}: block 2: 3 Truncated",
              f"flac: {folder}: cannot be opened", f"flac: {absent}: cannot be opened"]
     expect(err.decode().splitlines(), lines)
     for path, data in ((wave, b"RIFF\x04\0\0\0WAVE"), (ogg, b"OggS" + bytes(60)), (cut, stream[:70])):
@@ -508,6 +585,9 @@ def exports(put, folder, stream, blocks):
     wave = put("b.wav", b"RIFF\x04\0\0\0WAVE")
     expect(run("export", wave, "tags", "-"), (1, b"", f"flac: {wave}: marker: 4 BadMarker\n".encode()))
     expect(run("export", folder, "tags", "-"), (1, b"", f"flac: {folder}: marker: 1 Read\n".encode()))
+    ogg = put("exported.oga", b"OggS" + bytes(60))
+    expect(run("export", ogg, "tags", out + "2"), (1, b"", f"flac: {ogg}: page 0: 32 PageCheck\n".encode()))
+    expect(os.path.exists(out + "2"), False)
     expect(run("export", path, "tags", "/dev/full"), (1, b"", b"flac: /dev/full: 39 Write\n"))
 
 
@@ -528,12 +608,13 @@ def main():
         fixed(folder, blocks[0][1], frames)
         count = pictures(folder, read(path))
         cue_sheets(rng, folder, rounds // 2)
+        seek_tables(rng, folder, rounds // 2)
         for number in range(rounds):
             try:
                 one(rng, folder, blocks[0][1], frames, number)
             except Wrong as wrong:
                 raise Wrong(f"layout {number}: {wrong}") from None
-    print(f"edit: {rounds} layouts, {count} pictures, {rounds // 2} cue sheets, words, files and exports are right")
+    print(f"edit: {rounds} layouts, {count} pictures, {rounds // 2} cue sheets and seek tables, words, files and exports are right")
 
 
 if __name__ == "__main__":

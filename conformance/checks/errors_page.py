@@ -2,7 +2,7 @@
 """Compares docs/errors.md with the errors in the sources. usage: conformance/checks/errors_page.py
 
 The page has to list each number once, with the name that the sources give it. The numbers are those of `Why`
-(flac_bits), `SetupFault` (flac_frame), `EncodeFault` (flac_native), `WaveWhy` (flac_wave), of `flac_draft`, and of the program (flac_cli, flac_jobs, flac_words). The status is 1 if
+(flac_bits), `SetupFault` (flac_frame), `EncodeFault` (flac_native), `WaveWhy` (flac_wave), of `flac_draft` and `flac_raw`, and of the program (flac_cli, flac_jobs, flac_words). The status is 1 if
 something differs."""
 import pathlib
 import re
@@ -54,10 +54,11 @@ def numbered():
 
 
 def own():
-    """What the program and `flac_draft` add: texts `NUMBER NAME` in its sources, also after a place."""
+    """What the program, `flac_draft` and `flac_raw` add: texts `NUMBER NAME` in its sources, also after a place."""
     found = []
     paths = [*sorted((CRATES / "flac_cli" / "src").glob("*.rt")), *sorted((CRATES / "flac_words" / "src").rglob("*.rt"))]
-    for path in [*paths, CRATES / "flac_jobs" / "src" / "line_faults.rt", CRATES / "flac_draft" / "src" / "draft_fault.rt"]:
+    for path in [*paths, CRATES / "flac_jobs" / "src" / "line_faults.rt", CRATES / "flac_draft" / "src" / "draft_fault.rt",
+                 CRATES / "flac_raw" / "src" / "raw_fault.rt"]:
         found += re.findall(r'"(?:[^"]*: )?(\d+) (\w+)(?:\\n)?"', source(path.relative_to(CRATES)))
     if not found:
         raise SystemExit("errors_page: flac_cli has no number of its own")

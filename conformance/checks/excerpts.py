@@ -338,8 +338,7 @@ class Long:
             os.remove("part.raw")
         words = ["--from", str(first), *(["--to", str(last)] if last is not None else [])]
         expect(call("decode", "--lax", *words, name, "part.raw"), (1, b"", f"flac: {name}: {line}\n".encode()))
-        # without a sample there is no file
-        expect(read("part.raw") if os.path.exists("part.raw") else None, due or None)
+        expect(read("part.raw"), due)
         self.runs.refused += 1
 
     def damage(self, tries):

@@ -255,10 +255,17 @@ def place_of(job, call, taken):
     return "marker" if taken <= (1 if layout.ogg else 0) else layout.item_at(taken - 1)
 
 
+def in_passes(job):
+    """Whether it is an encoding in two passes, whose first bytes are written last: what it wrote is no stream, and is not kept."""
+    return job.kind == "encode" and "--rate" in job.words and "--ogg" not in job.words
+
+
 def files_are_right(job, ran, due, line):
-    """OUT keeps its bytes, and what was written is beside it, and begins what is due."""
+    """OUT keeps its bytes, and what was written is beside it, and begins what is due; but of an encoding in two passes nothing is left."""
     written = ran.at["exit"]["written"]
     expect(ran.file, BEFORE)
+    if in_passes(job) and not line.endswith(("stored", "replaced")):
+        return expect((ran.part, ran.printed), (None, b""))
     expect(ran.part, due.file[:written] if job.writes and written else None)
     expect(ran.printed, b"" if job.writes else due.printed[:written])
     if job.kind in ("encode", "retag") and line.endswith(("Memory", "created")) and written:

@@ -218,10 +218,10 @@ def given(place, source, how):
 
 
 def not_raw(place, words, source, how):
-    """Refused, and nothing is written: a new OUT is not there, one with bytes stays."""
+    """Refused, and nothing is written: a new OUT is empty, one with bytes stays."""
     path, more = given(place, source, how)
     place.refused(words, {"IN": path, "OUT": place.path("out")}, f"{path}: 56 NotRaw", **more)
-    expect(os.path.exists(place.path("out")), False)
+    expect(read(place.path("out")), b"")
     place.refused(words, {"IN": path, "OUT": place.put("out", BEFORE)}, f"{path}: 56 NotRaw", **more)
     expect((read(place.path("out")), os.path.exists(place.path("out.part"))), (BEFORE, False))
 
@@ -312,7 +312,7 @@ def whole_cases(library):
     for number, (name, words, source, line) in enumerate(lacks):
         for old in (None, b"", BEFORE):
             what = "new" if old is None else "replaced" if old else "empty"
-            yield f"{name} of input {number} is refused, OUT is {what}", lambda p, w=words, s=source, t=line, o=old: not_made(p, w, s, t, o)
+            yield f"{name} of input {number} is refused, OUT is {what}", lambda p, w=words, s=source, t=line, o=old: not_made(p, w, s, t, o, o)
     for name, words in WHOLE:
         for old in (None, b"", BEFORE):
             what = "new" if old is None else "replaced" if old else "empty"
@@ -359,10 +359,12 @@ NOTHING = [("decode", DECODE, b"no stream", "marker: 4 BadMarker"), ("decode --w
 
 
 def nothing_cases():
-    """Of a job that wrote nothing no new OUT stays; a file that was there stays, and so does a link, whatever it leads to."""
+    """A new OUT to which a job of a WAV file wrote nothing is removed; one of another job stays, empty, and so does a file that was there, and a link,
+    whatever it leads to."""
     for name, words, source, line in NOTHING:
-        yield f"{name}: nothing is written to a new OUT", lambda p, w=words, s=source, t=line: not_made(p, w, s, t, None)
-        yield f"{name}: nothing is written to an empty OUT", lambda p, w=words, s=source, t=line: not_made(p, w, s, t, b"")
+        new = None if is_of_wave(words) else b""
+        yield f"{name}: nothing is written to a new OUT", lambda p, w=words, s=source, t=line, n=new: not_made(p, w, s, t, None, n)
+        yield f"{name}: nothing is written to an empty OUT", lambda p, w=words, s=source, t=line: not_made(p, w, s, t, b"", b"")
         yield f"{name}: nothing is written to a link to an empty file", lambda p, w=words, s=source: link_stays(p, w, s)
         yield f"{name}: nothing is written to a pipe", lambda p, w=words, s=source: pipe_stays(p, w, s)
     yield "decode: what was written to a new OUT stays", lambda p: part_stays(p)
@@ -489,14 +491,18 @@ def answer_of(data):
     return model.answer(data, model.LAX)
 
 
-def not_made(place, words, source, line, old):
+def is_of_wave(words):
+    return words in (DECODE_WAVE, ["encode", "IN", "OUT"], ["encode", "IN", "OUT", "--ogg"])
+
+
+def not_made(place, words, source, line, old, due):
     names = names_of(place, source, old)
     status, out, error = place.call(words, names)
     expect((status, out, error.startswith(f"flac: {names['IN']}: ")), (1, b"", True))
     if line is not None:
         expect(error, f"flac: {names['IN']}: {line}\n")
-    expect(set(os.listdir(place.folder)), {"in"} | ({"out"} if old is not None else set()))
-    expect(read(names["OUT"]) if old is not None else None, old)
+    expect(set(os.listdir(place.folder)), {"in"} | ({"out"} if due is not None else set()))
+    expect(read(names["OUT"]) if due is not None else None, due)
 
 
 def made_whole(place, words, old, name="out"):

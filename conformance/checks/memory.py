@@ -231,7 +231,7 @@ class Meter:
         return done.returncode, int(lines["exit"]["peak"])
 
     def wave(self, folder, form, seconds, chunk, piped):
-        """The status of encoding a WAV file and the raw samples, both peaks, and how many bytes the samples have in the file."""
+        """The status of encoding a WAV file and the raw samples through a pipe, both peaks, and how many bytes the samples have in the file."""
         (plain, one), raw, file = second_of(**form), os.path.join(folder, "x.raw"), os.path.join(folder, "x.wav")
         piece = b"JUNK" + struct.pack("<I", len(chunk)) + chunk if chunk else b""
         with open(raw, "wb") as to_raw, open(file, "wb") as to_wave:
@@ -241,7 +241,7 @@ class Meter:
                 to_wave.write(one)
             to_wave.write(piece)
         words = ["--rate", str(form["rate"]), "--channels", str(form["channels"]), "--bits", str(form["valid"])]
-        raw_status, least = self.encoding(raw, [*words, "--search", "quick"], False)
+        raw_status, least = self.encoding(raw, [*words, "--search", "quick"], True)
         status, most = self.encoding(file, [], piped)
         return raw_status or status, least, most, len(one) * seconds
 

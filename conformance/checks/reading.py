@@ -61,18 +61,15 @@ def list_before_fault(data, bench, profile=SUBSET):
 
 
 def decode_before_fault(data, bench, profile=SUBSET):
-    """`decode` writes no sample of the frame that is refused or of later ones. After a refusal OUT is there if it has some."""
+    """`decode` writes no sample of the frame that is refused or of later ones. OUT is there, though it may be empty."""
     path, out, reader = bench.put(data), bench.path(".raw"), model.reader_of(data, profile)
     status, _, err = program.call("decode", *profile.words, path, out)
     expect_ending(path, status, err, reader)
-    is_there, due = os.path.exists(out), b"".join(reader.raw)
-    found = read(out) if is_there else b""
+    found, due = read(out), b"".join(reader.raw)
     if not due.startswith(found) or (status == 0 and found != due):
         raise Wrong(f"'decode' writes {found[:40].hex()}, the model {due[:40].hex()}")
-    expect(is_there, status == 0 or found != b"")
     os.remove(path)
-    if is_there:
-        os.remove(out)
+    os.remove(out)
 
 
 def difference_case(data, due, bench, profile=SUBSET):

@@ -83,13 +83,14 @@ def is_named(name, comment):
 
 
 def edited(comments, words):
-    """The comments after --clear, --from, --remove, --set, --add, in this order."""
+    """The comments after --clear, --from, --remove, --set, --set-file, --add, in this order."""
     comments = [] if words["clear"] else list(comments)
     comments = comments if words.get("from") is None else list(words["from"])
-    for name in words["remove"]:
-        comments = [c for c in comments if not is_named(name, c)]
+    for word in words["remove"]:
+        name, pair, value = word.partition(b"=")
+        comments = [c for c in comments if not (is_named(name, c) and (not pair or c.partition(b"=")[2] == value))]
     done = []
-    for new in words["set"]:
+    for new in words["set"] + words.get("set-file", []):
         name = new.partition(b"=")[0]
         if name.upper() in done:
             comments.append(new)
@@ -169,14 +170,16 @@ def layout(rng, info):
 
 
 def words_of(rng):
-    words = {"clear": rng.random() < 0.15, "from": None, "remove": [], "set": [], "add": []}
+    words = {"clear": rng.random() < 0.15, "from": None, "remove": [], "set": [], "set-file": [], "add": []}
     if rng.random() < 0.2:
         words["from"] = [comment(rng) for _ in range(rng.randrange(4))]
     for _ in range(rng.randrange(1, 4)):
-        kind = rng.choice(["remove", "set", "set", "add"])
+        kind = rng.choice(["remove", "remove", "set", "set", "set-file", "add"])
         name = rng.choice(NAMES)
         name = name.lower() if rng.random() < 0.3 else name
-        words[kind].append(name if kind == "remove" else name + b"=" + b"v" * rng.choice([0, 1, 7, 60, 500]))
+        bare = kind == "remove" and rng.random() < 0.6
+        value = rng.randbytes(rng.choice([0, 3, 300])) if kind == "set-file" else b"v" * rng.choice([0, 1, 7, 60, 500])
+        words[kind].append(name if bare else name + b"=" + value)
     return words
 
 
@@ -192,6 +195,11 @@ def given(words, lines=None):
         with open(lines, "wb") as file:
             file.write(b"".join(escaped(text) + b"\n" for text in words["from"]))
         found += ["--from", lines]
+    for number, word in enumerate(words.get("set-file", [])):
+        name, _, value = word.partition(b"=")
+        with open(f"{lines}.{number}", "wb") as file:
+            file.write(value)
+        found += ["--set-file", f"{name.decode()}={lines}.{number}"]
     for kind in ("add", "set", "remove"):
         for word in words[kind]:
             found += [f"--{kind}", word.decode()]
@@ -241,6 +249,13 @@ def one(rng, folder, info, frames, number):
         due = edited(comments, words)
         lines, times = os.path.join(folder, "lines.txt"), rng.choice([[], ["--keep-times"]])
         before = os.stat(path).st_mtime_ns
+        if rng.random() < 0.2:
+            other = os.path.join(folder, "other.flac")
+            expect(run("tag", *given(words, lines), "--out", other, path), (0, b"", b""))
+            expect((read(path), os.path.exists(other + ".part")), (old, False))
+            judge(old, read(other), words, False)
+            expect(run("tag", *given(words, lines), "--out", "-", path), (0, read(other), b""))
+            os.remove(other)
         status, out, err = run("tag", "-v", *times, *given(words, lines), path)
         new = read(path)
         if times or new == old:
@@ -256,8 +271,8 @@ def one(rng, folder, info, frames, number):
         if what == "flipped":
             expect(os.stat(path).st_ino, node)
         node = os.stat(path).st_ino
-        if not words["add"] and not (set(n.upper() for n in words["remove"]) & set(s.partition(b"=")[0].upper() for s in words["set"])) \
-                and len(words["set"]) == len(set(s.partition(b"=")[0].upper() for s in words["set"])):
+        puts = [s.partition(b"=")[0].upper() for s in words["set"] + words["set-file"]]
+        if not words["add"] and not (set(n.partition(b"=")[0].upper() for n in words["remove"]) & set(puts)) and len(puts) == len(set(puts)):
             expect(run("tag", "-v", *given(words, lines), path), (0, f"{path}: same\n".encode(), b""))
             expect(read(path), new)
         old = new
@@ -317,13 +332,25 @@ def fixed(folder, info, frames):
         judge(roomy, read(path), {**none, "set": [b"TITLE=b"]}, False, padding)
         expect(stat.S_IMODE(os.stat(path).st_mode), 0o640)
     expect(run("tag", "--in-place", "--rewrite", "--set", "A=b", path), (2, b"", b"flac: command: --in-place with --rewrite\n"))
+    other, wave, absent = os.path.join(folder, "other.flac"), put("a.wav", b"RIFF\x04\0\0\0WAVE"), os.path.join(folder, "absent")
+    for words, text in ((["--in-place"], "--in-place with --out"), (["--keep-times"], "--keep-times with --out"), ([path], "--out with several files")):
+        expect(run("tag", *words, "--set", "A=b", "--out", other, path), (2, b"", f"flac: command: {text}\n".encode()))
+    for out in (path, wave):
+        before, stream = read(out), read(path)
+        status, text, err = run("tag", "--set", "A=b", "--out", out, path)
+        expect((status, text, err.startswith(f"flac: {out}: cannot be created".encode()), err.count(b"\n")), (1, b"", True, 1))
+        expect((read(out), read(path)), (before, stream))
+    expect(run("tag", "--set-file", f"A={absent}", path), (1, b"", f"flac: {absent}: cannot be opened\n".encode()))
+    expect(run("tag", "--set-file", f"A={absent}", "--out", other, path)[0], 1)
+    expect(run("tag", "--set", "A=b", "--out", other, wave), (1, b"", f"flac: {wave}: marker: 4 BadMarker\n".encode()))
+    expect(os.path.exists(other), False)
     path = put("long.flac", roomy)
     refused(path, "7 BlockLength", "--rewrite", "--padding", "16777216")
 
     # words
-    for words in (["--remove", ""], ["--remove", "a=b"], ["--set", "=b"], ["--add", "\x7f=b"], ["--set", "\u00e9=b"], ["--remove", "a\tb"]):
+    for words in (["--remove", ""], ["--remove", "=b"], ["--set", "=b"], ["--add", "\x7f=b"], ["--set", "\u00e9=b"], ["--remove", "a\tb"]):
         expect(run("tag", *words, path), (2, b"", b"flac: command: 55 FieldName\n"))
-    for words in (["--set", "TITLE"], ["--add", ""]):
+    for words in (["--set", "TITLE"], ["--add", ""], ["--set-file", "TITLE"]):
         expect(run("tag", *words, path), (2, b"", b"flac: command: comment without =\n"))
     expect(read(path), roomy)
     for words in ([], ["-v"], ["--in-place"], ["--padding", "8192"]):
@@ -360,7 +387,7 @@ def fixed(folder, info, frames):
     bad, ogg, cut = put("bad.flac", b"RIFFxxxx"), put("song.oga", b"OggS" + bytes(60)), put("cut.flac", roomy[:70])
     status, out, err = run("tag", "-v", "--set", "TITLE=new", good, bad, ogg, cut, folder, os.path.join(folder, "absent"), other)
     expect((status, out), (1, f"{good}: flipped\n{other}: flipped\n".encode()))
-    lines = [f"flac: {bad}: marker: 4 BadMarker", f"flac: {ogg}: cannot be tagged: it is an Ogg stream", f"flac: {cut}: block 1: 3 Truncated",
+    lines = [f"flac: {bad}: marker: 4 BadMarker", f"flac: {ogg}: page 0: 32 PageCheck", f"flac: {cut}: block 1: 3 Truncated",
              f"flac: {folder}: cannot be opened", f"flac: {os.path.join(folder, 'absent')}: cannot be opened"]
     expect(err.decode().splitlines(), lines)
     for path, data in ((bad, b"RIFFxxxx"), (ogg, b"OggS" + bytes(60)), (cut, roomy[:70])):

@@ -8,9 +8,10 @@ The made files have names; N more are generated (default 500, with --quick 100, 
 the rules, file K from the seed K. Which file is refused, at which chunk and for which reason, is told by `wave_files.judge`. Of the made
 files, and of every tenth generated one, also: `flac -t` of the reference accepts our streams; if `flac --keep-foreign-metadata` makes a
 stream of which `flac -d --keep-foreign-metadata` makes the same file, it does so of our stream too; and we make the same file of each
-stream of the reference. Of some made files each block that keeps a piece is removed in turn. With `--to-end` files that are cut inside their samples, or state none though they are there, come back as they are,
-made ones and every fifth generated one. What the program cannot do yet is said in a line each, and skipped. FLAC names the program, JOBS how many
-processes run at once. Status 1 if an answer is not the one that is due.
+stream of the reference. Of some made files each block that keeps a piece is removed in turn. With `--to-end` files that are cut inside
+their samples, or state none though they are there, come back as they are, made ones and every fifth generated one. What the program
+cannot do yet is said in a line each, and skipped. FLAC names the program, JOBS how many processes run at once. Status 1 if an answer is
+not the one that is due.
 """
 import argparse
 import itertools
