@@ -1,5 +1,5 @@
 -- Fields that are held.
-use Rattle.std.proofs.Common.{◌≡◌, ℕ, zero, suc, ◌+◌, ◌*◌, ◌^◌, ◌<◌, ◌≤◌, Bool, nat_eq, List, [], ◌∷◌, ◌++◌, length, Some, Ok, Err, refl, sym, ap, ◌∙◌, arith, append_assoc}
+use Rattle.std.proofs.Common.{◌≡◌, ℕ, zero, suc, ◌+◌, ◌-◌, ◌*◌, ◌^◌, ◌<◌, ◌≤◌, Bool, false, nat_eq, List, [], ◌∷◌, ◌++◌, length, replicate, Some, Ok, Err, refl, sym, ap, ◌∙◌, arith, append_assoc}
 use Rattle.std.proofs.lemmas.List.{length-append}
 use Rattle.flac_bits.specs.Bits.{unsigned, bits_of}
 use Rattle.flac_bits.specs.State.{Mark, Cursor, step, past, with_short}
@@ -7,9 +7,9 @@ use Rattle.flac_bits.specs.declared.why.Why.{Why}
 use Rattle.flac_bits.specs.Store.{Store}
 use Rattle.flac_bits.specs.inner.Store.{Takes}
 use Rattle.flac_bits.specs.Meaning.{unary_bits}
-use Rattle.flac_bits.specs.Layout.{next_bit, number_at, zeros_at, run}
+use Rattle.flac_bits.specs.Layout.{next_bit, number_at, zeros_at, zeros_from, run}
 use Rattle.flac_bits.specs.Rice.{rice}
-use Rattle.flac_bits.proofs.Readings.{number_again, zeros_again, past-append}
+use Rattle.flac_bits.proofs.Readings.{at_, number_again, zeros_again, past-append}
 
 -- the state of a store and the bits after it
 abbrev pub cursor_of : Why → Store → List Bool → Cursor
@@ -34,6 +34,23 @@ taken_spends text old new takes =
 pub unary_read : (limit q : ℕ) (why : Why) (old new : Store) (rest : List Bool) → q ≤ limit → Takes (unary_bits q) old new → zeros_at limit (cursor_of why old rest) ≡ Ok (Some q, cursor_of why new rest)
 unary_read limit q why old new rest le takes =
     rw (left_is (unary_bits q) old new rest takes, takes.2, ← past-with_short (unary_bits q) why old.mark) (zeros_again limit (Some q) (unary_bits q ++ ((new.word ++ bits_of new.bytes) ++ rest)) ((new.word ++ bits_of new.bytes) ++ rest) (with_short why old.mark) (le, refl))
+
+-- zeros that are passed over
+zeros_skip : (q room count : ℕ) (left : List Bool) (m : Mark) → q ≤ room
+    → zeros_from room count (at_ (replicate q false ++ left) m) ≡ zeros_from (room - q) (count + q) (at_ left (past (replicate q false) m))
+unfolding zeros_from next_bit
+zeros_skip zero room count left m le = let e : room - 0 ≡ room = omega arith in let k : count + 0 ≡ count = omega arith in rw (e, k) refl
+zeros_skip (suc q) zero count left m le = absurd (omega (arith, le))
+zeros_skip (suc q) (suc room) count left m le =
+    let e : suc room - suc q ≡ room - q = omega arith in
+    let k : count + suc q ≡ count + 1 + q = omega arith in
+    rw (e, k) (zeros_skip q room (count + 1) left (step false m) (omega (arith, le)))
+
+pub skip_read : (q room count : ℕ) (why : Why) (old new : Store) (rest : List Bool) → q ≤ room → Takes (replicate q false) old new
+    → zeros_from room count (cursor_of why old rest) ≡ zeros_from (room - q) (count + q) (cursor_of why new rest)
+skip_read q room count why old new rest le takes =
+    rw (left_is (replicate q false) old new rest takes, takes.2, ← past-with_short (replicate q false) why old.mark)
+    (zeros_skip q room count ((new.word ++ bits_of new.bytes) ++ rest) (with_short why old.mark) le)
 
 -- one bit
 bit_of : (v : ℕ) → v < 2 ^ 1 → unsigned 1 v ≡ nat_eq v 1 ∷ []

@@ -9,7 +9,7 @@ use Rattle.flac_bits.specs.Meaning.{Spells, IsCut}
 use Rattle.flac_bits.specs.Number.{lead_form, continued, some_or_bad, number}
 use Rattle.flac_bits.specs.Rice.{within, rice, rice_value}
 use Rattle.flac_bits.specs.Reading.{HeldEnds}
-use Rattle.flac_bits.specs.inner.Reading.{Draws}
+use Rattle.flac_bits.specs.inner.Reading.{Draws, SkippedZeros}
 use Rattle.flac_bits.specs.declared.why.Why.{Why}
 use Rattle.flac_bits.specs.declared.why.Why.TheVariants.{Read, BadNumber}
 use Rattle.flac_bits.proofs.Coming.{take_over}
@@ -148,6 +148,17 @@ pub zeros_more : (i : ℕ) (b : Bool) (old now next : State) → (old.known ≡ 
 zeros_more i b old now next known z is held reads = record {
   held = omega (arith, z.held, held);
   zeros = λ k. z.zeros k ∙ zeros_left i now.cursor.left next.cursor.left (bit_left now.cursor.left now.cursor.mark b next.cursor (reads (known k)) ∙ ap (λ x. x ∷ next.cursor.left) is);
+}
+
+both_zeros : (n m : ℕ) → replicate n false ++ replicate m false ≡ replicate (n + m) false
+both_zeros zero m = let e : 0 + m ≡ m = omega arith in rw e refl
+both_zeros (suc n) m = let e : suc n + m ≡ suc (n + m) = omega arith in rw e (ap (λ bs. false ∷ bs) (both_zeros n m))
+
+pub zeros_past : (i q : ℕ) (old now next : State) → Zeros i old now → SkippedZeros q now next → Zeros (i + q) old next
+zeros_past i q old now next z skipped = record {
+  held = omega (arith, z.held, skipped.0);
+  zeros = λ k. z.zeros k ∙ ap (λ bs. replicate i false ++ bs) skipped.3
+      ∙ sym (append_assoc (replicate i false) (replicate q false) next.cursor.left) ∙ ap (λ bs. bs ++ next.cursor.left) (both_zeros i q);
 }
 
 -- the next bit is not held

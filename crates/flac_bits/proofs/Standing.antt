@@ -1,17 +1,17 @@
 -- The state of a reader, by what it holds and the source that fills it.
-use Rattle.std.proofs.Common.{◌≡◌, ℕ, ℤ, take, zero, suc, ◌+◌, ◌-◌, ◌*◌, ◌^◌, ◌<◌, ◌≤◌, Bool, false, List, [], ◌∷◌, ◌++◌, length, Option, Some, None, Ok, IfSome, refl, sym, ap, ◌∙◌, arith}
+use Rattle.std.proofs.Common.{◌≡◌, ℕ, ℤ, take, zero, suc, ◌+◌, ◌-◌, ◌*◌, ◌^◌, ◌<◌, ◌≤◌, Bool, false, List, [], ◌∷◌, ◌++◌, length, replicate, Option, Some, None, Ok, IfSome, refl, sym, ap, ◌∙◌, arith}
 use Rattle.std.specs.Borrow.{GName}
 use Rattle.std.proofs.Math.Dec.{leb-zero}
 use Rattle.std.proofs.lemmas.Bool.Decides.{nat_tests}
 use Rattle.std.specs.Prelude.{nat_le}
-use Rattle.std.proofs.lemmas.List.{length-append}
+use Rattle.std.proofs.lemmas.List.{length-append, length-replicate}
 use Rattle.flac_bits.specs.Bits.{unsigned, bits_of}
 use Rattle.flac_bits.specs.State.{State, After, short_of}
 use Rattle.flac_bits.specs.Layout.{number_at, zeros_at, run, and_then}
 use Rattle.flac_bits.specs.Lists.{list_of, after as put_after}
 use Rattle.flac_bits.specs.inner.Stretches.{IsRead}
 use Rattle.flac_bits.specs.Reading.{HeldEnds}
-use Rattle.flac_bits.specs.inner.Reading.{Draws, SameSource}
+use Rattle.flac_bits.specs.inner.Reading.{Draws, SameSource, SkippedZeros}
 use Rattle.flac_bits.proofs.Stretches.{stretch_read, stretch_ends}
 use Rattle.flac_bits.specs.Meaning.{unary_bits}
 use Rattle.flac_bits.specs.Rice.{rice, rice_value}
@@ -21,7 +21,7 @@ use Rattle.flac_bits.specs.declared.why.Why.{Why}
 use Rattle.flac_bits.specs.declared.why.Why.TheVariants.{Read, Truncated, FrameTooLong}
 use Rattle.flac_bits.proofs.Words.{length-unsigned}
 use Rattle.flac_bits.proofs.Holding.{length-bits_of, bits_of-append}
-use Rattle.flac_bits.proofs.Fields.{taken_read, taken_spends, unary_read, rice_read}
+use Rattle.flac_bits.proofs.Fields.{taken_read, taken_spends, unary_read, rice_read, left_is, skip_read}
 
 module _ (known : Bool) (errors raised most : ℕ) (after : After) (names : List GName) (coming : List ℕ) (old new : Store) (s : State) (is : state_of known errors raised most after names coming old ≡ s) where
   abbrev t : State
@@ -39,6 +39,17 @@ module _ (known : Bool) (errors raised most : ℕ) (after : After) (names : List
   zeros_took limit (Some q) (le, takes) =
       let spent = taken_spends (unary_bits q) old new takes in
       rw (← is, takes.3) (le, omega (arith, spent), (refl, refl, refl, refl, refl), unary_read limit q _ old new _ le takes)
+
+  pub zeros_skipped : (q : ℕ) → Takes (replicate q false) old new → SkippedZeros q s t
+  zeros_skipped q takes =
+      let spent = taken_spends (replicate q false) old new takes in
+      rw (← is, takes.3) (
+        omega (arith, spent, length-replicate q false),
+        omega (arith, spent),
+        (refl, refl, refl, refl, refl),
+        left_is (replicate q false) old new _ takes,
+        λ room count le. skip_read q room count _ old new _ le takes,
+      )
 
   pub rice_took : (k limit : ℕ) (o : Option ℕ) → IfSome o (λ v. (q : ℕ) × (low : ℕ) × (q ≤ limit) × (low < 2 ^ k) × (v ≡ q * 2 ^ k + low) × Takes (unary_bits q ++ unsigned k low) old new)
       → IfSome o (λ v. (t.most ≤ s.most) × SameSource s t × (run (rice k limit) s.cursor ≡ Ok (v, t.cursor)))

@@ -5,9 +5,9 @@ use Rattle.std.proofs.Math.Nat.{pow-suc, pow-le-pow_right}
 use Rattle.flac_bits.specs.Bits.{bit_value}
 use Rattle.flac_bits.specs.State.{State, Cursor}
 use Rattle.flac_bits.specs.Layout.{next_bit, number_at, number_from, zeros_from, and_then, Reason}
-use Rattle.flac_bits.specs.inner.Reading.{Goes}
+use Rattle.flac_bits.specs.inner.Reading.{Goes, SkippedZeros}
 use Rattle.flac_bits.proofs.Counting.{Answered}
-use Rattle.flac_bits.proofs.Loops.{number_more, number_halves, zeros_more, zeros_last, goes_on}
+use Rattle.flac_bits.proofs.Loops.{number_more, number_halves, zeros_more, zeros_last, goes_on, goes_same}
 
 bit_is : (b : Bool) → bit_value b ≡ bool_byte b
 bit_is false = refl
@@ -85,6 +85,15 @@ pub zeros_turn : (limit i : ℕ) (b : Bool) (old now next : State) → i < limit
 zeros_turn limit i b old now next lt is goes counts reads =
     goes_on old now next (next_bit now.cursor) b (after_zeros limit i) _ _ _
     goes (zeros_more limit i i now.cursor lt) (ap (λ x. after_zeros limit i x next.cursor) is) counts reads
+
+pub zeros_past : (limit i q : ℕ) (old now next : State) → i + q ≤ limit → SkippedZeros q now next
+    → Goes old now (zeros_from (limit - i) i now.cursor) (zeros_from limit 0 old.cursor)
+    → Goes old next (zeros_from (limit - (i + q)) (i + q) next.cursor) (zeros_from limit 0 old.cursor)
+zeros_past limit i q old now next le skipped goes =
+    let same = skipped.2 in
+    let e : limit - i - q ≡ limit - (i + q) = omega arith in
+    goes_same old now next _ _ _ goes same.0 same.1 same.2 same.3 same.4
+    (skipped.4 (limit - i) i (omega (arith, le)) ∙ ap (λ k. zeros_from k (i + q) next.cursor) e)
 
 pub zeros_cut : (limit i : ℕ) (e : Reason) (old now : State) → i < limit
     → Goes old now (zeros_from (limit - i) i now.cursor) (zeros_from limit 0 old.cursor) → old.known ≡ true

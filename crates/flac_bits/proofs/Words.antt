@@ -1,5 +1,5 @@
 -- Bits held in a word.
-use Rattle.std.proofs.Common.{◌≡◌, ℕ, zero, suc, ◌+◌, ◌-◌, ◌*◌, ◌/◌, ◌%◌, ◌^◌, ◌<◌, ◌≤◌, false, nat_eq, ◌∷◌, ◌++◌, length, bit_and, bit_or, refl, sym, ap, ◌∙◌, arith}
+use Rattle.std.proofs.Common.{◌≡◌, ℕ, zero, suc, ◌+◌, ◌-◌, ◌*◌, ◌/◌, ◌%◌, ◌^◌, ◌<◌, ◌≤◌, false, nat_eq, ◌∷◌, ◌++◌, length, replicate, bit_and, bit_or, refl, sym, ap, ◌∙◌, arith}
 use Rattle.std.specs.Int.{bit_at}
 use Rattle.std.proofs.lemmas.Nat.{pow_pos, pow-add, shl-shr, shr-shr, shr_split, mod-pow-add, field_of, shl_below, shr_below, shl_whole, shr_high, mod_low, or_shr, or_lt, le_or_l, le_or_r, mod_below, mul-add-lt, mul-mod_first}
 use Rattle.std.proofs.lemmas.Nat.Bits.{shr_and_one, bit_at-suc, bit_at-zero}
@@ -154,6 +154,13 @@ one_bits zero = refl
 one_bits (suc z) =
     let top : bit_at 1 (suc z) ≡ 0 = bit_at-suc 1 z ∙ bit_at-zero z in
     rw top (ap (λ bs. false ∷ bs) (one_bits z))
+
+-- zero is zeros
+pub zero_bits : (n : ℕ) → unsigned n 0 ≡ replicate n false
+zero_bits zero = refl
+zero_bits (suc n) =
+    let top : bit_at 0 n ≡ 0 = bit_at-zero n in
+    rw top (ap (λ bs. false ∷ bs) (zero_bits n))
 
 -- what is above the first one is zeros
 top_one : (w z c : ℕ) → w < 2 ^ 64 → c ≤ 63 → z ≡ leading_zeros w64 (bit_or w 1) → z < c → w / 2 ^ 1 / 2 ^ (63 - (z + 1)) ≡ 1

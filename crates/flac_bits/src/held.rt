@@ -1,6 +1,6 @@
 //! The bytes that were pulled from a source, and the word that holds the first bits of them.
 
-ghost use Rattle.std.specs.Prelude.{◌≡◌, ◌≢◌, ◌<◌, ◌≤◌, ◌+◌, ◌-◌, ◌/◌, ◌%◌, ◌^◌, ◌++◌, [], true, false, length, take, drop, min, IfSome, Some, None, Ok, IsTrue, ◌↔◌};
+ghost use Rattle.std.specs.Prelude.{◌≡◌, ◌≢◌, ◌<◌, ◌≤◌, ◌+◌, ◌-◌, ◌/◌, ◌%◌, ◌^◌, ◌++◌, [], true, false, length, take, drop, replicate, min, IfSome, Some, None, Ok, IsTrue, ◌↔◌};
 ghost use Rattle.flac_bits.specs.declared.why.Why.TheVariants.{Truncated};
 ghost use Rattle.flac_bits.specs.Reasons.{of_output};
 ghost use Rattle.flac_bits.specs.Bits.{unsigned, bits_of};
@@ -120,6 +120,14 @@ impl Held {
         ensures none { result ≡ None → self.new ≡ self.old }
     {
         self.word.unary(limit)
+    }
+
+    /// Takes all bits of the word, if they are zeros and at most `limit`, and returns how many they were, else 0.
+    pub(crate) fn blank(&mut self, limit: u64) -> u64
+        ensures few { result ≤ limit }
+        ensures taken { Takes (replicate result false) self.old self.new }
+    {
+        self.word.blank(limit)
     }
 
     /// Takes zeros, a one and k bits, if the word has them and there are at most `limit` zeros.

@@ -13,7 +13,7 @@ ghost use Rattle.flac_bits.specs.Lists.{list_of};
 ghost use Rattle.flac_bits.specs.Rice.{rice, rice_value, IsResidual};
 ghost use Rattle.flac_bits.specs.Signed.{signed_field, FitsBits};
 ghost use Rattle.flac_bits.specs.Reading.{Counts, Gives, Reads, CallInPlace, PullsFor, PullsInside, ReadsRice, ReadsSigned, ConsumesBytes, PullsBytes, IsAtEnd, IsForetold, SaysOver, SaysShort};
-ghost use Rattle.flac_bits.specs.inner.Reading.{SameSource, TookHeld, TookBits, FromWord, LeavesValues, values_from, DrawsValues, AreResiduals, TookZeros};
+ghost use Rattle.flac_bits.specs.inner.Reading.{SameSource, TookHeld, TookBits, FromWord, LeavesValues, values_from, DrawsValues, AreResiduals, TookZeros, SkippedZeros};
 ghost use Rattle.flac_bits.specs.inner.Unchecked.{FillsBytes, started_unless};
 
 use crate::held::Held;
@@ -215,7 +215,16 @@ impl<R: Source> BitReader<R> {
         self.held.unary(limit)
     }
 
-    /// What [`BitReader::unary`] does, bit by bit.
+    /// Takes all bits of the word, if they are zeros and at most `limit`, and returns how many they were, else 0.
+    #[inline(always)]
+    fn skip_zeros(&mut self, limit: u64) -> u64
+        ensures few { result ≤ limit }
+        ensures skipped { SkippedZeros result self.old self.new }
+    {
+        self.held.blank(limit)
+    }
+
+    /// What [`BitReader::unary`] does, bit by bit, but zeros that fill the word at once.
     #[inline(never)]
     #[tactic(auto, unfolding(crate::specs::Layout::zeros_at, crate::specs::Layout::zeros_from), using(crate::proofs::Loops::zeros_more, crate::proofs::Loops::zeros_last))]
     fn unary_slow(&mut self, limit: u64) -> Result<Option<u64>, Why>
@@ -223,10 +232,13 @@ impl<R: Source> BitReader<R> {
         ensures reading { CallInPlace 0 (Gives (λ v. v) (zeros_at limit self.old.cursor)) self.old self.new result }
         ensures needed { PullsInside (zeros limit) self.old self.new result }
     {
-        for zeros in 0..limit {
+        let mut zeros = 0;
+        while zeros < limit {
             if self.bit()? {
                 return Ok(Some(zeros));
             }
+            zeros += 1;
+            zeros += self.skip_zeros(limit - zeros);
         }
         if self.bit()? {
             return Ok(Some(limit));

@@ -69,6 +69,27 @@ fn values_held(word: &mut Ahead, k: u32, values: &mut [i64], from: usize, to: us
     i
 }
 
+/// What [`values_held`] does, by a call, which is never inlined: otherwise the compiler keeps each value and each word
+/// of the loop before for it, which takes a store for each.
+#[cold]
+#[inline(never)]
+fn values_apart(word: Ahead, k: u32, values: &mut [i64], from: usize, to: usize) -> (Ahead, usize)
+    requires few { word.count ≤ 63 }
+    requires k { k ≤ 26 }
+    requires from { from ≤ to }
+    requires to { to ≤ length values.old }
+    ensures within { (from ≤ result.1) × (result.1 ≤ to) }
+    ensures few { result.0.count ≤ 63 }
+    ensures next { (eight : ℕ) → Agrees word.word word.count eight → Agrees result.0.word result.0.count eight }
+    ensures read { ReadsOff k (in_word word) (in_word result.0) values.old from values.new result.1 }
+    // proof only
+    ensures fits { AreResiduals values.old from → AreResiduals values.new result.1 }
+{
+    let mut after = word;
+    let next = values_held(&mut after, k, values, from, to);
+    (after, next)
+}
+
 /// What [`values_held`] does, but under most parameters it is asked once whether the word has all the codes, after the
 /// last of them. If it has not, they are read again, one by one.
 #[inline(always)]
@@ -101,7 +122,9 @@ fn values_at_once(word: &mut Ahead, k: u32, values: &mut [i64], from: usize, to:
         word.count -= taken;
         return to;
     }
-    values_held(word, k, values, from, to)
+    let (after, next) = values_apart(*word, k, values, from, to);
+    *word = after;
+    next
 }
 
 /// Fills at most `most` places of `values` from the index `from` on with residual values, as far as the word has them,

@@ -1,7 +1,7 @@
 //! Bits held in a word.
 
 ghost use Rattle.flac_bits.specs.inner.Ahead.{in_word};
-ghost use Rattle.std.specs.Prelude.{◌≡◌, ◌<◌, ◌≤◌, ◌+◌, ◌-◌, ◌*◌, ◌/◌, ◌%◌, ◌^◌, ◌++◌, [], ℕ, List, Bool, length, IfSome, Some, None};
+ghost use Rattle.std.specs.Prelude.{◌≡◌, ◌<◌, ◌≤◌, ◌+◌, ◌-◌, ◌*◌, ◌/◌, ◌%◌, ◌^◌, ◌++◌, [], ℕ, List, Bool, false, length, replicate, IfSome, Some, None};
 ghost use Rattle.flac_bits.specs.Bits.{unsigned};
 ghost use Rattle.flac_bits.specs.Meaning.{unary_bits};
 ghost use Rattle.flac_bits.specs.Rice.{IsResidual};
@@ -123,6 +123,19 @@ impl Word {
         } else {
             None
         }
+    }
+
+    /// Takes all bits, if they are zeros and at most `limit`, and returns how many they were, else 0.
+    pub(crate) fn blank(&mut self, limit: u64) -> u64
+        ensures few { result ≤ limit }
+        ensures taken { self.old ≡ replicate result false ++ self.new }
+    {
+        let count = u64::from(self.count);
+        if self.word != 0 || count > limit {
+            return 0;
+        }
+        *self = Word::empty();
+        count
     }
 
     /// Takes zeros, a one and k bits, if all are held and there are at most `limit` zeros.

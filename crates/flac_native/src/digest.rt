@@ -75,8 +75,8 @@ pub(crate) fn feed_block(hasher: &mut Md5, audio: &Audio, start: usize, size: us
 }
 
 /// Adds the first `len` samples of each channel of a block to the input of a digest, interleaved, each in its lowest
-/// `width` bytes (1 to 4), as the digest of STREAMINFO has all samples (RFC 9639, section 8.2). A block has one slice for
-/// each of at most 8 channels; a sample that a slice does not have counts as 0.
+/// `width` bytes (1 to 4), as the digest of STREAMINFO has all samples (RFC 9639, section 8.2). A block has one slice
+/// for each of at most 8 channels; a sample that a slice does not have counts as 0.
 pub fn feed_slices(hasher: &mut Md5, block: &[&[i32]], len: usize, width: usize)
     requires few { length block.now ≤ 8 }
     requires width { width ≤ 4 }

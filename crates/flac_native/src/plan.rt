@@ -123,8 +123,8 @@ fn lists_at(frames: &[Vec<Vec<LinearPredictor>>], number: u64) -> &[Vec<LinearPr
     &[]
 }
 
-/// Whether the frame of this number, in blocks of `size` of `total` samples of each channel, has a seek point (RFC 9639,
-/// section 8.5): it holds a sample whose index is a multiple of `every`. False if `every` is 0.
+/// Whether the frame of this number, in blocks of `size` of `total` samples of each channel, has a seek point (RFC
+/// 9639, section 8.5): it holds a sample whose index is a multiple of `every`. False if `every` is 0.
 #[tactic(auto, unfolding(crate::specs::Given::has_point))]
 pub fn has_point(size: u64, total: u64, every: u64, number: u64) -> bool
     requires first { size * number < total }

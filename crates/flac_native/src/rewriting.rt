@@ -1,10 +1,11 @@
 //! Writes a stream with other metadata blocks.
 
-ghost use Rattle.std.specs.Prelude.{◌≡◌, ◌≢◌, OnOk, IfOk, IfErr};
+ghost use Rattle.std.specs.Prelude.{◌≡◌, ◌≢◌, ◌<◌, true, OnOk, IfOk, IfErr};
 ghost use Rattle.flac_bits.specs.Bits.{bits_of};
 ghost use Rattle.flac_bits.specs.Written.{Adds};
 ghost use Rattle.flac_native.specs.Retag.{not_read, not_written};
 ghost use Rattle.flac_native.specs.Rewriting.{head_of, SendsWithBlocks};
+ghost use Rattle.flac_native.specs.Sent.{TargetFailed};
 
 use crate::encoding::write_each;
 use crate::native::MARKER;
@@ -23,7 +24,8 @@ fn write_head<W: Target>(blocks: &[Block], writer: &mut BitWriter<W>) -> Result<
 
 /// The same bytes in memory.
 fn head_bytes(alloc: Global, blocks: &[Block]) -> Result<Vec<u8>, Why>
-    ensures { IfOk result (λ head. bits_of head.items ≡ head_of blocks.now) }
+    ensures made { IfOk result (λ head. bits_of head.items ≡ head_of blocks.now) }
+    ensures unwritten { IfErr result (λ e. e ≢ Why.Write) }
 {
     let mut writer = BitWriter::new(Collected::new(alloc));
     match write_head(blocks, &mut writer) {
@@ -52,6 +54,9 @@ pub fn send_with_blocks<R: Source, W: Target>(
     ensures written { OnOk result (SendsWithBlocks W.Target blocks.now reader.old target.old target.new) }
     // Unless a device failed, nothing was sent.
     ensures nothing { IfErr result (λ f. f ≢ not_read → f ≢ not_written → target.new ≡ target.old) }
+    // With `Write` the target returned an error, with `Read` the source, which is counted.
+    ensures write { IfErr result (λ f. f.why ≡ Why.Write → TargetFailed W.Target target.old target.new) }
+    ensures read { IfErr result (λ f. f ≡ not_read → reader.old.known ≡ true → reader.old.raised < reader.new.raised) }
 {
     let head = match head_bytes(alloc, blocks) {
         Ok(head) => head,

@@ -220,6 +220,7 @@ pub(crate) fn put_rows_in<C: Channels>(
     match channels {
         1 => put_channels(samples, 1, width, start, count, out),
         2 => put_channels(samples, 2, width, start, count, out),
+        8 => put_channels(samples, 8, width, start, count, out),
         channels => put_channels(samples, channels, width, start, count, out),
     }
 }

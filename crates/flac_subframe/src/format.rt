@@ -15,6 +15,12 @@ pub(crate) mod numbers;
 pub(crate) mod predictors;
 pub(crate) mod wasted;
 
+// what predictors leave, in 32 bits and by lanes
+pub(crate) mod folding;
+pub(crate) mod leaving_narrow;
+pub(crate) mod narrowed;
+pub(crate) mod products;
+
 // reading: the subframe, its residual, and the samples restored in its places
 pub(crate) mod fixed;
 pub(crate) mod packed;

@@ -1,8 +1,8 @@
 //! Subframes: reading them, and the search for the shortest one (RFC 9639, section 9.2).
 //!
-//! The crate has two rooms. `format` reads and writes subframes; `search` chooses the shortest one, and names `format`. The
-//! definitions (`specs/`), the lemmas (`proofs/lemmas/`) and the proofs of functions (`proofs/format/`, `proofs/search/`)
-//! have the same two rooms.
+//! The crate has two modules. `format` reads and writes subframes; `search` chooses the shortest one, and names
+//! `format`. The definitions (`specs/`), the lemmas (`proofs/lemmas/`) and the proofs of functions (`proofs/format/`,
+//! `proofs/search/`) are divided in the same way.
 #![tactic(auto)]
 
 mod format;

@@ -13,10 +13,7 @@ pub(crate) mod halves;
 pub(crate) mod pruning;
 pub(crate) mod widths;
 
-// what predictors leave, in 32 bits and by lanes
-pub(crate) mod folding;
-pub(crate) mod narrowed;
-pub(crate) mod products;
+// what a linear predictor leaves, in 64 bits by lanes
 pub(crate) mod wide_products;
 
 // what is searched, and the working arrays

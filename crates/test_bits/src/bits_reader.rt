@@ -23,6 +23,13 @@ c1 | number 36 Truncated
 fdbfbfbfbfbffe | number 31 2147483647 | number 31 BadNumber
 # A quotient of four million zeros is a value.
 00*500000 80 | rice 0 2000000 | taken 0 500001
+# 167 zeros and a one: all of them, from within a byte, one more than the limit, in two parts, and without the one.
+00*20 01 | unary 167 Some(167) | at_end 0 true | taken 0 21
+00*20 01 | take 3 0 | unary 200 Some(164) | check16 0 32773
+00*20 01 | unary 166 None | take 1 1 | at_end 0 true
+00*20 01 | unary 63 None | unary 103 Some(103) | at_end 0 true
+00*9 | unary 71 None | at_end 0 true
+00*9 | unary 72 Truncated
 # Residual values: two under parameters, two of three bits, and two that are too large under the parameter 30.
 4cf0 | rice 0 -1 | rice 2 5 | align 0 true | plain 3 [-1, -4] | align 0 true | at_end 0 true
 1fffffffc0 | rice 30 ResidualRange

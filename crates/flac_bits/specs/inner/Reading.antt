@@ -1,7 +1,7 @@
 -- For proofs of loops that read: what is still to be read.
-use Rattle.std.specs.Prelude.{◌≡◌, ◌≤◌, ◌<◌, ◌+◌, ◌-◌, ℕ, ℤ, pos, true, List, length, take, get_or, Result, Ok, ◌^◌, Some}
+use Rattle.std.specs.Prelude.{◌≡◌, ◌≤◌, ◌<◌, ◌+◌, ◌-◌, ℕ, ℤ, pos, true, false, List, ◌++◌, length, take, replicate, get_or, Result, Ok, ◌^◌, Some}
 use Rattle.flac_bits.specs.State.{State, Cursor}
-use Rattle.flac_bits.specs.Layout.{Layout, Reason, run, and_then, number_at, zeros_at}
+use Rattle.flac_bits.specs.Layout.{Layout, Reason, run, and_then, number_at, zeros_at, zeros_from}
 use Rattle.flac_bits.specs.Lists.{list_of, after}
 use Rattle.flac_bits.specs.Reading.{HeldEnds}
 use Rattle.flac_bits.specs.Rice.{rice_value, IsResidual}
@@ -36,6 +36,11 @@ TookBits n v old new = (v < 2 ^ n) × (new.most + n ≡ old.most) × SameSource 
 -- the word had these q zeros, of which there are at most `limit`, and the one after them
 abbrev pub TookZeros : (limit q : ℕ) → State → State → Type 0
 TookZeros limit q old new = (q ≤ limit) × (new.most ≤ old.most) × SameSource old new × (zeros_at limit old.cursor ≡ Ok (Some q, new.cursor))
+
+-- the word was these q zeros, which were taken
+abbrev pub SkippedZeros : (q : ℕ) → State → State → Type 0
+SkippedZeros q old new = (new.held + q ≡ old.held) × (new.most ≤ old.most) × SameSource old new × (old.cursor.left ≡ replicate q false ++ new.cursor.left)
+    × ((room count : ℕ) → q ≤ room → zeros_from room count old.cursor ≡ zeros_from (room - q) (count + q) new.cursor)
 
 -- The word had what was read, a value, with the position after it.
 abbrev pub FromWord : {X : Type 0} (old new : State) → Result (X × Cursor) Reason → X → Type 0

@@ -8,6 +8,11 @@ pub mod Powers
 pub mod FixedSums
 pub mod Predicting
 pub mod Differences
+-- What predictors leave, in 32 bits and by lanes
+pub mod Folding
+pub mod Narrow
+pub mod Lanes
+pub mod Fours
 -- Restoring: samples in the places of the residual
 pub mod Restoring
 pub mod Nearest

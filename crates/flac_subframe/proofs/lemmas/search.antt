@@ -25,12 +25,9 @@ pub mod DigitBounds
 pub mod Greater
 pub mod LowerBounds
 pub mod Close
--- What predictors leave, in 32 bits and by lanes
-pub mod Narrow
+-- Values by their folded numbers, and what they leave
 pub mod Folds
 pub mod Residues
-pub mod Lanes
-pub mod Fours
 pub mod Reductions
 -- The least body and the least subframe
 pub mod Bodies

@@ -4,6 +4,8 @@ pub mod Reading
 pub mod Writing
 pub mod Family
 pub mod Cost
+-- What linear predictors leave, by lanes
+pub mod Products
 -- Restoring: sums and differences
 pub mod Sums
 pub mod Summing

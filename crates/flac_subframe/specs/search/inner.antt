@@ -4,7 +4,5 @@ pub mod Least
 -- Tables: their entries, partitions of each order
 pub mod Entry
 pub mod Halves
--- What linear predictors leave
-pub mod Products
 -- What is said of the residual that is searched, and of the samples
 pub mod Views

@@ -18,7 +18,8 @@ ghost use Rattle.flac_subframe.specs.format.inner.Writing.{CanEncode, CanPredict
 use crate::format::coding::Coding;
 use crate::format::coding_method::CodingMethod;
 use crate::format::content::{ChoiceView, ContentKind, PredictorKind};
-use crate::format::leaving::{take_fixed, take_linear};
+use crate::format::leaving::take_fixed;
+use crate::format::leaving_narrow::take_left;
 use crate::format::linear::LinearPredictor;
 use crate::format::numbers::{APART, power};
 use crate::format::predictors::fixed_coefficients;
@@ -187,7 +188,8 @@ fn write_rest<W: Target>(
     write_residual(writer, choice, predictor.order(), values)
 }
 
-/// Writes the content of a linear predictor; the places are overwritten.
+/// Writes the content of a linear predictor; the places are overwritten. Those in 32 bits spare time, if there are
+/// enough of them.
 fn write_linear<W: Target>(
     writer: &mut BitWriter<W>,
     predictor: &LinearPredictor,
@@ -195,6 +197,7 @@ fn write_linear<W: Target>(
     depth: u32,
     samples: &[i64],
     values: &mut [i64],
+    shorts: &mut [i32],
 ) -> Result<(), Why>
     requires few { length samples.now ≤ 65535 }
     requires depth { (1 ≤ depth) × (depth ≤ 33) }
@@ -205,7 +208,13 @@ fn write_linear<W: Target>(
 {
     let order = predictor.order();
     let places = &mut values[..samples.len() - order];
-    take_linear(predictor.coefficients(), predictor.shift(), samples, places);
+    take_left(
+        predictor.coefficients(),
+        predictor.shift(),
+        samples,
+        shorts,
+        places,
+    );
     write_signed(writer, depth, &samples[..order])?;
     write_rest(writer, predictor, choice, places)
 }
@@ -218,6 +227,7 @@ fn write_content<W: Target>(
     depth: u32,
     samples: &[i64],
     values: &mut [i64],
+    shorts: &mut [i32],
 ) -> Result<(), Why>
     requires some { 0 < length samples.now }
     requires few { length samples.now ≤ 65535 }
@@ -237,7 +247,7 @@ fn write_content<W: Target>(
             }
             PredictorKind::Linear(index) => {
                 let predictor = &predictors[index];
-                write_linear(writer, predictor, choice, depth, samples, values)
+                write_linear(writer, predictor, choice, depth, samples, values, shorts)
             }
         },
     }
@@ -281,13 +291,14 @@ fn type_of_content(content: ContentKind, predictors: &[LinearPredictor]) -> Subf
 }
 
 /// Writes a subframe as it was chosen, with places for the samples and for the residual one after another, which are
-/// overwritten.
+/// overwritten, and with as many in 32 bits, or with none, which takes longer.
 pub(crate) fn write_chosen<W: Target>(
     choice: &ChoiceView<'_>,
     predictors: &[LinearPredictor],
     samples: &[i64],
     depth: u32,
     places: &mut [i64],
+    shorts: &mut [i32],
     writer: &mut BitWriter<W>,
 ) -> Result<(), Why>
     requires some { 0 < length samples.now }
@@ -314,5 +325,6 @@ pub(crate) fn write_chosen<W: Target>(
         depth - wasted,
         shortened,
         values,
+        shorts,
     )
 }

@@ -15,16 +15,16 @@ ghost use Rattle.flac_subframe.specs.search.inner.Views.{GoesOnWith, IsBestOf, I
 ghost use Rattle.flac_subframe.specs.search.Choices.{for_each};
 
 use crate::format::content::{ContentKind, PredictorKind, SubframeForm};
+use crate::format::folding::fold_each;
 use crate::format::leaving::{take_differences, take_weighed};
 use crate::format::linear::LinearPredictor;
+use crate::format::narrowed::{narrow, peak, take_narrow};
 use crate::format::numbers::{APART, power};
+use crate::format::products::take_products;
 use crate::format::residual_form::ResidualForm;
 use crate::format::wasted::without_wasted;
 use crate::search::entry::Entry;
-use crate::search::folding::fold_each;
 use crate::search::least_coding::{greatest_partition_order, least_residual};
-use crate::search::narrowed::{narrow, peak, take_narrow};
-use crate::search::products::take_products;
 use crate::search::tables::{SearchArrays, Tables};
 use crate::search::view::{ResidualView, SampleView, Task};
 use crate::search::wide_products::take_wide_products;
@@ -67,7 +67,7 @@ fn limit(best: &Best, kind: PredictorKind) -> u64
 }
 
 /// For each fixed predictor the sum of the absolute values of its residual in a run, from the run's fifth sample on.
-fn sums_left(run: &[i64]) -> [u64; 5] {
+fn sums_left(run: &[i32]) -> [u64; 5] {
     let mut sum0: u64 = 0;
     let mut sum1: u64 = 0;
     let mut sum2: u64 = 0;
@@ -84,18 +84,19 @@ fn sums_left(run: &[i64]) -> [u64; 5] {
         let two_first = one_earlier.wrapping_sub(one_first);
         let three = two.wrapping_sub(two_before);
         let four = three.wrapping_sub(two_before.wrapping_sub(two_first));
-        sum0 = sum0.wrapping_add(run[at].unsigned_abs());
-        sum1 = sum1.wrapping_add(one.unsigned_abs());
-        sum2 = sum2.wrapping_add(two.unsigned_abs());
-        sum3 = sum3.wrapping_add(three.unsigned_abs());
-        sum4 = sum4.wrapping_add(four.unsigned_abs());
+        sum0 = sum0.wrapping_add(u64::from(run[at].unsigned_abs()));
+        sum1 = sum1.wrapping_add(u64::from(one.unsigned_abs()));
+        sum2 = sum2.wrapping_add(u64::from(two.unsigned_abs()));
+        sum3 = sum3.wrapping_add(u64::from(three.unsigned_abs()));
+        sum4 = sum4.wrapping_add(u64::from(four.unsigned_abs()));
     }
     [sum0, sum1, sum2, sum3, sum4]
 }
 
 /// The order of the fixed predictor whose residual has the smallest sum of absolute values over eight short runs of the
-/// samples. It is a guess of the best order, which is priced first, so that bounds can rule out the others.
-fn likely_order(samples: &[i64]) -> usize
+/// samples, by their lowest 32 bits. It is a guess of the best order, which is priced first, so that bounds can rule out
+/// the others.
+fn likely_order(samples: &[i32]) -> usize
     ensures { result ≤ 4 }
 {
     let mut sums = [0u64; 5];
@@ -356,7 +357,7 @@ fn search(subject: &SampleView<'_>, arrays: &mut SearchArrays<'_>, tables: &mut 
             &mut best,
         );
     }
-    let first = likely_order(subject.samples);
+    let first = likely_order(subject.narrowed);
     improve(
         subject,
         PredictorKind::Fixed(first),

@@ -5,7 +5,7 @@ ghost use Rattle.std.specs.Prelude.{◌≡◌, ◌<◌, ◌≤◌, ◌^◌, ◌+
 ghost use Rattle.std.specs.List.{sum_by};
 ghost use Rattle.flac_subframe.specs.search.inner.Entry.{no_entry};
 ghost use Rattle.flac_subframe.specs.search.inner.Halves.{entry};
-ghost use Rattle.flac_subframe.specs.search.inner.Views.{AreCompared, ArePriced, HasEntriesOf, NoneGains, AreNoted, LevelIsNoted, OthersAreKept, NoneIsLess, ArePairSums};
+ghost use Rattle.flac_subframe.specs.search.inner.Views.{AreCompared, ArePriced, ArePricedAt, HasEntriesOf, NoneGains, AreNoted, LevelIsNoted, OthersAreKept, NoneIsLess, ArePairSums};
 
 use crate::format::numbers::power;
 use crate::search::cost::rice_bits_of;
@@ -52,6 +52,22 @@ fn pair(sums: &mut [u64], count: usize)
 {
     for j in 0..count {
         sums[j] = sums[2 * j] + sums[2 * j + 1];
+    }
+}
+
+/// The costs under parameter 0 of the partitions of a coarser order, in place of those of the finest.
+pub(crate) fn coarsen(residual: &ResidualView<'_>, partition_order: u8, sums: &mut [u64])
+    requires within { partition_order ≤ residual.now.partition_order }
+    requires places { 2 ^ residual.now.partition_order ≤ length sums.old }
+    requires costs { ArePriced residual.now 0 sums.old }
+    ensures costs { ArePricedAt residual.now partition_order 0 sums.new }
+    // proof only
+    ensures long { length sums.new ≡ length sums.old }
+{
+    let mut level = residual.partition_order;
+    while level > partition_order {
+        level -= 1;
+        pair(sums, power(level));
     }
 }
 

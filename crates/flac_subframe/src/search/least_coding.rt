@@ -18,8 +18,8 @@ use crate::format::numbers::power;
 use crate::format::residual_form::ResidualForm;
 use crate::search::cost::CodingCost;
 use crate::search::entry::Entry;
-use crate::search::halves::{Tried, compare, compare_down};
-use crate::search::pruning::{COARSE, finest_in_doubt, is_too_dear};
+use crate::search::halves::{Tried, coarsen, compare, compare_down};
+use crate::search::pruning::{COARSE, finest_beside, finest_in_doubt, is_too_dear};
 use crate::search::tables::Tables;
 use crate::search::view::ResidualView;
 
@@ -329,8 +329,49 @@ fn take_found(
     }
 }
 
+/// The residual form of the fewest bits, if it takes fewer bits than `below`, with its codings in their array, where the
+/// bits of the finest partitions under parameter 0 and all widths are known.
+fn least_measured(
+    residual: &ResidualView<'_>,
+    tables: &mut Tables<'_>,
+    below: u64,
+) -> Option<ResidualForm>
+    requires places { HasPlaces residual.now.partition_order tables.old }
+    requires known { ArePriced residual.now 0 tables.old.leaves.now }
+    requires widths { HasWidthsOf residual.now 0 tables.old.widths.now }
+    ensures least { IfSome result (λ f. IsShortestIn residual.now f tables.new) }
+    ensures bits { IfSome result (λ f. f.bits ≡ bits_under residual.now (codings_in f tables.new.codings.now)) }
+    ensures within { IfSome result (λ f. f.partition_order ≤ residual.now.partition_order) }
+    ensures less { IfSome result (λ f. f.bits < below) }
+    // proof only
+    ensures small { IfSome result (λ f. f.bits ≤ 2 ^ 49) }
+    ensures kept { IfNone result (tables.new.codings.now ≡ tables.old.codings.now) }
+    ensures none { IfNone result (TakesAtLeast residual.now below) }
+    // proof only
+    ensures places { (most : ℕ) → HasPlaces most tables.old → HasPlaces most tables.new }
+    ensures same { tables.new.codings.ghost_name ≡ tables.old.codings.ghost_name }
+    ensures priced { tables.new.priced ≤ priced_after 30 residual.now tables.old }
+    ensures narrow { tables.new.priced ≤ priced_after (slice_index tables.old.widths.now 1) residual.now tables.old }
+{
+    let leaves = &mut *tables.leaves;
+    let sums = &mut *tables.sums;
+    let four = &mut *tables.four;
+    let five = &mut *tables.five;
+    let widths = &mut *tables.widths;
+    let codings = &mut *tables.codings;
+    let count = residual.values.len() as u64;
+    let (form, tried) = least_coding(residual, leaves, sums, four, five, widths);
+    tables.priced = tables.priced.saturating_add(u64::from(tried) * count);
+    if form.bits >= below {
+        return None;
+    }
+    let bits = take_found(residual, form, four, five, widths, codings);
+    Some(ResidualForm { bits, ..form })
+}
+
 /// The residual form of the fewest bits, if it takes fewer bits than `below`, with its codings in their array. Cheap
-/// lower bounds come first, so that most predictors are refused before their parameters are tried.
+/// lower bounds come first, so that most predictors are refused before their parameters are tried, and of others the
+/// finest partition orders.
 fn least_at_once(
     residual: &ResidualView<'_>,
     tables: &mut Tables<'_>,
@@ -351,24 +392,16 @@ fn least_at_once(
     ensures priced { tables.new.priced ≤ tables.old.priced + 32 * length residual.now.values.now }
 {
     let leaves = &mut *tables.leaves;
-    let sums = &mut *tables.sums;
-    let four = &mut *tables.four;
-    let five = &mut *tables.five;
     let widths = &mut *tables.widths;
-    let codings = &mut *tables.codings;
     let count = residual.values.len() as u64;
-    let verdict = is_too_dear(residual, leaves, widths, below);
+    let (verdict, bound) = is_too_dear(residual, leaves, widths, below);
     tables.priced = tables.priced.saturating_add(2 * count + verdict.priced);
     if verdict.dear {
         return None;
     }
-    let (form, tried) = least_coding(residual, leaves, sums, four, five, widths);
-    tables.priced = tables.priced.saturating_add(u64::from(tried) * count);
-    if form.bits >= below {
-        return None;
-    }
-    let bits = take_found(residual, form, four, five, widths, codings);
-    Some(ResidualForm { bits, ..form })
+    let finest = finest_beside(residual.partition_order, bound, below);
+    coarsen(residual, finest, leaves);
+    least_measured(&residual.at(finest), tables, below)
 }
 
 /// The same with partition orders up to `partition_order` alone.

@@ -7,7 +7,7 @@ ghost use Rattle.flac_subframe.specs.format.inner.Cost.{value_cost};
 ghost use Rattle.flac_bits.specs.Rice.{folded};
 ghost use Rattle.flac_subframe.specs.format.Spelling.{FitsWidth};
 ghost use Rattle.flac_subframe.specs.search.inner.Halves.{IsWidth};
-ghost use Rattle.flac_subframe.specs.search.inner.Views.{ArePriced, HasWidthsOf, TakesAtLeast, TakesAtLeastAbove, TakesAtLeastAt, TakesAtLeastFinest};
+ghost use Rattle.flac_subframe.specs.search.inner.Views.{ArePriced, HasWidthsOf, TakesAtLeast, TakesAtLeastAbove, TakesAtLeastAt, TakesAtLeastBeside, TakesAtLeastFinest};
 
 use crate::format::numbers::power;
 use crate::search::cost::quotients;
@@ -260,31 +260,49 @@ fn reaches(
 
 /// Whether lower bounds show that the residual takes `below` bits or more in any form. `sums` then has what the finest
 /// partitions take under parameter 0. If the bounds do not show it, `widths` has the width of each partition at each
-/// partition order.
+/// partition order. Beside the verdict it returns a lower bound on the bits of the values, without the header and the
+/// parameters.
 pub(crate) fn is_too_dear(
     residual: &ResidualView<'_>,
     sums: &mut [u64],
     widths: &mut [u8],
     below: u64,
-) -> Verdict
+) -> (Verdict, u64)
     requires sums { 2 ^ residual.now.partition_order ≤ length sums.old }
     requires places { 2 * 2 ^ residual.now.partition_order ≤ length widths.old }
-    ensures dear { IsTrue result.dear → TakesAtLeast residual.now below }
+    ensures dear { IsTrue result.0.dear → TakesAtLeast residual.now below }
+    ensures beside { TakesAtLeastBeside residual.now result.1 }
     ensures costs { ArePriced residual.now 0 sums.new }
-    ensures widths { result.dear ≡ false → HasWidthsOf residual.now 0 widths.new }
+    ensures widths { result.0.dear ≡ false → HasWidthsOf residual.now 0 widths.new }
     // proof only
     ensures long { length widths.new ≡ length widths.old }
-    ensures few { result.priced ≤ 2 * length residual.now.values.now }
-    ensures none { 28 < slice_index widths.new 1 → result.priced ≡ 0 }
+    ensures few { result.0.priced ≤ 2 * length residual.now.values.now }
+    ensures none { 28 < slice_index widths.new 1 → result.0.priced ≡ 0 }
 {
     let rough = measure(residual, widths, sums, below);
     if rough >= below {
-        return Verdict {
+        let verdict = Verdict {
             dear: true,
             priced: 0,
         };
+        return (verdict, rough);
     }
-    reaches(residual, sums, widths, rough, below)
+    (reaches(residual, sums, widths, rough, below), rough)
+}
+
+/// The greatest partition order, up to one, whose header and parameters, beside a lower bound on the bits of the values,
+/// take fewer than `below` bits, or 0 if there is none.
+pub(crate) fn finest_beside(partition_order: u8, bound: u64, below: u64) -> u8
+    requires { partition_order ≤ 15 }
+    ensures within { result ≤ partition_order }
+    ensures dear { (p : ℕ) → result < p → p ≤ partition_order → below ≤ bound + (6 + 4 * 2 ^ p) }
+{
+    let rest = below.saturating_sub(bound);
+    let mut finest = partition_order;
+    while finest > 0 && 6 + 4 * power(finest) as u64 >= rest {
+        finest -= 1;
+    }
+    finest
 }
 
 /// The sum of how many digits numbers have.

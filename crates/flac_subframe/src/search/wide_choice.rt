@@ -228,6 +228,7 @@ pub fn write_subframe_in<W: Target>(
         samples,
         depth,
         &mut workspace.longs,
+        &mut workspace.shorts,
         writer,
     )
 }

@@ -8,7 +8,7 @@ ghost use Rattle.std.specs.Int.RustNames.{unsigned_abs};
 ghost use Rattle.flac_bits.specs.Rice.{IsResidual};
 ghost use Rattle.flac_bits.specs.Signed.{FitsBits};
 ghost use Rattle.flac_subframe.specs.format.Bodies.{differences};
-ghost use Rattle.flac_subframe.specs.search.inner.Products.{HasSums, StayBelow, AreLeft, AreApart};
+ghost use Rattle.flac_subframe.specs.format.inner.Products.{HasSums, StayBelow, AreLeft, AreApart};
 
 use crate::format::leaving::are_residual;
 

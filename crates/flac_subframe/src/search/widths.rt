@@ -2,7 +2,7 @@
 
 ghost use Rattle.std.specs.Prelude.{◌≡◌, ◌<◌, ◌≤◌, ◌^◌, ◌+◌, ◌*◌, ℕ, length, map, All, slice_index};
 ghost use Rattle.std.specs.List.{sum_by};
-ghost use Rattle.flac_subframe.specs.search.inner.Views.{AreMeasured, ArePriced, HasWidthsOf, TakesAtLeast};
+ghost use Rattle.flac_subframe.specs.search.inner.Views.{AreMeasured, ArePriced, HasWidthsOf, TakesAtLeastBeside};
 
 use crate::format::numbers::power;
 use crate::search::cost::weigh;
@@ -18,7 +18,7 @@ fn leaves_of(residual: &ResidualView<'_>, sixteen: bool, widths: &mut [u8], sums
     // proof only
     ensures small { (j : ℕ) → j < 2 ^ residual.now.partition_order → slice_index widths.new j ≤ 32 }
     ensures costs { ArePriced residual.now 0 sums.new }
-    ensures bound { TakesAtLeast residual.now result }
+    ensures bound { TakesAtLeastBeside residual.now result }
 {
     let size = (residual.values.len() + residual.order) >> residual.partition_order;
     let count = power(residual.partition_order);
@@ -41,7 +41,7 @@ fn leaves_of(residual: &ResidualView<'_>, sixteen: bool, widths: &mut [u8], sums
 }
 
 /// The width of each partition at the finest partition order, and its bits under parameter 0; and a lower bound on the
-/// bits of the residual in any form, the sum of one for each partition.
+/// bits of the values in any form, the sum of one for each partition, beside which come the header and the parameters.
 fn leaves(residual: &ResidualView<'_>, widths: &mut [u8], sums: &mut [u64]) -> u64
     requires places { length widths.old ≡ 2 ^ residual.now.partition_order }
     requires sums { length sums.old ≡ 2 ^ residual.now.partition_order }
@@ -49,7 +49,7 @@ fn leaves(residual: &ResidualView<'_>, widths: &mut [u8], sums: &mut [u64]) -> u
     // proof only
     ensures small { (j : ℕ) → j < 2 ^ residual.now.partition_order → slice_index widths.new j ≤ 32 }
     ensures costs { ArePriced residual.now 0 sums.new }
-    ensures bound { TakesAtLeast residual.now result }
+    ensures bound { TakesAtLeastBeside residual.now result }
 {
     if (residual.values.len() + residual.order) >> residual.partition_order == 16 {
         return leaves_of(residual, true, widths, sums);
@@ -65,15 +65,15 @@ pub(crate) fn lowest(residual: &ResidualView<'_>, widths: &mut [u8], sums: &mut 
     // proof only
     ensures long { length widths.new ≡ length widths.old }
     ensures costs { ArePriced residual.now 0 sums.new }
-    ensures bound { TakesAtLeast residual.now result }
+    ensures bound { TakesAtLeastBeside residual.now result }
 {
     let first = power(residual.partition_order);
     let row = &mut sums[..first];
     leaves(residual, &mut widths[first..2 * first], row)
 }
 
-/// The bits of each of the finest partitions under parameter 0, and a lower bound on the bits of the residual in any
-/// form. If the bound is less than `below`, also the width of each partition at each partition order, the larger of its
+/// The bits of each of the finest partitions under parameter 0, and a lower bound on the bits of the values in any form,
+/// without the header and the parameters. If the bound is less than `below`, also the width of each partition at each partition order, the larger of its
 /// two halves'.
 pub(crate) fn measure(
     residual: &ResidualView<'_>,
@@ -87,7 +87,7 @@ pub(crate) fn measure(
     // proof only
     ensures long { length widths.new ≡ length widths.old }
     ensures costs { ArePriced residual.now 0 sums.new }
-    ensures bound { TakesAtLeast residual.now result }
+    ensures bound { TakesAtLeastBeside residual.now result }
 {
     let bound = lowest(residual, widths, sums);
     if bound >= below {

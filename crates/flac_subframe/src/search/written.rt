@@ -65,6 +65,7 @@ pub fn write_subframe_with<W: Target>(
         samples,
         depth,
         &mut places,
+        &mut [],
         bits,
     )
 }

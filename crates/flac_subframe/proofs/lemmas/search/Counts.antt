@@ -4,12 +4,12 @@ use Rattle.std.proofs.lemmas.Bool.{cases_lt}
 use Rattle.std.proofs.lemmas.Nat.{mul-le}
 use Rattle.std.proofs.Math.Nat.{suc-mul}
 
--- one predictor: the width and the bits under parameter 0, a bound that is not asked for where the width is large, and
--- t parameters
-pub within_limit : (n w v t old mid new : ℕ) → v ≤ 2 * n → (28 < w → v ≡ 0) → t ≤ 30 → t ≤ w → mid ≤ old + (2 * n + v) → new ≤ mid + t * n → new ≤ old + 32 * n
-within_limit n w v t old mid new few none most narrow a b = elim (cases_lt 28 w) [
-  | inl wide ↦ omega (arith, none wide, mul-le t n 30 n most (omega arith), a, b)
-  | inr not ↦ omega (arith, few, mul-le t n 28 n (omega (arith, narrow, not)) (omega arith), a, b)
+-- one predictor: the width and the bits under parameter 0, a bound that is not asked for where the width w is large, and
+-- at most 30 parameters, and at most w
+pub within_limit : (n w v old mid new : ℕ) → v ≤ 2 * n → (28 < w → v ≡ 0) → mid ≤ old + (2 * n + v) → new ≤ mid + 30 * n → new ≤ mid + w * n → new ≤ old + 32 * n
+within_limit n w v old mid new few none a most narrow = elim (cases_lt 28 w) [
+  | inl wide ↦ omega (arith, none wide, most, a)
+  | inr not ↦ omega (arith, few, mul-le w n 28 n (omega (arith, not)) (omega arith), a, narrow)
 ]
 
 -- one of the finer partition orders more

@@ -158,6 +158,19 @@ bound_down w order rs b (suc n) p half so =
     let so' : Bounds w order rs b (n + p + 1) = rw e at so in
     bound_down w order rs b n p (coarser order rs (n + p) half') (bound_coarser w order rs b (n + p) half' so')
 
+pub four_bits : (w : ℕ) → (w ≡ 4) ⊎ (w ≡ 5) → 4 ≤ w
+four_bits w (inl e) = omega (arith, e)
+four_bits w (inr e) = omega (arith, e)
+
+-- beside the header and the parameters
+pub bound_beside : (order h : ℕ) (rs : List ℤ) (b : ℕ) → Halves order rs h → ((w : ℕ) → Bounds w order rs b h) → (f : Codings) → MayWrite h order rs f → b + (6 + 4 * 2 ^ f.partition_order) ≤ residual_cost order rs f
+bound_beside order h rs b half so f m =
+    let p : ℕ = f.partition_order in
+    let w : ℕ = f.parameter_bits in
+    let e : h - p + p ≡ h = omega (arith, m.few) in
+    let here : Bounds w order rs b p = bound_down w order rs b (h - p) p (rw e half) (rw e (so w)) in
+    omega (arith, m.each, here f.codings m.each m.codings, fields_within w ((length rs + order) / 2 ^ p - order) ((length rs + order) / 2 ^ p) rs f.codings (four_bits w m.method))
+
 pub bound_of_all : (order h : ℕ) (rs : List ℤ) (b : ℕ) → Halves order rs h → ((w : ℕ) → Bounds w order rs b h) → (f : Codings) → MayWrite h order rs f → b ≤ residual_cost order rs f
 bound_of_all order h rs b half so f m =
     let p : ℕ = f.partition_order in
@@ -165,10 +178,6 @@ bound_of_all order h rs b half so f m =
     let e : h - p + p ≡ h = omega (arith, m.few) in
     let here : Bounds w order rs b p = bound_down w order rs b (h - p) p (rw e half) (rw e (so w)) in
     omega (arith, here f.codings m.each m.codings, each_within w ((length rs + order) / 2 ^ p - order) ((length rs + order) / 2 ^ p) rs f.codings)
-
-pub four_bits : (w : ℕ) → (w ≡ 4) ⊎ (w ≡ 5) → 4 ≤ w
-four_bits w (inl e) = omega (arith, e)
-four_bits w (inr e) = omega (arith, e)
 
 -- at the finest partition order itself the parameters come on top of it
 pub bound_of_last : (order h : ℕ) (rs : List ℤ) (b : ℕ) → ((w : ℕ) → Bounds w order rs b h) → (f : Codings) → MayWrite h order rs f → f.partition_order ≡ h → b + (6 + 4 * 2 ^ h) ≤ residual_cost order rs f

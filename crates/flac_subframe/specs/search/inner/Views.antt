@@ -53,6 +53,10 @@ bits_under r = residual_cost r.order r.values.now
 abbrev pub TakesAtLeast : ResidualView → ℕ → Type 0
 TakesAtLeast r n = (f : Codings) → MayHave r f → n ≤ bits_under r f
 
+-- the same beside 6 bits of the header and 4 of each parameter
+abbrev pub TakesAtLeastBeside : ResidualView → ℕ → Type 0
+TakesAtLeastBeside r n = (f : Codings) → MayHave r f → n + (6 + 4 * 2 ^ f.partition_order) ≤ bits_under r f
+
 -- the same up to another partition order, of those of one, and of those above it
 abbrev pub TakesAtLeastTo : ResidualView → ℕ → ℕ → Type 0
 TakesAtLeastTo r most n = (f : Codings) → MayHaveTo r most f → n ≤ bits_under r f
@@ -110,6 +114,10 @@ finest r j = part r.order r.values.now r.partition_order j
 -- the bits of each of the finest partitions under a parameter
 abbrev pub ArePriced : ResidualView → ℕ → List ℕ → Type 0
 ArePriced r k sums = (j : ℕ) → j < 2 ^ r.partition_order → slice_index sums j ≡ sum_by (value_cost k) (finest r j)
+
+-- the same of the partitions of an order
+abbrev pub ArePricedAt : ResidualView → ℕ → ℕ → List ℕ → Type 0
+ArePricedAt r p k sums = (j : ℕ) → j < 2 ^ p → slice_index sums j ≡ sum_by (value_cost k) (part r.order r.values.now p j)
 
 -- the width of each of the finest partitions
 abbrev pub AreMeasured : ResidualView → List ℕ → Type 0

@@ -1,8 +1,8 @@
-use Rattle.std.proofs.Common.{sym, ◌∙◌, arith, rules}
+use Rattle.std.proofs.Common.{◌≤◌, ◌+◌, sym, ◌∙◌, arith, rules}
 use Rattle.std.proofs.lemmas.Result.{err_from_is_err_and}
 use Rattle.flac_bits.proofs.Counting.{gone, answered_then, failed_then}
-use Rattle.flac_bits.proofs.Turns.{zeros_start, zeros_turn, zeros_cut, zeros_cut_last}
-use Rattle.flac_bits.proofs.Needing.{zeros_none, zeros_more, zeros_end, zeros_held}
+use Rattle.flac_bits.proofs.Turns.{zeros_start, zeros_turn, zeros_past, zeros_cut, zeros_cut_last}
+use Rattle.flac_bits.proofs.Needing.{zeros_none, zeros_more, zeros_past as zeros_over, zeros_end, zeros_held}
 use Rattle.flac_bits.proofs.reader.BitReader.unary_slow.Goals as goal
 
 pub returns-in_err-bit-clause-reading : goal.returns-in_err-bit-clause-reading
@@ -47,18 +47,25 @@ returns-clause-reading g c = record {
 }
 
 pub loop-zeros-init : goal.loop-zeros-init
-loop-zeros-init g c = record { goes = zeros_start c.args.limit c.args.self.now; zeros = zeros_none c.args.self.now; spent = omega arith }
+loop-zeros-init g c = record { within = omega arith; goes = zeros_start c.args.limit c.args.self.now; zeros = zeros_none c.args.self.now; spent = omega arith }
 
 pub loop-zeros-preserved : goal.loop-zeros-preserved
 loop-zeros-preserved g c =
     let inv = c.loop-zeros.invariant in
     let got = c.in_ok-bit.ensures.reading in
+    let limit = c.args.limit in
+    let old = c.args.self.now in
+    let i = c.loop-zeros.zeros in
+    let q = c.skip_zeros-zeros.result in
+    let skipped = c.skip_zeros-zeros.ensures.skipped in
+    let room : i + 1 + q ≤ limit = omega (arith, c.skip_zeros-zeros.ensures.few, c.loop-zeros-test.true) in
+    let goes = zeros_turn limit i c.in_ok-bit.field-0 old c.loop-zeros.self c.bit.new.self c.loop-zeros-test.true c.if-branch.false inv.goes got.counts got.reads in
+    let zeros = zeros_more i c.in_ok-bit.field-0 old c.loop-zeros.self c.bit.new.self inv.goes.known inv.zeros c.if-branch.false c.in_ok-bit.ensures.needed (λ known. got.reads known got.counts.1) in
     record {
-      goes = zeros_turn c.args.limit c.loop-zeros.zeros c.in_ok-bit.field-0 c.args.self.now c.loop-zeros.self c.bit.new.self
-          c.loop-zeros-test.true c.if-branch.false inv.goes got.counts got.reads;
-      zeros = zeros_more c.loop-zeros.zeros c.in_ok-bit.field-0 c.args.self.now c.loop-zeros.self c.bit.new.self inv.goes.known inv.zeros c.if-branch.false
-          c.in_ok-bit.ensures.needed (λ known. got.reads known got.counts.1);
-      spent = omega (arith, inv.spent, got.spends);
+      within = room;
+      goes = zeros_past limit (i + 1) q old c.bit.new.self c.skip_zeros-zeros.new.self room skipped goes;
+      zeros = zeros_over (i + 1) q old c.bit.new.self c.skip_zeros-zeros.new.self zeros skipped;
+      spent = omega (arith, inv.spent, got.spends, skipped.1);
     }
 
 pub returns-in_err-bit-2 : goal.returns-in_err-bit-2
@@ -77,7 +84,7 @@ returns-in_err-bit-2 g c =
             zeros_cut_last c.args.limit c.loop-zeros.zeros _ c.args.self.now c.loop-zeros.self c.loop-zeros-test.false goes known
             (failed.reads (goes.known known) (same ∙ sym goes.errors));
       };
-      needed = zeros_end c.loop-zeros.zeros c.args.limit c.args.self.now c.loop-zeros.self _ (omega (arith, c.loop-zeros.auto.zeros-end)) c.loop-zeros.invariant.zeros c.in_err-bit-2.ensures.needed;
+      needed = zeros_end c.loop-zeros.zeros c.args.limit c.args.self.now c.loop-zeros.self _ c.loop-zeros.invariant.within c.loop-zeros.invariant.zeros c.in_err-bit-2.ensures.needed;
     })
 
 pub returns-in_err-bit-clause-needed : goal.returns-in_err-bit-clause-needed

@@ -10,18 +10,18 @@ use Rattle.flac_subframe.specs.format.Spelling.{predictor_spelling, residual_spe
 use Rattle.flac_subframe.proofs.lemmas.format.WriteSteps.{linear_text}
 use Rattle.flac_subframe.proofs.format.writing.write_linear.Goals as goal
 
-pub take_linear-requires-clause-places : goal.take_linear-requires-clause-places
-take_linear-requires-clause-places g c =
+pub take_left-requires-clause-places : goal.take_left-requires-clause-places
+take_left-requires-clause-places g c =
     omega (arith, c.order-order.ensures.value, ap (λ (x : List ℤ). length x) c.coefficients.ensures.value, c.requires.predicts.room, length-take (length c.args.samples.now - c.order-order.result) c.args.values.now)
 
 pub write_rest-requires-clause-may : goal.write_rest-requires-clause-may
 write_rest-requires-clause-may g c =
-    let all = rw (c.coefficients.ensures.value, c.shift.ensures.value) at c.take_linear.ensures.all in
+    let all = rw (c.coefficients.ensures.value, c.shift.ensures.value) at c.take_left.ensures.all in
     rw all c.requires.predicts.written
 
 pub write_rest-requires-clause-range : goal.write_rest-requires-clause-range
 write_rest-requires-clause-range g c =
-    let all = rw (c.coefficients.ensures.value, c.shift.ensures.value) at c.take_linear.ensures.all in
+    let all = rw (c.coefficients.ensures.value, c.shift.ensures.value) at c.take_left.ensures.all in
     rw all c.requires.predicts.range
 
 pub returns-in_err-write_signed : goal.returns-in_err-write_signed
@@ -40,7 +40,7 @@ returns g c =
     let cs = coefficients_in q in
     let s = c.args.samples.now in
     let r = residual_of (length cs) (differences cs q.shift s) (codings_lent c.args.choice.now) in
-    let all = rw (c.coefficients.ensures.value, c.shift.ensures.value) at c.take_linear.ensures.all in
+    let all = rw (c.coefficients.ensures.value, c.shift.ensures.value) at c.take_left.ensures.all in
     let warm = rw c.order-order.ensures.value at c.in_ok-write_signed.ensures in
     let rest = rw all at c.write_rest.ensures in
     rw (linear_text c.args.depth (take (length cs) s) (handed q) r) (writes_then (predictor_spelling (handed q) ++ residual_spelling r) c.write_rest.new.writer c.write_rest.result warm rest)

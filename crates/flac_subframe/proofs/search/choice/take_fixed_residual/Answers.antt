@@ -1,7 +1,7 @@
 use Rattle.std.proofs.Common.{All}
 use Rattle.flac_bits.specs.Signed.{FitsBits}
 use Rattle.flac_subframe.proofs.lemmas.search.Folds.{folds_small}
-use Rattle.flac_subframe.proofs.lemmas.search.Narrow.{narrow_differences}
+use Rattle.flac_subframe.proofs.lemmas.format.Narrow.{narrow_differences}
 use Rattle.flac_subframe.proofs.search.choice.take_fixed_residual.Goals as goal
 
 pub returns-then-subject-clause-range : goal.returns-then-subject-clause-range

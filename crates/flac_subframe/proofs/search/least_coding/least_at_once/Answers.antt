@@ -1,10 +1,11 @@
-use Rattle.std.proofs.Common.{arith, ◌≡◌, ◌+◌, ◌-◌, ◌*◌, ◌^◌, ◌≤◌, ◌<◌, min, refl, ℕ, length, Fits, w64}
-use Rattle.std.proofs.lemmas.Nat.{mul-le}
-use Rattle.flac_subframe.specs.format.Cost.{MayWrite, parameter_bits_of}
-use Rattle.flac_subframe.specs.format.inner.Cost.{HalvedTo, residual_cost}
+use Rattle.std.proofs.Common.{arith, ◌≡◌, ◌∙◌, ◌+◌, ◌-◌, ◌*◌, ◌^◌, ◌≤◌, ◌<◌, min, refl, ℕ, length, Fits, w64, Option, Some, None, IfNone}
+use Rattle.std.proofs.lemmas.Option.{IfSome_then}
+use Rattle.flac_subframe.specs.format.Cost.{Codings, MayWrite}
+use Rattle.flac_subframe.specs.format.inner.Cost.{residual_cost}
+use Rattle.flac_subframe.specs.declared.format.residual_form.ResidualForm.{ResidualForm}
 use Rattle.flac_subframe.proofs.lemmas.search.Counts.{within_limit}
-use Rattle.flac_subframe.proofs.lemmas.search.Places.{places_kept}
-use Rattle.flac_subframe.proofs.lemmas.search.Searched.{least_found, found_bits, none_below}
+use Rattle.flac_subframe.proofs.lemmas.search.Finer.{found_still, none_after}
+use Rattle.flac_subframe.proofs.lemmas.search.Places.{places_kept, fewer_places}
 use Rattle.flac_subframe.proofs.search.least_coding.least_at_once.Goals as goal
 
 saturated : (a b r : ℕ) → r ≡ min (a + b) (2 ^ 64 - 1) → r ≤ a + b
@@ -19,28 +20,32 @@ fits_twice n order few = omega arith
 fits_priced : (n order v : ℕ) → n + order ≤ 65535 → v ≤ 2 * n → Fits w64 (2 * n + v)
 fits_priced n order v few less = omega arith
 
-fits_tried : (n order k t : ℕ) → n + order ≤ 65535 → k ≡ t → t ≤ 30 → Fits w64 (k * n)
-fits_tried n order k t few is less = omega (arith, mul-le k n 30 65535 (omega arith) (omega arith))
+within_all : (a b n : ℕ) → a ≤ b → b ≤ n → a ≤ n
+within_all a b n h g = omega arith
 
-under : (r n below : ℕ) → r ≤ n → n < below → r < below
-under r n below le less = omega arith
+less_most : (a b : ℕ) → a < b → a ≤ b
+less_most a b h = omega arith
 
-small : (r n : ℕ) → r ≤ n → n ≤ 2 ^ 33 * 2 ^ 16 → r ≤ 2 ^ 49
-small r n le less = omega arith
+beside : (below bound p cost : ℕ) → below ≤ bound + (6 + 4 * 2 ^ p) → bound + (6 + 4 * 2 ^ p) ≤ cost → below ≤ cost
+beside below bound p cost a b = omega arith
 
-pub is_too_dear-verdict-requires : goal.is_too_dear-verdict-requires
-is_too_dear-verdict-requires c = record { sums = c.requires.places.leaves; places = c.requires.places.widths }
+itself : (found : Option ResidualForm) (n : ℕ) → IfNone found (n ≡ n)
+itself (Some f) n = tt
+itself None n = refl
+
+pub is_too_dear-bound-requires : goal.is_too_dear-bound-requires
+is_too_dear-bound-requires c = record { sums = c.requires.places.leaves; places = c.requires.places.widths }
 
 pub overflow_mul-count : goal.overflow_mul-count
 overflow_mul-count c = fits_twice (length c.args.residual.now.values.now) c.args.residual.now.order c.args.residual.now.few
 
 pub overflow_add-count : goal.overflow_add-count
 overflow_add-count c =
-    fits_priced (length c.args.residual.now.values.now) c.args.residual.now.order _ c.args.residual.now.few c.is_too_dear-verdict.ensures.few
+    fits_priced (length c.args.residual.now.values.now) c.args.residual.now.order _ c.args.residual.now.few c.is_too_dear-bound.ensures.few
 
 pub returns-then-verdict : goal.returns-then-verdict
 returns-then-verdict c =
-    let v = c.is_too_dear-verdict in
+    let v = c.is_too_dear-bound in
     record {
       least = tt;
       bits = tt;
@@ -54,70 +59,47 @@ returns-then-verdict c =
       priced = first_within (length c.args.residual.now.values.now) _ _ _ v.ensures.few (saturated _ _ _ c.saturating_add-tables.ensures);
     }
 
-pub least_coding-tried-requires : goal.least_coding-tried-requires
-least_coding-tried-requires c =
-    let v = c.is_too_dear-verdict in let places = c.requires.places in
-    record {
-      leaves = rw v.auto.sums places.leaves;
-      known = v.ensures.costs;
-      sums = places.sums;
-      four = places.four;
-      five = places.five;
-      widths = v.ensures.widths c.if-verdict.false;
-      places = rw v.ensures.long places.widths;
-    }
+pub least_measured-requires-clause-places : goal.least_measured-requires-clause-places
+least_measured-requires-clause-places c =
+    let r = c.args.residual.now in let v = c.is_too_dear-bound in let f = c.finest_beside-finest in
+    rw c.at.ensures.partition_order
+    (fewer_places f.result r.partition_order _ f.ensures.within
+    (places_kept r.partition_order c.args.tables.now _ (c.coarsen.ensures.long ∙ v.auto.sums) refl refl refl v.ensures.long refl c.requires.places))
 
-pub overflow_mul-from : goal.overflow_mul-from
-overflow_mul-from c = fits_tried (length c.args.residual.now.values.now) c.args.residual.now.order c.from.result _ c.args.residual.now.few c.from.ensures c.least_coding-tried.ensures.few
+pub least_measured-requires-clause-widths : goal.least_measured-requires-clause-widths
+least_measured-requires-clause-widths c = λ p j low high b.
+    let r = c.args.residual.now in let e = c.at.ensures in let f = c.finest_beside-finest in
+    rw (e.values, e.order) (c.is_too_dear-bound.ensures.widths c.if-verdict.false p j low (within_all p f.result r.partition_order (rw e.partition_order at high) f.ensures.within) b)
 
-pub returns-then-form-below : goal.returns-then-form-below
-returns-then-form-below c =
-    let v = c.is_too_dear-verdict in let s = c.least_coding-tried in let r = c.args.residual.now in
-    record {
-      least = tt;
-      bits = tt;
-      within = tt;
-      less = tt;
-      small = tt;
-      kept = refl;
-      none = none_below (MayWrite r.partition_order r.order r.values.now) (residual_cost r.order r.values.now) _ c.args.below s.ensures.least c.if-form-below.true;
-      places = λ most h. places_kept most c.args.tables.now _ v.auto.sums s.auto.sums s.auto.four s.auto.five v.ensures.long refl h;
-      same = refl;
-      priced = within_limit (length r.values.now) _ v.result.priced s.result.1 c.args.tables.now.priced c.saturating_add-tables.result c.saturating_add-tables-2.result v.ensures.few v.ensures.none s.ensures.few s.ensures.narrow
-          (saturated _ _ _ c.saturating_add-tables.ensures) (rw c.from.ensures at (saturated _ _ _ c.saturating_add-tables-2.ensures));
-    }
+pub returns-clause-least : goal.returns-clause-least
+returns-clause-least c =
+    let r = c.args.residual.now in let f = c.finest_beside-finest in let e = c.at.ensures in let so = c.least_measured.ensures in
+    let dear : (g : Codings) → MayWrite r.partition_order r.order r.values.now g → f.result < g.partition_order → c.args.below ≤ residual_cost r.order r.values.now g =
+    λ g m b. beside c.args.below c.is_too_dear-bound.result.1 g.partition_order _ (f.ensures.dear g.partition_order b m.few) (c.is_too_dear-bound.ensures.beside g m) in
+    found_still r.order f.result r.partition_order r.values.now f.ensures.within c.args.below dear c.least_measured.result _ (rw (e.values, e.order, e.partition_order) at so.least) (rw (e.values, e.order) at so.bits) (IfSome_then c.least_measured.result so.less (λ x b. less_most _ _ b))
 
-pub take_found-bits-requires : goal.take_found-bits-requires
-take_found-bits-requires c =
-    let v = c.is_too_dear-verdict in let s = c.least_coding-tried in let places = c.requires.places in
-    record {
-      within = s.ensures.within;
-      four = rw s.auto.four places.four;
-      five = rw s.auto.five places.five;
-      entries = s.ensures.entries;
-      more = s.ensures.more;
-      widths = v.ensures.widths c.if-verdict.false;
-      places = rw v.ensures.long places.widths;
-      codings = places.codings;
-    }
+pub returns-clause-bits : goal.returns-clause-bits
+returns-clause-bits c = let e = c.at.ensures in rw (e.values, e.order) at c.least_measured.ensures.bits
 
-pub returns : goal.returns
-returns c =
-    let v = c.is_too_dear-verdict in let s = c.least_coding-tried in let r = c.args.residual.now in let found = c.take_found-bits in
-    let form = s.result.0 in
-    let halved = HalvedTo (parameter_bits_of form.method) form.partition_order r.partition_order r.order r.values.now in
-    let cost = residual_cost r.order r.values.now in
-    let le : found.result ≤ form.bits = found_bits halved cost form.bits _ found.result s.ensures.here found.ensures.least found.ensures.bits in
-    record {
-      least = least_found halved (MayWrite r.partition_order r.order r.values.now) cost form.bits _ (λ f m. m.2) s.ensures.least s.ensures.here found.ensures.least;
-      bits = found.ensures.bits;
-      within = s.ensures.within;
-      less = under found.result form.bits c.args.below le c.if-form-below.false;
-      small = small found.result form.bits le s.ensures.small;
-      kept = tt;
-      none = tt;
-      places = λ most h. places_kept most c.args.tables.now _ v.auto.sums s.auto.sums s.auto.four s.auto.five v.ensures.long found.auto.codings h;
-      same = refl;
-      priced = within_limit (length r.values.now) _ v.result.priced s.result.1 c.args.tables.now.priced c.saturating_add-tables.result c.saturating_add-tables-2.result v.ensures.few v.ensures.none s.ensures.few s.ensures.narrow
-          (saturated _ _ _ c.saturating_add-tables.ensures) (rw c.from.ensures at (saturated _ _ _ c.saturating_add-tables-2.ensures));
-    }
+pub returns-clause-within : goal.returns-clause-within
+returns-clause-within c =
+    let f = c.finest_beside-finest in let e = c.at.ensures in
+    IfSome_then c.least_measured.result (rw e.partition_order at c.least_measured.ensures.within) (λ x b. within_all _ _ _ b f.ensures.within)
+
+pub returns-clause-none : goal.returns-clause-none
+returns-clause-none c =
+    let r = c.args.residual.now in let f = c.finest_beside-finest in let e = c.at.ensures in let so = c.least_measured.ensures in
+    let dear : (g : Codings) → MayWrite r.partition_order r.order r.values.now g → f.result < g.partition_order → c.args.below ≤ residual_cost r.order r.values.now g =
+    λ g m b. beside c.args.below c.is_too_dear-bound.result.1 g.partition_order _ (f.ensures.dear g.partition_order b m.few) (c.is_too_dear-bound.ensures.beside g m) in
+    none_after r.order f.result r.partition_order r.values.now f.ensures.within c.args.below dear c.least_measured.result c.args.below (itself c.least_measured.result c.args.below) (rw (e.values, e.order, e.partition_order) at so.none)
+
+pub returns-clause-places : goal.returns-clause-places
+returns-clause-places c = λ most h.
+    let v = c.is_too_dear-bound in
+    c.least_measured.ensures.places most (places_kept most c.args.tables.now _ (c.coarsen.ensures.long ∙ v.auto.sums) refl refl refl v.ensures.long refl h)
+
+pub returns-clause-priced : goal.returns-clause-priced
+returns-clause-priced c =
+    let r = c.args.residual.now in let v = c.is_too_dear-bound in let e = c.at.ensures in let so = c.least_measured.ensures in
+    within_limit (length r.values.now) _ v.result.0.priced c.args.tables.now.priced c.saturating_add-tables.result _ v.ensures.few v.ensures.none
+    (saturated _ _ _ c.saturating_add-tables.ensures) (rw e.values at so.priced) (rw e.values at so.narrow)

@@ -1,5 +1,5 @@
 use Rattle.std.proofs.Common.{◌+◌, ◌-◌, ◌≤◌, length}
-use Rattle.flac_subframe.specs.search.inner.Products.{HasSums}
+use Rattle.flac_subframe.specs.format.inner.Products.{HasSums}
 use Rattle.flac_subframe.proofs.search.wide_products.add_all.Given as goal
 
 abbrev pub invariant-loop-done : goal.invariant-loop-done

@@ -1,5 +1,5 @@
 use Rattle.std.proofs.Common.{arith, rules, ◌+◌, ◌≤◌, ◌<◌, ℕ, length, refl, w64}
-use Rattle.flac_subframe.proofs.lemmas.search.Fours.{one_small, two_small, three_small, four_small, four_held}
+use Rattle.flac_subframe.proofs.lemmas.format.Fours.{one_small, two_small, three_small, four_small, four_held}
 use Rattle.flac_subframe.proofs.search.wide_products.add_four.Goals as goal
 
 some : (k n : ℕ) → k + 4 ≤ n → k + 1 ≤ n

@@ -1,5 +1,5 @@
 use Rattle.std.proofs.Common.{◌+◌}
-use Rattle.flac_subframe.proofs.lemmas.search.Lanes.{SumsTo}
+use Rattle.flac_subframe.proofs.lemmas.format.Lanes.{SumsTo}
 use Rattle.flac_subframe.proofs.search.wide_products.add_four.Given as goal
 
 abbrev pub invariant-loop-index : goal.invariant-loop-index

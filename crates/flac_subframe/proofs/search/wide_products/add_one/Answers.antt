@@ -1,5 +1,5 @@
 use Rattle.std.proofs.Common.{rules, ◌+◌, ◌<◌, length, refl, w64}
-use Rattle.flac_subframe.proofs.lemmas.search.Fours.{one_small, one_held}
+use Rattle.flac_subframe.proofs.lemmas.format.Fours.{one_small, one_held}
 use Rattle.flac_subframe.proofs.search.wide_products.add_one.Goals as goal
 
 pub plus-requires : goal.plus-requires

@@ -3,7 +3,7 @@ use Rattle.std.specs.Int.{int_shr}
 use Rattle.std.specs.Int.RustNames.{unsigned_abs}
 use Rattle.std.proofs.lemmas.Int.{to_z-of_z}
 use Rattle.flac_subframe.specs.format.Numbers.{sample_at}
-use Rattle.flac_subframe.proofs.lemmas.search.Lanes.{partly_start, left_fits, left_is, partly_more, partly_end}
+use Rattle.flac_subframe.proofs.lemmas.format.Lanes.{partly_start, left_fits, left_is, partly_more, partly_end}
 use Rattle.flac_subframe.proofs.search.wide_products.leave.Goals as goal
 
 pub loop-index-init : goal.loop-index-init

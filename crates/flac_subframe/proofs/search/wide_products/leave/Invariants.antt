@@ -1,4 +1,4 @@
-use Rattle.flac_subframe.proofs.lemmas.search.Lanes.{PartlyLeft}
+use Rattle.flac_subframe.proofs.lemmas.format.Lanes.{PartlyLeft}
 use Rattle.flac_subframe.proofs.search.wide_products.leave.Given as goal
 
 abbrev pub invariant-loop-index : goal.invariant-loop-index

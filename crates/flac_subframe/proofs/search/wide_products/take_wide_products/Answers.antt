@@ -1,7 +1,7 @@
 use Rattle.std.proofs.Common.{◌≡◌, ◌^◌, length, pos, arith}
 use Rattle.std.proofs.lemmas.List.{get_or-replicate}
 use Rattle.flac_subframe.specs.format.Bodies.{differences}
-use Rattle.flac_subframe.proofs.lemmas.search.Lanes.{stays_below_wide, peak_of, no_sums, sums_below, differences_from}
+use Rattle.flac_subframe.proofs.lemmas.format.Lanes.{stays_below_wide, peak_of, no_sums, sums_below, differences_from}
 use Rattle.flac_subframe.proofs.search.wide_products.take_wide_products.Goals as goal
 
 pub add_all-requires-clause-small : goal.add_all-requires-clause-small

@@ -3,7 +3,7 @@ use Rattle.std.proofs.lemmas.Bool.{cases_lt}
 use Rattle.std.proofs.lemmas.List.{get_or-set_same, get_or-set_other}
 use Rattle.std.proofs.lemmas.List.Elements.{All-take, All-drop}
 use Rattle.flac_subframe.specs.search.inner.Halves.{part, start}
-use Rattle.flac_subframe.proofs.lemmas.search.LowerBounds.{bound_start, bound_more, bound_end, bound_of_all}
+use Rattle.flac_subframe.proofs.lemmas.search.LowerBounds.{bound_start, bound_more, bound_end, bound_beside}
 use Rattle.flac_subframe.proofs.lemmas.search.Turns.{long_within, long_few, all_rest, first_long, index_below, one_left, none_left, next_long, next_rest}
 use Rattle.flac_subframe.proofs.lemmas.search.Folds.{segment_cost, segment_width}
 use Rattle.flac_subframe.proofs.search.widths.leaves_of.Goals as goal
@@ -103,7 +103,7 @@ pub returns-clause-bound : goal.returns-clause-bound
 returns-clause-bound c =
     let none = none_left c.power-count.result c.loop-j.j c.loop-j-test.false in
     let so = c.loop-j.invariant in
-    bound_of_all c.args.residual.now.order c.args.residual.now.partition_order c.args.residual.now.values.now c.loop-j.bound c.args.residual.now.halves
+    bound_beside c.args.residual.now.order c.args.residual.now.partition_order c.args.residual.now.values.now c.loop-j.bound c.args.residual.now.halves
     (λ w cs long may. bound_end w _ _ _ c.args.residual.now.values.now c.loop-j.bound _ _ _ (so.bound w) cs (omega (arith, long, c.power-count.ensures)) may)
 
 pub split_at-requires : goal.split_at-requires

@@ -1,0 +1,6 @@
+use Rattle.std.proofs.Common.{◌+◌}
+use Rattle.flac_subframe.proofs.lemmas.format.Lanes.{SumsTo}
+use Rattle.flac_subframe.proofs.format.products.add_four.Given as goal
+
+abbrev pub invariant-loop-index : goal.invariant-loop-index
+invariant-loop-index l = SumsTo l.done (l.done + 4) l.coefficients l.samples l.index l.sums
