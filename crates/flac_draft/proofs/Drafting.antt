@@ -1,10 +1,9 @@
 -- A draft, from the first block to the last.
-use Rattle.std.proofs.Common.{◌≡◌, ℕ, zero, suc, ◌+◌, ◌*◌, ◌^◌, ◌<◌, ◌≤◌, min, max, ℤ, Bool, true, false, cond, ◌||◌, nat_eq, Option, None, Result, Ok, Err, List, [], ◌∷◌, ◌++◌, length, append_assoc, inl, inr, refl, sym, ap, subst, ◌∙◌, arith}
+use Rattle.std.proofs.Common.{◌≡◌, ℕ, ◌+◌, ◌*◌, ◌^◌, ◌<◌, ◌≤◌, min, max, ℤ, Bool, true, false, cond, ◌||◌, nat_eq, Option, None, Result, Ok, Err, List, [], ◌∷◌, ◌++◌, length, append_assoc, inl, inr, refl, sym, ap, subst, ◌∙◌, arith}
 use Rattle.std.specs.Prelude.{OnOk}
 use Rattle.std.proofs.lemmas.Bool.{cases_lt}
 use Rattle.std.proofs.lemmas.Bool.Decides.{nat_tests}
 use Rattle.std.proofs.lemmas.List.{append-nil, length-replicate}
-use Rattle.std.proofs.Math.Nat.{mul-suc}
 use Rattle.flac_bits.specs.Bits.{unsigned, bits_of}
 use Rattle.flac_bits.specs.Forms.{joined}
 use Rattle.flac_bits.specs.Items.{Stream}
@@ -21,15 +20,13 @@ use Rattle.flac_subframe.specs.declared.format.linear.LinearPredictor.{LinearPre
 use Rattle.flac_frame.specs.Audio.{Sound, samples_each}
 use Rattle.flac_frame.specs.Frame.{Frame}
 use Rattle.flac_native.specs.Decoding.{beginning}
-use Rattle.flac_native.specs.Given.{cut_in, blocks_in, size_of, has_point, points_before, frame_of, info_of, given, sound_message}
+use Rattle.flac_native.specs.Given.{cut_in, blocks_in, has_point, points_before, info_of, given, sound_message}
 use Rattle.flac_native.specs.Message.{sample_width, rows_bytes, Feeds}
 use Rattle.flac_native.specs.Seeking.{point_at, points_of, table_of}
 use Rattle.flac_native.specs.Stream.{grammar, opening}
-use Rattle.flac_native.specs.Writing.{SpellsFrame, AreFrames, AreSizes, blocks_spelling, head_spelling, stream_spelling}
+use Rattle.flac_native.specs.Writing.{SpellsFrame, AreFrames, blocks_spelling, head_spelling, stream_spelling}
 use Rattle.flac_native.proofs.Digests.{digest_is_bytes}
-use Rattle.flac_native.proofs.Encoded.{part_rows, all_parts}
-use Rattle.flac_native.proofs.Gathered.{no_sizes, snoc, length-snoc, each_more, sizes_with}
-use Rattle.flac_native.proofs.Messages.{fed_more, fed_all}
+use Rattle.flac_native.proofs.Gathered.{no_sizes, snoc}
 use Rattle.flac_native.proofs.Streams.{encoded_are_streams}
 use Rattle.flac_native.proofs.Planned.{planned, fit}
 use Rattle.flac_native.proofs.Tables.{bytes_of, counted, points_more, tabled}
@@ -45,7 +42,7 @@ use Rattle.flac_draft.specs.inner.Gathering.{info_with, least_after}
 use Rattle.flac_draft.proofs.Heads.{heads_alike, written_bits}
 use Rattle.flac_draft.proofs.Planned.{planned_for, fits_for, table_fits, not_twice}
 use Rattle.flac_draft.proofs.Points.{asked_for, none_before, bytes_alike, bytes_more, points_alike, room_left, same_point}
-use Rattle.flac_draft.proofs.Moved.{spells_moved, found_moved, block_long, frame_is}
+use Rattle.flac_draft.proofs.Gathered.{gathered, gathers_more, all_came, info_known}
 
 -- ---- an encoder of these parts
 
@@ -130,13 +127,6 @@ module _ {S : Type 0} (g : target.Ghosts S) (d : Draft S) where
 
 -- ---- one more block
 
-zero_alike : (b n x : ℕ) → 16 ≤ b → x ≡ b * n → nat_eq x 0 ≡ nat_eq n 0
-zero_alike b zero x some e = let z : x ≡ 0 = omega (arith, e) in ap (λ k. nat_eq k 0) z
-zero_alike b (suc n) x some e = let p : 0 < x = omega (arith, some, e, mul-suc b n) in grind (arith, nat_tests)
-
-pub least_alike : (b n x least bytes : ℕ) → 16 ≤ b → x ≡ b * n → least_after x least bytes ≡ cond (nat_eq n 0) bytes (min least bytes)
-least_alike b n x least bytes some e = ap (λ k. cond k bytes (min least bytes)) (zero_alike b n x some e)
-
 abbrev pub drafted : {S : Type 0} → Draft S → S → Md5 → (block : List (List ℤ)) (bytes : List ℕ) → Draft S
 drafted d t h block bytes = record {
   pushed = after_block d.pushed (samples_each block) t;
@@ -183,18 +173,9 @@ draft_more g samples block before d t h bytes o next few spells least feeds sent
     let q = shaped s o.shape in
     let b = s.block_size in
     let n = d.pushed.number in
-    let a = sound_of s samples in
-    let total = samples_each samples in
-    let size = size_of b total n in
-    let w = sample_width s.bits in
     let text = bits_of bytes in
     let so_far : d.pushed.samples ≡ b * n = omega (arith, o.count, next.some) in
-    let long : samples_each block ≡ size = ap samples_each next.is ∙ block_long (b * n) size samples next.some (omega arith) in
-    let same = frame_is b n s samples block next.some next.is in
-    let here : SpellsFrame a (frame_of b a n) text = subst (λ f. SpellsFrame a f text) same (spells_moved s block samples (frame_with n block) text spells) in
-    let here_least : SpellsLeastFound d.pushed.search d.pushed.predictors a (frame_of b a n) text = subst (λ f. SpellsLeastFound d.pushed.search d.pushed.predictors a f text) same (found_moved s block samples d.pushed.search d.pushed.predictors (frame_with n block) text least) in
-    let rows : rows_bytes w block (samples_each block) 0 ≡ rows_bytes w samples size d.pushed.samples =
-    ap (λ k. rows_bytes w block k 0) long ∙ ap (λ k. rows_bytes w k size 0) next.is ∙ part_rows w (b * n) size size 0 samples (omega arith) ∙ ap (λ j. rows_bytes w samples size j) (let e : b * n + 0 ≡ d.pushed.samples = omega (arith, so_far) in e) in
+    let k = gathers_more samples block o.frames d t h bytes (lengthened (length bytes) (pointed b d.pushed.samples d.table)) (gathered g samples before d o) next few spells least feeds in
     record {
       shape = o.shape;
       listed = o.listed;
@@ -202,14 +183,13 @@ draft_more g samples block before d t h bytes o next few spells least feeds sent
       table = o.table;
       channels = o.channels;
       frames = snoc o.frames text;
-      many = omega (arith, length-snoc o.frames text, o.many);
-      few = omega (arith, few);
-      each = each_more (λ i k. SpellsFrame a (frame_of b a i) k) o.frames text o.each (subst (λ i. SpellsFrame a (frame_of b a i) text) (sym o.many) here);
-      least = each_more (λ i k. SpellsLeastFound d.pushed.search d.pushed.predictors a (frame_of b a i) k) o.frames text o.least (subst (λ i. SpellsLeastFound d.pushed.search d.pushed.predictors a (frame_of b a i) text) (sym o.many) here_least);
-      sizes = subst (λ k. AreSizes (snoc o.frames text) k (max d.greatest (length bytes))) (sym (least_alike b n d.pushed.samples d.least (length bytes) q.least so_far))
-          (sizes_with o.frames text n d.least d.greatest (length bytes) o.many (length-bits_of bytes) o.sizes);
-      count = omega (arith, so_far, long, next.some, mul-suc b n);
-      digest = fed_more a d.hasher h d.pushed.samples (samples_each block) size (sym long) (λ m held. subst (λ l. Holds h (m ++ l)) rows (feeds m held)) o.digest;
+      many = k.many;
+      few = k.few;
+      each = k.each;
+      least = k.least;
+      sizes = k.sizes;
+      count = k.count;
+      digest = k.digest;
       bytes = omega (arith, o.bytes, bytes_more o.frames text (length bytes) (length-bits_of bytes));
       points = λ stated. points_with s d.list samples d.table o.frames n d.pushed.samples text q.least o.table o.channels o.many so_far next.some o.bytes stated (o.points stated);
       start = o.start;
@@ -244,10 +224,6 @@ least_small x least bytes l b = go (nat_eq x 0)
     go false = omega (arith, l)
 
 -- ---- at the end
-
-stated_info : (s : Shape) (least greatest m n total : ℕ) (x y : List ℕ) → m ≡ s.channels → n ≡ total → x ≡ y
-    → info_with s least greatest n x ≡ record { least_block = s.block_size; greatest_block = s.block_size; least_frame = least; greatest_frame = greatest; rate = s.rate; channels = m; depth = s.bits; total = total; digest = y }
-stated_info s least greatest m n total x y channels count digest = rw (channels, count, digest) refl
 
 -- the table takes as many samples as came
 taken : (t : Table) (n total : ℕ) → takes t n ≡ true → n ≡ total → 0 < t.every → total ≡ t.total
@@ -286,12 +262,11 @@ draft_whole g samples before d new digest head o all few takes_it md is over =
     let t = d.table in
     let p = plan_for d samples in
     let p0 = cut_for d samples in
-    let far : b * d.pushed.number ≡ b * blocks_in b total = ap (λ k. b * k) all in
-    let count : d.pushed.samples ≡ total = omega (arith, o.count, far, all_parts b total q.least) in
+    let k = gathered g samples before d o in
+    let count = all_came samples o.frames d k all in
     let stated : 0 < t.every → total ≡ t.total = taken t d.pushed.samples total takes_it count in
     let enough : length o.frames ≡ blocks_in b total = o.many ∙ all in
-    let digest_is : digest ≡ md5 (sound_message a) = md (sound_message a) (fed_all a d.hasher d.pushed.samples count o.digest) in
-    let info : info_with s d.least d.greatest d.pushed.samples digest ≡ info_of p a d.least d.greatest = stated_info s d.least d.greatest (length samples) d.pushed.samples total digest (md5 (sound_message a)) o.channels count digest_is in
+    let info = info_known samples o.frames d digest k all md in
     let points : t.points ≡ points_of p o.frames = o.points stated ∙ sym (points_alike p0 d.pushed.predictors 0 0 o.frames) in
     let list = d.list ++ table_of (points_of p o.frames) in
     let head_is : bits_of head ≡ head_spelling (info_of p a d.least d.greatest) list = is ∙ ap (λ i. head_spelling i (d.list ++ table_of t.points)) info ∙ ap (λ x. head_spelling (info_of p a d.least d.greatest) (d.list ++ table_of x)) points in

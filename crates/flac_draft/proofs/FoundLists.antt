@@ -16,11 +16,11 @@ use Rattle.flac_native.specs.Decoding.{beginning}
 use Rattle.flac_native.specs.Given.{Cut, with_predictors, with_found, tried, frame_of, given}
 use Rattle.flac_native.specs.Seeking.{point_at, points_from, points_of, table_of}
 use Rattle.flac_native.specs.Stream.{grammar, opening}
-use Rattle.flac_native.specs.Writing.{SpellsLeastByPlane, stream_spelling}
-use Rattle.flac_predict.specs.Found.{IsPrefixOf, IsFoundAfter}
+use Rattle.flac_native.specs.Writing.{SpellsLeastByPlane, AreLeastFrames, stream_spelling}
+use Rattle.flac_predict.specs.Found.{IsPrefixOf, AllBegin, IsFoundAfter}
 use Rattle.flac_predict.specs.declared.search.Search.{Search}
 use Rattle.flac_encoder.specs.Pushing.{SpellsLeastFound}
-use Rattle.flac_draft.specs.Draft.{FoundAreEncoded}
+use Rattle.flac_draft.specs.Draft.{AreLeastFound, FoundAreEncoded}
 
 -- ---- lists that agree on the planes of a frame
 
@@ -123,35 +123,50 @@ points_found : (p : Cut) (found : List (List (List LinearPredictor))) (number of
 points_found p found number offset [] = refl
 points_found p found number offset (t ∷ ts) = ap (λ l. point_at p number offset ++ l) (points_found p found (number + 1) (offset + length t / 8) ts)
 
+-- lists for the planes of these frames, by which each is a shortest one
+pub record FoundFor (p : Cut) (a : Sound) (frames : List (List Bool)) : Type 0 where
+  pub found : List (List (List LinearPredictor))
+  pub begin : AllBegin p.predictors found
+  pub least : AreLeastFrames (with_found p found) a frames
+
+pub found_for : (sought : Option Search) (p : Cut) (ps : List LinearPredictor) (a : Sound) (frames : List (List Bool)) → AreLeastFound sought ps p.block_size a frames → FoundFor (with_predictors p ps) a frames
+found_for sought p ps a frames are_least =
+    let q = with_predictors p ps in
+    let b = q.block_size in
+    let m = length a.channels in
+    let k = 4 + m in
+    let all = collect k (length frames) (λ i lists. ((plane : ℕ) → IsPrefixOf ps (lists plane)) × SpellsLeastByPlane lists a (frame_of b a i) (get_or frames i [])) (λ i lt. let x = lists_in sought ps a (frame_of b a i) (get_or frames i []) (are_least i lt) in (x.0, (x.1, x.2))) in
+    let r = with_found q all.found in
+    record {
+      found = all.found;
+      begin = All-from_get_or (All (IsPrefixOf ps)) all.found []
+          (λ i lt. let x = all.each i (omega (arith, lt, all.many)) in subst (All (IsPrefixOf ps)) (sym x.2) (first_begin ps k x.0 x.1.0));
+      least = λ i lt.
+          let x = all.each i lt in
+          let s = x.1.1 in
+          let f = frame_of b a i in
+          record {
+            form = s.form;
+            least = least_by_lists a f.size f.number f.channels m (length-map a.channels _) x.0 (tried r i) s.form (λ plane h. sym (ap (λ l. get_or l plane ps) x.2 ∙ first_at k x.0 plane ps h)) s.least;
+            spelling = s.spelling;
+          };
+    }
+
 -- ---- the whole
 
 pub found_are_encoded : FoundAreEncoded
 found_are_encoded sought p ps list a before after e =
     let q = with_predictors p ps in
-    let b = q.block_size in
-    let m = length a.channels in
-    let k = 4 + m in
-    let all = collect k (length e.frames) (λ i lists. ((plane : ℕ) → IsPrefixOf ps (lists plane)) × SpellsLeastByPlane lists a (frame_of b a i) (get_or e.frames i [])) (λ i lt. let x = lists_in sought ps a (frame_of b a i) (get_or e.frames i []) (e.are_least i lt) in (x.0, (x.1, x.2))) in
-    let r = with_found q all.found in
-    let same : points_of q e.frames ≡ points_of r e.frames = sym (points_found q all.found 0 0 e.frames) in
-    let begin = All-from_get_or (All (IsPrefixOf ps)) all.found []
-    (λ i lt. let x = all.each i (omega (arith, lt, all.many)) in subst (All (IsPrefixOf ps)) (sym x.2) (first_begin ps k x.0 x.1.0)) in (
+    let all = found_for sought p ps a e.frames e.are_least in
+    let same : points_of q e.frames ≡ points_of (with_found q all.found) e.frames = sym (points_found q all.found 0 0 e.frames) in (
       all.found,
-      begin,
+      all.begin,
       record {
         least = e.least;
         greatest = e.greatest;
         frames = e.frames;
         are = record { many = e.are.many; each = e.are.each };
-        are_least = λ i lt.
-            let x = all.each i lt in
-            let s = x.1.1 in
-            let f = frame_of b a i in
-            record {
-              form = s.form;
-              least = least_by_lists a f.size f.number f.channels m (length-map a.channels _) x.0 (tried r i) s.form (λ plane h. sym (ap (λ l. get_or l plane ps) x.2 ∙ first_at k x.0 plane ps h)) s.least;
-              spelling = s.spelling;
-            };
+        are_least = all.least;
         sizes = e.sizes;
         written = e.written ∙ ap (λ x. before ++ stream_spelling q (list ++ table_of x) a e.least e.greatest e.frames) same;
         stream = subst (λ x. Stream grammar (opening q.profile) (beginning Truncated) (given q (list ++ table_of x) a e.least e.greatest) (stream_spelling q (list ++ table_of x) a e.least e.greatest e.frames)) same e.stream;

@@ -10,3 +10,7 @@ pub mod Moved
 pub mod Drafting
 -- what a search found, as the lists of a plan
 pub mod FoundLists
+-- what is gathered of the blocks that were pushed
+pub mod Gathered
+-- a draft in Ogg, from the header packets to the last
+pub mod OggDrafting

@@ -1,2 +1,3 @@
 -- What private contracts and proofs need, and no contract of an exported function.
 pub mod Gathering
+pub mod Ending

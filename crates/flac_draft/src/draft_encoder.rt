@@ -2,93 +2,27 @@
 
 ghost use Rattle.std.specs.Prelude.{◌≡◌, ◌≢◌, ◌<◌, ◌≤◌, ◌^◌, ◌++◌, [], max, true, None, Some, IfOk, IfErr, OnOk, Ok, Err, ⊤, MatchOption};
 ghost use Rattle.flac_bits.specs.Bits.{bits_of};
-ghost use Rattle.flac_meta.specs.Listed.{block_fault};
-ghost use Rattle.flac_meta.specs.declared.block.Block.TheVariants as kinds;
 ghost use Rattle.flac_encoder.specs.Pushing.{shape_of, shape_fault, setup_fault, IsUnpushed, IsAfterBlock, trying, trying_fault, searching, block_channels, push_fault, IsFirst, IsSpent, SentHead, FailsHead, SentFrame, BegunFrame};
-ghost use Rattle.flac_native.specs.Seeking.{table_of};
-ghost use Rattle.flac_native.specs.Writing.{head_spelling};
 ghost use Rattle.flac_ogg.specs.Writing.{HasWriteError, CountsWriteError};
 ghost use Rattle.flac_draft.specs.Draft.{BeginsDraft, GoesOn, StaysDraft, Finishes, finish_fault, FailsLast};
 ghost use Rattle.flac_draft.specs.Faults.{IsFirstFault};
 ghost use Rattle.flac_draft.specs.Table.{no_table, table_for, table_fault, begin_fault, with_place, StaysStated, list_for};
-ghost use Rattle.flac_draft.specs.inner.Gathering.{info_with, least_after};
 
-use crate::draft_fault::{DraftFault, Unfinished};
+use crate::draft_fault::{DraftFault, Unfinished, unfinished_by};
+use crate::draft_head::{head_bytes, info_with, least_after};
 use crate::point_table::PointTable;
 use crate::rewritable::Rewritable;
 use crate::table_faults::begin_fault;
-use flac_bits::{Collected, Target, send_all};
+use flac_bits::{Target, send_all};
 use flac_encoder::{BlockEncoder, StreamFormat, block_len};
 use flac_frame::SetupFault;
-use flac_meta::{BlockList, SeekPoint, StreamInfo};
+use flac_meta::BlockList;
 use flac_native::{EncodeFault, feed_slices, sample_width, send_head};
 use flac_predict::Search;
 use flac_subframe::LinearPredictor;
 use md5::{Digest, Md5};
 use std::alloc::Global;
 use std::marker::Model;
-
-/// STREAMINFO of a format with the sizes of the smallest and the largest frame in bytes, the samples of each channel,
-/// and their MD5 digest (RFC 9639, section 8.2).
-fn info_with(
-    format: &StreamFormat,
-    least: u64,
-    greatest: u64,
-    total: u64,
-    digest: [u8; 16],
-) -> StreamInfo
-    requires format { shape_fault (shape_of format.now) ≡ None }
-    requires least { least < 2 ^ 24 }
-    requires greatest { greatest < 2 ^ 24 }
-    requires total { total < 2 ^ 36 }
-    ensures { result ≡ info_with (shape_of format.now) least greatest total digest }
-{
-    let size = format.block_size as u16;
-    let info = StreamInfo::new(
-        size,
-        size,
-        least as u32,
-        greatest as u32,
-        format.rate,
-        format.channels as u8,
-        format.bits as u8,
-        total,
-        digest,
-    );
-    match info {
-        Ok(info) => info,
-        Err(_) => unreachable!(),
-    }
-}
-
-/// What comes before the frames, in memory: the marker, STREAMINFO, the blocks of the list and the seek table of these
-/// points, if there are points (RFC 9639, section 6). `None` if an allocation fails.
-fn head_bytes(
-    alloc: Global,
-    info: StreamInfo,
-    list: &BlockList,
-    points: Vec<SeekPoint>,
-) -> Option<Vec<u8>>
-    requires { block_fault (kinds.SeekTable points.items) ≡ None }
-    ensures { MatchOption result ⊤ (λ b. bits_of b.items ≡ head_spelling info (list.now ++ table_of points.items)) }
-{
-    let mut target = Collected::new(alloc);
-    match send_head(info, list, points, &mut target) {
-        Ok(()) => Some(target.into_bytes()),
-        Err(_) => None,
-    }
-}
-
-/// The smallest size with one more frame; that of this frame if no sample was encoded before.
-fn least_after(samples: u64, least: u64, bytes: u64) -> u64
-    ensures { result ≡ least_after samples least bytes }
-{
-    if samples == 0 {
-        bytes
-    } else {
-        least.min(bytes)
-    }
-}
 
 /// Encodes a native stream a block at a time, as [`flac_encoder::StreamEncoder`] does, and at the end writes the number
 /// of samples, the sizes of the frames and the MD5 digest into STREAMINFO (RFC 9639, sections 6 and 8.2). So the stream
@@ -154,8 +88,8 @@ impl<W: Rewritable> Model for DraftEncoder<W> {
 }
 
 impl<W: Rewritable + Drop> DraftEncoder<W> {
-    /// Makes an encoder for this format, and writes the marker, STREAMINFO and the blocks of the list (RFC 9639, sections
-    /// 6 to 8). No linear predictors are tried yet: see [`DraftEncoder::set_predictors`] and
+    /// Makes an encoder for this format, and writes the marker, STREAMINFO and the blocks of the list (RFC 9639,
+    /// sections 6 to 8). No linear predictors are tried yet: see [`DraftEncoder::set_predictors`] and
     /// [`DraftEncoder::set_search`].
     ///
     /// # Errors
@@ -185,9 +119,9 @@ impl<W: Rewritable + Drop> DraftEncoder<W> {
     }
 
     /// Makes an encoder as [`DraftEncoder::new_in`] does, and after the blocks of the list it reserves a seek table for
-    /// `total` samples of each channel, which are to come. If `seek_every` is not 0, each frame that holds a sample whose
-    /// index is a multiple of it has a seek point (RFC 9639, section 8.5), which [`DraftEncoder::finish`] writes. Before
-    /// that the points of the table are placeholders.
+    /// `total` samples of each channel, which are to come. If `seek_every` is not 0, each frame that holds a sample
+    /// whose index is a multiple of it has a seek point (RFC 9639, section 8.5), which [`DraftEncoder::finish`] writes.
+    /// Before that the points of the table are placeholders.
     ///
     /// If `seek_every` is 0, there is no table, and any number of samples may come.
     ///
@@ -314,9 +248,9 @@ impl<W: Rewritable + Drop> DraftEncoder<W> {
         self.blocks.set_search(search)
     }
 
-    /// Writes a block as the next frame, and sends all of it, as [`flac_encoder::StreamEncoder::push`] does. `block` has
-    /// one slice for each channel, of 1 to as many samples as the block size. Only the last block may be shorter than the
-    /// block size (RFC 9639, section 9.1).
+    /// Writes a block as the next frame, and sends all of it, as [`flac_encoder::StreamEncoder::push`] does. `block`
+    /// has one slice for each channel, of 1 to as many samples as the block size. Only the last block may be shorter
+    /// than the block size (RFC 9639, section 9.1).
     ///
     /// # Errors
     /// The first of these that applies:
@@ -374,8 +308,8 @@ impl<W: Rewritable + Drop> DraftEncoder<W> {
         }
     }
 
-    /// Writes the number of samples, the sizes of the frames and the MD5 digest into STREAMINFO (RFC 9639, section 8.2),
-    /// and the points of the seek table, if one was reserved, and returns the target, which has the whole stream.
+    /// Writes the number of samples, the sizes of the frames and the MD5 digest into STREAMINFO (RFC 9639, section
+    /// 8.2), and the points of the seek table, if one was reserved, and returns the target, which has the whole stream.
     ///
     /// It holds what comes before the frames in memory.
     ///
@@ -384,8 +318,8 @@ impl<W: Rewritable + Drop> DraftEncoder<W> {
     ///
     /// - [`DraftFault::Encode`] with [`EncodeFault::Spent`] after a call that returned [`EncodeFault::Write`];
     /// - else [`DraftFault::OtherTotal`] if for the seek table another number of samples was stated than came;
-    /// - else [`DraftFault::Encode`] with [`EncodeFault::Memory`] if an allocation fails, or [`EncodeFault::Write`] if the
-    ///   target returns an error.
+    /// - else [`DraftFault::Encode`] with [`EncodeFault::Memory`] if an allocation fails, or [`EncodeFault::Write`] if
+    ///   the target returns an error.
     pub fn finish(self) -> Result<W, Unfinished<W>>
         ensures finished { IfOk result (λ target. Finishes W.Target self target) }
         ensures known { IfOk result (λ target. W.known self.pushed.target ≡ true → W.known target ≡ true) }
@@ -414,7 +348,7 @@ impl<W: Rewritable + Drop> DraftEncoder<W> {
         let total = blocks.samples();
         drop(blocks);
         if spent {
-            return Err(unfinished(EncodeFault::Spent, target));
+            return Err(unfinished_by(EncodeFault::Spent, target));
         }
         if !table.takes(total) {
             return Err(Unfinished {
@@ -427,22 +361,11 @@ impl<W: Rewritable + Drop> DraftEncoder<W> {
         let head = head_bytes(alloc, info, &list, table.into_points());
         drop(list);
         let Some(head) = head else {
-            return Err(unfinished(EncodeFault::Memory, target));
+            return Err(unfinished_by(EncodeFault::Memory, target));
         };
         match target.write_over(start, head.as_slice()) {
             Ok(()) => Ok(target),
-            Err(_) => Err(unfinished(EncodeFault::Write, target)),
+            Err(_) => Err(unfinished_by(EncodeFault::Write, target)),
         }
-    }
-}
-
-/// What [`DraftEncoder::finish`] returns with the fault of an encoder.
-fn unfinished<W>(fault: EncodeFault, left: W) -> Unfinished<W>
-    ensures fault { result.fault ≡ DraftFault.Encode fault }
-    ensures left { result.left ≡ left }
-{
-    Unfinished {
-        fault: DraftFault::Encode(fault),
-        left,
     }
 }

@@ -44,10 +44,21 @@ impl std::error::Error for DraftFault {}
 pub struct Unfinished<W> {
     /// Why.
     pub fault: DraftFault,
-    /// The target, which has what was sent: a stream whose STREAMINFO states only the format, and of which the last frame
-    /// may be cut off. After [`EncodeFault::Write`] a part of what comes before the frames may be that of the finished
-    /// stream.
+    /// The target, which has what was sent: a stream whose STREAMINFO states only the format, and of which the last
+    /// frame may be cut off. In Ogg the last packet is missing. After [`EncodeFault::Write`] a part of what comes
+    /// before the frames may be that of the finished stream.
     pub left: W,
+}
+
+/// Why a draft was not finished, by the fault of an encoder, and its target.
+pub(crate) fn unfinished_by<W>(fault: EncodeFault, left: W) -> Unfinished<W>
+    ensures fault { result.fault ≡ DraftFault.Encode fault }
+    ensures left { result.left ≡ left }
+{
+    Unfinished {
+        fault: DraftFault::Encode(fault),
+        left,
+    }
 }
 
 impl<W> fmt::Display for Unfinished<W> {

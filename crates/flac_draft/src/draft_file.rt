@@ -7,11 +7,12 @@ use flac_bits::Target;
 use std::io;
 use std::io::{Seek, SeekFrom, Write};
 
-/// A target over any `std::io::Write` that is a `std::io::Seek`, such as a new file, from its position on. It counts the
-/// device's errors and keeps the last one.
+/// A target over any `std::io::Write` that is a `std::io::Seek`, such as a new file, from its position on. It counts
+/// the device's errors and keeps the last one.
 ///
 /// What a device keeps is not known to a proof. A buffer of the device's own is not flushed. A file that was opened to
-/// append to cannot be written over. After an error nothing more is to be sent, since the device may have another position.
+/// append to cannot be written over. After an error nothing more is to be sent, since the device may have another
+/// position.
 ///
 /// ```
 /// let file = File::create(&rt, "song.flac")?;

@@ -4,6 +4,7 @@
 //! |---|---|
 //! | encode a native stream with the number of samples and their digest, block by block | [`DraftEncoder`] |
 //! | give it a seek table, if the number of samples is known | [`DraftEncoder::new_with_table`] |
+//! | encode an Ogg stream so | [`OggDraftEncoder`] |
 //! | keep the stream in memory | [`DraftMemory`] |
 //! | write it to a file | [`DraftFile`] |
 //! | write it to a place of one's own | [`Rewritable`] |
@@ -12,8 +13,13 @@
 mod draft_encoder;
 mod draft_fault;
 mod draft_file;
+mod draft_head;
 mod laws;
 mod memory;
+mod ogg_draft_encoder;
+mod ogg_pages;
+#[cfg(test)]
+mod ogg_tests;
 mod point_table;
 mod rewritable;
 mod table_faults;
@@ -25,4 +31,5 @@ pub use draft_fault::{DraftFault, Unfinished};
 pub use draft_file::DraftFile;
 pub use laws::{drafts_are_encoded, found_are_encoded};
 pub use memory::DraftMemory;
+pub use ogg_draft_encoder::OggDraftEncoder;
 pub use rewritable::Rewritable;

@@ -9,8 +9,8 @@ use std::alloc::Global;
 use std::io;
 use std::io::Write;
 
-/// A target that keeps the bytes in memory, and in which they can be written over. It fails only if an allocation fails,
-/// or if there are no bytes to write over.
+/// A target that keeps the bytes in memory, and in which they can be written over. It fails only if an allocation
+/// fails, or if there are no bytes to write over.
 ///
 /// ```
 /// let mut target = DraftMemory::new(rt.alloc());

@@ -13,8 +13,8 @@ use flac_frame::SetupFault;
 use flac_meta::{Block, BlockList};
 use flac_native::{EncodeFault, count_points};
 
-/// Why `total` samples of each channel cannot be divided into blocks of `size` with a seek point for each `every` samples,
-/// or `None` if they can.
+/// Why `total` samples of each channel cannot be divided into blocks of `size` with a seek point for each `every`
+/// samples, or `None` if they can.
 #[tactic(auto, unfolding(crate::specs::inner::Gathering::length_fault))]
 fn length_fault(size: u64, total: u64, every: u32) -> Option<SetupFault>
     requires { (16 ≤ size) × (size ≤ 65535) }

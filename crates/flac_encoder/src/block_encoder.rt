@@ -131,9 +131,10 @@ impl BlockEncoder {
         Ok(())
     }
 
-    /// From now on linear predictors are sought for each block before it is encoded, or with `None` no longer. Beside the
-    /// constant, verbatim and fixed ones and those of [`BlockEncoder::set_predictors`], those that are found are tried: for
-    /// each plane (the channels, and of two channels their side and middle) one by [`Search::Quick`], three by
+    /// From now on linear predictors are sought for each block before it is encoded, or with `None` no longer. Beside
+    /// the constant, verbatim and fixed ones and those of [`BlockEncoder::set_predictors`], those that are found are
+    /// tried: for each plane (the channels, and of two channels their side and middle) one by [`Search::Quick`], three
+    /// by
     /// [`Search::Full`], of orders 1 to 12 (RFC 9639, sections 4.2 and 9.2.6). A block of fewer than 64 samples is not
     /// searched. So no frame is longer than without a search.
     ///

@@ -24,8 +24,8 @@ pub(crate) struct BlockSearch {
 }
 
 impl BlockSearch {
-    /// A search for blocks of at most `block_size` samples of each channel, at most 65535. Its only error is `Memory`: an
-    /// allocation failed.
+    /// A search for blocks of at most `block_size` samples of each channel, at most 65535. Its only error is `Memory`:
+    /// an allocation failed.
     pub(crate) fn new(alloc: Global, effort: Search, block_size: usize) -> Result<BlockSearch, Why>
         requires { block_size ≤ 65535 }
         ensures effort { IfOk result (λ s. s.effort ≡ effort) }
@@ -36,8 +36,8 @@ impl BlockSearch {
         Ok(BlockSearch { effort, finder })
     }
 
-    /// All samples as frame `number`, in memory: a shortest frame over the given predictors, and those that are found for
-    /// each plane. Its only error is `Memory`: an allocation failed.
+    /// All samples as frame `number`, in memory: a shortest frame over the given predictors, and those that are found
+    /// for each plane. Its only error is `Memory`: an allocation failed.
     fn frame(
         &mut self,
         alloc: Global,
@@ -68,8 +68,8 @@ impl BlockSearch {
     }
 }
 
-/// All samples as frame `number`, in memory: a shortest frame over the given predictors, and if there is a search, those
-/// that it finds for each plane. Its only error is `Memory`: an allocation failed.
+/// All samples as frame `number`, in memory: a shortest frame over the given predictors, and if there is a search,
+/// those that it finds for each plane. Its only error is `Memory`: an allocation failed.
 pub(crate) fn searched_frame(
     alloc: Global,
     audio: &Audio,

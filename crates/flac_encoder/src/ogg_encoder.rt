@@ -304,8 +304,8 @@ impl<W: Target + Drop> OggEncoder<W> {
         self.blocks.set_predictors(predictors)
     }
 
-    /// From now on linear predictors are sought for each block that is pushed, as [`StreamEncoder::set_search`] has it, or
-    /// with `None` no longer. The packet that is held is not changed.
+    /// From now on linear predictors are sought for each block that is pushed, as [`StreamEncoder::set_search`] has it,
+    /// or with `None` no longer. The packet that is held is not changed.
     ///
     /// ```
     /// encoder.set_search(Some(Search::Full))?;

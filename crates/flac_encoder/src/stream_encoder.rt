@@ -141,9 +141,10 @@ impl<W: Target + Drop> StreamEncoder<W> {
         self.blocks.set_predictors(predictors)
     }
 
-    /// From now on linear predictors are sought for each block before it is written, or with `None` no longer. Beside the
-    /// constant, verbatim and fixed ones and those of [`StreamEncoder::set_predictors`], those that are found are tried:
-    /// for each plane (the channels, and of two channels their side and middle) one by [`Search::Quick`], three by
+    /// From now on linear predictors are sought for each block before it is written, or with `None` no longer. Beside
+    /// the constant, verbatim and fixed ones and those of [`StreamEncoder::set_predictors`], those that are found are
+    /// tried: for each plane (the channels, and of two channels their side and middle) one by [`Search::Quick`], three
+    /// by
     /// [`Search::Full`], of orders 1 to 12 (RFC 9639, sections 4.2 and 9.2.6). A block of fewer than 64 samples is not
     /// searched. So no frame is longer than without a search, and the samples are the same.
     ///
@@ -169,7 +170,8 @@ impl<W: Target + Drop> StreamEncoder<W> {
 
     /// Writes a block as the next frame, and sends all of it. `block` has one slice for each channel, of 1 to as many
     /// samples as the block size. Only the last block may be shorter than the block size (RFC 9639, section 9.1). The
-    /// frame is as short as one of [`flac_native::encode`] with the same predictors, those that a search finds among them.
+    /// frame is as short as one of [`flac_native::encode`] with the same predictors, those that a search finds among
+    /// them.
     ///
     /// # Errors
     /// The first of these that applies:

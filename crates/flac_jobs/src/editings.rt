@@ -46,11 +46,11 @@ pub struct Editing<'a> {
     pub removals: Option<Vec<BlockName>>,
     /// The pictures that are added; `None` if a word is no picture.
     pub pictures: Option<Vec<PictureWord<'a>>>,
-    /// The path of the file of the cue sheet that each stream gets in place of its own, `-` for standard input; `None` if it
-    /// keeps its own.
+    /// The path of the file of the cue sheet that each stream gets in place of its own, `-` for standard input; `None`
+    /// if it keeps its own.
     pub sheet: Option<&'a str>,
-    /// The inter-channel samples from one seek point to the next in the seek table that each stream gets in place of its
-    /// own, 0 for none; `None` if it keeps its own.
+    /// The inter-channel samples from one seek point to the next in the seek table that each stream gets in place of
+    /// its own, 0 for none; `None` if it keeps its own.
     pub seek_every: Option<u32>,
     /// How many bytes of padding come in place of the old padding, 0 for none; `None` if it stays.
     pub padding: Option<u32>,

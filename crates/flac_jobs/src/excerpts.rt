@@ -41,7 +41,8 @@ pub struct Excerpt<'a> {
     pub output: &'a str,
     /// Where the part begins.
     pub from: Moment,
-    /// Where it ends; `None` if at the end of the stream. It may be before `from` if one is a time and the other is not.
+    /// Where it ends; `None` if at the end of the stream. It may be before `from` if one is a time and the other is
+    /// not.
     pub to: Option<Moment>,
     /// Whether a plain WAV file is written; else raw samples are.
     pub wave: bool,

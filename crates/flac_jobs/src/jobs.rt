@@ -52,11 +52,11 @@ pub enum Job<'a> {
         output: &'a str,
         lax: bool,
     },
-    /// Encodes a WAV file to a native or an Ogg stream with these comments, which with `keep` keeps all of the file. With
-    /// `to_end`, samples that are longer than the file are those up to its end.
+    /// Encodes a WAV file to a native or an Ogg stream with these comments, which with `keep` keeps all of the file.
+    /// With `to_end`, samples that are longer than the file are those up to its end.
     ///
-    /// `block` is the block size in inter-channel samples; `seek_every` the inter-channel samples from one seek point to
-    /// the next, 0 for no seek table; `predictors` and `effort` as for `Encode`.
+    /// `block` is the block size in inter-channel samples; `seek_every` the inter-channel samples from one seek point
+    /// to the next, 0 for no seek table; `predictors` and `effort` as for `Encode`.
     EncodeWave {
         input: &'a str,
         output: &'a str,

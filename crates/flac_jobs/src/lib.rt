@@ -1,5 +1,5 @@
-//! What the program `flac` can be asked for: a job or a listing of files, the format of raw samples, how far predictors are sought, and why a
-//! command line is refused; and the kinds of files that may hold a song.
+//! What the program `flac` can be asked for: a job or a listing of files, the format of raw samples, how far predictors
+//! are sought, and why a command line is refused; and the kinds of files that may hold a song.
 #![tactic(auto)]
 
 mod comparisons;

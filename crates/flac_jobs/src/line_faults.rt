@@ -30,8 +30,8 @@ impl LineFault {
         }
     }
 
-    /// The command line is refused for a reason that this line tells: status 2. `text` begins with `flac: command: ` and
-    /// ends with a line end.
+    /// The command line is refused for a reason that this line tells: status 2. `text` begins with `flac: command: `
+    /// and ends with a line end.
     pub fn refused(text: &'static str) -> LineFault
         ensures text { cow_str_bytes result.text ≡ text.now }
         ensures status { result.status ≡ 2 }
@@ -84,8 +84,8 @@ impl LineFault {
         }
     }
 
-    /// Prints the text, and returns the status of the program: the fault's own, or 1 if help was asked for and cannot be
-    /// printed.
+    /// Prints the text, and returns the status of the program: the fault's own, or 1 if help was asked for and cannot
+    /// be printed.
     pub fn tell(&self, rt: &HostRuntime) -> u8
         ensures fault { self.now.status ≢ 0 → result ≡ self.now.status }
         ensures help { self.now.status ≡ 0 → result ≤ 1 }

@@ -32,8 +32,8 @@ pub struct Salvage<'a> {
 }
 
 impl<'a> Salvage<'a> {
-    /// How the samples that are found are encoded: as a recoding of the same paths encodes those of a whole stream, native,
-    /// in blocks of 4096 samples, without a seek table and without a list of predictors.
+    /// How the samples that are found are encoded: as a recoding of the same paths encodes those of a whole stream,
+    /// native, in blocks of 4096 samples, without a seek table and without a list of predictors.
     pub fn to_recoding(&self) -> Recoding<'a>
         ensures { result ≡ recoding_for self.now }
     {

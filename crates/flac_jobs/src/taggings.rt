@@ -14,7 +14,8 @@ pub enum TagEdit<'a> {
     RemovePair(&'a str),
     /// Puts this comment in the place of all of its name.
     Set(&'a str),
-    /// Puts a comment in the place of all of its name; the word is `NAME=PATH`, and the file at that path has its value.
+    /// Puts a comment in the place of all of its name; the word is `NAME=PATH`, and the file at that path has its
+    /// value.
     SetFile(&'a str),
     /// Adds such a comment at the end.
     AddFile(&'a str),
@@ -42,7 +43,8 @@ pub struct Tagging<'a> {
     pub edits: Vec<TagEdit<'a>>,
     /// The path of the file of lines, `-` for standard input; `None` if there is no edit [`TagEdit::Lines`].
     pub lines: Option<&'a str>,
-    /// The path of the stream that has the edited comments, `-` for standard output; `None` if each file is edited itself.
+    /// The path of the stream that has the edited comments, `-` for standard output; `None` if each file is edited
+    /// itself.
     pub output: Option<&'a str>,
     /// How a file may be edited; `None` if the command line asks for both modes.
     pub mode: Option<TagMode>,

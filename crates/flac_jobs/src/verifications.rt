@@ -9,8 +9,8 @@ pub struct Verification<'a> {
     pub subset: bool,
     /// The path of a new report: a line of JSON for each file.
     pub report: Option<&'a str>,
-    /// The path of a report that may have lines: files that it has as good, at the same size and time, are left out. Not
-    /// with `report`.
+    /// The path of a report that may have lines: files that it has as good, at the same size and time, are left out.
+    /// Not with `report`.
     pub resume: Option<&'a str>,
     /// The path of an older report with which the files are compared. Not with `resume`.
     pub against: Option<&'a str>,

@@ -23,8 +23,8 @@ use flac_bits::{BitReader, Source, Why};
 use flac_native::{Container, Fault, Part, Place, Track};
 use flac_pages::{PacketBytes, PacketFault, Pages, end_item, packet_bits};
 
-/// The place at which an error of the page of this number is told, counted from 0: that of the mapping at the marker, that
-/// of a missing last page at the end, each other one at the page (RFC 3533, section 6).
+/// The place at which an error of the page of this number is told, counted from 0: that of the mapping at the marker,
+/// that of a missing last page at the end, each other one at the page (RFC 3533, section 6).
 pub fn page_place(page: u64, why: Why) -> Place
     ensures { result ≡ page_place page why }
 {

@@ -1,15 +1,15 @@
 -- A draft of a plan that is begun, and the errors that stop the second pass.
-use Rattle.std.proofs.Common.{◌≡◌, ◌≢◌, ◌<◌, ◌*◌, ◌%◌, ◌^◌, ℕ, Bool, true, List, length, Option, Some, None, refl, sym, ap, ◌∙◌, subst, arith, inl, inr, ℤ}
-use Rattle.std.specs.Prelude.{◌⊎◌, ⊤}
-use Rattle.flac_bits.specs.State.{Rises}
+use Rattle.std.proofs.Common.{◌≡◌, ◌≢◌, ◌%◌, ℕ, Bool, true, false, cond, List, length, Option, Some, None, refl, ap, ◌∙◌, inl, inr}
+use Rattle.std.specs.Prelude.{◌⊎◌}
 use Rattle.flac_bits.specs.declared.target.Target as target
 use Rattle.flac_bits.specs.declared.why.Why.TheVariants as why
 use Rattle.flac_meta.specs.declared.block.Block.{Block}
 use Rattle.flac_native.specs.declared.fault.EncodeFault.{EncodeFault}
 use Rattle.flac_native.specs.declared.fault.EncodeFault.TheVariants as encode
 use Rattle.flac_ogg.specs.Writing.{HasWriteError, CountsWriteError}
-use Rattle.flac_encoder.specs.Pushing.{Shape, Pushed, unpushed, IsUnpushed, trying, searching, IsFirst, Fails, FailsIn}
-use Rattle.flac_draft.specs.Draft.{Draft, Drafts, BeginsDraft, StaysDraft}
+use Rattle.flac_encoder.specs.Pushing.{Shape, Pushed, IsUnpushed, trying, searching, IsFirst, Fails, FailsIn}
+use Rattle.flac_draft.specs.Draft.{Draft, BeginsDraft, StaysDraft, finish_fault}
+use Rattle.flac_draft.specs.OggDraft.{OggDraft, trying_draft, searching_draft, BeginsOggDraft, StaysOggDraft}
 use Rattle.flac_draft.specs.Table as draft
 use Rattle.flac_draft.specs.Faults.{IsFirstFault}
 use Rattle.flac_draft.specs.declared.draft_fault.DraftFault.{DraftFault}
@@ -19,8 +19,7 @@ use Rattle.flac_raw.specs.Encoded.{IsOutside, FailsLeft}
 use Rattle.flac_raw.specs.inner.Pushed.{read_as, pushed_as, finished_as, IsBegun, IsFresh}
 use Rattle.flac_raw.specs.declared.raw_fault.RawFault.{RawFault}
 use Rattle.flac_raw.specs.declared.raw_fault.RawFault.TheVariants.{Input, Setup, RawLength}
-use Rattle.flac_raw.specs.declared.raw_fault.RawEncodeFault.{RawEncodeFault}
-use Rattle.flac_raw.specs.declared.raw_fault.RawEncodeFault.TheVariants.{Raw, Encode, Changed}
+use Rattle.flac_raw.specs.declared.raw_fault.RawEncodeFault.TheVariants.{Encode, Changed}
 
 -- ---- a draft that is begun
 
@@ -47,6 +46,24 @@ module _ {S : Type 0} (p : Planned) (list : List Block) (e0 e1 e2 : Draft S) (ma
       let none0 : e0.pushed.number ≡ 0 = ap (λ (q : Pushed S). q.number) made in
       let none1 : e1.pushed.number ≡ 0 = ap (λ (d : Draft S). d.pushed.number) set ∙ none0 in
       let shape : e2.pushed.shape ≡ e0.pushed.shape = ap (λ (d : Draft S). d.pushed.shape) sought ∙ ap (λ (d : Draft S). d.pushed.shape) set in
+      second none1 samples _ (first none0 samples _ (begins known samples (many ∙ ap (λ (s : Shape). s.channels) shape)))
+
+-- the same in Ogg
+module _ {S : Type 0} (p : Planned) (list : List Block) (e0 e1 e2 : OggDraft S) (made : IsUnpushed (raw_shape p.profile p.format) e0.draft.pushed) (set : e1 ≡ trying_draft e0 p.predictors) (sought : e2 ≡ searching_draft e1 p.search) where
+  pub ogg_begun_is : e0.draft.list ≡ list → e0.draft.table ≡ draft.table_for p.total p.format.seek_every → IsBegun p list e2.draft
+  ogg_begun_is blocks table = begun_is p list e0.draft e1.draft e2.draft made (ap (λ (d : OggDraft S). d.draft) set) (ap (λ (d : OggDraft S). d.draft) sought) blocks table
+
+  pub ogg_serial : e2.serial ≡ e0.serial
+  ogg_serial = ap (λ (d : OggDraft S). d.serial) sought ∙ ap (λ (d : OggDraft S). d.serial) set
+
+  pub ogg_target : e2.draft.pushed.target ≡ e0.draft.pushed.target
+  ogg_target = begun_target p list e0.draft e1.draft e2.draft made (ap (λ (d : OggDraft S). d.draft) set) (ap (λ (d : OggDraft S). d.draft) sought)
+
+  pub ogg_begun_draft : (g : target.Ghosts S) (old : S) → BeginsOggDraft g old e0 → StaysOggDraft g e0 e1 → StaysOggDraft g e1 e2 → BeginsOggDraft g old e2
+  ogg_begun_draft g old begins first second = λ known samples many.
+      let none0 : e0.draft.pushed.number ≡ 0 = ap (λ (q : Pushed S). q.number) made in
+      let none1 : e1.draft.pushed.number ≡ 0 = ap (λ (d : OggDraft S). d.draft.pushed.number) set ∙ none0 in
+      let shape : e2.draft.pushed.shape ≡ e0.draft.pushed.shape = ap (λ (d : OggDraft S). d.draft.pushed.shape) sought ∙ ap (λ (d : OggDraft S). d.draft.pushed.shape) set in
       second none1 samples _ (first none0 samples _ (begins known samples (many ∙ ap (λ (s : Shape). s.channels) shape)))
 
 pub begun_fresh : {S : Type 0} (p : Planned) (list : List Block) (d : Draft S) → IsBegun p list d → IsFresh d
@@ -101,6 +118,14 @@ pub finish_refused : (f : DraftFault) → IsFirstFault None f → IsOutside (fin
 finish_refused f (inl some) = absurd cc
 finish_refused f (inr (none, inl memory)) = inr (inl (ap finished_as memory))
 finish_refused f (inr (none, inr write)) = inr (inr (ap finished_as write))
+
+-- a native draft that can be finished so can one in Ogg
+pub ogg_unspent : {S : Type 0} (d : Draft S) → finish_fault d ≡ None → cond d.pushed.spent (Some (drafts.Encode encode.Spent)) None ≡ None
+ogg_unspent d e = go _ d.pushed.spent e
+  where
+    go : (o : Option DraftFault) (spent : Bool) → cond spent (Some (drafts.Encode encode.Spent)) o ≡ None → cond spent (Some (drafts.Encode encode.Spent)) None ≡ None
+    go o true h = absurd cc
+    go o false h = refl
 
 pub finished_write : (f : DraftFault) → finished_as f ≡ Encode encode.Write → f ≡ drafts.Encode encode.Write
 finished_write (drafts.Encode f) e = ap drafts.Encode (same_encode f encode.Write e)

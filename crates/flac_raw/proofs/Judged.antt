@@ -1,5 +1,5 @@
 -- What a pass over raw samples finds, as the reason why they are none.
-use Rattle.std.proofs.Common.{◌≡◌, ◌≤◌, ◌<◌, ◌*◌, ◌/◌, ◌-◌, ◌%◌, ◌^◌, ◌||◌, not, min, ℕ, Bool, true, false, cond, nat_eq, nat_lt, nat_le, ℤ, List, length, Option, Some, None, is_none, refl, sym, ap, ◌∙◌, subst, arith, inl, inr}
+use Rattle.std.proofs.Common.{◌≡◌, ◌≤◌, ◌<◌, ◌-◌, ◌^◌, ◌||◌, not, min, ℕ, Bool, true, false, cond, nat_eq, nat_lt, nat_le, ℤ, List, length, Option, Some, None, is_none, refl, sym, ap, ◌∙◌, subst, arith, inl, inr}
 use Rattle.std.specs.Prelude.{option_map}
 use Rattle.std.specs.Option.{option_or}
 use Rattle.std.proofs.lemmas.Bool.{cases_lt}

@@ -1,11 +1,10 @@
 -- Raw samples of bytes in two parts, of which the first has whole inter-channel samples.
-use Rattle.std.proofs.Common.{◌≡◌, ◌≤◌, ◌<◌, ◌+◌, ◌-◌, ◌*◌, ◌/◌, ◌&&◌, ℕ, zero, suc, Bool, true, false, ℤ, List, [], ◌∷◌, ◌++◌, length, length-append, append_assoc, map, take, drop, get_or, refl, ap, sym, ◌∙◌, subst, arith, inl, inr}
+use Rattle.std.proofs.Common.{◌≡◌, ◌≤◌, ◌<◌, ◌+◌, ◌*◌, ◌&&◌, ℕ, zero, suc, Bool, true, false, ℤ, List, [], ◌∷◌, ◌++◌, length, map, take, drop, get_or, refl, ap, sym, ◌∙◌, arith, inl, inr}
 use Rattle.std.proofs.lemmas.Bool.{cases_lt}
-use Rattle.std.proofs.lemmas.List.{length_push, get_or_push, get_or_append_left, append-nil, drop-append-le, take-append-le, length-drop, map-append, take_all}
+use Rattle.std.proofs.lemmas.List.{length_push, get_or_push, get_or_append_left, map-append}
 use Rattle.std.proofs.lemmas.List.Folds.{list_all-append}
 use Rattle.std.specs.List.{list_all}
-use Rattle.std.proofs.Math.Nat.{mul-pos, mul-le-mul_left, mul-add-div_right, mul-le-mul_right}
-use Rattle.std.proofs.Math.Seq.{drop-append-add, drop-append_seam, take-append_seam}
+use Rattle.std.proofs.Math.Seq.{drop-append_seam, take-append_seam}
 use Rattle.flac_raw.specs.Raw.{number_of, samples_at, channels_at}
 use Rattle.flac_raw.proofs.Rows.{samples_front, samples_after_rows}
 

@@ -1,5 +1,5 @@
 -- What holds of a plan for raw samples, and of a draft that is begun by it.
-use Rattle.std.proofs.Common.{◌≡◌, ◌≤◌, ◌<◌, ◌*◌, ◌/◌, ◌-◌, ◌^◌, ◌&&◌, ◌||◌, not, min, ℕ, zero, suc, Bool, true, false, cond, nat_eq, nat_lt, nat_le, ℤ, List, [], length, Option, Some, None, refl, sym, ap, ◌∙◌, subst, arith, inl, inr}
+use Rattle.std.proofs.Common.{◌≡◌, ◌<◌, ◌*◌, ◌/◌, ◌-◌, ◌^◌, ◌&&◌, ◌||◌, not, min, ℕ, zero, suc, Bool, true, false, cond, nat_eq, nat_lt, ℤ, List, [], length, Option, Some, None, refl, sym, ap, ◌∙◌, subst, arith, inl, inr}
 use Rattle.std.specs.Prelude.{◌⊎◌, option_map}
 use Rattle.std.specs.Option.{option_or}
 use Rattle.std.proofs.lemmas.Bool.Decides.{nat_tests}
@@ -10,27 +10,29 @@ use Rattle.flac_header.specs.declared.subset.Profile.{Profile}
 use Rattle.flac_meta.specs.declared.block.Block.{Block}
 use Rattle.flac_subframe.specs.declared.format.linear.LinearPredictor.{LinearPredictor}
 use Rattle.flac_frame.specs.Audio.{samples_each}
-use Rattle.flac_frame.specs.Setup as setup
-use Rattle.flac_frame.specs.declared.setup.SetupFault.{SetupFault}
-use Rattle.flac_native.specs.Given.{Cut, cut_in, with_predictors, blocks_in, predictors_fault, cutting_fault, plan_fault}
+use Rattle.flac_native.specs.Given.{cut_in, with_predictors, blocks_in, predictors_fault, cutting_fault, plan_fault}
 use Rattle.flac_native.specs.Message.{sample_width}
 use Rattle.flac_native.specs.Seeking.{has_table, repeats_table}
-use Rattle.flac_native.specs.declared.fault.EncodeFault.{EncodeFault}
 use Rattle.flac_native.specs.declared.fault.EncodeFault.TheVariants as encode
 use Rattle.flac_native.proofs.Planned.{both_none, first_none, planned, still_planned}
 use Rattle.flac_predict.specs.declared.search.Search.{Search}
-use Rattle.flac_encoder.specs.Pushing.{Shape, shape_fault, setup_fault, sound_of}
-use Rattle.flac_draft.specs.Draft.{Draft, Drafts, HasAll, BeginsDraft, Finishes, EncodesFound, finish_fault}
+use Rattle.flac_encoder.specs.Pushing.{Shape, shape_fault, sound_of}
+use Rattle.flac_draft.specs.Draft.{Draft, finish_fault}
 use Rattle.flac_draft.specs.Table as draft
 use Rattle.flac_jobs.specs.declared.formats.RawFormat.{RawFormat}
 use Rattle.flac_raw.specs.Raw.{raw_channels, raw_sound, IsRaw}
 use Rattle.flac_raw.specs.Faults.{format_fault, AreSamples}
-use Rattle.flac_raw.specs.Planned.{Planned, raw_shape, raw_cut, table_fault}
-use Rattle.flac_raw.specs.Encoded.{EncodesBy, HasSent, IsOutside, IsUnfit}
+use Rattle.flac_raw.specs.Planned.{Planned, raw_shape, raw_cut}
+use Rattle.flac_ogg.specs.Writing.{begins_with_comment}
+use Rattle.flac_encoder.specs.PushingOgg.{open_fault}
+use Rattle.flac_raw.specs.Encoded.{container_fault, EncodesByIn, HasSent, IsOutside, IsUnfitIn}
+use Rattle.flac_raw.specs.declared.raw_draft.RawDraft.{RawDraft}
+use Rattle.flac_jobs.specs.declared.formats.ContainerKind.{ContainerKind}
+use Rattle.flac_jobs.specs.declared.formats.ContainerKind.TheVariants as container
 use Rattle.flac_raw.specs.declared.raw_fault.RawEncodeFault.{RawEncodeFault}
 use Rattle.flac_raw.specs.declared.raw_fault.RawEncodeFault.TheVariants.{Changed}
 use Rattle.flac_raw.specs.inner.Surveyed.{IsSurvey}
-use Rattle.flac_raw.specs.inner.Pushed.{IsBegun, KeepsAsked, IsFor, AreFit, AreAllFit, PushesAll}
+use Rattle.flac_raw.specs.inner.Pushed.{draft_in, container_in, DraftsIn, BeginsDraftIn, EncodesFoundIn, FinishesIn, IsBegun, KeepsAsked, AreFit, AreAllFit, PushesAll}
 use Rattle.flac_raw.proofs.Pieces.{channels_many}
 use Rattle.flac_raw.proofs.Refusing.{samples_fit}
 use Rattle.flac_raw.proofs.Taken.{channels_each}
@@ -86,6 +88,20 @@ module _ (profile : Profile) (format : RawFormat) (total : ℕ) (ps : List Linea
       ap (λ o. option_or (option_map encode.Setup o) (draft.table_fault (raw_shape profile format) list (draft.table_for total format.seek_every))) plan_shape
       ∙ asked_table list format.seek_every refl
 
+  -- a draft in Ogg is begun by the plan if the list begins with a Vorbis comment, and no table is asked for
+  pub ogg_is : (serial : ℕ) (search : Option Search) (list : List Block) → format.seek_every ≡ 0 → open_fault (raw_shape profile format) list ≡ container_fault (container.Ogg serial) (record { profile = profile; format = format; total = total; predictors = ps; search = search }) list
+  ogg_is serial search list none =
+      ap (λ o. option_or (option_map encode.Setup o) (cond (begins_with_comment list) None (Some encode.BadMapping))) plan_shape ∙ sym (ap (λ n. cond (nat_eq n 0 && begins_with_comment list) None (Some encode.BadMapping)) none)
+
+  pub ogg_tabled : (serial : ℕ) (search : Option Search) (list : List Block) → 0 < format.seek_every → container_fault (container.Ogg serial) (record { profile = profile; format = format; total = total; predictors = ps; search = search }) list ≡ Some encode.BadMapping
+  ogg_tabled serial search list some =
+      let other : nat_eq format.seek_every 0 ≡ false = grind (arith, nat_tests) in
+      ap (λ b. cond (b && begins_with_comment list) None (Some encode.BadMapping)) other
+
+-- without points there is none
+pub untabled : (total every : ℕ) → every ≡ 0 → draft.no_table ≡ draft.table_for total every
+untabled total every none = sym (ap (draft.table_for total) none)
+
 -- ---- the table
 
 pub table_every : (total every : ℕ) → (draft.table_for total every).every ≡ every
@@ -122,20 +138,20 @@ module _ {S : Type 0} (p : Planned) (list : List Block) (first now : Draft S) (b
 
   -- ---- what was written
 
-  module _ (g : target.Ghosts S) (samples : List (List ℤ)) (before after : List Bool) where
+  module _ (kind : ContainerKind) (samples : List (List ℤ)) (before after : List Bool) where
     moved : (s : Shape) (ps : List LinearPredictor) (search : Option Search) (l : List Block) (every : ℕ)
-        → EncodesFound now.pushed.search (with_predictors (cut_in now.pushed.shape.profile now.pushed.shape.block_size (sound_of now.pushed.shape samples) now.table.every) now.pushed.predictors) now.list (sound_of now.pushed.shape samples) before after
+        → EncodesFoundIn kind now.pushed.search (with_predictors (cut_in now.pushed.shape.profile now.pushed.shape.block_size (sound_of now.pushed.shape samples) now.table.every) now.pushed.predictors) now.list (sound_of now.pushed.shape samples) before after
         → now.pushed.shape ≡ s → now.pushed.predictors ≡ ps → now.pushed.search ≡ search → now.list ≡ l → now.table.every ≡ every
-        → EncodesFound search (with_predictors (cut_in s.profile s.block_size (sound_of s samples) every) ps) l (sound_of s samples) before after
+        → EncodesFoundIn kind search (with_predictors (cut_in s.profile s.block_size (sound_of s samples) every) ps) l (sound_of s samples) before after
     moved s ps search l every e a b c d f =
-        subst (λ k. EncodesFound search (with_predictors (cut_in s.profile s.block_size (sound_of s samples) k) ps) l (sound_of s samples) before after) f
-        (subst (λ k. EncodesFound search (with_predictors (cut_in s.profile s.block_size (sound_of s samples) now.table.every) ps) k (sound_of s samples) before after) d
-        (subst (λ k. EncodesFound k (with_predictors (cut_in s.profile s.block_size (sound_of s samples) now.table.every) ps) now.list (sound_of s samples) before after) c
-        (subst (λ k. EncodesFound now.pushed.search (with_predictors (cut_in s.profile s.block_size (sound_of s samples) now.table.every) k) now.list (sound_of s samples) before after) b
-        (subst (λ (k : Shape). EncodesFound now.pushed.search (with_predictors (cut_in k.profile k.block_size (sound_of k samples) now.table.every) now.pushed.predictors) now.list (sound_of k samples) before after) a e))))
+        subst (λ k. EncodesFoundIn kind search (with_predictors (cut_in s.profile s.block_size (sound_of s samples) k) ps) l (sound_of s samples) before after) f
+        (subst (λ k. EncodesFoundIn kind search (with_predictors (cut_in s.profile s.block_size (sound_of s samples) now.table.every) ps) k (sound_of s samples) before after) d
+        (subst (λ k. EncodesFoundIn kind k (with_predictors (cut_in s.profile s.block_size (sound_of s samples) now.table.every) ps) now.list (sound_of s samples) before after) c
+        (subst (λ k. EncodesFoundIn kind now.pushed.search (with_predictors (cut_in s.profile s.block_size (sound_of s samples) now.table.every) k) now.list (sound_of s samples) before after) b
+        (subst (λ (k : Shape). EncodesFoundIn kind now.pushed.search (with_predictors (cut_in k.profile k.block_size (sound_of k samples) now.table.every) now.pushed.predictors) now.list (sound_of k samples) before after) a e))))
 
-    pub whole_stream : EncodesFound now.pushed.search (with_predictors (cut_in now.pushed.shape.profile now.pushed.shape.block_size (sound_of now.pushed.shape samples) now.table.every) now.pushed.predictors) now.list (sound_of now.pushed.shape samples) before after
-        → EncodesFound p.search (with_predictors (cut_in p.profile p.format.block (sound_of (raw_shape p.profile p.format) samples) p.format.seek_every) p.predictors) list (sound_of (raw_shape p.profile p.format) samples) before after
+    pub whole_stream : EncodesFoundIn kind now.pushed.search (with_predictors (cut_in now.pushed.shape.profile now.pushed.shape.block_size (sound_of now.pushed.shape samples) now.table.every) now.pushed.predictors) now.list (sound_of now.pushed.shape samples) before after
+        → EncodesFoundIn kind p.search (with_predictors (cut_in p.profile p.format.block (sound_of (raw_shape p.profile p.format) samples) p.format.seek_every) p.predictors) list (sound_of (raw_shape p.profile p.format) samples) before after
     whole_stream e =
         moved (raw_shape p.profile p.format) p.predictors p.search list p.format.seek_every e (asked.shape ∙ begun.shape) (asked.predictors ∙ begun.predictors) (asked.search ∙ begun.search) (asked.blocks ∙ begun.blocks)
         (table_step ∙ table_every p.total p.format.seek_every)
@@ -180,9 +196,9 @@ pub record IsOf (p : Planned) (bits count width size total : ℕ) : Type 0 where
 
 module _ (p : Planned) (list : List Block) (bytes : List ℕ) (good : plan_fault (raw_cut p.profile p.format p.total p.predictors) ≡ None) (bits count width size total : ℕ) (is_of : IsOf p bits count width size total) where
   -- why the second pass stopped
-  pub pass_refused : (e : RawEncodeFault) → IsOutside e ⊎ ((e ≡ Changed) × (AreFit bits count width total bytes → ⊥)) → IsOutside e ⊎ IsUnfit p list bytes e
-  pass_refused e (inl outside) = inl outside
-  pass_refused e (inr (changed, unlike)) =
+  pub pass_refused : (c : ContainerKind) (e : RawEncodeFault) → IsOutside e ⊎ ((e ≡ Changed) × (AreFit bits count width total bytes → ⊥)) → IsOutside e ⊎ IsUnfitIn c p list bytes e
+  pass_refused c e (inl outside) = inl outside
+  pass_refused c e (inr (changed, unlike)) =
       inr (inr (changed, λ are. unlike (moved_fit p.format.bits bits p.format.channels count (sample_width p.format.bits) width p.total total bytes (sym is_of.depth) (sym is_of.many) (sym is_of.wide) (sym is_of.all) (samples_fit p.profile p.format bytes p.total are))))
 
   all_of : AreAllFit bits count width total bytes → AreAllFit p.format.bits p.format.channels (sample_width p.format.bits) p.total bytes
@@ -191,24 +207,28 @@ module _ (p : Planned) (list : List Block) (bytes : List ℕ) (good : plan_fault
   pub pass_samples : AreAllFit bits count width total bytes → AreSamples p.profile p.format bytes p.total
   pass_samples all = samples_are p bytes good (all_of all)
 
+  by_container : (c : ContainerKind) (before after : List Bool) → AreAllFit bits count width total bytes
+      → EncodesFoundIn c p.search (with_predictors (cut_in p.profile p.format.block (raw_sound p.profile p.format bytes) p.format.seek_every) p.predictors) list (raw_sound p.profile p.format bytes) before after → EncodesByIn c p list bytes before after
+  by_container container.Native before after all e = record { raw = raw_are p bytes good (all_of all); encodes = e }
+  by_container (container.Ogg serial) before after all e = record { raw = raw_are p bytes good (all_of all); encodes = e }
+
   -- what it wrote
-  module _ {S : Type 0} (g : target.Ghosts S) (first now : Draft S) (old new : S) (begun : IsBegun p list first) (asked : KeepsAsked first now) where
-    pub pass_wrote : AreAllFit bits count width total bytes → BeginsDraft g old first → PushesAll g (raw_channels count width bytes) first now → now.pushed.number ≡ blocks_in size total
-        → (g.known old ≡ true → g.known first.pushed.target ≡ true) → (g.known first.pushed.target ≡ true → g.known now.pushed.target ≡ true) → Finishes g now new → HasSent g old new (EncodesBy p list bytes)
-    pass_wrote all begins pushes has told later finishes = λ known.
+  module _ {S : Type 0} (g : target.Ghosts S) (c : ContainerKind) (first now : RawDraft S) (old new : S) (begun : IsBegun p list (draft_in first)) (asked : KeepsAsked (draft_in first) (draft_in now)) where
+    pub pass_wrote : AreAllFit bits count width total bytes → container_in now ≡ c → BeginsDraftIn g old first → PushesAll g (raw_channels count width bytes) first now → (draft_in now).pushed.number ≡ blocks_in size total
+        → (g.known old ≡ true → g.known (draft_in first).pushed.target ≡ true) → (g.known (draft_in first).pushed.target ≡ true → g.known (draft_in now).pushed.target ≡ true) → FinishesIn g now new → HasSent g old new (EncodesByIn c p list bytes)
+    pass_wrote all kept begins pushes has told later finishes = λ known.
         let samples = raw_channels p.format.channels (sample_width p.format.bits) bytes in
         let before = bits_of (g.sent old) in
+        let after = bits_of (g.sent new) in
         let row = p.format.channels * sample_width p.format.bits in
         let q = planned (raw_cut p.profile p.format p.total p.predictors) good in
         let same : raw_channels count width bytes ≡ samples = ap (λ k. raw_channels k width bytes) is_of.many ∙ ap (λ k. raw_channels p.format.channels k bytes) is_of.wide in
-        let many : length samples ≡ first.pushed.shape.channels = channels_many bytes (length bytes / row) row (sample_width p.format.bits) p.format.channels ∙ sym (ap (λ (s : Shape). s.channels) begun.shape) in
+        let many : length samples ≡ (draft_in first).pushed.shape.channels = channels_many bytes (length bytes / row) row (sample_width p.format.bits) p.format.channels ∙ sym (ap (λ (s : Shape). s.channels) begun.shape) in
         let pushed = subst (λ l. PushesAll g l first now) same pushes in
-        let drafts : Drafts g samples before now = pushed (told known) before (begins known samples many) in
+        let drafts : DraftsIn g samples before now = pushed (told known) before (begins known samples many) in
         let each : samples_each samples ≡ p.total = channels_each p.format.channels (sample_width p.format.bits) bytes q.some ∙ sym (all_of all).fit.many in
-        let block : now.pushed.shape.block_size ≡ p.format.block = ap (λ (s : Shape). s.block_size) (asked.shape ∙ begun.shape) in
-        let every : now.pushed.number ≡ blocks_in now.pushed.shape.block_size (samples_each samples) =
-        has ∙ ap (λ k. blocks_in k total) (is_of.block ∙ sym block) ∙ ap (λ k. blocks_in now.pushed.shape.block_size k) (is_of.all ∙ sym each) in
-        record {
-          raw = raw_are p bytes good (all_of all);
-          encodes = whole_stream p list first now begun asked g samples before (bits_of (g.sent new)) (finishes (later (told known)) samples before drafts every);
-        }
+        let block : (draft_in now).pushed.shape.block_size ≡ p.format.block = ap (λ (s : Shape). s.block_size) (asked.shape ∙ begun.shape) in
+        let every : (draft_in now).pushed.number ≡ blocks_in (draft_in now).pushed.shape.block_size (samples_each samples) =
+        has ∙ ap (λ k. blocks_in k total) (is_of.block ∙ sym block) ∙ ap (λ k. blocks_in (draft_in now).pushed.shape.block_size k) (is_of.all ∙ sym each) in
+        let whole = whole_stream p list (draft_in first) (draft_in now) begun asked (container_in now) samples before after (finishes (later (told known)) samples before drafts every) in
+        subst (λ k. EncodesByIn k p list bytes before after) kept (by_container (container_in now) before after all whole)

@@ -1,7 +1,6 @@
 -- For which first reason raw samples are not encoded.
 use Rattle.std.proofs.Common.{◌≡◌, ◌≤◌, ◌*◌, ◌%◌, ◌/◌, ◌&&◌, not, ℕ, Bool, true, false, cond, nat_eq, nat_lt, ℤ, List, [], length, Option, Some, None, is_none, refl, sym, ap, ◌∙◌, subst, arith, inl, inr}
 use Rattle.std.specs.Prelude.{◌⊎◌, option_map}
-use Rattle.std.specs.Option.{option_or}
 use Rattle.std.proofs.lemmas.Bool.{not-false}
 use Rattle.std.proofs.lemmas.Bool.Decides.{nat_tests}
 use Rattle.flac_bits.specs.declared.why.Why.TheVariants as why

@@ -1,5 +1,5 @@
 -- Blocks of raw samples that are pushed to a draft, one after another.
-use Rattle.std.proofs.Common.{◌≡◌, ◌≢◌, ◌≤◌, ◌<◌, ◌+◌, ◌-◌, ◌*◌, ◌/◌, ◌%◌, ◌^◌, ◌||◌, not, min, map, take, drop, ℕ, Bool, true, false, cond, nat_eq, nat_lt, nat_le, ℤ, List, [], ◌∷◌, ◌++◌, length, Option, Some, None, get_or, refl, sym, ap, ◌∙◌, subst, arith, inl, inr}
+use Rattle.std.proofs.Common.{◌≡◌, ◌≢◌, ◌≤◌, ◌<◌, ◌+◌, ◌-◌, ◌*◌, ◌/◌, ◌%◌, ◌^◌, ◌||◌, not, min, map, take, drop, ℕ, Bool, true, false, cond, nat_eq, nat_lt, nat_le, ℤ, List, [], ◌∷◌, ◌++◌, length, Some, None, refl, sym, ap, ◌∙◌, subst, arith, inl, inr}
 use Rattle.std.specs.Prelude.{◌⊎◌, option_map}
 use Rattle.std.specs.Option.{option_or}
 use Rattle.std.proofs.lemmas.Bool.{cases_lt}
@@ -11,18 +11,18 @@ use Rattle.flac_bits.specs.declared.source.Source as source
 use Rattle.flac_bits.specs.declared.target.Target as target
 use Rattle.flac_frame.specs.Audio.{samples_each, as_long, each_small, samples_fault}
 use Rattle.flac_frame.specs.declared.setup.SetupFault.TheVariants.{SampleTooLarge}
-use Rattle.flac_native.specs.Given.{blocks_in, size_of, frame_of}
+use Rattle.flac_native.specs.Given.{blocks_in, size_of}
 use Rattle.flac_native.specs.declared.fault.EncodeFault.{EncodeFault}
 use Rattle.flac_native.specs.declared.fault.EncodeFault.TheVariants as encode
 use Rattle.flac_native.proofs.Gathered.{still_some, all_gathered}
-use Rattle.flac_encoder.specs.Pushing.{Shape, shape_fault, Pushed, block_fault, size_fault, push_fault, after_block, IsAfterBlock, Fails}
+use Rattle.flac_encoder.specs.Pushing.{Shape, shape_fault, Pushed, block_fault, size_fault, push_fault, IsAfterBlock, Fails}
 use Rattle.flac_encoder.proofs.Pushing.{accepted}
-use Rattle.flac_draft.specs.Draft.{Draft, Drafts, IsNextBlock, GoesOn, sound_for}
+use Rattle.flac_draft.specs.Draft.{Draft, IsNextBlock}
 use Rattle.flac_draft.specs.Table.{StaysStated}
 use Rattle.flac_raw.specs.Raw.{raw_channels}
-use Rattle.flac_raw.specs.Reading.{AreParts, TakesRows}
+use Rattle.flac_raw.specs.Reading.{TakesRows}
 use Rattle.flac_raw.specs.inner.Progress.{ReadTo, TakesBytes}
-use Rattle.flac_raw.specs.inner.Pushed.{pushed_as, KeepsAsked, IsFresh, IsFor, AreFit, AreAllFit, PushesAll}
+use Rattle.flac_raw.specs.inner.Pushed.{pushed_as, KeepsAsked, IsFresh, IsFor, AreFit, AreAllFit}
 use Rattle.flac_raw.specs.Encoded.{IsOutside}
 use Rattle.flac_raw.specs.declared.raw_fault.RawEncodeFault.{RawEncodeFault}
 use Rattle.flac_raw.specs.declared.raw_fault.RawEncodeFault.TheVariants.{Changed}

@@ -8,19 +8,23 @@ use Rattle.flac_bits.specs.declared.why.Why.TheVariants as why
 use Rattle.flac_header.specs.declared.subset.Profile.{Profile}
 use Rattle.flac_meta.specs.declared.block.Block.{Block}
 use Rattle.flac_subframe.specs.declared.format.linear.LinearPredictor.{LinearPredictor}
-use Rattle.flac_frame.specs.declared.setup.SetupFault.{SetupFault}
 use Rattle.flac_native.specs.Given.{Cut, cut_of, with_predictors, plan_fault}
 use Rattle.flac_native.specs.Numbers as numbers
 use Rattle.flac_native.specs.Seeking.{repeats_table}
 use Rattle.flac_native.specs.declared.fault.EncodeFault.TheVariants as encode
 use Rattle.flac_predict.specs.declared.search.Search.{Search}
 use Rattle.flac_encoder.specs.Pushing.{Fails}
+use Rattle.flac_native.specs.declared.fault.EncodeFault.{EncodeFault}
+use Rattle.flac_ogg.specs.Writing.{may_be_ogg}
 use Rattle.flac_draft.specs.Draft.{EncodesFound}
+use Rattle.flac_draft.specs.OggDraft.{EncodesOggFound}
+use Rattle.flac_jobs.specs.declared.formats.ContainerKind.{ContainerKind}
+use Rattle.flac_jobs.specs.declared.formats.ContainerKind.TheVariants as container
 use Rattle.flac_jobs.specs.declared.formats.RawFormat.{RawFormat}
 use Rattle.flac_raw.specs.Raw.{IsRaw, raw_sound}
 use Rattle.flac_raw.specs.Reading.{IfKnown}
 use Rattle.flac_raw.specs.Faults.{raw_fault, raw_text, AreSamples}
-use Rattle.flac_raw.specs.Planned.{Planned, table_fault}
+use Rattle.flac_raw.specs.Planned.{Planned, raw_cut, table_fault}
 use Rattle.flac_raw.specs.declared.raw_fault.RawFault.TheVariants.{Input, Setup}
 use Rattle.flac_raw.specs.declared.raw_fault.RawEncodeFault.{RawEncodeFault}
 use Rattle.flac_raw.specs.declared.raw_fault.RawEncodeFault.TheVariants.{Raw, Encode, Changed}
@@ -42,6 +46,16 @@ pub record EncodesRaw (profile : Profile) (format : RawFormat) (search : Option 
 abbrev pub EncodesBy : Planned → List Block → (bytes : List ℕ) → (before after : List Bool) → Type 0
 EncodesBy p list bytes before after = EncodesRaw p.profile p.format p.search p.predictors list bytes before after
 
+-- The same in Ogg, with this serial number: what `encode_ogg` writes.
+pub record EncodesRawOgg (serial : ℕ) (profile : Profile) (format : RawFormat) (search : Option Search) (ps : List LinearPredictor) (list : List Block) (bytes : List ℕ) (before after : List Bool) : Type 0 where
+  pub raw : IsRaw profile format bytes (raw_sound profile format bytes)
+  pub encodes : EncodesOggFound search serial (cut_for profile format ps bytes) list (raw_sound profile format bytes) before after
+
+-- the same by a plan, in either container
+abbrev pub EncodesByIn : ContainerKind → Planned → List Block → (bytes : List ℕ) → (before after : List Bool) → Type 0
+EncodesByIn container.Native p list bytes before after = EncodesBy p list bytes before after
+EncodesByIn (container.Ogg serial) p list bytes before after = EncodesRawOgg serial p.profile p.format p.search p.predictors list bytes before after
+
 -- the target, if its bytes are known, was sent this
 abbrev pub HasSent : {S : Type 0} → target.Ghosts S → (old new : S) → ((before after : List Bool) → Type 0) → Type 0
 HasSent g old new Says = g.known old ≡ true → Says (bits_of (g.sent old)) (bits_of (g.sent new))
@@ -49,6 +63,9 @@ HasSent g old new Says = g.known old ≡ true → Says (bits_of (g.sent old)) (b
 -- the target was sent the stream of the bytes of the source by a plan, if both are known
 abbrev pub SendsBy : {S T : Type 0} (g : source.Ghosts S) (h : target.Ghosts T) → Planned → List Block → (from : S) (old new : T) → Type 0
 SendsBy g h p list from old new = IfKnown g from (λ bytes. HasSent h old new (EncodesBy p list bytes))
+
+abbrev pub SendsByIn : {S T : Type 0} (g : source.Ghosts S) (h : target.Ghosts T) → ContainerKind → Planned → List Block → (from : S) (old new : T) → Type 0
+SendsByIn g h c p list from old new = IfKnown g from (λ bytes. HasSent h old new (EncodesByIn c p list bytes))
 
 -- these bytes are as many samples as the plan was made for
 abbrev pub ArePlanned : Planned → (bytes : List ℕ) → Type 0
@@ -71,9 +88,21 @@ IsOutside e = (e ≡ Raw (Input why.Memory)) ⊎ ((e ≡ Encode encode.Memory) �
 abbrev pub IsUnfit : Planned → List Block → (bytes : List ℕ) → RawEncodeFault → Type 0
 IsUnfit p list bytes e = (option_map Encode (table_fault p list) ≡ Some e) ⊎ ((e ≡ Changed) × (AreSamples p.profile p.format bytes p.total → ⊥))
 
+-- why no stream with these blocks is written by a plan: in Ogg the first is no Vorbis comment, or a seek table is asked for
+abbrev pub container_fault : ContainerKind → Planned → List Block → Option EncodeFault
+container_fault container.Native p list = table_fault p list
+container_fault (container.Ogg serial) p list = cond (may_be_ogg (raw_cut p.profile p.format p.total p.predictors) list) None (Some encode.BadMapping)
+
+-- the same as `IsUnfit`, in either container
+abbrev pub IsUnfitIn : ContainerKind → Planned → List Block → (bytes : List ℕ) → RawEncodeFault → Type 0
+IsUnfitIn c p list bytes e = (option_map Encode (container_fault c p list) ≡ Some e) ⊎ ((e ≡ Changed) × (AreSamples p.profile p.format bytes p.total → ⊥))
+
 -- Why an encoding of these bytes by a plan stops.
 abbrev pub StopsBy : Planned → List Block → RawEncodeFault → (bytes : List ℕ) → Type 0
 StopsBy p list e bytes = IsOutside e ⊎ IsUnfit p list bytes e
+
+abbrev pub StopsByIn : ContainerKind → Planned → List Block → RawEncodeFault → (bytes : List ℕ) → Type 0
+StopsByIn c p list e bytes = IsOutside e ⊎ IsUnfitIn c p list bytes e
 
 -- with Write the target returned an error, which is counted
 abbrev pub FailsLeft : {S : Type 0} → target.Ghosts S → (old : S) → RawEncodeFault → Type 0

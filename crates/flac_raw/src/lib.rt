@@ -7,6 +7,7 @@
 //! | read them block by block | [`RawBlocks`] |
 //! | judge them, and count them, without holding any | [`judge`] |
 //! | encode what was judged, block by block | [`RawPlan`], [`encode_judged`] |
+//! | the same, native or in Ogg | [`encode_judged_in`] |
 //! | do both, of a file that can be read twice | [`encode_twice`] |
 #![tactic(auto)]
 
@@ -14,6 +15,7 @@ mod audio;
 mod blocks;
 mod judging;
 mod raw;
+mod raw_draft;
 mod raw_fault;
 mod raw_plan;
 mod second_pass;
@@ -27,5 +29,5 @@ pub use judging::judge;
 pub use raw::{PIECE, no_samples, push_piece, read_channels};
 pub use raw_fault::{RawEncodeFault, RawFault};
 pub use raw_plan::RawPlan;
-pub use second_pass::encode_judged;
+pub use second_pass::{encode_judged, encode_judged_in};
 pub use two_passes::{RawEncoding, encode_twice};

@@ -1,29 +1,28 @@
 //! The second pass over raw samples, which encodes them block by block.
 
 ghost use Rattle.std.specs.Prelude.{◌≡◌, ◌≤◌, ◌<◌, ◌+◌, ◌^◌, ◌≢◌, [], length, true, None, IfOk, IfErr, OnOk};
-ghost use Rattle.flac_encoder.specs.Pushing.{shape_fault, push_fault, IsAfterBlock, IsFirst, trying, trying_fault};
+ghost use Rattle.flac_encoder.specs.Pushing.{shape_fault, push_fault, IsAfterBlock, StaysKnown};
 ghost use Rattle.flac_native.specs.Given.{blocks_in};
 ghost use Rattle.flac_native.specs.Message.{sample_width};
-ghost use Rattle.flac_draft.specs.Draft.{BeginsDraft, GoesOn, StaysDraft, Finishes, finish_fault};
 ghost use Rattle.flac_draft.specs.Table.{StaysStated};
 ghost use Rattle.flac_raw.specs.Reading.{IfKnown, IfRead};
 ghost use Rattle.flac_raw.specs.Blocks.{row_of, block_of, TakesBlock};
 ghost use Rattle.flac_raw.specs.Planned.{table_fault};
-ghost use Rattle.flac_raw.specs.Encoded.{SendsBy, ArePlanned, IsOutside, StopsBy, FailsLeft};
-ghost use Rattle.flac_raw.specs.inner.Pushed.{read_as, pushed_as, finished_as, IsBegun, KeepsAsked, IsFresh, IsFor};
+ghost use Rattle.flac_raw.specs.Encoded.{SendsBy, SendsByIn, ArePlanned, container_fault, StopsBy, StopsByIn, FailsLeft};
+ghost use Rattle.flac_raw.specs.inner.Pushed.{read_as, pushed_as, draft_in, container_in, GoesOnIn, KeepsAsked, IsFresh, IsFor};
 ghost use Rattle.flac_raw.specs.inner.Pushed.{AreAllFitAs, PushesRaw, StopsReading, StopsPushing, StopsRaw, FailsInto};
 ghost use Rattle.flac_raw.specs.declared.raw_fault.RawFault.TheVariants.{Input};
 ghost use Rattle.flac_raw.specs.declared.raw_fault.RawEncodeFault.TheVariants.{Raw, Encode, Changed};
 
 use crate::blocks::RawBlocks;
+use crate::raw_draft::RawDraft;
 use crate::raw_fault::{RawEncodeFault, RawFault};
 use crate::raw_plan::RawPlan;
 use flac_bits::Source;
-use flac_draft::{DraftEncoder, DraftFault, Rewritable, Unfinished};
-use flac_encoder::StreamFormat;
+use flac_draft::Rewritable;
+use flac_jobs::ContainerKind;
 use flac_meta::BlockList;
 use flac_native::{EncodeFault, sample_width};
-use flac_subframe::LinearPredictor;
 use std::alloc::Global;
 
 /// Why the second pass stops if it cannot read.
@@ -46,69 +45,6 @@ fn pushed_as(fault: EncodeFault) -> RawEncodeFault
         EncodeFault::Write => RawEncodeFault::Encode(EncodeFault::Write),
         _ => RawEncodeFault::Changed,
     }
-}
-
-/// Why it stops if the draft is not finished.
-fn finished_as(fault: DraftFault) -> RawEncodeFault
-    ensures { result ≡ finished_as fault }
-{
-    match fault {
-        DraftFault::Encode(fault) => RawEncodeFault::Encode(fault),
-        DraftFault::OtherTotal => RawEncodeFault::Changed,
-    }
-}
-
-/// Sets predictors that can be tried.
-fn try_predictors<W: Rewritable + Drop>(
-    encoder: &mut DraftEncoder<W>,
-    predictors: Vec<LinearPredictor>,
-)
-    requires { trying_fault encoder.old.pushed predictors.items ≡ None }
-    ensures set { encoder.new ≡ record encoder.old { pushed = trying encoder.old.pushed predictors.items } }
-    ensures stays { StaysDraft W.Target encoder.old encoder.new }
-{
-    match encoder.set_predictors(predictors) {
-        Ok(()) => {}
-        Err(_) => unreachable!(),
-    }
-}
-
-/// Begins the draft of a plan.
-fn begun<W: Rewritable + Drop>(
-    alloc: Global,
-    plan: RawPlan,
-    list: BlockList,
-    target: W,
-) -> Result<DraftEncoder<W>, EncodeFault>
-    ensures begun { IfOk result (λ e. IsBegun plan list e) }
-    ensures draft { IfOk result (λ e. BeginsDraft W.Target target e) }
-    ensures shape { IfOk result (λ e. shape_fault e.pushed.shape ≡ None) }
-    ensures known { IfOk result (λ e. W.known target ≡ true → W.known e.pushed.target ≡ true) }
-    ensures counted { IfOk result (λ e. W.errors e.pushed.target ≡ W.errors target) }
-    ensures names { IfOk result (λ e. W.names e.pushed.target ≡ W.names target) }
-    ensures accepted { OnOk result (table_fault plan list ≡ None) }
-    ensures refused { IfErr result (λ e. IsFirst (table_fault plan list) e) }
-    ensures failed { IfErr result (λ e. FailsLeft W.Target target (Encode e)) }
-{
-    let RawPlan {
-        profile,
-        format,
-        total,
-        predictors,
-        search,
-    } = plan;
-    let shape = StreamFormat {
-        profile,
-        rate: format.rate,
-        bits: format.bits,
-        channels: format.channels,
-        block_size: format.block,
-    };
-    let every = format.seek_every;
-    let mut encoder = DraftEncoder::new_with_table(alloc, &shape, list, total, every, target)?;
-    try_predictors(&mut encoder, predictors);
-    encoder.set_search(search)?;
-    Ok(encoder)
 }
 
 /// Reads the next block.
@@ -136,22 +72,24 @@ fn next_block<R: Source>(blocks: &mut RawBlocks, source: &mut R) -> Result<usize
 fn push_block<W: Rewritable + Drop>(
     alloc: Global,
     blocks: &RawBlocks,
-    encoder: &mut DraftEncoder<W>,
+    draft: &mut RawDraft<W>,
 ) -> Result<(), RawEncodeFault>
-    ensures next { OnOk result (IsAfterBlock encoder.old.pushed (block_of blocks.now) encoder.new.pushed) }
-    ensures list { encoder.new.list ≡ encoder.old.list }
-    ensures stated { StaysStated encoder.old.table encoder.new.table }
-    ensures draft { OnOk result (GoesOn W.Target (block_of blocks.now) encoder.old encoder.new) }
-    ensures known { OnOk result (W.known encoder.old.pushed.target ≡ true →
-        W.known encoder.new.pushed.target ≡ true) }
-    ensures counted { OnOk result (W.errors encoder.new.pushed.target ≡ W.errors encoder.old.pushed.target) }
-    ensures refused { IfErr result (λ e. StopsPushing encoder.old.pushed (block_of blocks.now) e) }
-    ensures accepted { OnOk result (push_fault encoder.old.pushed (block_of blocks.now) ≡ None) }
-    ensures failed { IfErr result (λ e. FailsInto W.Target encoder.old.pushed encoder.new.pushed e) }
-    ensures names { W.names encoder.new.pushed.target ≡ W.names encoder.old.pushed.target }
+    ensures next { OnOk result
+        (IsAfterBlock (draft_in draft.old).pushed (block_of blocks.now) (draft_in draft.new).pushed) }
+    ensures container { container_in draft.new ≡ container_in draft.old }
+    ensures list { (draft_in draft.new).list ≡ (draft_in draft.old).list }
+    ensures stated { StaysStated (draft_in draft.old).table (draft_in draft.new).table }
+    ensures draft { OnOk result (GoesOnIn W.Target (block_of blocks.now) draft.old draft.new) }
+    ensures known { OnOk result (StaysKnown W.Target (draft_in draft.old).pushed (draft_in draft.new).pushed) }
+    ensures counted { OnOk result
+        (W.errors (draft_in draft.new).pushed.target ≡ W.errors (draft_in draft.old).pushed.target) }
+    ensures refused { IfErr result (λ e. StopsPushing (draft_in draft.old).pushed (block_of blocks.now) e) }
+    ensures accepted { OnOk result (push_fault (draft_in draft.old).pushed (block_of blocks.now) ≡ None) }
+    ensures failed { IfErr result (λ e. FailsInto W.Target (draft_in draft.old).pushed (draft_in draft.new).pushed e) }
+    ensures names { W.names (draft_in draft.new).pushed.target ≡ W.names (draft_in draft.old).pushed.target }
 {
     let slices = blocks.slices(alloc)?;
-    match encoder.push(slices.as_slice()) {
+    match draft.push(slices.as_slice()) {
         Ok(()) => Ok(()),
         Err(fault) => Err(pushed_as(fault)),
     }
@@ -163,26 +101,29 @@ fn push_all<R: Source, W: Rewritable + Drop>(
     total: u64,
     blocks: &mut RawBlocks,
     source: &mut R,
-    encoder: &mut DraftEncoder<W>,
+    draft: &mut RawDraft<W>,
 ) -> Result<(), RawEncodeFault>
-    requires fresh { IsFresh encoder.old }
-    requires shape { shape_fault encoder.old.pushed.shape ≡ None }
-    requires same { IsFor encoder.old.pushed.shape (length blocks.old.lists.items) blocks.old.width blocks.old.size }
+    requires fresh { IsFresh (draft_in draft.old) }
+    requires shape { shape_fault (draft_in draft.old).pushed.shape ≡ None }
+    requires same { IsFor (draft_in draft.old).pushed.shape
+        (length blocks.old.lists.items) blocks.old.width blocks.old.size }
     requires total { total < 2 ^ 36 }
     requires few { blocks_in blocks.old.size total ≤ 2 ^ 31 }
-    ensures all { OnOk result (IfKnown R.Source source.old (AreAllFitAs encoder.old blocks.old total)) }
+    ensures all { OnOk result (IfKnown R.Source source.old (AreAllFitAs (draft_in draft.old) blocks.old total)) }
     ensures draft { OnOk result
-        (IfKnown R.Source source.old (PushesRaw W.Target blocks.old encoder.old encoder.new)) }
-    ensures has { OnOk result (encoder.new.pushed.number ≡ blocks_in blocks.old.size total) }
-    ensures asked { OnOk result (KeepsAsked encoder.old encoder.new) }
-    ensures samples { OnOk result (encoder.new.pushed.samples ≡ total) }
-    ensures known { OnOk result (W.known encoder.old.pushed.target ≡ true →
-        W.known encoder.new.pushed.target ≡ true) }
-    ensures counted { OnOk result (W.errors encoder.new.pushed.target ≡ W.errors encoder.old.pushed.target) }
+        (IfKnown R.Source source.old (PushesRaw W.Target blocks.old draft.old draft.new)) }
+    ensures has { OnOk result ((draft_in draft.new).pushed.number ≡ blocks_in blocks.old.size total) }
+    ensures container { container_in draft.new ≡ container_in draft.old }
+    ensures asked { OnOk result (KeepsAsked (draft_in draft.old) (draft_in draft.new)) }
+    ensures samples { OnOk result ((draft_in draft.new).pushed.samples ≡ total) }
+    ensures known { OnOk result (StaysKnown W.Target (draft_in draft.old).pushed (draft_in draft.new).pushed) }
+    ensures counted { OnOk result
+        (W.errors (draft_in draft.new).pushed.target ≡ W.errors (draft_in draft.old).pushed.target) }
     ensures refused { IfErr result (λ e. IfRead R.Source source.old source.new
-        (StopsRaw encoder.old blocks.old total e)) }
-    ensures failed { IfErr result (λ e. FailsLeft W.Target encoder.old.pushed.target e) }
-    ensures names { W.names encoder.new.pushed.target ≡ W.names encoder.old.pushed.target }
+        (StopsRaw (draft_in draft.old) blocks.old total e)) }
+    ensures failed { IfErr result (λ e. FailsLeft W.Target (draft_in draft.old).pushed.target e) }
+    ensures names { W.names (draft_in draft.new).pushed.target ≡ W.names (draft_in draft.old).pushed.target }
+    ensures through { R.names source.new ≡ R.names source.old }
 {
     let mut pushed = 0;
     'pieces: loop {
@@ -197,27 +138,8 @@ fn push_all<R: Source, W: Rewritable + Drop>(
             }
             return Ok(());
         }
-        push_block(alloc, blocks, encoder)?;
+        push_block(alloc, blocks, draft)?;
         pushed += count;
-    }
-}
-
-/// Finishes the draft.
-fn finished<W: Rewritable + Drop>(encoder: DraftEncoder<W>) -> Result<W, RawEncodeFault>
-    ensures finished { IfOk result (λ target. Finishes W.Target encoder target) }
-    ensures known { IfOk result (λ target. W.known encoder.pushed.target ≡ true → W.known target ≡ true) }
-    ensures counted { IfOk result (λ target. W.errors target ≡ W.errors encoder.pushed.target) }
-    ensures names { IfOk result (λ target. W.names target ≡ W.names encoder.pushed.target) }
-    ensures refused { IfErr result (λ e. finish_fault encoder ≡ None → IsOutside e) }
-    ensures failed { IfErr result (λ e. FailsLeft W.Target encoder.pushed.target e) }
-{
-    match encoder.finish() {
-        Ok(target) => Ok(target),
-        Err(unfinished) => {
-            let Unfinished { fault, left } = unfinished;
-            drop(left);
-            Err(finished_as(fault))
-        }
     }
 }
 
@@ -255,14 +177,48 @@ pub fn encode_judged<R: Source, W: Rewritable + Drop>(
     ensures refused { IfErr result (λ e. IfRead R.Source source.old source.new (StopsBy plan list e)) }
     // An error of the target is counted.
     ensures failed { IfErr result (λ e. FailsLeft W.Target target e) }
+    ensures through { R.names source.new ≡ R.names source.old }
+{
+    encode_judged_in(alloc, ContainerKind::Native, plan, list, source, target)
+}
+
+/// Does what [`encode_judged`] does, in a native stream or in Ogg, in which the stream is that which
+/// [`flac_ogg::encode_ogg`] writes of the same samples (RFC 9639, section 10.1).
+///
+/// ```
+/// let container = ContainerKind::Ogg { serial: 1 };
+/// let out = encode_judged_in(alloc, container, plan, list, &mut file_again, DraftFile::new(out)?)?;
+/// ```
+///
+/// # Errors
+/// Those of [`encode_judged`]. In Ogg, in place of `RepeatedBlock`, [`RawEncodeFault::Encode`] with `BadMapping`,
+/// before anything is sent, if the list does not begin with a Vorbis comment, or the plan asks for a seek table.
+pub fn encode_judged_in<R: Source, W: Rewritable + Drop>(
+    alloc: Global,
+    container: ContainerKind,
+    plan: RawPlan,
+    list: BlockList,
+    source: &mut R,
+    target: W,
+) -> Result<W, RawEncodeFault>
+    ensures written { IfOk result (λ out. SendsByIn R.Source W.Target container plan list source.old target out) }
+    ensures samples { OnOk result (IfKnown R.Source source.old (ArePlanned plan)) }
+    ensures fits { OnOk result (container_fault container plan list ≡ None) }
+    ensures known { IfOk result (λ out. W.known target ≡ true → W.known out ≡ true) }
+    ensures counted { IfOk result (λ out. W.errors out ≡ W.errors target) }
+    ensures names { IfOk result (λ out. W.names out ≡ W.names target) }
+    ensures refused { IfErr result (λ e. IfRead R.Source source.old source.new (StopsByIn container plan list e)) }
+    // An error of the target is counted.
+    ensures failed { IfErr result (λ e. FailsLeft W.Target target e) }
+    ensures through { R.names source.new ≡ R.names source.old }
 {
     let format = plan.format;
     let total = plan.total;
     let channels = format.channels as usize;
     let width = sample_width(format.bits);
     let mut blocks = RawBlocks::new(alloc, channels, width, format.block as usize)?;
-    let mut encoder = begun(alloc, plan, list, target)?;
-    push_all(alloc, total, &mut blocks, source, &mut encoder)?;
-    let out = finished(encoder)?;
+    let mut draft = RawDraft::begin(alloc, container, plan, list, target)?;
+    push_all(alloc, total, &mut blocks, source, &mut draft)?;
+    let out = draft.finish()?;
     Ok(out)
 }

@@ -1,10 +1,10 @@
 //! Raw samples that are encoded block by block, beside those that are encoded at once.
 
-use crate::{RawEncoding, audio_of, encode_twice, judge};
+use crate::{RawEncoding, RawPlan, audio_of, encode_judged_in, encode_twice, judge};
 use flac_bits::{Collected, Memory};
 use flac_draft::DraftMemory;
-use flac_jobs::RawFormat;
-use flac_meta::{Block, BlockList};
+use flac_jobs::{ContainerKind, RawFormat};
+use flac_meta::{Block, BlockList, Bytes, Comments, Texts};
 use flac_native::{Plan, Profile, encode};
 use flac_predict::Search;
 use std::alloc::Global;
@@ -26,6 +26,21 @@ const ONE: [u8; 57] = [
     0x00, 0x0f, 0x0a, 0xc4, 0x42, 0xf0, 0x00, 0x00, 0x00, 0x01, 0x3e, 0x84, 0xb4, 0x18, 0x07, 0xdc,
     0x69, 0x03, 0x07, 0x58, 0x6a, 0x3d, 0xad, 0x1a, 0x2e, 0x0f, 0xff, 0xf8, 0x69, 0x18, 0x00, 0x00,
     0xbf, 0x01, 0x58, 0xfd, 0x01, 0x12, 0x8b, 0x5a, 0xb2,
+];
+
+/// The same sample in pages that were made by hand, with a block of no comments.
+const ONE_IN_OGG: [u8; 162] = [
+    0x4f, 0x67, 0x67, 0x53, 0x00, 0x02, 0x00, 0x00, 0x00, 0x00, 0x00, 0x00, 0x00, 0x00, 0x01, 0x00,
+    0x00, 0x00, 0x00, 0x00, 0x00, 0x00, 0x18, 0x59, 0x7d, 0x8f, 0x01, 0x33, 0x7f, 0x46, 0x4c, 0x41,
+    0x43, 0x01, 0x00, 0x00, 0x01, 0x66, 0x4c, 0x61, 0x43, 0x00, 0x00, 0x00, 0x22, 0x10, 0x00, 0x10,
+    0x00, 0x00, 0x00, 0x0f, 0x00, 0x00, 0x0f, 0x0a, 0xc4, 0x42, 0xf0, 0x00, 0x00, 0x00, 0x01, 0x3e,
+    0x84, 0xb4, 0x18, 0x07, 0xdc, 0x69, 0x03, 0x07, 0x58, 0x6a, 0x3d, 0xad, 0x1a, 0x2e, 0x0f, 0x4f,
+    0x67, 0x67, 0x53, 0x00, 0x00, 0x00, 0x00, 0x00, 0x00, 0x00, 0x00, 0x00, 0x00, 0x01, 0x00, 0x00,
+    0x00, 0x01, 0x00, 0x00, 0x00, 0x60, 0xd1, 0xf6, 0x01, 0x01, 0x0c, 0x84, 0x00, 0x00, 0x08, 0x00,
+    0x00, 0x00, 0x00, 0x00, 0x00, 0x00, 0x00, 0x4f, 0x67, 0x67, 0x53, 0x00, 0x04, 0x01, 0x00, 0x00,
+    0x00, 0x00, 0x00, 0x00, 0x00, 0x01, 0x00, 0x00, 0x00, 0x02, 0x00, 0x00, 0x00, 0x49, 0x87, 0x2f,
+    0x1f, 0x01, 0x0f, 0xff, 0xf8, 0x69, 0x18, 0x00, 0x00, 0xbf, 0x01, 0x58, 0xfd, 0x01, 0x12, 0x8b,
+    0x5a, 0xb2,
 ];
 
 /// Its samples, 25588 and 10416.
@@ -93,6 +108,46 @@ fn twice(
     }
 }
 
+/// The stream of one sample in Ogg, with a seek point for each `every` samples, or the text of the error. The list has
+/// comments, or padding.
+fn one_in_ogg(alloc: Global, every: u32, comments: bool) -> Result<Vec<u8>, Fail> {
+    let format = RawFormat {
+        block: 4096,
+        seek_every: every,
+        ..FORMAT
+    };
+    let mut blocks = Vec::new(alloc);
+    if comments {
+        blocks.push(Block::VorbisComment(Comments {
+            vendor: Bytes::from_vec(Vec::new(alloc)),
+            list: Texts::from_vec(Vec::new(alloc)),
+        }))?;
+    } else {
+        blocks.push(Block::Padding(5))?;
+    }
+    let list = BlockList::new(blocks)?;
+    let plan = RawPlan::new(
+        Profile::Subset,
+        format,
+        1,
+        Vec::new(alloc),
+        Some(Search::Full),
+    )?;
+    let container = ContainerKind::Ogg { serial: 1 };
+    let mut source = Memory::new(&ONE_RAW);
+    match encode_judged_in(
+        alloc,
+        container,
+        plan,
+        list,
+        &mut source,
+        DraftMemory::new(alloc),
+    ) {
+        Ok(target) => Ok(target.into_bytes()),
+        Err(fault) => Ok(Vec::from_slice(alloc, fault.as_str().as_bytes())?),
+    }
+}
+
 /// Whether two sources are refused for this reason.
 fn is_refused(
     alloc: Global,
@@ -130,6 +185,16 @@ fn one_sample_is_the_stream_of_the_standard(rt: HostRuntime) -> Result<(), Fail>
     let asked = encoding(alloc, format, Some(Search::Full), false)?;
     let bytes = twice(alloc, asked, &ONE_RAW, &ONE_RAW)?;
     assert!(rt; bytes.as_slice() == ONE.as_slice());
+    Ok(())
+}
+
+/// In Ogg, and not without comments or with a seek table.
+#[test]
+fn one_sample_in_pages(rt: HostRuntime) -> Result<(), Fail> {
+    let alloc = rt.alloc();
+    assert!(rt; one_in_ogg(alloc, 0, true)?.as_slice() == ONE_IN_OGG.as_slice());
+    assert!(rt; one_in_ogg(alloc, 0, false)?.as_slice() == b"37 BadMapping".as_slice());
+    assert!(rt; one_in_ogg(alloc, 1, true)?.as_slice() == b"37 BadMapping".as_slice());
     Ok(())
 }
 

@@ -252,8 +252,9 @@ impl<C: Container> Reader<C> {
         decoder
     }
 
-    /// The frame that was read last, by [`Reader::step`] or [`Reader::next`]; `None` at the end of the stream, and after
-    /// an error. Before the first of these calls it is the first frame, which was read when the stream was opened.
+    /// The frame that was read last, by [`Reader::step`] or [`Reader::next`]; `None` at the end of the stream, and
+    /// after an error. Before the first of these calls it is the first frame, which was read when the stream was
+    /// opened.
     ///
     /// ```
     /// reader.step()?;
@@ -279,8 +280,8 @@ impl<C: Container> Reader<C> {
         }
     }
 
-    /// Reads the next frame, which [`Reader::frame`] lends then. It is [`Reader::next`] for callers that cannot hold the
-    /// loan of a frame, such as those of two readers.
+    /// Reads the next frame, which [`Reader::frame`] lends then. It is [`Reader::next`] for callers that cannot hold
+    /// the loan of a frame, such as those of two readers.
     ///
     /// # Errors
     /// Those of [`Reader::next`].

@@ -182,8 +182,8 @@ pub fn read_front<R: Source>(
     }
 }
 
-/// Why samples are refused that came of a file: it ended inside them (`cut`), and they may not go on to its end; or they are
-/// no whole number of inter-channel samples.
+/// Why samples are refused that came of a file: it ended inside them (`cut`), and they may not go on to its end; or
+/// they are no whole number of inter-channel samples.
 pub fn front_fault(to_end: bool, cut: bool, whole: bool) -> Option<WaveWhy>
     ensures { result ≡ front_fault to_end cut whole }
 {

@@ -16,8 +16,8 @@ pub fn waves_are_read_once()
     ensures refused { AreRefusedOnce }
 {}
 
-/// A plain WAV file is read as what it was made of (`read`), which the format of a stream can be (`format`). It is made of
-/// pieces and samples as the file that a stream keeps (`made`).
+/// A plain WAV file is read as what it was made of (`read`), which the format of a stream can be (`format`). It is made
+/// of pieces and samples as the file that a stream keeps (`made`).
 pub fn plain_files_are_read()
     ensures format { FormatsCanBeWritten }
     ensures read { PlainFilesAreRead }

@@ -59,10 +59,10 @@ fn needs_extensible(channels: u32, bits: u32) -> bool
 }
 
 impl WaveFormat {
-    /// The format of a plain WAV file of the samples of a stream: `rate` in Hz, below 134217728 (2^27), 1 to 8 channels,
-    /// `bits` bits of a sample, 1 to 32. Its samples have whole bytes, of which the highest `bits` bits count. It states
-    /// the speakers of its channels if it has more than 2 channels, more than 16 bits, or if its bits are no multiple
-    /// of 8.
+    /// The format of a plain WAV file of the samples of a stream: `rate` in Hz, below 134217728 (2^27), 1 to 8
+    /// channels, `bits` bits of a sample, 1 to 32. Its samples have whole bytes, of which the highest `bits` bits
+    /// count. It states the speakers of its channels if it has more than 2 channels, more than 16 bits, or if its bits
+    /// are no multiple of 8.
     #[tactic(auto, unfolding(crate::specs::Plain::plain_format))]
     pub fn plain(rate: u32, channels: u32, bits: u32) -> WaveFormat
         requires rate { rate < 134217728 }
@@ -264,9 +264,9 @@ fn known_pieces(
     long_pieces(alloc, format, 36 + all, size, total)
 }
 
-/// The pieces of a plain WAV file of `total` inter-channel samples, or of any number of them if `total` is 0: the header
-/// of the file, its chunks, and the header of the samples. After these come the samples, and a zero if they have an odd
-/// number of bytes. If `total` is 0, no zero follows them: then a last piece, without a byte, says so.
+/// The pieces of a plain WAV file of `total` inter-channel samples, or of any number of them if `total` is 0: the
+/// header of the file, its chunks, and the header of the samples. After these come the samples, and a zero if they have
+/// an odd number of bytes. If `total` is 0, no zero follows them: then a last piece, without a byte, says so.
 ///
 /// `total` is below 2^36. The format is one of [`WaveFormat::plain`], or another of 1 to 8 channels of 1 to 32 bits of
 /// which a second has fewer than 2^32 bytes; without speakers (`mask`) all its bits count. If 4294967295 bytes or more

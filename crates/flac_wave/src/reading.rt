@@ -40,8 +40,8 @@ pub fn fill<R: Source>(source: &mut R, places: &mut [u8], most: usize) -> Result
     Ok(count)
 }
 
-/// The next bytes of a source, at most `most`: fewer if the source ends. They are read in pieces of at most 16384 bytes, so
-/// no more is allocated than there is.
+/// The next bytes of a source, at most `most`: fewer if the source ends. They are read in pieces of at most 16384
+/// bytes, so no more is allocated than there is.
 ///
 /// # Errors
 /// [`Why::Read`] if the source returns an error, [`Why::Memory`] if an allocation fails.

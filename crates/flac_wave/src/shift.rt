@@ -109,8 +109,8 @@ fn is_stated_depth(bits: u32) -> bool
 }
 
 impl WaveFormat {
-    /// How many bits of a sample a stream of such samples has, whatever they are: all bits of a sample's bytes. `None` if
-    /// fewer of them count, and are 8, 12, 16, 20 or 24: then [`depth_of`] says it of the samples.
+    /// How many bits of a sample a stream of such samples has, whatever they are: all bits of a sample's bytes. `None`
+    /// if fewer of them count, and are 8, 12, 16, 20 or 24: then [`depth_of`] says it of the samples.
     ///
     /// [`depth_of`]: WaveFormat::depth_of
     pub fn known_depth(&self) -> Option<u32>
@@ -124,8 +124,8 @@ impl WaveFormat {
         Some(all)
     }
 
-    /// How many bits of a sample a stream of these samples has: those that count, if they are 8, 12, 16, 20, 24 or 32 and
-    /// all bits below them are zeros; else all bits of a sample's bytes.
+    /// How many bits of a sample a stream of these samples has: those that count, if they are 8, 12, 16, 20, 24 or 32
+    /// and all bits below them are zeros; else all bits of a sample's bytes.
     pub fn depth_of(&self, samples: &[u8]) -> u32
         requires { IsInRange self.now }
         ensures { result ≡ depth_in self.now samples.now }

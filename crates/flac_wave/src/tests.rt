@@ -61,8 +61,8 @@ const ODD: [u8; 84] = [
     0x49, 0x44, 0x33, 0x00,
 ];
 
-/// What is read of a file, of which a number of bytes come at once: what comes before the samples, joined, how many bytes of
-/// these are stated, those that came, whether some are missing, and what follows them.
+/// What is read of a file, of which a number of bytes come at once: what comes before the samples, joined, how many
+/// bytes of these are stated, those that came, whether some are missing, and what follows them.
 fn read_by(
     alloc: Global,
     file: &[u8],

@@ -45,8 +45,8 @@ pub fn is_unstated(size: Option<u64>, rest: &[u8]) -> bool
     }
 }
 
-/// How many bytes the samples have whose header states `size` of them, if `rest` follows it; `None` if they go to the end
-/// of the file. They go there if the header states no length though they are there, and `to_end` allows it.
+/// How many bytes the samples have whose header states `size` of them, if `rest` follows it; `None` if they go to the
+/// end of the file. They go there if the header states no length though they are there, and `to_end` allows it.
 pub fn size_in(to_end: bool, size: Option<u64>, rest: &[u8]) -> Option<u64>
     ensures { result ≡ size_in to_end size rest.now }
 {

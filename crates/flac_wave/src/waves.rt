@@ -108,8 +108,8 @@ fn step_at(seen: &Seen, rest: &[u8]) -> Result<Next, WaveWhy>
     Ok(Next::Samples(format))
 }
 
-/// Takes a WAV file apart. The samples and what follows them are those of `bytes`, the pieces before them are copied. With
-/// `to_end`, samples that are longer than the file go to its end.
+/// Takes a WAV file apart. The samples and what follows them are those of `bytes`, the pieces before them are copied.
+/// With `to_end`, samples that are longer than the file go to its end.
 ///
 /// ```
 /// let wave = wave_of(rt.alloc(), &bytes, false)?;

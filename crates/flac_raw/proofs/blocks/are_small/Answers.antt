@@ -1,4 +1,4 @@
-use Rattle.std.proofs.Common.{map, ◌∙◌, sym, List, ℤ, Vec, Global}
+use Rattle.std.proofs.Common.{◌∙◌, sym, List, ℤ, Vec, Global}
 use Rattle.std.specs.List.{list_all}
 use Rattle.std.proofs.lemmas.List.Folds.{list_all-map}
 use Rattle.flac_subframe.specs.format.Numbers.{fits}

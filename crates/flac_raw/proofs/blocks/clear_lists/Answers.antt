@@ -1,6 +1,5 @@
-use Rattle.std.proofs.Common.{◌≡◌, ◌≤◌, ◌<◌, ◌+◌, ◌∙◌, ℕ, List, [], length, map, set, get_or, subst, sym, ap, arith, below_more, ℤ, Vec, Global}
+use Rattle.std.proofs.Common.{◌≡◌, ◌<◌, ◌+◌, ◌∙◌, ℕ, List, [], length, map, set, get_or, subst, sym, arith, below_more, ℤ, Vec, Global}
 use Rattle.std.proofs.lemmas.List.{map-set, length-map, get_or-set_same, get_or-set_other}
-use Rattle.std.proofs.Math.ListN.{get_or-eq_default}
 use Rattle.flac_raw.proofs.blocks.clear_lists.Goals as goal
 
 cleared : (ls : List (List ℤ)) (i : ℕ) (new : List ℤ) → new ≡ [] → i < length ls → ((c : ℕ) → c < i → get_or ls c [] ≡ []) → (c : ℕ) → c < i + 1 → get_or (set ls i new) c [] ≡ []

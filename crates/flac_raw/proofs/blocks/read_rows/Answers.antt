@@ -1,4 +1,4 @@
-use Rattle.std.proofs.Common.{◌≡◌, ◌≤◌, ◌<◌, ◌*◌, ◌/◌, ◌∙◌, refl, ℕ, true, List, ℤ, Vec, Global, length, map, take, arith, inr}
+use Rattle.std.proofs.Common.{◌≡◌, ◌<◌, ◌*◌, ◌/◌, ◌∙◌, refl, List, ℤ, Vec, Global, length, map, take, arith, inr}
 use Rattle.std.proofs.lemmas.List.{length-map, length-take-le}
 use Rattle.flac_raw.proofs.Rows.{not_full, whole_rows}
 use Rattle.flac_raw.proofs.Taken.{not_whole, first_rows}

@@ -1,8 +1,7 @@
-use Rattle.std.proofs.Common.{◌≡◌, not, Bool, ◌<◌, ◌^◌, ◌∙◌, true, false, refl, sym, ap, length, arith, inl, inr}
+use Rattle.std.proofs.Common.{◌≡◌, not, Bool, ◌∙◌, true, false, refl, length, arith, inr}
 use Rattle.std.proofs.lemmas.Result.{err_from_is_err_and}
 use Rattle.std.proofs.lemmas.Bool.{not-false}
 use Rattle.flac_native.specs.Message.{sample_width}
-use Rattle.flac_raw.specs.inner.Surveyed.{IsSurvey}
 use Rattle.flac_raw.proofs.Refused.{bad_format}
 use Rattle.flac_raw.proofs.Judged.{survey_large, survey_long, survey_good, survey_raw}
 use Rattle.flac_raw.proofs.Surveying.{survey_at, length_told}

@@ -1,4 +1,4 @@
-use Rattle.std.proofs.Common.{◌≡◌, ◌∙◌, true, refl, sym, ℤ, List, Vec, Global, length, map, arith}
+use Rattle.std.proofs.Common.{◌∙◌, refl, sym, ℤ, List, Vec, Global, length, map, arith}
 use Rattle.std.proofs.lemmas.Result.{err_from_is_err_and}
 use Rattle.flac_raw.specs.inner.Surveyed.{SurveyedTo}
 use Rattle.flac_raw.proofs.Taken.{taken_bytes}

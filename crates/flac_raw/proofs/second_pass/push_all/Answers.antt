@@ -1,10 +1,10 @@
-use Rattle.std.proofs.Common.{◌≡◌, ◌≤◌, ◌<◌, ◌+◌, ◌-◌, ◌∙◌, Bool, true, false, refl, sym, ap, subst, ℕ, ℤ, List, [], Vec, Global, length, map, arith, inl, inr}
+use Rattle.std.proofs.Common.{◌≡◌, ◌≤◌, ◌<◌, ◌-◌, ◌∙◌, Bool, true, false, refl, sym, ap, ℕ, ℤ, List, [], Vec, Global, length, map, arith, inl, inr}
 use Rattle.std.proofs.lemmas.Result.{err_from_is_err_and}
 use Rattle.std.specs.Prelude.{◌⊎◌, Option, Some}
 use Rattle.flac_native.specs.declared.fault.EncodeFault.{EncodeFault}
 use Rattle.flac_encoder.specs.Pushing.{Shape, push_fault}
 use Rattle.flac_raw.specs.Encoded.{IsOutside}
-use Rattle.flac_raw.specs.inner.Pushed.{pushed_as, AreFit}
+use Rattle.flac_raw.specs.inner.Pushed.{draft_in, pushed_as, AreFit}
 use Rattle.flac_raw.specs.declared.raw_fault.RawEncodeFault.{RawEncodeFault}
 use Rattle.flac_raw.specs.declared.raw_fault.RawEncodeFault.TheVariants.{Changed}
 use Rattle.flac_raw.specs.Raw.{raw_channels}
@@ -22,13 +22,15 @@ pieces-init g c = record {
   channels = refl;
   width = refl;
   size = refl;
-  read = λ known. read_none c.args.encoder.now.pushed.shape.bits (length c.args.blocks.now.lists.items) c.args.blocks.now.width (g.R.Source.coming c.args.source.now);
-  so = pushed_none c.args.encoder.now c.args.blocks.now.size c.args.total c.requires.fresh c.requires.same.least;
-  last = λ known ended. ended_not c.args.encoder.now.pushed.ended c.requires.fresh.ended ended;
+  container = refl;
+  read = λ known. read_none (draft_in c.args.draft.now).pushed.shape.bits (length c.args.blocks.now.lists.items) c.args.blocks.now.width (g.R.Source.coming c.args.source.now);
+  so = pushed_none (draft_in c.args.draft.now) c.args.blocks.now.size c.args.total c.requires.fresh c.requires.same.least;
+  last = λ known ended. ended_not (draft_in c.args.draft.now).pushed.ended c.requires.fresh.ended ended;
   drafts = λ known told before d. d;
   told = λ told. told;
   counted = refl;
   names = refl;
+  through = refl;
 }
 
 pub returns-in_err-taken : goal.returns-in_err-taken
@@ -39,14 +41,16 @@ returns-in_err-taken g c =
       all = tt;
       draft = tt;
       has = tt;
+      container = inv.container;
       asked = tt;
       samples = tt;
       known = tt;
       counted = tt;
-      refused = λ known same. part_left c.args.encoder.now.pushed.shape.bits (length c.pieces.blocks.lists.items) (length c.args.blocks.now.lists.items) c.pieces.blocks.width c.args.blocks.now.width c.args.total c.pieces.pushed (g.R.Source.coming c.args.source.now)
+      refused = λ known same. part_left (draft_in c.args.draft.now).pushed.shape.bits (length c.pieces.blocks.lists.items) (length c.args.blocks.now.lists.items) c.pieces.blocks.width c.args.blocks.now.width c.args.total c.pieces.pushed (g.R.Source.coming c.args.source.now)
           (g.R.Source.coming c.pieces.source) _ inv.channels inv.width (inv.read known) (c.in_err-taken.ensures.refused (inv.known known) (same ∙ sym inv.raised));
       failed = λ is. absurd (c.in_err-taken.ensures.unwritten is);
       names = inv.names;
+      through = c.in_err-taken.ensures.names ∙ inv.through;
     })
 
 pub pieces-preserved : goal.pieces-preserved
@@ -55,9 +59,9 @@ pieces-preserved g c =
     let e = c.in_ok-taken.ensures in
     let ok = c.in_ok-push_block.ensures in
     let items : Vec ℤ Global → List ℤ = λ v. v.items in
-    let first = c.args.encoder.now in
-    let was = c.pieces.encoder in
-    let now = c.push_block.new.encoder in
+    let first = draft_in c.args.draft.now in
+    let was = draft_in c.pieces.draft in
+    let now = draft_in c.push_block.new.draft in
     let bits = first.pushed.shape.bits in
     let count : ℕ = length c.args.blocks.now.lists.items in
     let width : ℕ = c.args.blocks.now.width in
@@ -84,6 +88,7 @@ pieces-preserved g c =
       channels = e.channels ∙ inv.channels;
       width = e.width ∙ inv.width;
       size = e.size ∙ inv.size;
+      container = ok.container ∙ inv.container;
       read = λ known.
           let fit = fit_is first was bits count width size total pushed n all coming later channels inv.so (inv.read known) (took known) c.requires.same c.requires.fresh.spent c.requires.total c.requires.few refl (going known) more few room ok.accepted in
           read_more bits count width all coming later pushed n true true channels (inv.read known) (took known) (sym fit);
@@ -95,6 +100,7 @@ pieces-preserved g c =
       told = λ told. ok.known (inv.told told);
       counted = ok.counted ∙ inv.counted;
       names = ok.names ∙ inv.names;
+      through = e.names ∙ inv.through;
     }
 
 pub returns-then-count-total-clause-refused : goal.returns-then-count-total-clause-refused
@@ -102,8 +108,8 @@ returns-then-count-total-clause-refused g c = λ known same.
     let inv = c.pieces.invariant in
     let e = c.in_ok-taken.ensures in
     let items : Vec ℤ Global → List ℤ = λ v. v.items in
-    let first = c.args.encoder.now in
-    let was = c.pieces.encoder in
+    let first = draft_in c.args.draft.now in
+    let was = draft_in c.pieces.draft in
     let bits = first.pushed.shape.bits in
     let count : ℕ = length c.args.blocks.now.lists.items in
     let width : ℕ = c.args.blocks.now.width in
@@ -123,8 +129,8 @@ returns-then-pushed-total-clause-refused g c = λ known same.
     let inv = c.pieces.invariant in
     let e = c.in_ok-taken.ensures in
     let items : Vec ℤ Global → List ℤ = λ v. v.items in
-    let first = c.args.encoder.now in
-    let was = c.pieces.encoder in
+    let first = draft_in c.args.draft.now in
+    let was = draft_in c.pieces.draft in
     let bits = first.pushed.shape.bits in
     let count : ℕ = length c.args.blocks.now.lists.items in
     let width : ℕ = c.args.blocks.now.width in
@@ -147,8 +153,8 @@ returns-then-count-eq0-clause-all g c = λ known.
     let inv = c.pieces.invariant in
     let e = c.in_ok-taken.ensures in
     let items : Vec ℤ Global → List ℤ = λ v. v.items in
-    let first = c.args.encoder.now in
-    let was = c.pieces.encoder in
+    let first = draft_in c.args.draft.now in
+    let was = draft_in c.pieces.draft in
     let bits = first.pushed.shape.bits in
     let count : ℕ = length c.args.blocks.now.lists.items in
     let width : ℕ = c.args.blocks.now.width in
@@ -179,8 +185,8 @@ returns-in_err-push_block-clause-refused g c =
     let inv = c.pieces.invariant in
     let e = c.in_ok-taken.ensures in
     let items : Vec ℤ Global → List ℤ = λ v. v.items in
-    let first = c.args.encoder.now in
-    let was = c.pieces.encoder in
+    let first = draft_in c.args.draft.now in
+    let was = draft_in c.pieces.draft in
     let bits = first.pushed.shape.bits in
     let count : ℕ = length c.args.blocks.now.lists.items in
     let width : ℕ = c.args.blocks.now.width in
@@ -206,6 +212,6 @@ returns-in_err-push_block-clause-failed g c =
     let p = err_from_is_err_and c.from_residual-in_err-push_block.result c.from_residual-in_err-push_block.ensures.1 in
     let inv = c.pieces.invariant in
     rw (p.1, p.2) (λ is. (
-      c.push_block.new.encoder.pushed.target,
-      fails_since g.W.Target c.args.encoder.now.pushed.target c.pieces.encoder.pushed.target c.push_block.new.encoder.pushed.target inv.told inv.counted inv.names (c.in_err-push_block.ensures.failed is),
+      (draft_in c.push_block.new.draft).pushed.target,
+      fails_since g.W.Target (draft_in c.args.draft.now).pushed.target (draft_in c.pieces.draft).pushed.target (draft_in c.push_block.new.draft).pushed.target inv.told inv.counted inv.names (c.in_err-push_block.ensures.failed is),
     ))

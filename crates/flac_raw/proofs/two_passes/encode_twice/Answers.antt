@@ -1,4 +1,4 @@
-use Rattle.std.proofs.Common.{◌≡◌, ◌∙◌, true, refl, sym, ap, subst, inl, inr}
+use Rattle.std.proofs.Common.{ap}
 use Rattle.std.proofs.lemmas.Result.{err_from_is_err_and}
 use Rattle.flac_raw.specs.Planned.{Planned}
 use Rattle.flac_raw.proofs.Refusing.{twice_raw, twice_plan, twice_pass, twice_good}
