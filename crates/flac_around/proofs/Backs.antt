@@ -26,7 +26,7 @@ pub few_before : (rest : List ℕ) → length rest ≤ 128 → all_but_128 rest 
 few_before rest few = let none : length rest - 128 ≡ 0 = omega (arith, few) in ap (λ n. take n rest) none ∙ none_taken rest
 
 -- fewer are no tag
-not_back : (rest : List ℕ) → length rest < 128 → is_back (last_128 rest) ≡ false
+pub not_back : (rest : List ℕ) → length rest < 128 → is_back (last_128 rest) ≡ false
 not_back rest few = ap is_back (few_last rest (omega (arith, few))) ∙ ap (λ b. b && starts_with eqb rest (codes "TAG")) (no_number (length rest) 128 few)
 
 pub few_between : (rest : List ℕ) → length rest < 128 → without_back rest ≡ rest

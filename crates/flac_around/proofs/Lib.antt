@@ -1,5 +1,6 @@
 -- Tags at the start and at the end.
 pub mod Fronts
+pub mod Edges
 pub mod Backs
 pub mod Around
 pub mod Lefts
@@ -13,3 +14,8 @@ pub mod LeftOut
 pub mod PageChecks
 pub mod Sourced
 pub mod KeptValues
+-- Streams, one after another.
+pub mod ChainEnds
+pub mod ChainWalks
+pub mod ChainNames
+pub mod ChainLaws

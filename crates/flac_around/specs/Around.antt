@@ -1,5 +1,5 @@
 -- What other programs put around a stream, and where the stream is between.
-use Rattle.std.specs.Prelude.{◌≡◌, ◌≤◌, ℕ, ◌+◌, ◌*◌, ◌-◌, ◌/◌, ◌%◌, ◌&&◌, nat_eq, nat_lt, Bool, true, false, eqb, cond, List, [], ◌∷◌, ◌++◌, length, take, drop, codes}
+use Rattle.std.specs.Prelude.{◌≡◌, ◌≤◌, ℕ, ◌+◌, ◌*◌, ◌-◌, ◌/◌, ◌%◌, ◌&&◌, ◌||◌, nat_eq, nat_lt, Bool, true, false, eqb, cond, List, [], ◌∷◌, ◌++◌, length, take, drop, codes}
 use Rattle.std.specs.List.{starts_with}
 
 -- ---- an ID3v2 tag, before the stream (ID3v2.4.0, sections 3.1 and 6.2)
@@ -67,6 +67,10 @@ abbrev pub back_length : List ℕ → ℕ
 back_length rest = cond (is_back (last_128 rest)) 128 0
 
 -- ---- both
+
+-- a tag begins an input, or ends what comes after such a tag
+abbrev pub has_tags : List ℕ → Bool
+has_tags bytes = nat_lt 0 (front_length bytes) || is_back (last_128 (past_front bytes))
 
 -- the parts of an input
 pub record Parts : Type 0 where

@@ -1,7 +1,11 @@
 pub mod Around
+pub mod Chains
 pub mod Coming
 pub mod EmptyPackets
 pub mod Holding
+pub mod Linking
 pub mod Shelves
+pub mod Stands
 pub mod Trimming
+pub mod Walks
 pub mod inner

@@ -1,7 +1,7 @@
 -- Files of a list that are read between tags, and without the empty packets at the end of an Ogg stream.
-use Rattle.std.specs.Prelude.{is_some, Option, Some, None}
+use Rattle.std.specs.Prelude.{ℕ, Bool, List, is_some, Option, Some, None, option_map}
 use Rattle.flac_shelf.specs.Listed.{Listed, Contents}
-use Rattle.flac_around.specs.Around.{middle_of}
+use Rattle.flac_around.specs.Around.{middle_of, has_tags}
 use Rattle.flac_around.specs.EmptyPackets.{trimmed}
 
 -- the bytes between without these packets, and what comes after all bytes
@@ -9,5 +9,6 @@ abbrev pub between_contents : Option Contents → Option Contents
 between_contents None = None
 between_contents (Some of) = Some (record of { bytes = trimmed (is_some of.after.fails) (middle_of (is_some of.after.fails) of.bytes) })
 
+-- `tagged`: whether there are tags around them, if the file can be read more than once
 abbrev pub between_listed : Listed → Listed
-between_listed file = record file { contents = between_contents file.contents }
+between_listed file = record file { tagged = option_map has_tags file.stored; contents = between_contents file.contents }

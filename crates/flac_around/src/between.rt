@@ -134,8 +134,8 @@ fn slide<S: Source>(source: &mut S, held: &mut [u8], buf: &mut [u8]) -> io::Resu
     }
 }
 
-/// The bytes of another source without the tags that other programs put around a stream: an ID3v2 tag at the start, and an
-/// ID3v1 tag at the end.
+/// The bytes of another source without the tags that other programs put around a stream: an ID3v2 tag at the start, and
+/// an ID3v1 tag at the end.
 ///
 /// It holds 128 bytes back, which may be a tag until the other source ends.
 #[derive(Drop)]

@@ -3,8 +3,9 @@
 ghost use Rattle.std.specs.Prelude.{◌≡◌, ◌<◌, map};
 
 use crate::between::Between;
+use crate::tags::has_tags;
 use crate::trimmed::Trimmed;
-use flac_shelf::{Earlier, Shelf, Stamp};
+use flac_shelf::{Earlier, Edges, Shelf, Stamp};
 
 /// The files of another list, each of which is read between the tags that other programs put around a stream, and
 /// without the empty packets at the end of an Ogg stream.
@@ -67,6 +68,18 @@ impl<S: Shelf> Shelf for BetweenShelf<S> {
     #[tactic(auto, using(crate::proofs::Shelves::again_listed))]
     fn reads_again(&self) -> bool {
         self.shelf.reads_again()
+    }
+
+    fn edges(&self) -> Option<Edges> {
+        self.shelf.edges()
+    }
+
+    #[tactic(auto, using(crate::proofs::Shelves::untagged_listed))]
+    fn tagged(&self) -> Option<bool> {
+        match self.shelf.edges() {
+            Some(edges) => Some(has_tags(&edges)),
+            None => None,
+        }
     }
 
     fn open(&mut self) -> Option<Trimmed<Between<S::File>>> {

@@ -9,8 +9,8 @@ use std::io;
 /// How many bytes are skipped at once, at most.
 const PIECE: usize = 4096;
 
-/// Puts the next bytes of a source into the places from `from` up to `most`, and returns where they end: before `most` if
-/// the source ends.
+/// Puts the next bytes of a source into the places from `from` up to `most`, and returns where they end: before `most`
+/// if the source ends.
 ///
 /// # Errors
 /// That of the source.

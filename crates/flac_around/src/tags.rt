@@ -1,7 +1,10 @@
 //! Tags: how long an ID3v2 tag is, and what an ID3v1 tag is.
 
-ghost use Rattle.std.specs.Prelude.{◌≡◌, ◌≤◌, ◌<◌, length};
-ghost use Rattle.flac_around.specs.Around.{front_length, is_id3, is_version, are_seven_bits, has_footer, seven_bits, is_back};
+ghost use Rattle.std.specs.Prelude.{◌≡◌, ◌≤◌, ◌<◌, ℕ, nat_lt, List, length};
+ghost use Rattle.flac_around.specs.Around.{front_length, is_id3, is_version, are_seven_bits, has_footer, seven_bits, is_back, last_128, has_tags};
+ghost use Rattle.flac_shelf.specs.Listed.{IsEdges};
+
+use flac_shelf::Edges;
 
 /// Whether these are the bytes `ID3`.
 fn is_id3(i: u8, d: u8, three: u8) -> bool
@@ -68,4 +71,34 @@ pub(crate) fn is_back(bytes: &[u8]) -> bool
     ensures { result ≡ is_back bytes.now }
 {
     bytes.len() == 128 && bytes.starts_with(b"TAG")
+}
+
+/// Whether an ID3v2 tag begins an input that begins so.
+fn has_front(edges: &Edges) -> bool
+    ensures { (bytes : List ℕ) → IsEdges bytes edges.now → result ≡ nat_lt 0 (front_length bytes) }
+{
+    if edges.size < 10 {
+        return false;
+    }
+    front_length(&edges.first) > 0
+}
+
+/// Whether an ID3v1 tag ends an input that ends so.
+fn has_back(edges: &Edges) -> bool
+    ensures { (bytes : List ℕ) → IsEdges bytes edges.now → result ≡ is_back (last_128 bytes) }
+{
+    if edges.size < 128 {
+        return false;
+    }
+    is_back(&edges.last)
+}
+
+/// Whether a tag begins an input that begins and ends so, or ends what comes after such a tag.
+pub(crate) fn has_tags(edges: &Edges) -> bool
+    ensures { (bytes : List ℕ) → IsEdges bytes edges.now → result ≡ has_tags bytes }
+{
+    if has_front(edges) {
+        return true;
+    }
+    has_back(edges)
 }

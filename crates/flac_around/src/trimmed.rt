@@ -21,14 +21,16 @@ struct Given {
     left_out: bool,
 }
 
-/// Whether a page, of which so many lacing values are kept, shows that empty packets were left out before another packet.
+/// Whether a page, of which so many lacing values are kept, shows that empty packets were left out before another
+/// packet.
 fn is_after_empty(left_out: bool, kept: usize) -> bool
     ensures { result ≡ left_out && not (nat_eq kept 0) }
 {
     left_out && kept != 0
 }
 
-/// Makes of a page one empty packet. `lead` has the page's bytes before the segments, and afterwards all of the new page.
+/// Makes of a page one empty packet. `lead` has the page's bytes before the segments, and afterwards all of the new
+/// page.
 fn put_one_empty(lead: &mut [u8])
     requires { 28 ≤ length lead.old }
     ensures { take 28 lead.new ≡ page_bytes (checked (page_of (take 28 (slice_set lead.old 27 0)) [])) }
@@ -110,8 +112,8 @@ fn give_part(held: &[u8], at: usize, end: usize, buf: &mut [u8]) -> usize
     count
 }
 
-/// The bytes of another source, of which an Ogg stream is given without the empty packets that other programs write after
-/// the last frame. Any other bytes are given as they are.
+/// The bytes of another source, of which an Ogg stream is given without the empty packets that other programs write
+/// after the last frame. Any other bytes are given as they are.
 ///
 /// It holds one page at most. A page from which packets are left out gets another checksum, if its own is right.
 #[derive(Drop)]

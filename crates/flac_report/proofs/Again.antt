@@ -9,9 +9,9 @@ use Rattle.flac_shelf.specs.declared.past.Audio.{Audio}
 use Rattle.flac_shelf.specs.declared.past.Past.{Past}
 use Rattle.flac_shelf.specs.declared.stamp.Stamp.{Stamp}
 use Rattle.flac_report.specs.Objects.{Member, members_of, valued, counted, present}
-use Rattle.flac_report.specs.Entries.{GoodFile, Found, good, bad, unopened, Entry, status_of, digest_member, subset_member, found_members, line_of, audio_of, past_of, IsDigest, FitsStamp, FitsGood, FitsFound, Fits}
+use Rattle.flac_report.specs.Entries.{Container, native, ogg, GoodFile, Found, good, bad, unopened, Entry, status_of, container_member, container_of, digest_member, subset_member, id3_member, found_members, line_of, audio_of, past_of, IsDigest, FitsStamp, FitsGood, FitsFound, Fits}
 use Rattle.flac_report.specs.Lines.{LinesAreDetermined}
-use Rattle.flac_report.specs.inner.Reading.{begins, value_in, after_in, at_modified, at_nanoseconds, stamp_in, after_stamp, digest_in, digested, with_digest, audio_in, good_past, past_in, text_in, path_end, both_of, recorded_after, recorded_in, path_after, path_in}
+use Rattle.flac_report.specs.inner.Reading.{begins, value_in, after_in, at_modified, at_nanoseconds, stamp_in, after_stamp, after_container, digest_in, digested, with_digest, audio_in, good_past, past_in, text_in, path_end, both_of, recorded_after, recorded_in, path_after, path_in}
 use Rattle.flac_report.proofs.Digests.{digest_is}
 use Rattle.flac_report.proofs.Pasts.{audio_is}
 use Rattle.flac_report.proofs.Quoted.{text_is, escapes_plain, end_is}
@@ -23,11 +23,15 @@ abbrev pub stamp_then : Stamp → List (Option Member) → List (Option Member)
 stamp_then s ms = counted (codes "bytes") s.bytes ∷ counted (codes "modified") s.modified ∷ counted (codes "nanoseconds") s.nanoseconds ∷ ms
 
 abbrev after_audio : GoodFile → List (Option Member)
-after_audio g = valued (codes "md5_checked") (truth g.checked) ∷ subset_member g.subset ∷ []
+after_audio g = valued (codes "md5_checked") (truth g.checked) ∷ subset_member g.subset ∷ id3_member g.id3 ∷ []
 
 subset_differs : (front : List ℕ) (s : Option Bool) → ((rest : List ℕ) → begins front (opening (codes "subset") ++ rest) ≡ false) → Differs front (subset_member s)
 subset_differs front None d = tt
 subset_differs front (Some b) d = d
+
+id3_differs : (front : List ℕ) (s : Option Bool) → ((rest : List ℕ) → begins front (opening (codes "id3") ++ rest) ≡ false) → Differs front (id3_member s)
+id3_differs front None d = tt
+id3_differs front (Some b) d = d
 
 digest_differs : (front : List ℕ) (s : Option (List ℕ)) → ((rest : List ℕ) → begins front (opening (codes "md5") ++ rest) ≡ false) → Differs front (digest_member s)
 digest_differs front None d = tt
@@ -44,10 +48,12 @@ record NoneOf (front : List ℕ) : Type 0 where
   md5 : (rest : List ℕ) → begins front (opening (codes "md5") ++ rest) ≡ false
   checked : (rest : List ℕ) → begins front (opening (codes "md5_checked") ++ rest) ≡ false
   subset : (rest : List ℕ) → begins front (opening (codes "subset") ++ rest) ≡ false
+  id3 : (rest : List ℕ) → begins front (opening (codes "id3") ++ rest) ≡ false
   place : (rest : List ℕ) → begins front (opening (codes "place") ++ rest) ≡ false
   index : (rest : List ℕ) → begins front (opening (codes "index") ++ rest) ≡ false
   error : (rest : List ℕ) → begins front (opening (codes "error") ++ rest) ≡ false
   name : (rest : List ℕ) → begins front (opening (codes "name") ++ rest) ≡ false
+  sample : (rest : List ℕ) → begins front (opening (codes "sample") ++ rest) ≡ false
 
 found_differ : (front : List ℕ) (f : Found) → NoneOf front → AllDiffer front (found_members f)
 found_differ front (good g) n = (
@@ -56,21 +62,21 @@ found_differ front (good g) n = (
     counted_differs front (codes "channels") g.channels n.channels,
     (
       counted_differs front (codes "depth") g.depth n.depth,
-      (n.frames, (n.samples, (digest_differs front g.digest n.md5, (n.checked, (subset_differs front g.subset n.subset, n.end))))),
+      (n.frames, (n.samples, (digest_differs front g.digest n.md5, (n.checked, (subset_differs front g.subset n.subset, (id3_differs front g.id3 n.id3, n.end)))))),
     ),
   ),
 )
-found_differ front (bad b) n = (n.place, (counted_differs front (codes "index") b.index n.index, (n.error, (n.name, n.end))))
+found_differ front (bad b) n = (n.place, (counted_differs front (codes "index") b.index n.index, (n.error, (n.name, (counted_differs front (codes "sample") b.sample n.sample, n.end)))))
 found_differ front unopened n = n.end
 
 bytes_alone : NoneOf (opening (codes "bytes"))
-bytes_alone = record { end = refl; rate = λ r. refl; channels = λ r. refl; depth = λ r. refl; frames = λ r. refl; samples = λ r. refl; md5 = λ r. refl; checked = λ r. refl; subset = λ r. refl; place = λ r. refl; index = λ r. refl; error = λ r. refl; name = λ r. refl }
+bytes_alone = record { end = refl; rate = λ r. refl; channels = λ r. refl; depth = λ r. refl; frames = λ r. refl; samples = λ r. refl; md5 = λ r. refl; checked = λ r. refl; subset = λ r. refl; id3 = λ r. refl; place = λ r. refl; index = λ r. refl; error = λ r. refl; name = λ r. refl; sample = λ r. refl }
 
 modified_alone : NoneOf (opening (codes "modified"))
-modified_alone = record { end = refl; rate = λ r. refl; channels = λ r. refl; depth = λ r. refl; frames = λ r. refl; samples = λ r. refl; md5 = λ r. refl; checked = λ r. refl; subset = λ r. refl; place = λ r. refl; index = λ r. refl; error = λ r. refl; name = λ r. refl }
+modified_alone = record { end = refl; rate = λ r. refl; channels = λ r. refl; depth = λ r. refl; frames = λ r. refl; samples = λ r. refl; md5 = λ r. refl; checked = λ r. refl; subset = λ r. refl; id3 = λ r. refl; place = λ r. refl; index = λ r. refl; error = λ r. refl; name = λ r. refl; sample = λ r. refl }
 
 nanoseconds_alone : NoneOf (opening (codes "nanoseconds"))
-nanoseconds_alone = record { end = refl; rate = λ r. refl; channels = λ r. refl; depth = λ r. refl; frames = λ r. refl; samples = λ r. refl; md5 = λ r. refl; checked = λ r. refl; subset = λ r. refl; place = λ r. refl; index = λ r. refl; error = λ r. refl; name = λ r. refl }
+nanoseconds_alone = record { end = refl; rate = λ r. refl; channels = λ r. refl; depth = λ r. refl; frames = λ r. refl; samples = λ r. refl; md5 = λ r. refl; checked = λ r. refl; subset = λ r. refl; id3 = λ r. refl; place = λ r. refl; index = λ r. refl; error = λ r. refl; name = λ r. refl; sample = λ r. refl }
 
 -- ---- the size and the time
 
@@ -120,8 +126,8 @@ digest_read g (Some d) ms other fits =
     = ap (λ l. digest_in (((l ++ 34 ∷ []) ++ more_members (members_of (present ms))) ++ 125 ∷ 10 ∷ [])) (escaped_digits d) ∙ ap digest_in mark ∙ digest_is d (34 ∷ tail_text ms) fits in
     ap (digested (audio_with g None)) same
 
-no_digest : (s : Option Bool) (checked : Bool) → begins (codes ",\"md5\":\"") (tail_text (valued (codes "md5_checked") (truth checked) ∷ subset_member s ∷ [])) ≡ false
-no_digest s checked = none_begins (codes ",\"md5\":\"") (valued (codes "md5_checked") (truth checked) ∷ subset_member s ∷ []) ((λ r. refl), (subset_differs (codes ",\"md5\":\"") s (λ r. refl), refl))
+no_digest : (g : GoodFile) → begins (codes ",\"md5\":\"") (tail_text (after_audio g)) ≡ false
+no_digest g = none_begins (codes ",\"md5\":\"") (after_audio g) ((λ r. refl), (subset_differs (codes ",\"md5\":\"") g.subset (λ r. refl), (id3_differs (codes ",\"md5\":\"") g.id3 (λ r. refl), refl)))
 
 -- the members of a good file, the first of them left out one after another
 abbrev at_digest : GoodFile → List (Option Member)
@@ -149,7 +155,7 @@ audio_read g fits =
           (λ r. refl),
           (
             (λ r. refl),
-            (digest_differs (opening (codes "rate")) g.digest (λ r. refl), ((λ r. refl), (subset_differs (opening (codes "rate")) g.subset (λ r. refl), refl))),
+            (digest_differs (opening (codes "rate")) g.digest (λ r. refl), ((λ r. refl), (subset_differs (opening (codes "rate")) g.subset (λ r. refl), (id3_differs (opening (codes "rate")) g.id3 (λ r. refl), refl)))),
           ),
         ),
       ),
@@ -160,25 +166,50 @@ audio_read g fits =
         (λ r. refl),
         (
           (λ r. refl),
-          (digest_differs (opening (codes "channels")) g.digest (λ r. refl), ((λ r. refl), (subset_differs (opening (codes "channels")) g.subset (λ r. refl), refl))),
+          (digest_differs (opening (codes "channels")) g.digest (λ r. refl), ((λ r. refl), (subset_differs (opening (codes "channels")) g.subset (λ r. refl), (id3_differs (opening (codes "channels")) g.id3 (λ r. refl), refl)))),
         ),
       ),
     ) fits.channels in
     let depth = counted_read (codes "depth") g.depth (at_frames g) (λ r. refl)
-    ((λ r. refl), ((λ r. refl), (digest_differs (opening (codes "depth")) g.digest (λ r. refl), ((λ r. refl), (subset_differs (opening (codes "depth")) g.subset (λ r. refl), refl))))) fits.depth in
+    ((λ r. refl), ((λ r. refl), (digest_differs (opening (codes "depth")) g.digest (λ r. refl), ((λ r. refl), (subset_differs (opening (codes "depth")) g.subset (λ r. refl), (id3_differs (opening (codes "depth")) g.id3 (λ r. refl), refl)))))) fits.depth in
     let frames = counted_read (codes "frames") (Some g.frames) (at_samples g) (λ r. refl)
-    ((λ r. refl), (digest_differs (opening (codes "frames")) g.digest (λ r. refl), ((λ r. refl), (subset_differs (opening (codes "frames")) g.subset (λ r. refl), refl)))) fits.frames in
+    ((λ r. refl), (digest_differs (opening (codes "frames")) g.digest (λ r. refl), ((λ r. refl), (subset_differs (opening (codes "frames")) g.subset (λ r. refl), (id3_differs (opening (codes "frames")) g.id3 (λ r. refl), refl))))) fits.frames in
     let samples = counted_read (codes "samples") (Some g.samples) (at_digest g) (λ r. refl)
-    (digest_differs (opening (codes "samples")) g.digest (λ r. refl), ((λ r. refl), (subset_differs (opening (codes "samples")) g.subset (λ r. refl), refl))) fits.samples in
+    (digest_differs (opening (codes "samples")) g.digest (λ r. refl), ((λ r. refl), (subset_differs (opening (codes "samples")) g.subset (λ r. refl), (id3_differs (opening (codes "samples")) g.id3 (λ r. refl), refl)))) fits.samples in
     sym (audio_is (tail_text (found_members (good g))) (tail_text (at_channels g)) (tail_text (at_depth g)) (tail_text (at_frames g)) (tail_text (at_samples g)) (tail_text (at_digest g))
     g.rate g.channels g.depth (Some g.samples) g.samples (Some (audio_with g g.digest))
     (sym rate.value) (sym rate.after) (sym channels.value) (sym channels.after) (sym depth.value) (sym depth.after) (sym frames.after) (sym samples.value) (sym samples.after) refl
-    (sym (digest_read g g.digest (after_audio g) (no_digest g.subset g.checked) fits.digest)))
+    (sym (digest_read g g.digest (after_audio g) (no_digest g) fits.digest)))
+
+-- ---- the container
+
+container_read : (c : Option Container) (ms : List (Option Member)) → begins (codes ",\"container\":\"native\"") (tail_text ms) ≡ false → begins (codes ",\"container\":\"ogg\"") (tail_text ms) ≡ false
+    → after_container (tail_text (container_member c ∷ ms)) ≡ tail_text ms
+unfolding after_container
+container_read None ms no_native no_ogg = rw (no_native, no_ogg) refl
+container_read (Some native) ms no_native no_ogg = refl
+container_read (Some ogg) ms no_native no_ogg = refl
+
+native_alone : NoneOf (codes ",\"container\":\"native\"")
+native_alone = record { end = refl; rate = λ r. refl; channels = λ r. refl; depth = λ r. refl; frames = λ r. refl; samples = λ r. refl; md5 = λ r. refl; checked = λ r. refl; subset = λ r. refl; id3 = λ r. refl; place = λ r. refl; index = λ r. refl; error = λ r. refl; name = λ r. refl; sample = λ r. refl }
+
+ogg_alone : NoneOf (codes ",\"container\":\"ogg\"")
+ogg_alone = record { end = refl; rate = λ r. refl; channels = λ r. refl; depth = λ r. refl; frames = λ r. refl; samples = λ r. refl; md5 = λ r. refl; checked = λ r. refl; subset = λ r. refl; id3 = λ r. refl; place = λ r. refl; index = λ r. refl; error = λ r. refl; name = λ r. refl; sample = λ r. refl }
+
+stamp_differs : (front : List ℕ) (s : Stamp) (f : Found) → ((rest : List ℕ) → begins front (opening (codes "bytes") ++ rest) ≡ false) → ((rest : List ℕ) → begins front (opening (codes "modified") ++ rest) ≡ false)
+    → ((rest : List ℕ) → begins front (opening (codes "nanoseconds") ++ rest) ≡ false) → NoneOf front → begins front (tail_text (stamp_then s (found_members f))) ≡ false
+stamp_differs front s f b m n others =
+    none_begins front (stamp_then s (found_members f)) (counted_differs front (codes "bytes") s.bytes b, (counted_differs front (codes "modified") s.modified m, (counted_differs front (codes "nanoseconds") s.nanoseconds n, found_differ front f others)))
+
+container_passed : (c : Option Container) (s : Stamp) (f : Found) → after_container (tail_text (container_member c ∷ stamp_then s (found_members f))) ≡ tail_text (stamp_then s (found_members f))
+container_passed c s f =
+    container_read c (stamp_then s (found_members f)) (stamp_differs (codes ",\"container\":\"native\"") s f (λ r. refl) (λ r. refl) (λ r. refl) native_alone)
+    (stamp_differs (codes ",\"container\":\"ogg\"") s f (λ r. refl) (λ r. refl) (λ r. refl) ogg_alone)
 
 -- ---- what comes after the path
 
 abbrev pub members_then : Entry → List (Option Member)
-members_then e = stamp_then e.stamp (found_members e.found)
+members_then e = container_member (container_of e.found) ∷ stamp_then e.stamp (found_members e.found)
 
 abbrev pub after_path : Entry → List ℕ
 after_path e = 34 ∷ tail_text (valued (codes "status") (text (status_of e.found)) ∷ members_then e)
@@ -193,7 +224,8 @@ past_read : (path : List ℕ) (s : Stamp) (f : Found) → FitsStamp s → FitsFo
 unfolding past_in
 past_read path s (good g) small fits =
     let r = stamp_read s (good g) small in
-    good_by s g _ _ r.value (ap audio_in r.after ∙ audio_read g fits)
+    let past = container_passed g.container s (good g) in
+    good_by s g _ _ (ap stamp_in past ∙ r.value) (ap (λ l. audio_in (after_stamp l)) past ∙ ap audio_in r.after ∙ audio_read g fits)
 past_read path s (bad b) small fits = ap (λ v. Some (made_past v None)) (stamp_read s (bad b) small).value
 past_read path s unopened small fits = ap (λ v. Some (made_past v None)) (stamp_read s unopened small).value
 

@@ -8,11 +8,18 @@ use Rattle.flac_shelf.specs.declared.past.Past.{Past}
 use Rattle.flac_shelf.specs.declared.stamp.Stamp.{Stamp}
 use Rattle.flac_report.specs.Objects.{Member, object_line, valued, counted, present}
 
+-- the container of a stream (RFC 9639, sections 6 and 10.1)
+pub data Container : Type 0 where
+  native : Container
+  ogg : Container
+
 -- A stream that is good. What STREAMINFO says is known if there is one (RFC 9639, section 8.2): the sample rate in
 -- hertz, the number of channels, the bits per sample, and the MD5 of the samples, if it is stated. `checked`: the
 -- samples were compared with it. `subset`: whether the stream is in the streamable subset (section 7), if that was
--- looked for.
+-- looked for. `id3`: whether a tag of another program stands before or after the stream. A report of an earlier version
+-- has neither this nor the container.
 pub record GoodFile : Type 0 where
+  pub container : Option Container
   pub rate : Option ℕ
   pub channels : Option ℕ
   pub depth : Option ℕ
@@ -21,14 +28,17 @@ pub record GoodFile : Type 0 where
   pub digest : Option (List ℕ)
   pub checked : Bool
   pub subset : Option Bool
+  pub id3 : Option Bool
 
--- Where and why a file is refused: the name of the place, the number of the block, frame or page, and the number and
--- the name of the error.
+-- Where and why a file is refused: the name of the place, the number of the block, frame or page, the number and the
+-- name of the error, and the number of the first sample that was not decoded, which a report of an earlier version does
+-- not have.
 pub record BadFile : Type 0 where
   pub place : List ℕ
   pub index : Option ℕ
   pub error : ℕ
   pub name : List ℕ
+  pub sample : Option ℕ
 
 pub data Found : Type 0 where
   good : GoodFile → Found
@@ -48,6 +58,20 @@ status_of (good g) = codes "ok"
 status_of (bad b) = codes "bad"
 status_of unopened = codes "unopened"
 
+abbrev pub container_name : Container → List ℕ
+container_name native = codes "native"
+container_name ogg = codes "ogg"
+
+abbrev pub container_member : Option Container → Option Member
+container_member None = None
+container_member (Some container) = valued (codes "container") (text (container_name container))
+
+-- the container of a file that is good
+abbrev pub container_of : Found → Option Container
+container_of (good g) = g.container
+container_of (bad b) = None
+container_of unopened = None
+
 abbrev pub digest_member : Option (List ℕ) → Option Member
 digest_member None = None
 digest_member (Some digest) = valued (codes "md5") (text (all_digits digest))
@@ -56,21 +80,25 @@ abbrev pub subset_member : Option Bool → Option Member
 subset_member None = None
 subset_member (Some inside) = valued (codes "subset") (truth inside)
 
+abbrev pub id3_member : Option Bool → Option Member
+id3_member None = None
+id3_member (Some tagged) = valued (codes "id3") (truth tagged)
+
 abbrev pub found_members : Found → List (Option Member)
 found_members (good g) =
     counted (codes "rate") g.rate ∷ counted (codes "channels") g.channels ∷ counted (codes "depth") g.depth
     ∷ valued (codes "frames") (number g.frames) ∷ valued (codes "samples") (number g.samples)
-    ∷ digest_member g.digest ∷ valued (codes "md5_checked") (truth g.checked) ∷ subset_member g.subset ∷ []
+    ∷ digest_member g.digest ∷ valued (codes "md5_checked") (truth g.checked) ∷ subset_member g.subset ∷ id3_member g.id3 ∷ []
 found_members (bad b) =
     valued (codes "place") (text b.place) ∷ counted (codes "index") b.index
-    ∷ valued (codes "error") (number b.error) ∷ valued (codes "name") (text b.name) ∷ []
+    ∷ valued (codes "error") (number b.error) ∷ valued (codes "name") (text b.name) ∷ counted (codes "sample") b.sample ∷ []
 found_members unopened = []
 
--- the path, what was found, the size and the time
+-- the path, what was found and in which container, the size and the time
 abbrev pub entry_members : Entry → List Member
 entry_members e =
     record { name = codes "path"; value = text e.path }
-    ∷ present (valued (codes "status") (text (status_of e.found)) ∷ counted (codes "bytes") e.stamp.bytes
+    ∷ present (valued (codes "status") (text (status_of e.found)) ∷ container_member (container_of e.found) ∷ counted (codes "bytes") e.stamp.bytes
     ∷ counted (codes "modified") e.stamp.modified ∷ counted (codes "nanoseconds") e.stamp.nanoseconds
     ∷ found_members e.found)
 

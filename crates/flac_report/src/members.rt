@@ -1,7 +1,7 @@
 //! What a line says after the path.
 
 ghost use Rattle.std.specs.Prelude.{◌≡◌};
-ghost use Rattle.flac_report.specs.inner.Reading.{stamp_in, after_stamp, digest_in, with_digest, audio_in, other_past, past_in};
+ghost use Rattle.flac_report.specs.inner.Reading.{stamp_in, after_stamp, after_container, digest_in, with_digest, audio_in, other_past, past_in};
 
 use crate::numbers::{after, member_in};
 use flac_shelf::{Audio, Past, Stamp};
@@ -73,6 +73,20 @@ fn audio_in(text: &[u8]) -> Option<Audio>
     with_digest(audio, text)
 }
 
+/// What comes after the container of a good file, which a text may begin with.
+#[tactic(auto, unfolding(crate::specs::inner::Reading::after_container))]
+fn after_container(text: &[u8]) -> &[u8]
+    ensures { result.now ≡ after_container text.now }
+{
+    if text.starts_with(b",\"container\":\"native\"") {
+        return after(text, 21);
+    }
+    if text.starts_with(b",\"container\":\"ogg\"") {
+        return after(text, 18);
+    }
+    text
+}
+
 /// What is said of a file that is not good.
 fn other_past(text: &[u8]) -> Option<Past>
     ensures { result ≡ other_past text.now }
@@ -87,7 +101,7 @@ pub(crate) fn past_in(text: &[u8]) -> Option<Past>
     ensures { result ≡ past_in text.now }
 {
     if text.starts_with(b"\",\"status\":\"ok\"") {
-        let (stamp, text) = stamp_in(after(text, 15));
+        let (stamp, text) = stamp_in(after_container(after(text, 15)));
         let audio = audio_in(text)?;
         return Some(Past {
             stamp,

@@ -8,11 +8,21 @@ use std::test::Fail;
 const GOOD: &[u8] =
     b"{\"path\":\"a/b.flac\",\"status\":\"ok\",\"bytes\":123456,\"modified\":1700000000,\"nanoseconds\":7,\"rate\":44100,\"channels\":2,\"depth\":16,\"frames\":10,\"samples\":40960,\"md5\":\"000102030405060708090a0b0c0d0eff\",\"md5_checked\":true,\"subset\":true}\n";
 
+/// The same in a container, and between tags or not.
+const NATIVE: &[u8] =
+    b"{\"path\":\"a/b.flac\",\"status\":\"ok\",\"container\":\"native\",\"bytes\":123456,\"modified\":1700000000,\"nanoseconds\":7,\"rate\":44100,\"channels\":2,\"depth\":16,\"frames\":10,\"samples\":40960,\"md5\":\"000102030405060708090a0b0c0d0eff\",\"md5_checked\":true,\"subset\":true,\"id3\":false}\n";
+
+const OGG: &[u8] =
+    b"{\"path\":\"\xc3\xa4.flac\",\"status\":\"ok\",\"container\":\"ogg\",\"frames\":0,\"samples\":18446744073709551615,\"md5_checked\":false,\"id3\":true}\n";
+
 const SHORT: &[u8] =
     b"{\"path\":\"\xc3\xa4.flac\",\"status\":\"ok\",\"frames\":0,\"samples\":18446744073709551615,\"md5_checked\":false}\n";
 
 const BAD: &[u8] =
     b"{\"path\":\"x\",\"status\":\"bad\",\"bytes\":5,\"modified\":6,\"place\":\"frame\",\"index\":3,\"error\":26,\"name\":\"FrameCheck\"}\n";
+
+const SAMPLED: &[u8] =
+    b"{\"path\":\"x\",\"status\":\"bad\",\"bytes\":5,\"modified\":6,\"place\":\"frame\",\"index\":3,\"error\":26,\"name\":\"FrameCheck\",\"sample\":12288}\n";
 
 const UNOPENED: &[u8] = b"{\"path\":\"\",\"status\":\"unopened\"}\n";
 
@@ -75,6 +85,7 @@ fn good(rt: HostRuntime) -> Result<(), Fail> {
         }),
     };
     assert!(rt; is_read(rt.alloc(), GOOD, "a/b.flac", &past)?);
+    assert!(rt; is_read(rt.alloc(), NATIVE, "a/b.flac", &past)?);
     assert!(rt; is_path(rt.alloc(), GOOD, "a/b.flac")?);
     Ok(())
 }
@@ -92,6 +103,7 @@ fn little_known(rt: HostRuntime) -> Result<(), Fail> {
         }),
     };
     assert!(rt; is_read(rt.alloc(), SHORT, "\u{e4}.flac", &past)?);
+    assert!(rt; is_read(rt.alloc(), OGG, "\u{e4}.flac", &past)?);
     Ok(())
 }
 
@@ -111,6 +123,7 @@ fn not_good(rt: HostRuntime) -> Result<(), Fail> {
         audio: None,
     };
     assert!(rt; is_read(rt.alloc(), BAD, "x", &bad)?);
+    assert!(rt; is_read(rt.alloc(), SAMPLED, "x", &bad)?);
     assert!(rt; is_read(rt.alloc(), UNOPENED, "", &unopened)?);
     assert!(rt; is_read(rt.alloc(), ESCAPED, "a\"b\\c\n\u{1f}\u{7f}.flac", &unopened)?);
     assert!(rt; is_path(rt.alloc(), ESCAPED, "a\"b\\c\n\u{1f}\u{7f}.flac")?);
@@ -125,6 +138,13 @@ fn none(rt: HostRuntime) -> Result<(), Fail> {
     let digest: &[u8] =
         b"{\"path\":\"a\",\"status\":\"ok\",\"frames\":0,\"samples\":1,\"md5\":\"000102030405060708090a0b0c0d0efg\"}\n";
     assert!(rt; is_none(rt.alloc(), many)? && is_none(rt.alloc(), digest)?);
+    // another container
+    assert!(rt;
+        is_none(
+            rt.alloc(),
+            b"{\"path\":\"a\",\"status\":\"ok\",\"container\":\"mp4\",\"samples\":1}\n"
+        )?
+    );
     // another status, another escape, no text in UTF-8, no end of the path
     assert!(rt; is_none(rt.alloc(), b"{\"path\":\"a\",\"status\":\"new\"}\n")?);
     assert!(rt; is_none(rt.alloc(), b"{\"path\":\"\\n\",\"status\":\"bad\"}\n")?);
@@ -147,7 +167,7 @@ fn each_part(line: &[u8]) -> bool {
 
 #[test]
 fn parts(rt: HostRuntime) -> Result<(), Fail> {
-    assert!(rt; each_part(GOOD) && each_part(ESCAPED));
+    assert!(rt; each_part(GOOD) && each_part(NATIVE) && each_part(OGG) && each_part(ESCAPED));
     assert!(rt; is_line(BEGINNING) && !is_line(b"{\"file\":\"a\"}\n"));
     assert!(rt; !is_line(b"{\"path\":\"a\",\"container\":\"ogg\"}\n"));
     assert!(rt; is_line(b"{\"path\":\"a\",\"container\":\"ogg\"}"));

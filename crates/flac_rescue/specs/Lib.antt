@@ -5,3 +5,4 @@ pub mod Report
 pub mod Channels
 pub mod Salvaged
 pub mod Points
+pub mod Placed

@@ -75,11 +75,15 @@ abbrev pub with_last : (lines last : List ℕ) → List ℕ
 with_last [] last = []
 with_last (b ∷ lines) last = (b ∷ lines) ++ last
 
+-- the lines of these gaps and other frames of a stream, and of where the search ended
+abbrev pub lines_text : (path : List ℕ) → Survey → List Gap → List WholeFrame → (cut : Option ℕ) → List ℕ
+lines_text path s gaps others cut = with_last
+    ((flat_map (gap_line path s.info.rate) gaps ++ flat_map (other_line path) others) ++ cut_line path cut)
+    (last_line path s.info.total s.kept.items)
+
 -- the lines of what was found of a stream: none if all of it is there
 abbrev pub report_text : (path : List ℕ) → Survey → List ℕ
-report_text path s = with_last
-    ((flat_map (gap_line path s.info.rate) s.gaps.items ++ flat_map (other_line path) s.others.items) ++ cut_line path s.found.cut)
-    (last_line path s.info.total s.kept.items)
+report_text path s = lines_text path s s.gaps.items s.others.items s.found.cut
 
 -- the lines of a survey of these bytes were printed
 pub record Tells (bytes path before after : List ℕ) : Type 0 where

@@ -1,7 +1,7 @@
 //! The lines about a stream in which something is missing.
 
 ghost use Rattle.std.specs.Prelude.{◌≡◌, ◌<◌, ◌++◌, IfOk, OnOk, flat_map, Some};
-ghost use Rattle.flac_rescue.specs.Report.{samples_line, bytes_line, gap_line, spot_text, other_line, cut_line, and_samples, of_total, last_line, report_text};
+ghost use Rattle.flac_rescue.specs.Report.{samples_line, bytes_line, gap_line, spot_text, other_line, cut_line, and_samples, of_total, last_line, lines_text, report_text};
 
 use crate::missing::Gap;
 use crate::survey::Survey;
@@ -153,6 +153,27 @@ fn put_last(
     Ok(())
 }
 
+/// The lines of these gaps and other frames of a stream, and of where the search ended.
+pub(crate) fn lines_of(
+    alloc: Global,
+    path: &str,
+    survey: &Survey,
+    gaps: &[Gap],
+    others: &[WholeFrame],
+    cut: Option<usize>,
+) -> Result<Vec<u8>, AllocError>
+    ensures { IfOk result (λ text. text.items ≡ lines_text path.now survey.now gaps.now others.now cut) }
+{
+    let mut out = Vec::new(alloc);
+    put_gaps(&mut out, path, survey.info.rate(), gaps)?;
+    put_others(&mut out, path, others)?;
+    put_cut(&mut out, path, cut)?;
+    if !out.is_empty() {
+        put_last(&mut out, path, survey.info.total(), &survey.kept)?;
+    }
+    Ok(out)
+}
+
 /// The lines about the stream of a file of this path: for each gap that is not empty the bytes and the samples, with
 /// their times; for each whole frame that is not kept where it is; where the search ended, if it ended early; and how
 /// much was found. No line if all of the stream is there.
@@ -162,12 +183,12 @@ fn put_last(
 pub fn report(alloc: Global, path: &str, survey: &Survey) -> Result<Vec<u8>, AllocError>
     ensures { IfOk result (λ text. text.items ≡ report_text path.now survey.now) }
 {
-    let mut out = Vec::new(alloc);
-    put_gaps(&mut out, path, survey.info.rate(), &survey.gaps)?;
-    put_others(&mut out, path, &survey.others)?;
-    put_cut(&mut out, path, survey.found.cut)?;
-    if !out.is_empty() {
-        put_last(&mut out, path, survey.info.total(), &survey.kept)?;
-    }
-    Ok(out)
+    lines_of(
+        alloc,
+        path,
+        survey,
+        &survey.gaps,
+        &survey.others,
+        survey.found.cut,
+    )
 }

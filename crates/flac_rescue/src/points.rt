@@ -33,8 +33,8 @@ impl From<AllocError> for PointsFault {
     }
 }
 
-/// Whether a frame of `size` samples, the first of which has the number `first`, has a sample whose number is a multiple
-/// of `every`; false if `every` is 0.
+/// Whether a frame of `size` samples, the first of which has the number `first`, has a sample whose number is a
+/// multiple of `every`; false if `every` is 0.
 fn has_multiple(every: u64, first: u64, size: u16) -> bool
     requires every { every < 2 ^ 32 }
     requires first { first < 2 ^ 52 }
@@ -104,8 +104,8 @@ fn points_from(
 }
 
 /// The seek points of a native stream that is whole: one for each frame that has a sample whose number is a multiple of
-/// `every`, as a seek table that [`flac_native::encode`] writes has them. Each is a frame of the stream, with its offset
-/// from the first one. None if `every` is 0.
+/// `every`, as a seek table that [`flac_native::encode`] writes has them. Each is a frame of the stream, with its
+/// offset from the first one. None if `every` is 0.
 ///
 /// Each frame is read, and its check sum is compared; the digest of all samples is not.
 ///

@@ -1,10 +1,11 @@
 //! Surveys of small streams.
 
 use crate::{
-    MOST_SILENCE, PointsFault, SalvageFault, SurveyFault, report, salvage_samples, seek_points,
-    survey_bytes, tell_missing,
+    MOST_SILENCE, PointsFault, SalvageFault, SurveyFault, report, report_left, salvage_samples,
+    seek_points, survey_bytes, tell_missing,
 };
 use flac_bits::Collected;
+use flac_whole_pages::left_of;
 use std::alloc::Global;
 use std::test::Fail;
 
@@ -238,4 +239,80 @@ fn other_streams_have_no_seek_points(rt: HostRuntime) -> Result<(), Fail> {
         Err(PointsFault::Head(_)) => Ok(()),
         _ => Err(Fail::new("a stream without blocks")),
     }
+}
+
+/// What the pages of an Ogg stream have before their bytes (RFC 3533, section 6): one with the mapping header and the
+/// head, one with the first two frames, and one with each of the others. Their checksums were computed apart.
+const PAGE_HEADS: [&[u8]; 4] = [
+    &[
+        0x4F, 0x67, 0x67, 0x53, 0x00, 0x02, 0x00, 0x00, 0x00, 0x00, 0x00, 0x00, 0x00, 0x00, 0x07,
+        0x00, 0x00, 0x00, 0x00, 0x00, 0x00, 0x00, 0x28, 0x62, 0x9B, 0x29, 0x01, 0x33, 0x7F, 0x46,
+        0x4C, 0x41, 0x43, 0x01, 0x00, 0x00, 0x00,
+    ],
+    &[
+        0x4F, 0x67, 0x67, 0x53, 0x00, 0x00, 0x20, 0x00, 0x00, 0x00, 0x00, 0x00, 0x00, 0x00, 0x07,
+        0x00, 0x00, 0x00, 0x01, 0x00, 0x00, 0x00, 0xCE, 0x0C, 0xAB, 0xC0, 0x02, 0x0B, 0x0B,
+    ],
+    &[
+        0x4F, 0x67, 0x67, 0x53, 0x00, 0x00, 0x30, 0x00, 0x00, 0x00, 0x00, 0x00, 0x00, 0x00, 0x07,
+        0x00, 0x00, 0x00, 0x02, 0x00, 0x00, 0x00, 0xF7, 0xBE, 0xB3, 0x6C, 0x01, 0x0B,
+    ],
+    &[
+        0x4F, 0x67, 0x67, 0x53, 0x00, 0x04, 0x40, 0x00, 0x00, 0x00, 0x00, 0x00, 0x00, 0x00, 0x07,
+        0x00, 0x00, 0x00, 0x03, 0x00, 0x00, 0x00, 0xB4, 0x8A, 0x8B, 0x69, 0x01, 0x0B,
+    ],
+];
+
+/// The bytes of a page of these.
+fn add_page(bytes: &mut Vec<u8>, index: usize) -> Option<()> {
+    bytes.extend_from_slice(PAGE_HEADS[index % 4]).ok()?;
+    match index {
+        0 => bytes.extend_from_slice(&HEAD).ok(),
+        1 => {
+            bytes.extend_from_slice(&FRAMES[0]).ok()?;
+            bytes.extend_from_slice(&FRAMES[1]).ok()
+        }
+        _ => bytes.extend_from_slice(&FRAMES[index % 4]).ok(),
+    }
+}
+
+/// The lines about these pages, of which the byte at an offset is changed, if it is there.
+fn page_lines(alloc: Global, pages: &[usize], bad: usize) -> Option<Vec<u8>> {
+    let mut bytes = Vec::new(alloc);
+    for index in pages {
+        add_page(&mut bytes, *index)?;
+    }
+    if let Some(byte) = bytes.get_mut(bad) {
+        *byte ^= 1;
+    }
+    let left = left_of(alloc, bytes).ok()?;
+    let survey = survey_bytes(alloc, &left.bytes).ok()?;
+    report_left(alloc, "c", &left, &survey).ok()
+}
+
+/// Whether these are those lines.
+fn says_of_pages(alloc: Global, pages: &[usize], bad: usize, lines: &str) -> bool {
+    match page_lines(alloc, pages, bad) {
+        Some(text) => text.as_slice() == lines.as_bytes(),
+        None => false,
+    }
+}
+
+#[test]
+fn pages_are_placed(rt: HostRuntime) -> Result<(), Fail> {
+    assert!(rt; says_of_pages(rt.alloc(), &[0, 1, 2, 3], 999, ""));
+    let due =
+        "flac: c: bytes 130 to 157: samples 32 to 47 missing, 0:00.000 to 0:00.001\nflac: c: found 48 of 64 samples in 3 frames\n";
+    assert!(rt; says_of_pages(rt.alloc(), &[0, 1, 3], 999, due));
+    let due =
+        "flac: c: bytes 130 to 196: samples 32 to 47 missing, 0:00.000 to 0:00.001\nflac: c: found 48 of 64 samples in 3 frames\n";
+    assert!(rt; says_of_pages(rt.alloc(), &[0, 1, 2, 3], 168, due));
+    // A page whose number is changed, and a frame that is whole in it.
+    let due =
+        "flac: c: bytes 130 to 157: no frame, no sample is missing\nflac: c: found 64 of 64 samples in 4 frames\n";
+    assert!(rt; says_of_pages(rt.alloc(), &[0, 1, 2, 3], 148, due));
+    let due =
+        "flac: c: bytes 79 to 106: samples 0 to 47 missing, 0:00.000 to 0:00.001\nflac: c: bytes 118 to 156: no frame, no sample is missing\nflac: c: frame at byte 146: out of order, 16 samples from 32\nflac: c: found 16 of 64 samples in 1 frames\n";
+    assert!(rt; says_of_pages(rt.alloc(), &[0, 3, 2], 999, due));
+    Ok(())
 }

@@ -92,8 +92,8 @@ fn fill_at(
     fill_frame(bytes_from(bytes, at as u64), info, profile, buffers, budget)
 }
 
-/// Reads the frame that stands whole at an offset and fits STREAMINFO, whatever its number is, and returns how many bytes
-/// it has. The frame is in the buffers. `None` if none stands there.
+/// Reads the frame that stands whole at an offset and fits STREAMINFO, whatever its number is, and returns how many
+/// bytes it has. The frame is in the buffers. `None` if none stands there.
 pub fn whole_at(
     bytes: &[u8],
     at: usize,

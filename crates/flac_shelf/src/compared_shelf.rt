@@ -4,6 +4,7 @@ ghost use Rattle.std.specs.Prelude.{◌≡◌, ◌<◌, true, false, [], map};
 ghost use Rattle.flac_shelf.specs.Listed.{Listed};
 ghost use Rattle.flac_shelf.specs.Records.{compared_by, left_of, without};
 
+use crate::edges::Edges;
 use crate::older::Older;
 use crate::past::Earlier;
 use crate::shelf::Shelf;
@@ -90,6 +91,14 @@ impl<S: Shelf> Shelf for ComparedShelf<S> {
 
     fn reads_again(&self) -> bool {
         self.shelf.reads_again()
+    }
+
+    fn edges(&self) -> Option<Edges> {
+        self.shelf.edges()
+    }
+
+    fn tagged(&self) -> Option<bool> {
+        self.shelf.tagged()
     }
 
     fn open(&mut self) -> Option<S::File> {

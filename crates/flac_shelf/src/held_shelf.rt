@@ -3,6 +3,7 @@
 ghost use Rattle.std.specs.Prelude.{◌≡◌, ◌<◌, true, false, [], length, map};
 ghost use Rattle.flac_shelf.specs.Listed.{Listed};
 
+use crate::edges::{Edges, edges_of};
 use crate::past::Earlier;
 use crate::shelf::Shelf;
 use crate::stamp::Stamp;
@@ -84,6 +85,23 @@ impl<'a> Shelf for HeldShelf<'a> {
 
     fn reads_again(&self) -> bool {
         self.at.again
+    }
+
+    fn edges(&self) -> Option<Edges> {
+        match self.at.bytes {
+            Some(bytes) => {
+                if self.at.again {
+                    Some(edges_of(bytes))
+                } else {
+                    None
+                }
+            }
+            None => None,
+        }
+    }
+
+    fn tagged(&self) -> Option<bool> {
+        None
     }
 
     fn open(&mut self) -> Option<Memory<'a>> {

@@ -5,6 +5,7 @@
 #![tactic(auto)]
 
 mod compared_shelf;
+mod edges;
 mod held_shelf;
 mod laws;
 mod older;
@@ -16,6 +17,7 @@ mod shelf;
 mod stamp;
 
 pub use compared_shelf::ComparedShelf;
+pub use edges::Edges;
 pub use held_shelf::{HeldFile, HeldShelf};
 pub use laws::paths_are_shown;
 pub use older::Older;

@@ -21,7 +21,8 @@ pub struct Audio {
 }
 
 impl Audio {
-    /// Whether another is the same: its digest, if both state one or neither does, its number of samples and its format.
+    /// Whether another is the same: its digest, if both state one or neither does, its number of samples and its
+    /// format.
     pub fn is_same(&self, other: &Audio) -> bool
         ensures { result ≡ same_audio self.now other.now }
     {

@@ -21,8 +21,8 @@ fn is_itself(byte: u8) -> bool
     byte >= 32 && byte != 127 && byte != 92
 }
 
-/// What a byte of a path is printed as: `\x` and two hexadecimal digits for a control character of ASCII or a backslash;
-/// `None` if it is printed as itself.
+/// What a byte of a path is printed as: `\x` and two hexadecimal digits for a control character of ASCII or a
+/// backslash; `None` if it is printed as itself.
 pub fn escape_of(byte: u8) -> Option<[u8; 4]>
     ensures { unwrap_or result (byte ∷ []) ≡ shown_byte byte }
 {

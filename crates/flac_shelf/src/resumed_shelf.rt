@@ -4,6 +4,7 @@ ghost use Rattle.std.specs.Prelude.{◌≡◌, ◌<◌, true, false, []};
 ghost use Rattle.flac_shelf.specs.Past.{has_good};
 ghost use Rattle.flac_shelf.specs.Records.{report_of};
 
+use crate::edges::Edges;
 use crate::past::Earlier;
 use crate::record::Record;
 use crate::shelf::Shelf;
@@ -77,6 +78,14 @@ impl<S: Shelf> Shelf for ResumedShelf<S> {
 
     fn reads_again(&self) -> bool {
         self.shelf.reads_again()
+    }
+
+    fn edges(&self) -> Option<Edges> {
+        self.shelf.edges()
+    }
+
+    fn tagged(&self) -> Option<bool> {
+        self.shelf.tagged()
     }
 
     fn open(&mut self) -> Option<S::File> {

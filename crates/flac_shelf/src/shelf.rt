@@ -1,8 +1,9 @@
 //! Lists of files.
 
 ghost use Rattle.std.specs.Prelude.{◌≡◌, ◌≤◌, ◌<◌, ℕ, Bool, true, false, cond, List, [], ◌∷◌, IfSome};
-ghost use Rattle.flac_shelf.specs.Listed.{Listed, OpensIf, HasNotFailed};
+ghost use Rattle.flac_shelf.specs.Listed.{Listed, OpensIf, HasNotFailed, AreEdges};
 
+use crate::edges::Edges;
 use crate::past::Earlier;
 use crate::stamp::Stamp;
 use flac_bits::Source;
@@ -58,6 +59,14 @@ pub trait Shelf {
     /// Whether the file can be read more than once.
     fn reads_again(&self) -> bool
         ensures { known self.now ≡ true → IfSome (current self.now).contents (λ of. result ≡ of.again) };
+
+    /// How the whole file begins and ends, as it is stored; `None` if it cannot be read more than once.
+    fn edges(&self) -> Option<Edges>
+        ensures { known self.now ≡ true → AreEdges (current self.now).stored result };
+
+    /// Whether tags of other programs are around the bytes that the file is read as; `None` if that was not looked for.
+    fn tagged(&self) -> Option<bool>
+        ensures { known self.now ≡ true → result ≡ (current self.now).tagged };
 
     /// Opens the file, to be read from its start. `None` if it cannot be opened.
     fn open(&mut self) -> Option<Self::File>

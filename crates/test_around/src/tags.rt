@@ -7,7 +7,7 @@ use std::test::Fail;
 
 /// Rows: what comes before, how many bytes are between, how many `TAG` and zeros come after, and what is left of what comes
 /// before: `no` if it is a tag, and `all` if it is none. What comes before is in hex.
-const ROWS: &str = "# None.
+pub(crate) const ROWS: &str = "# None.
  | 0 | 0 | all
  | 300 | 0 | all
 # Tags of 0 bytes, of 5, and of 128, whose size is 1 0.
@@ -103,7 +103,7 @@ fn are_given(
 }
 
 /// The bytes of a row, and those of them that are due.
-fn row_of(alloc: Global, row: &str) -> Result<(Vec<u8>, Vec<u8>), Fail> {
+pub(crate) fn row_of(alloc: Global, row: &str) -> Result<(Vec<u8>, Vec<u8>), Fail> {
     let mut bytes = Vec::new(alloc);
     let mut due = Vec::new(alloc);
     let mut words = row.split(" | ");

@@ -64,6 +64,13 @@ stamp_in text = record {
 unfoldable pub after_stamp : List ℕ → List ℕ
 after_stamp text = after_in (codes ",\"nanoseconds\":") (at_nanoseconds text)
 
+-- ---- the container
+
+-- what comes after the container of a good file: all of the text if it does not begin with one
+unfoldable pub after_container : List ℕ → List ℕ
+after_container text =
+    cond (begins (codes ",\"container\":\"native\"") text) (drop 21 text) (cond (begins (codes ",\"container\":\"ogg\"") text) (drop 18 text) text)
+
 -- ---- the audio
 
 abbrev pub ok_of : {A E : Type 0} → Result A E → Option A
@@ -117,7 +124,7 @@ other_past text = Some (record { stamp = stamp_in text; audio = None })
 
 unfoldable pub past_in : List ℕ → Option Past
 past_in text =
-    cond (begins (codes "\",\"status\":\"ok\"") text) (good_past (stamp_in (drop 15 text)) (audio_in (after_stamp (drop 15 text))))
+    cond (begins (codes "\",\"status\":\"ok\"") text) (good_past (stamp_in (after_container (drop 15 text))) (audio_in (after_stamp (after_container (drop 15 text)))))
     (cond (begins (codes "\",\"status\":\"bad\"") text) (other_past (drop 16 text))
     (cond (begins (codes "\",\"status\":\"unopened\"") text) (other_past (drop 21 text)) None))
 

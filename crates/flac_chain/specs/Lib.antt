@@ -1,0 +1,5 @@
+pub mod Calls
+pub mod Chained
+pub mod Chaining
+pub mod Steady
+pub mod inner

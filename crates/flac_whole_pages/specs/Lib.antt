@@ -1,0 +1,5 @@
+pub mod Standing
+pub mod Found
+pub mod Parts
+pub mod Left
+pub mod inner
