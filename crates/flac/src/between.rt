@@ -1,22 +1,38 @@
-//! Jobs with `--any`: a stream is read between the tags of other programs, and without empty packets at its end.
+//! Jobs with `--any`: streams are read between the tags of other programs, and without empty packets at their ends.
 
+use crate::chain::{decode_streams, test_streams};
+use crate::list::{Form, list_between};
 use flac_around::{Between, Trimmed};
 use flac_bits::Counted;
-use flac_cli::{Job, Task, run};
+use flac_cli::{ChainPaths, Job, ListedFile, Task, run};
 use flac_files::JobFiles;
 
 /// Does the job over its files. Returns the status.
 pub(crate) fn do_between(rt: &HostRuntime, job: &Job<'_>, files: JobFiles<'_>) -> u8 {
-    let (status, before, after) = run_between(rt, job, files);
     match job {
-        Job::List { input, .. } if status == 0 => list_tags(rt, input, before, after),
-        _ => status,
+        Job::Test { input, lax } => test_streams(rt, input, *lax, files),
+        Job::Decode { input, output, lax } => {
+            let paths = ChainPaths { input, output };
+            decode_streams(rt, &paths, *lax, files)
+        }
+        Job::List { input, lax } => {
+            let file = ListedFile {
+                path: input,
+                names: &[],
+            };
+            let form = Form {
+                lax: *lax,
+                head: false,
+                json: false,
+            };
+            list_between(rt, &file, form, files.input)
+        }
+        _ => do_one(rt, job, files),
     }
 }
 
-/// Does the job over its files. Returns the status, and how many bytes the tags before and after the stream have that
-/// were read.
-fn run_between(rt: &HostRuntime, job: &Job<'_>, files: JobFiles<'_>) -> (u8, u64, u64) {
+/// Does a job over one stream. Returns the status.
+fn do_one(rt: &HostRuntime, job: &Job<'_>, files: JobFiles<'_>) -> u8 {
     let JobFiles {
         input,
         list,
@@ -39,11 +55,9 @@ fn run_between(rt: &HostRuntime, job: &Job<'_>, files: JobFiles<'_>) -> (u8, u64
         &mut out,
         &mut err,
     );
-    let source = source.into_source();
-    let (before, after) = (source.before(), source.after());
     match ending.end(rt, target.into_inner(), status) {
-        Ok(()) => (status, before, after),
-        Err(refused) => (refused.tell(rt), before, after),
+        Ok(()) => status,
+        Err(refused) => refused.tell(rt),
     }
 }
 

@@ -115,8 +115,8 @@ fn edit_one(rt: &HostRuntime, editing: &Editing<'_>, path: &str, edits: &BlockEd
     tell_edited(rt, path, editing.verbose, done)
 }
 
-/// Edits the blocks of a file that was opened, if the edits change them. Returns what became of it; `None` if it is refused,
-/// and its line was printed.
+/// Edits the blocks of a file that was opened, if the edits change them. Returns what became of it; `None` if it is
+/// refused, and its line was printed.
 fn edit_opened<'a>(
     rt: &HostRuntime,
     editing: &Editing<'_>,
@@ -155,8 +155,8 @@ fn points_in<'a>(
     Ok(points_of(rt.alloc(), path, &bytes, every, &mut err))
 }
 
-/// Edits the blocks of a file by these edits, if they change them. Returns what became of it; `None` if it is refused, and
-/// its line was printed.
+/// Edits the blocks of a file by these edits, if they change them. Returns what became of it; `None` if it is refused,
+/// and its line was printed.
 fn edit_blocks<'a>(
     rt: &HostRuntime,
     editing: &Editing<'_>,

@@ -18,8 +18,8 @@ pub(crate) fn tell_edited(
     }
 }
 
-/// Ends the edit of a file, to which a new one was written: with status 0 that takes its place, with the time at which it
-/// was changed if that is kept. Returns what became of it; `None` after another status.
+/// Ends the edit of a file, to which a new one was written: with status 0 that takes its place, with the time at which
+/// it was changed if that is kept. Returns what became of it; `None` after another status.
 pub(crate) fn end_edit<'a>(
     rt: &HostRuntime,
     file: &TagFile<'a>,

@@ -1,19 +1,16 @@
-//! `flac encode` of raw samples in a regular file, which is read twice, so that one block is held.
-
-ghost use Rattle.std.specs.Prelude.{◌≡◌, true};
-ghost use Rattle.flac_cli.specs.Twice.{is_twice};
+//! `flac encode` of raw samples or a WAV file in a regular file, which is read twice, so that one block is held.
 
 use flac_bits::Counted;
-use flac_cli::{Task, encode_file_twice};
+use flac_cli::{
+    Task, encode_file_twice, encode_wave_file_twice, encodes_twice, encodes_wave_twice,
+};
 use flac_draft::DraftFile;
 use flac_files::{Input, JobFiles, List, Output, SecondRead};
 use flac_jobs::{CommandLine, Job};
 use std::fs::File;
 
 /// Opens the files of an encoding, and does it. Returns the status.
-pub(crate) fn encode_twice(rt: &HostRuntime, line: &CommandLine<'_>) -> u8
-    requires { is_twice line.now.job ≡ true }
-{
+pub(crate) fn encode_twice(rt: &HostRuntime, line: &CommandLine<'_>) -> u8 {
     match JobFiles::open(rt, &line.job, line.force) {
         Ok(files) => encode_over(rt, &line.job, files),
         Err(refused) => refused.tell(rt),
@@ -21,9 +18,7 @@ pub(crate) fn encode_twice(rt: &HostRuntime, line: &CommandLine<'_>) -> u8
 }
 
 /// Does the encoding over these files, in two passes if they are regular files. Returns the status.
-fn encode_over(rt: &HostRuntime, job: &Job<'_>, files: JobFiles<'_>) -> u8
-    requires { is_twice job.now ≡ true }
-{
+fn encode_over(rt: &HostRuntime, job: &Job<'_>, files: JobFiles<'_>) -> u8 {
     let JobFiles {
         input,
         list,
@@ -51,9 +46,7 @@ fn in_passes(
     input: Input,
     second: SecondRead,
     file: File,
-) -> (Output, u8)
-    requires { is_twice job.now ≡ true }
-{
+) -> (Output, u8) {
     let (Ok(spare), Ok(target)) = (file.try_clone(), DraftFile::new(file)) else {
         let _ = eprintln!(rt; "flac: {}: 39 Write", job.output().unwrap_or(""));
         return (Output::None, 1);
@@ -64,15 +57,32 @@ fn in_passes(
     };
     let mut first = Counted::new(input);
     let mut again = Counted::new(second);
-    let mut err = Counted::new(rt.stderr());
-    let made = encode_file_twice(rt.alloc(), &task, &mut first, &mut again, target, &mut err);
-    let is_whole = made.is_ok() && !is_changed(rt, job, again.into_inner());
+    let made = is_encoded(rt, &task, &mut first, &mut again, target);
+    let is_whole = made && !is_changed(rt, job, again.into_inner());
     if is_whole {
         return (Output::File(spare), 0);
     }
     // What cannot be taken away stays in a file that is no stream.
     let _ = spare.set_len(0);
     (Output::File(spare), 1)
+}
+
+/// Does the encoding over these sources. Whether the target has the whole stream: else the line was written.
+fn is_encoded(
+    rt: &HostRuntime,
+    task: &Task<'_>,
+    first: &mut Counted<Input>,
+    again: &mut Counted<SecondRead>,
+    target: DraftFile<File>,
+) -> bool {
+    let mut err = Counted::new(rt.stderr());
+    if encodes_wave_twice(task.job) {
+        return encode_wave_file_twice(rt.alloc(), task, first, again, target, &mut err).is_ok();
+    }
+    if encodes_twice(task.job) {
+        return encode_file_twice(rt.alloc(), task, first, again, target, &mut err).is_ok();
+    }
+    false
 }
 
 /// Whether the file that was read was changed meanwhile, which is told then.

@@ -2,6 +2,7 @@
 #![tactic(auto)]
 
 mod between;
+mod chain;
 mod copy;
 mod edit;
 mod edited;
@@ -31,7 +32,7 @@ use crate::same::same;
 use crate::tag::tag_files;
 use crate::verify::verify;
 use flac_bits::Counted;
-use flac_cli::{Task, encodes_twice, run};
+use flac_cli::{Task, encodes_twice, encodes_wave_twice, run};
 use flac_files::{JobFiles, reads_twice};
 use flac_jobs::{CommandLine, Job, Request};
 use flac_words::{given_words, request};
@@ -61,7 +62,7 @@ fn main(rt: HostRuntime) -> ExitCode {
 
 /// Opens the files of the job, and does it. Returns the status.
 fn perform(rt: &HostRuntime, line: &CommandLine<'_>) -> u8 {
-    if encodes_twice(&line.job) && reads_twice(rt, &line.job) {
+    if is_for_two_passes(&line.job) && reads_twice(rt, &line.job) {
         return encode_twice(rt, line);
     }
     match JobFiles::open(rt, &line.job, line.force) {
@@ -69,6 +70,11 @@ fn perform(rt: &HostRuntime, line: &CommandLine<'_>) -> u8 {
         Ok(files) => do_over(rt, &line.job, files),
         Err(refused) => refused.tell(rt),
     }
+}
+
+/// Whether the job is an encoding that holds one block if it reads its file twice.
+fn is_for_two_passes(job: &Job<'_>) -> bool {
+    encodes_twice(job) || encodes_wave_twice(job)
 }
 
 /// Does the job over its files. Returns the status.

@@ -8,8 +8,8 @@ use flac_edit::Edit;
 use flac_files::{FileRefused, TagFile};
 use flac_jobs::{TagMode, Tagging};
 
-/// Edits the comments of an Ogg stream, if the edits change them. Returns what became of it; `None` if it is refused, and
-/// its line was printed.
+/// Edits the comments of an Ogg stream, if the edits change them. Returns what became of it; `None` if it is refused,
+/// and its line was printed.
 pub(crate) fn tag_ogg<'a>(
     rt: &HostRuntime,
     tagging: &Tagging<'_>,

@@ -61,8 +61,8 @@ fn values_of<'a>(rt: &HostRuntime, tagging: &Tagging<'a>) -> Result<Vec<Bytes>, 
     Ok(values)
 }
 
-/// Edits the comments of each file; `lines` are those of the file of lines, `files` the values that are in files. Returns
-/// the status: 1 if one is refused.
+/// Edits the comments of each file; `lines` are those of the file of lines, `files` the values that are in files.
+/// Returns the status: 1 if one is refused.
 fn tag_with(rt: &HostRuntime, tagging: &Tagging<'_>, lines: &[Bytes], files: &[Bytes]) -> u8 {
     let Ok(edits) = edits_of(rt.alloc(), &tagging.edits, lines, files) else {
         let _ = eprintln!(rt; "flac: command: 2 Memory");

@@ -106,8 +106,9 @@ fn pass_by(
 
 /// Passes frames of a native stream of the streamable subset, from a cursor on: at most `count` of them, and none that
 /// ends after the sample of this number, which is counted from 0 in each channel. The cursor is then at the frame after
-/// them: after `flac_proved_start` and with a `sample` of 2^64 - 1 that is the frame of number `count`; with a `count` of
-/// 2^64 - 1 it is the frame that holds the sample, unless the cursor was after it. If there is none it is at the end.
+/// them: after `flac_proved_start` and with a `sample` of 2^64 - 1 that is the frame of number `count`; with a `count`
+/// of 2^64 - 1 it is the frame that holds the sample, unless the cursor was after it. If there is none it is at the
+/// end.
 ///
 /// Each frame that is passed is decoded, and judged as by `flac_proved_next` (RFC 9639, section 9).
 ///

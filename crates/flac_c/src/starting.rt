@@ -76,8 +76,8 @@ fn at_point(point: Option<SeekPoint>, first: FlacProvedCursor) -> FlacProvedCurs
 }
 
 /// Reads the metadata of a native stream, and makes a cursor at its first frame, for `flac_proved_next` and
-/// `flac_proved_next_in` (RFC 9639, sections 6 and 8): metadata is the same in each profile. An Ogg stream is refused at
-/// the marker.
+/// `flac_proved_next_in` (RFC 9639, sections 6 and 8): metadata is the same in each profile. An Ogg stream is refused
+/// at the marker.
 ///
 /// Returns 0, or the number of the fault of the marker or of a block, or 2 if an allocation fails; `cursor` is
 /// unchanged then.

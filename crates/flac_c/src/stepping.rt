@@ -151,10 +151,10 @@ fn next_by(
     }
 }
 
-/// Decodes the frame at a cursor in a stream of the streamable subset, and writes its samples to the front of `out`: those of all channels at the first
-/// index, channel by channel, then those at the next. `len` becomes the number of its samples. If there is room for all
-/// of them, the cursor moves to the next frame; otherwise nothing is written, and the cursor stays. At the end of the
-/// bytes `len` becomes 0, and the cursor stays.
+/// Decodes the frame at a cursor in a stream of the streamable subset, and writes its samples to the front of `out`:
+/// those of all channels at the first index, channel by channel, then those at the next. `len` becomes the number of
+/// its samples. If there is room for all of them, the cursor moves to the next frame; otherwise nothing is written, and
+/// the cursor stays. At the end of the bytes `len` becomes 0, and the cursor stays.
 ///
 /// The frame must agree with STREAMINFO. It may have any number, and neither the number of all samples nor their MD5 is
 /// compared (RFC 9639, sections 8.2 and 9).

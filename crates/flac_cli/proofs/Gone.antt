@@ -1,5 +1,5 @@
 -- Files of an older report that were not met, one after another.
-use Rattle.std.proofs.Common.{◌≡◌, ◌≤◌, ◌<◌, ◌+◌, ℕ, Bool, true, false, List, [], ◌∷◌, ◌++◌, length, refl, sym, ap, subst, ◌∙◌, append-nil, append_assoc, arith}
+use Rattle.std.proofs.Common.{◌≡◌, ◌≤◌, ◌<◌, ℕ, Bool, true, false, List, [], ◌∷◌, ◌++◌, length, refl, sym, ap, ◌∙◌, append-nil, append_assoc, arith}
 use Rattle.flac_bits.specs.declared.target.Target as target
 use Rattle.flac_cli.specs.Verified.{gone_line, gone_lines}
 use Rattle.flac_cli.specs.inner.Verifying.{IsTold}

@@ -15,27 +15,27 @@ use Rattle.flac_wave.specs.Format.{IsInRange, row_of}
 use Rattle.flac_wave.specs.Shift.{lowered, lowered_number, are_low_zero, AreBytes, wave_width_of, may_be_narrow, is_stated_depth, depth_in}
 use Rattle.flac_wave.specs.declared.format.WaveFormat.{WaveFormat}
 use Rattle.flac_wave.proofs.Shifts.{lowered_long, IsNarrow, depth_cases, stated_some}
-use Rattle.flac_cli.specs.Raw.{number_of, samples_at, channels_at}
+use Rattle.flac_raw.specs.Raw.{number_of, samples_at, channels_at}
 use Rattle.flac_cli.specs.Waves.{turned, wave_samples, stream_samples}
 use Rattle.flac_cli.specs.inner.HeldWaves.{shifted, HasRoom, IsHeld, AreHeld}
-use Rattle.flac_cli.specs.inner.Raw.{IsChannel, AreParts, IsMore, AreChannels}
+use Rattle.flac_raw.specs.Reading.{IsChannel, AreParts, IsMore, AreChannels}
 use Rattle.flac_cli.specs.inner.WaveSamples.{AreTaken}
 use Rattle.flac_cli.specs.declared.wave_samples.HeldSamples.{HeldSamples}
-use Rattle.flac_cli.proofs.Rows.{AreFirst, ReadSoFar, no_samples, sample_more, numbers_are, channels_are, none_read, all_read, part_read}
+use Rattle.flac_raw.proofs.Rows.{AreFirst, ReadSoFar, no_samples, sample_more, numbers_are, channels_are, none_read, all_read, part_read}
 use Rattle.flac_cli.proofs.Shifted.{shifted_number, lowered_at}
 use Rattle.flac_cli.proofs.TakenWaves.{low_small, small_both, small_front, wave_long, channels_long, width_of_all, some_width, narrow_width, stream_whole, depth_fits, lists}
-use Rattle.flac_cli.proofs.TwosComplement.{little_small, twos_bytes, twos_fit}
+use Rattle.flac_raw.proofs.TwosComplement.{little_small, twos_bytes, twos_fit}
 use Rattle.flac_cli.proofs.Waved.{wave_append, wave_none}
 
 -- ---- samples that are shifted down in place
 
 -- each is a byte
-small_at : (bs : List ℕ) → AreBytes bs → (i : ℕ) → get_or bs i 0 < 256
+pub small_at : (bs : List ℕ) → AreBytes bs → (i : ℕ) → get_or bs i 0 < 256
 small_at [] small i = omega arith
 small_at (b ∷ bs) small zero = small.0
 small_at (b ∷ bs) small (suc i) = small_at bs small.1 i
 
-small_drop : (n : ℕ) (bs : List ℕ) → AreBytes bs → AreBytes (drop n bs)
+pub small_drop : (n : ℕ) (bs : List ℕ) → AreBytes bs → AreBytes (drop n bs)
 small_drop zero bs small = small
 small_drop (suc n) [] small = tt
 small_drop (suc n) (b ∷ bs) small = small_drop n bs small.1
@@ -66,7 +66,7 @@ channel_at bytes rows row width (suc n) c lt = elim (cases_lt c n) [
 ]
 
 -- how many samples all channels have
-whole_count : (rows count wide : ℕ) → rows * (count * wide) ≡ rows * count * wide
+pub whole_count : (rows count wide : ℕ) → rows * (count * wide) ≡ rows * count * wide
 whole_count rows count wide = sym (mul_assoc rows count wide)
 
 module _ (bytes : List ℕ) (rows count wide width depth : ℕ) (small : AreBytes bytes) (long : length bytes ≡ rows * (count * wide)) (some : 0 < wide) (few : wide ≤ 4)
@@ -80,7 +80,7 @@ module _ (bytes : List ℕ) (rows count wide width depth : ℕ) (small : AreByte
   many : length bytes / wide ≡ rows * count
   many = ap (λ n. n / wide) (long ∙ whole_count rows count wide) ∙ mul-div_cancel (rows * count) some
 
-  low_has : length low ≡ rows * (count * width)
+  pub low_has : length low ≡ rows * (count * width)
   low_has = lowered_long wide width shift (length bytes / wide) bytes ∙ (ap (λ n. n * width) many ∙ mul_assoc rows count width)
 
   -- the sample of this number: the bytes that a stream has of it
@@ -90,7 +90,7 @@ module _ (bytes : List ℕ) (rows count wide width depth : ℕ) (small : AreByte
   bytes_long : (k : ℕ) → length (bytes_at k) ≡ width
   bytes_long k = length-bytes_low_first 0 width (lowered_number wide width shift (little_number wide (take wide (drop (k * wide) bytes))))
 
-  number_at : (k : ℕ) → k < rows * count → int_shr (number_of (take wide (drop (k * wide) bytes))) shift ≡ number_of (bytes_at k)
+  pub number_at : (k : ℕ) → k < rows * count → int_shr (number_of (take wide (drop (k * wide) bytes))) shift ≡ number_of (bytes_at k)
   number_at k lt =
       let one = take wide (drop (k * wide) bytes) in
       let n = little_number wide one in
@@ -110,7 +110,7 @@ module _ (bytes : List ℕ) (rows count wide width depth : ℕ) (small : AreByte
       ∙ (shifted_number wide depth width n fits deep less room
       ∙ sym (ap (λ (w : ℕ). twos_complement w (little_number w (bytes_at k))) (bytes_long k) ∙ ap (twos_complement width) back))
 
-  taken_at : (k : ℕ) → k < rows * count → take width (drop (k * width) low) ≡ bytes_at k
+  pub taken_at : (k : ℕ) → k < rows * count → take width (drop (k * width) low) ≡ bytes_at k
   taken_at k lt = lowered_at wide width shift k (length bytes / wide) bytes (omega (arith, lt, many))
 
   place_at : (w i c : ℕ) → i * (count * w) + c * w ≡ (i * count + c) * w
@@ -166,7 +166,7 @@ module _ (bytes : List ℕ) (rows count wide width depth : ℕ) (small : AreByte
 -- ---- as those of a stream
 
 -- samples of more than a byte are in a file as they are in a stream, and no others are shifted
-same_wide : (wide : ℕ) (xs : List ℕ) → 1 < wide → wave_samples (8 * wide) xs ≡ xs
+pub same_wide : (wide : ℕ) (xs : List ℕ) → 1 < wide → wave_samples (8 * wide) xs ≡ xs
 same_wide wide xs more = ap (λ b. cond b (map turned xs) xs) (le-ltb (8 * wide) 9 (omega (arith, more)))
 
 module _ (f : WaveFormat) (range : IsInRange f) (bytes : List ℕ) (h : HeldSamples) (are : AreHeld f bytes h) (odd : Bool)
@@ -269,7 +269,7 @@ whole_parts : (n wide k : ℕ) → 0 < wide → n ≡ k * wide → n / wide ≡ 
 whole_parts n wide k some is = ap (λ x. x / wide) is ∙ mul-div_cancel k some
 
 -- how many bits samples have, in two parts
-depth_append : (f : WaveFormat) (range : IsInRange f) (xs ys : List ℕ) (n m : ℕ) → length xs ≡ n * wave_width_of f → length ys ≡ m * wave_width_of f → depth_in f (xs ++ ys) ≡ max (depth_in f xs) (depth_in f ys)
+pub depth_append : (f : WaveFormat) (range : IsInRange f) (xs ys : List ℕ) (n m : ℕ) → length xs ≡ n * wave_width_of f → length ys ≡ m * wave_width_of f → depth_in f (xs ++ ys) ≡ max (depth_in f xs) (depth_in f ys)
 depth_append f range xs ys n m long more =
     let wide = wave_width_of f in
     let shift = 8 * wide - f.valid in
@@ -284,7 +284,7 @@ depth_append f range xs ys n m long more =
     (λ is. let p = and_parts (is_stated_depth f.valid) (nat_lt f.valid (8 * wide)) is in let lt = ltb-true f.valid (8 * wide) p.1 in omega (arith, lt))
 
 -- a row is of whole samples
-samples_in : (f : WaveFormat) (n rows : ℕ) → n ≡ rows * row_of f → n ≡ rows * f.channels * wave_width_of f
+pub samples_in : (f : WaveFormat) (n rows : ℕ) → n ≡ rows * row_of f → n ≡ rows * f.channels * wave_width_of f
 samples_in f n rows is = is ∙ whole_count rows f.channels (wave_width_of f)
 
 -- the samples of a piece more

@@ -1,8 +1,8 @@
 -- What is held of a stream that is read whole.
-use Rattle.std.proofs.Common.{◌≡◌, ◌≢◌, ◌≤◌, ◌<◌, ◌⊎◌, ◌∙◌, ℕ, ℤ, Bool, true, false, List, [], ◌∷◌, ◌++◌, map, drop, Option, Some, None, Result, Ok, Err, refl, ap, sym, subst, append_assoc, append-nil, arith, inl, inr}
+use Rattle.std.proofs.Common.{◌≡◌, ◌≢◌, ◌≤◌, ◌<◌, ◌⊎◌, ◌∙◌, ℕ, ℤ, Bool, true, false, List, [], ◌∷◌, ◌++◌, map, drop, Option, Some, refl, ap, sym, subst, append_assoc, append-nil, arith, inl, inr}
 use Rattle.std.specs.Prelude.{replicate}
 use Rattle.std.proofs.lemmas.Bool.{cases_lt}
-use Rattle.flac_bits.specs.Handing.{Hands, TakesAll, outcome_of}
+use Rattle.flac_bits.specs.Handing.{Hands, TakesAll}
 use Rattle.flac_bits.specs.State.{Mark, After}
 use Rattle.flac_bits.specs.declared.why.Why.{Why}
 use Rattle.flac_bits.specs.declared.why.Why.TheVariants as why
@@ -14,7 +14,7 @@ use Rattle.flac_header.specs.declared.subset.Profile.TheVariants.{Lax}
 use Rattle.flac_frame.specs.Frame.{Frame}
 use Rattle.flac_native.specs.Decoding.{taken}
 use Rattle.flac_native.specs.Given.{closing}
-use Rattle.flac_native.specs.Item.{Item, metadata, frame, fault_pair}
+use Rattle.flac_native.specs.Item.{Item, metadata, frame}
 use Rattle.flac_native.specs.Stream.{Piece, marked, block, framed}
 use Rattle.flac_native.specs.declared.fault.Fault.{Fault}
 use Rattle.flac_native.specs.declared.fault.Place.{Place}

@@ -1,4 +1,6 @@
 -- Lines of text, and which file an error's line names.
+pub mod ChainsRead
+pub mod ChainSampled
 pub mod Lined
 pub mod Printed
 pub mod NamedLines
@@ -22,10 +24,9 @@ pub mod Gone
 pub mod Underway
 pub mod Missing
 pub mod Verifying
+pub mod Containers
 -- Raw samples.
 pub mod Fronts
-pub mod Rows
-pub mod TwosComplement
 -- Parts of streams.
 pub mod Excerpts
 pub mod Opened
@@ -51,3 +52,9 @@ pub mod WaveReady
 pub mod WaveRefused
 pub mod Waved
 pub mod Waving
+-- WAV files that are read twice.
+pub mod WaveRaws
+pub mod Surveys
+pub mod StreamSurveys
+pub mod WaveTwices
+pub mod Pieces

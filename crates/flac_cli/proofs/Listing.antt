@@ -1,20 +1,19 @@
 -- The line of JSON of a file while its blocks come.
-use Rattle.std.proofs.Common.{◌≡◌, ◌≢◌, ◌<◌, ◌≤◌, ◌⊎◌, ℕ, Bool, true, false, cond, List, [], ◌∷◌, ◌++◌, map, Option, Some, None, Result, Ok, Err, inl, inr, refl, sym, ap, subst, ◌∙◌, append_assoc, append-nil, codes, arith}
+use Rattle.std.proofs.Common.{◌≡◌, ◌≢◌, ◌<◌, ◌⊎◌, ℕ, Bool, true, false, cond, List, [], ◌∷◌, ◌++◌, map, Option, Some, None, Result, Ok, Err, inl, inr, refl, sym, ap, subst, ◌∙◌, append_assoc, append-nil, codes, arith}
 use Rattle.std.specs.Prelude.{IsErrAnd, IfErr, IfOk, OnOk, is_ok}
 use Rattle.std.proofs.lemmas.Bool.{cases_lt}
 use Rattle.flac_bits.specs.Handing.{TakesAll, InputReading, outcome_of}
 use Rattle.flac_bits.specs.declared.why.Why.{Why}
 use Rattle.flac_bits.specs.declared.why.Why.TheVariants as why
 use Rattle.flac_native.specs.Decoding.{taken}
-use Rattle.flac_native.specs.Item.{Item, metadata, frame}
+use Rattle.flac_native.specs.Item.{Item, metadata}
 use Rattle.flac_native.specs.Stream.{Piece, marked, block, framed, raised}
 use Rattle.flac_native.specs.declared.fault.Fault.{Fault}
 use Rattle.flac_native.specs.declared.fault.Place.{Place}
 use Rattle.flac_json.specs.Json.{json_text, no_members, items_of, items_text, more_items}
 use Rattle.flac_json.specs.Blocks.{block_json}
-use Rattle.flac_json.specs.Lines.{Numbered, numbered_json, line_front, line_end, file_line}
+use Rattle.flac_json.specs.Lines.{Numbered, numbered_json, line_front, line_end}
 use Rattle.flac_json.proofs.Files.{line_parts}
-use Rattle.flac_jobs.specs.declared.editings.BlockName.{BlockName}
 use Rattle.flac_meta.specs.declared.block.Block.{Block}
 use Rattle.flac_cli.specs.Headed.{HasHeadRefused}
 use Rattle.flac_cli.specs.ListedJson.{is_chosen, numbered, chosen_from, listed_line}
@@ -22,7 +21,7 @@ use Rattle.flac_cli.specs.Outcomes.{Outcome, Fits, IsOutOfMemory}
 use Rattle.flac_cli.specs.declared.chosen.ListedFile.{ListedFile}
 use Rattle.flac_cli.specs.inner.Outcomes.{at_place}
 use Rattle.flac_cli.specs.inner.WaveOutcomes.{memory_by, fault_by}
-use Rattle.flac_cli.specs.inner.Listing.{Begun, begun_of, comma, one_more, with_object, with_number, begun_after}
+use Rattle.flac_cli.specs.inner.Listing.{Begun, begun_of, one_more, with_object, with_number, begun_after}
 use Rattle.flac_cli.proofs.Holding.{sink_or_not}
 
 -- the text of these objects in a list that has some already, or has none

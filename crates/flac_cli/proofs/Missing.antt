@@ -1,5 +1,5 @@
 -- What is said of a file that is refused.
-use Rattle.std.proofs.Common.{◌≡◌, ◌⊎◌, ◌↔◌, ℕ, Bool, true, false, List, [], ◌++◌, append-nil, Option, Some, None, IfSome, refl, sym, ap, subst, ◌∙◌, codes, inl, inr}
+use Rattle.std.proofs.Common.{◌≡◌, ◌⊎◌, ◌↔◌, ℕ, Bool, true, false, List, [], ◌++◌, append-nil, Option, Some, None, IfSome, Result, Ok, Err, IfOk, IfErr, Vec, Global, refl, sym, ap, subst, ◌∙◌, codes, inl, inr}
 use Rattle.flac_bits.specs.declared.source.Source as source
 use Rattle.flac_bits.specs.declared.target.Target as target
 use Rattle.flac_bits.specs.declared.why.Why.{Why}
@@ -7,21 +7,40 @@ use Rattle.flac_bits.specs.declared.why.Why.TheVariants as why
 use Rattle.flac_rescue.specs.Survey.{IsSurveyFault}
 use Rattle.flac_rescue.specs.declared.survey.SurveyFault.{SurveyFault}
 use Rattle.flac_shelf.specs.Listed.{Contents, Listed, Opens}
-use Rattle.flac_cli.specs.Missing.{IsOutOfMemory, AreUnlisted}
+use Rattle.flac_whole_pages.specs.Left.{IsNativeLeft}
+use Rattle.flac_whole_pages.specs.declared.left.Left.{Left}
+use Rattle.flac_cli.specs.Missing.{IsOutOfMemory, IsSaidOf}
 use Rattle.flac_cli.specs.Verified.{file_line}
 use Rattle.flac_cli.specs.declared.verify_missing.Unlisted.{Unlisted}
 use Rattle.flac_cli.specs.declared.verify_missing.Unlisted.TheVariants.{Unsurveyed, Memory}
-use Rattle.flac_cli.specs.inner.Missing.{IsContents, IsUnread, line_for}
+use Rattle.flac_cli.specs.inner.Missing.{IsContents, IsUnread, IsUnsurveyed, AreLinesAbout, line_for}
 use Rattle.flac_cli.specs.inner.Verifying.{IsListed}
 use Rattle.flac_cli.proofs.Told.{none_told}
 
 -- why bytes that are not surveyed are not listed
-pub unlisted_for : (bytes : List ℕ) (fault : SurveyFault) (e : Unlisted) → IsSurveyFault bytes fault → (e ≡ Memory ↔ IsOutOfMemory fault) → (e ≡ Memory) ⊎ (AreUnlisted bytes × (e ≡ Unsurveyed))
+pub unlisted_for : (bytes : List ℕ) (fault : SurveyFault) (e : Unlisted) → IsSurveyFault bytes fault → (e ≡ Memory ↔ IsOutOfMemory fault) → IsUnsurveyed bytes e
 unlisted_for bytes fault Memory is same = inl refl
 unlisted_for bytes fault Unsurveyed is same = inr (record { fault = fault; is = is; shown = λ out. other (same.1 out) }, refl)
   where
     other : Unsurveyed ≡ Memory → ⊥
     other e = absurd cc
+
+-- what is said of the bytes in which a stream is left
+module _ (path input : List ℕ) (left : Left) (native : IsNativeLeft input left) where
+  said_of_left : (text : List ℕ) → AreLinesAbout path left text → IsSaidOf path input text
+  said_of_left text h = inl (record { left = left; native = native; survey = h.0; is = h.1; lines = h.2 })
+
+  unsaid_of_left : (e : Unlisted) → IsUnsurveyed left.bytes.items e → IsSaidOf path input (line_for path e)
+  unsaid_of_left e (inl memory) = inr (inr (ap (line_for path) memory))
+  unsaid_of_left e (inr (h, is)) = inr (inl (record { left = left; native = native; fault = h.fault; is = h.is; shown = h.shown }, ap (line_for path) is))
+
+  pub ok_of_left : (r : Result (Vec ℕ Global) Unlisted) → IfOk r (λ text. AreLinesAbout path left text.items) → IfOk r (λ text. IsSaidOf path input text.items)
+  ok_of_left (Ok text) h = said_of_left text.items h
+  ok_of_left (Err e) h = tt
+
+  pub err_of_left : (r : Result (Vec ℕ Global) Unlisted) → IfErr r (IsUnsurveyed left.bytes.items) → IfErr r (λ e. IsSaidOf path input (line_for path e))
+  err_of_left (Ok text) h = tt
+  err_of_left (Err e) h = unsaid_of_left e h
 
 -- the line as it is printed
 pub line_said : (path given text : List ℕ) (e : Unlisted) → given ≡ path → (e ≡ Unsurveyed → text ≡ codes "what is missing cannot be listed") → (e ≡ Memory → text ≡ codes "what is missing cannot be listed: 2 Memory")

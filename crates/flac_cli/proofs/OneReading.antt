@@ -1,9 +1,9 @@
 -- A line of JSON is that of one list of members.
-use Rattle.std.proofs.Common.{◌≡◌, List, [], ◌∷◌, ◌++◌, codes, ap, refl, sym, ◌∙◌}
+use Rattle.std.proofs.Common.{◌≡◌, List, [], ◌∷◌, codes, ap, refl, sym, ◌∙◌}
 use Rattle.std.proofs.lemmas.List.{append_cancel_right}
 use Rattle.flac_json.specs.Json.{Json, object, Members, no_members, member, json_text}
 use Rattle.flac_json.proofs.Reading.{texts_have_one_reading}
-use Rattle.flac_report.specs.Objects.{Member, members_of, object_line}
+use Rattle.flac_report.specs.Objects.{Member, members_of}
 use Rattle.flac_cli.specs.Objects.{LinesHaveOneReading}
 
 -- the members of an object, as a list

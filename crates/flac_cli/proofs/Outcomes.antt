@@ -21,7 +21,7 @@ use Rattle.flac_ogg.specs.Either.{read_either}
 use Rattle.flac_cli.specs.Asked.{Asked}
 use Rattle.flac_cli.specs.Encoded.{comment_list, cut_as, BeginsIn, BeginsRaw}
 use Rattle.flac_cli.specs.Predictors.{AreListed}
-use Rattle.flac_cli.specs.Raw.{IsRaw}
+use Rattle.flac_raw.specs.Raw.{IsRaw}
 use Rattle.flac_cli.specs.Streams.{IsStream}
 use Rattle.flac_cli.specs.inner.Searching.{IsSearched}
 use Rattle.flac_cli.proofs.Searched.{cut_is, are_found}

@@ -115,8 +115,8 @@ info_fits (Some i) told = record {
   digest = digest_by (is_unknown i.digest) i.digest told.digest;
 }
 
-good_fits : (is_sought : Bool) (profile : Profile) (of : Contents) (facts : Facts) → IsStreamOf profile of facts → FitsGood (good_file is_sought facts)
-good_fits is_sought profile of facts (parts, whole, says) =
+good_fits : (is_sought : Bool) (tagged : Option Bool) (profile : Profile) (of : Contents) (facts : Facts) → IsStreamOf profile of facts → FitsGood (good_file is_sought tagged facts)
+good_fits is_sought tagged profile of facts ((parts, whole, says), container) =
     let info = info_fits facts.info (subst Fitting (sym says.info) (stream_fits profile (begins_page of.bytes) (beginning (short_of of.after.fails)) parts (bits_of of.bytes) whole)) in
     record {
       rate = info.rate;
@@ -127,17 +127,17 @@ good_fits is_sought profile of facts (parts, whole, says) =
       digest = info.digest;
     }
 
-found_fits : (subset is_sought : Bool) (contents : Option Contents) (finding : Finding) → IsFound subset contents finding → FitsFound (found_of is_sought finding)
-found_fits subset is_sought None (Good facts) found = elim found.right [ inl out ↦ absurd out | inr is ↦ absurd is ]
-found_fits subset is_sought (Some of) (Good facts) found = elim found.right [ inl out ↦ absurd out | inr is ↦ good_fits is_sought (asked_profile subset) of facts is.0 ]
-found_fits subset is_sought contents (Bad fault) found = tt
-found_fits subset is_sought contents Unopened found = tt
+found_fits : (subset is_sought : Bool) (tagged : Option Bool) (contents : Option Contents) (finding : Finding) → IsFound subset contents finding → FitsFound (found_of is_sought tagged finding)
+found_fits subset is_sought tagged None (Good facts) found = elim found.right [ inl out ↦ absurd out | inr is ↦ absurd is ]
+found_fits subset is_sought tagged (Some of) (Good facts) found = elim found.right [ inl out ↦ absurd out | inr is ↦ good_fits is_sought tagged (asked_profile subset) of facts is.0 ]
+found_fits subset is_sought tagged contents (Bad flaw) found = tt
+found_fits subset is_sought tagged contents Unopened found = tt
 
 entry_fits : (subset : Bool) (file : Listed) (finding : Finding) → IsNamed file → IsFound subset file.contents finding → entries.Fits (report_entry subset file finding)
 entry_fits subset file finding named found = record {
   path = named.path;
   stamp = named.stamp;
-  found = found_fits subset (is_sought_in subset file.contents) file.contents finding found;
+  found = found_fits subset (is_sought_in subset file.contents) file.tagged file.contents finding found;
 }
 
 -- ---- what is read
@@ -147,10 +147,10 @@ audio_same : (info : Option Info) (samples : ℕ) → ◌≡◌ {A = Audio} (rec
 audio_same None samples = refl
 audio_same (Some info) samples = refl
 
-found_same : (is_sought : Bool) (finding : Finding) → entries.audio_of (found_of is_sought finding) ≡ found_audio finding
-found_same is_sought (Good facts) = ap Some (audio_same facts.info facts.counts.samples)
-found_same is_sought (Bad fault) = refl
-found_same is_sought Unopened = refl
+found_same : (is_sought : Bool) (tagged : Option Bool) (finding : Finding) → entries.audio_of (found_of is_sought tagged finding) ≡ found_audio finding
+found_same is_sought tagged (Good facts) = ap Some (audio_same facts.info facts.counts.samples)
+found_same is_sought tagged (Bad flaw) = refl
+found_same is_sought tagged Unopened = refl
 
 abbrev with_audio : (path : List ℕ) → Stamp → Option Audio → Option (List ℕ × Past)
 with_audio path stamp audio = Some (path, record { stamp = stamp; audio = audio })
@@ -164,7 +164,7 @@ each_read subset (file ∷ files) [] read named found is = absurd found
 each_read subset (file ∷ files) (finding ∷ findings) [] named found is = absurd is
 each_read subset (file ∷ files) (finding ∷ findings) (r ∷ rs) named found is =
     let entry = report_entry subset file finding in
-    let first = is.0 entry (entry_fits subset file finding named.0 found.0) refl ∙ ap (with_audio file.path file.stamp) (found_same (is_sought_in subset file.contents) finding) in
+    let first = is.0 entry (entry_fits subset file finding named.0 found.0) refl ∙ ap (with_audio file.path file.stamp) (found_same (is_sought_in subset file.contents) file.tagged finding) in
     ap (λ o. o ∷ map (option_map said) rs) first ∙ ap (λ l. with_audio file.path file.stamp (found_audio finding) ∷ l) (each_read subset files findings rs named.1 found.1 is.1)
 
 pub reports_are_read_back : ReportsAreReadBack
@@ -193,5 +193,5 @@ same_heard a =
 
 pub read_files_are_same : ReadFilesAreSame
 read_files_are_same file (Good facts) = rw (same_heard (audio_of facts), same_at file.stamp) refl
-read_files_are_same file (Bad fault) = refl
+read_files_are_same file (Bad flaw) = refl
 read_files_are_same file Unopened = refl

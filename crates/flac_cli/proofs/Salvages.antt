@@ -1,5 +1,5 @@
 -- What is made of what is left of a damaged stream.
-use Rattle.std.proofs.Common.{◌≡◌, ◌⊎◌, ◌∙◌, ◌++◌, ◌∷◌, ◌<◌, ℕ, ℤ, Bool, true, false, List, [], Option, Some, None, Result, Ok, Err, refl, ap, sym, subst, inl, inr, append-nil, arith}
+use Rattle.std.proofs.Common.{◌≡◌, ◌⊎◌, ◌∙◌, ◌++◌, ◌∷◌, ℕ, ℤ, Bool, true, false, List, [], Option, Some, None, Result, Ok, Err, refl, ap, sym, subst, inl, inr, append-nil, arith}
 use Rattle.std.specs.Prelude.{option_map}
 use Rattle.flac_bits.specs.Sending.{Sends}
 use Rattle.flac_bits.specs.declared.why.Why.{Why}
@@ -13,7 +13,6 @@ use Rattle.flac_native.specs.Given.{Cut}
 use Rattle.flac_native.specs.declared.fault.EncodeFault.{EncodeFault}
 use Rattle.flac_native.specs.declared.fault.EncodeFault.TheVariants as encode
 use Rattle.flac_subframe.specs.declared.format.linear.LinearPredictor.{LinearPredictor}
-use Rattle.flac_rescue.specs.Report.{report_text}
 use Rattle.flac_rescue.specs.Salvaged.{is_too_long}
 use Rattle.flac_rescue.specs.Survey.{IsSurvey, IsSurveyFault}
 use Rattle.flac_rescue.specs.declared.salvage.SalvageFault.{SalvageFault}
@@ -21,6 +20,8 @@ use Rattle.flac_rescue.specs.declared.salvage.SalvageFault.TheVariants as salvag
 use Rattle.flac_rescue.specs.declared.survey.Survey.{Survey}
 use Rattle.flac_rescue.specs.declared.survey.SurveyFault.{SurveyFault}
 use Rattle.flac_rescue.specs.declared.survey.SurveyFault.TheVariants as surveying
+use Rattle.flac_whole_pages.specs.Left.{IsNativeLeft}
+use Rattle.flac_whole_pages.specs.declared.left.Left.{Left}
 use Rattle.flac_cli.specs.Asked.{Asked}
 use Rattle.flac_cli.specs.Encoded.{cut_found, EncodesIn, BeginsIn}
 use Rattle.flac_cli.specs.Recoded.{blocks_in, carried}
@@ -28,12 +29,13 @@ use Rattle.flac_cli.specs.Outcomes.{reason_text}
 use Rattle.flac_cli.specs.RecodeRefusals.{held_refusal, IsOutside, recode_path, recode_text}
 use Rattle.flac_cli.specs.Refusals.{stream_fault, IsOutside as IsOutsideOf}
 use Rattle.flac_cli.specs.Reports.{Files, fault_line}
-use Rattle.flac_cli.specs.Salvages.{fitting, IsLeft, Salvages, HasBegunSalvaged, IsSalvageReason, IsSalvageRefusal, survey_refusal, salvage_refusal}
+use Rattle.flac_cli.specs.Salvages.{fitting, IsLeft, Salvages, HasBegunSalvaged, HasBegunInput, IsSalvageReason, IsInputReason, IsSalvageRefusal, survey_refusal, salvage_refusal}
 use Rattle.flac_cli.specs.declared.encode.Refusal.{Refusal}
 use Rattle.flac_cli.specs.declared.encode.Refusal.TheVariants.{Input, Output}
 use Rattle.flac_cli.specs.declared.recode.RecodeRefusal.{RecodeRefusal}
-use Rattle.flac_cli.specs.declared.recode.RecodeRefusal.TheVariants.{Unread, Refused}
+use Rattle.flac_cli.specs.declared.recode.RecodeRefusal.TheVariants.{Refused}
 use Rattle.flac_cli.specs.inner.Holding.{IsReady}
+use Rattle.flac_cli.specs.inner.Salvaging.{AreLinesFor}
 use Rattle.flac_cli.specs.inner.Searching.{IsSearched}
 use Rattle.flac_cli.proofs.Searched.{cut_is, are_found}
 
@@ -121,7 +123,7 @@ module _ (asked : Asked) (silence : Bool) (bytes : List ℕ) where
       container_reason e (inr h) = inr (of_container (Some e) h)
 
   pub salvage_reported : (files : Files) (e : RecodeRefusal) (before now : List ℕ) → now ≡ before ++ fault_line (recode_path files e) (recode_text e)
-      → (e ≡ Refused (Output encode.Write) → ⊥) → IsOutside e ⊎ IsSalvageReason asked silence bytes (Some e) → IsSalvageRefusal asked silence files bytes before now
+      → (e ≡ Refused (Output encode.Write) → ⊥) → IsOutside e ⊎ IsInputReason asked silence bytes (Some e) → IsSalvageRefusal asked silence files bytes before now
   salvage_reported files e before now line never (inr h) = inl (e, h, line)
   salvage_reported files e before now line never (inl (inl (f, is, m))) =
       inr (Some f.at, subst (λ w. now ≡ before ++ fault_line files.input (reason_text (Some f.at) w)) m (subst (λ k. now ≡ before ++ fault_line (recode_path files k) (recode_text k)) is line))
@@ -132,12 +134,26 @@ module _ (asked : Asked) (silence : Bool) (bytes : List ℕ) where
   salvage_reported files e before now line never (inl (inr (r, is, inr (inr w)))) = absurd (never (is ∙ ap Refused w))
 
 -- of the same bytes and filling
-pub moved_reason : (asked : Asked) (b d : Bool) (xs ys : List ℕ) (e : RecodeRefusal) → b ≡ d → xs ≡ ys → IsOutside e ⊎ IsSalvageReason asked b xs (Some e) → IsOutside e ⊎ IsSalvageReason asked d ys (Some e)
+pub moved_reason : (asked : Asked) (b d : Bool) (xs ys : List ℕ) (e : RecodeRefusal) → b ≡ d → xs ≡ ys → IsOutside e ⊎ IsInputReason asked b xs (Some e) → IsOutside e ⊎ IsInputReason asked d ys (Some e)
 moved_reason asked b d xs ys e is same (inl out) = inl out
-moved_reason asked b d xs ys e is same (inr h) = inr (moved (λ k l. IsSalvageReason asked k l (Some e)) b d xs ys is same h)
+moved_reason asked b d xs ys e is same (inr h) = inr (moved (λ k l. IsInputReason asked k l (Some e)) b d xs ys is same h)
 
-pub moved_lines : (path text xs ys : List ℕ) → xs ≡ ys → (s : Survey) × IsSurvey xs s × (text ≡ report_text path s) → (s : Survey) × IsSurvey ys s × (text ≡ report_text path s)
-moved_lines path text xs ys same (s, is, lines) = (s, subst (λ l. IsSurvey l s) same is, lines)
+pub moved_lines : (path text xs ys : List ℕ) → xs ≡ ys → AreLinesFor path text xs → AreLinesFor path text ys
+moved_lines path text xs ys same h = subst (λ l. AreLinesFor path text l) same h
+
+pub same_reason : (asked : Asked) (silence : Bool) (xs ys : List ℕ) (e : RecodeRefusal) → xs ≡ ys → IsOutside e ⊎ IsSalvageReason asked silence xs (Some e) → IsOutside e ⊎ IsSalvageReason asked silence ys (Some e)
+same_reason asked silence xs ys e same h = subst (λ l. IsOutside e ⊎ IsSalvageReason asked silence l (Some e)) same h
+
+-- ---- what is left in an input
+
+module _ (asked : Asked) (silence : Bool) (input : List ℕ) (left : Left) (native : IsNativeLeft input left) where
+  pub begun_of_left : (before after : List Bool) → HasBegunSalvaged asked silence left.bytes.items before after → HasBegunInput asked silence input before after
+  begun_of_left before after (inl same) = inl same
+  begun_of_left before after (inr begins) = inr (record { left = left; native = native; says = begins })
+
+  pub reason_of_left : (e : RecodeRefusal) → IsOutside e ⊎ IsSalvageReason asked silence left.bytes.items (Some e) → IsOutside e ⊎ IsInputReason asked silence input (Some e)
+  reason_of_left e (inl out) = inl out
+  reason_of_left e (inr h) = inr (record { left = left; native = native; says = h })
 
 -- ---- failed writes
 

@@ -19,7 +19,7 @@ negative : (n x : ℕ) → 2 ^ (8 * n - 1) ≤ x → x < 2 ^ (8 * n) → twos_co
 negative n x le lt = rw (le-ltb x (2 ^ (8 * n - 1)) le) (omega (arith, ints))
 
 -- a quotient by S = 2^k of a number below D S
-quotient_small : (n k D : ℕ) → n < D * 2 ^ k → n / 2 ^ k < D
+pub quotient_small : (n k D : ℕ) → n < D * 2 ^ k → n / 2 ^ k < D
 quotient_small n k D few =
     let d = div-add-mod' n (2 ^ k) in
     lt_of_mul-lt-mul_right (2 ^ k) (omega (arith, d, few))

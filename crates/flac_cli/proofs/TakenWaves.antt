@@ -14,7 +14,7 @@ use Rattle.flac_wave.specs.Shift.{lowered, AreBytes, wave_width_of, depth_in}
 use Rattle.flac_wave.specs.declared.format.WaveFormat.{WaveFormat}
 use Rattle.flac_wave.proofs.Shifts.{lowered_long, depth_cases, stated_some}
 use Rattle.flac_cli.specs.Waves.{turned, wave_samples, low_samples, stream_samples, contents}
-use Rattle.flac_cli.specs.inner.Raw.{AreChannels}
+use Rattle.flac_raw.specs.Reading.{AreChannels}
 use Rattle.flac_cli.specs.inner.WaveSamples.{AreTaken, IsTaken, IsPart, states_none, IsJudged, IsSamplesError, samples_fault}
 use Rattle.flac_cli.specs.declared.wave_samples.WaveSamples.{WaveSamples}
 use Rattle.flac_cli.specs.declared.wave_file.WaveFile.{WaveFile}
@@ -221,7 +221,7 @@ other_size to_end f rest other = let said = said_by f.size other in record { is 
     size_by false said = refl
 
 -- then what is judged of the rest is judged of the samples
-rest_judged : (to_end : Bool) (f : WaveFront) (size : Option ℕ) (rest : List ℕ) → IsSize to_end f size rest → rest_fault to_end f.format (size_in to_end f.size rest) rest ≡ samples_fault to_end f size rest
+pub rest_judged : (to_end : Bool) (f : WaveFront) (size : Option ℕ) (rest : List ℕ) → IsSize to_end f size rest → rest_fault to_end f.format (size_in to_end f.size rest) rest ≡ samples_fault to_end f size rest
 rest_judged to_end f size rest s = ap (λ o. rest_fault to_end f.format o rest) s.is ∙ ap (λ b. cond b (Some DataUnstated) (samples_fault to_end f size rest)) s.said
 
 pub samples_error : (to_end : Bool) (bytes rest : List ℕ) (f : WaveFront) (size : Option ℕ) (e : WaveError) → BeginsWith to_end bytes f rest → IsSize to_end f size rest → IsSamplesError to_end f size rest e → IsErrorOf to_end bytes e
@@ -237,7 +237,7 @@ unstated_error to_end bytes rest f b lacks =
     front_none to_end bytes f.format (map (λ p. p.items) f.pieces.items) f.size f.count rest b DataUnstated
     (ap (λ k. cond k (Some DataUnstated) (front_fault to_end (is_cut (size_in to_end f.size rest) rest) (are_whole f.format (size_in to_end f.size rest) rest))) lacks)
 
-cut_by : (even other : Bool) (xs ys : List ℕ) (ps : List (List ℕ)) → even ≡ other → xs ≡ ys → ArePiecesBy even (begins_zero xs) xs ps → ArePiecesBy other (begins_zero ys) ys ps
+pub cut_by : (even other : Bool) (xs ys : List ℕ) (ps : List (List ℕ)) → even ≡ other → xs ≡ ys → ArePiecesBy even (begins_zero xs) xs ps → ArePiecesBy other (begins_zero ys) ys ps
 cut_by even other xs ys ps same is h = subst (λ l. ArePiecesBy other (begins_zero l) l ps) is (subst (λ b. ArePiecesBy b (begins_zero xs) xs ps) same h)
 
 pub part_taken : (to_end : Bool) (rest back : List ℕ) (f : WaveFront) (size : Option ℕ) (s : WaveSamples) (after : Vec (Vec ℕ Global) Global) → samples_fault to_end f size rest ≡ None → AreTaken f.format (given size rest) s

@@ -72,7 +72,7 @@ zero_is n m is none = omega (arith, is, none)
 
 whole_of : (subset : Bool) (contents : Option Contents) (facts : Facts) → IsFinding subset contents (Good facts) → IsWhole subset contents
 whole_of subset None facts is = absurd is
-whole_of subset (Some of) facts is = (is.0.0, is.0.1)
+whole_of subset (Some of) facts is = (is.0.0.0, is.0.0.1)
 
 -- If none is bad, each is a stream.
 pub are_whole : (subset : Bool) (files : List Listed) (findings : List Finding) → AreFound subset files findings → bad_count findings ≡ 0 → AreWhole subset files
@@ -96,15 +96,16 @@ pub calm_so_far : (began before at after : ℕ) → began ≤ before → at ≡ 
 calm_so_far began before at after kept is more same = (omega (arith, kept, is, more, same), omega (arith, kept, is, more, same))
 
 -- the line of the report of a file whose size, time and kind were asked for
-pub line_is : (subset again sought : Bool) (file : Listed) (path : List ℕ) (stamp : Stamp) (finding : Finding) → sought ≡ (subset || again) → path ≡ file.path → stamp ≡ file.stamp → IfSome file.contents (λ of. again ≡ of.again)
-    → Fits HasNoMemory (IsFinding subset file.contents) finding → line_of (entry_of path stamp sought finding) ≡ report_line subset file finding
-line_is subset again sought file path stamp finding look paths stamps seen fits =
-    ap (λ b. line_of (entry_of path stamp b finding)) look ∙ ap (λ l. line_of (entry_of l stamp (subset || again) finding)) paths ∙ ap (λ s. line_of (entry_of file.path s (subset || again) finding)) stamps ∙ kinds file.contents finding seen fits
+pub line_is : (subset again sought : Bool) (file : Listed) (path : List ℕ) (stamp : Stamp) (tagged : Option Bool) (finding : Finding) → sought ≡ (subset || again) → path ≡ file.path → stamp ≡ file.stamp → tagged ≡ file.tagged → IfSome file.contents (λ of. again ≡ of.again)
+    → Fits HasNoMemory (IsFinding subset file.contents) finding → line_of (entry_of path stamp sought tagged finding) ≡ report_line subset file finding
+line_is subset again sought file path stamp tagged finding look paths stamps tags seen fits =
+    ap (λ b. line_of (entry_of path stamp b tagged finding)) look ∙ ap (λ l. line_of (entry_of l stamp (subset || again) tagged finding)) paths ∙ ap (λ s. line_of (entry_of file.path s (subset || again) tagged finding)) stamps
+    ∙ ap (λ t. line_of (entry_of file.path file.stamp (subset || again) t finding)) tags ∙ kinds file.contents finding seen fits
   where
     kinds : (contents : Option Contents) (finding : Finding) → IfSome contents (λ of. again ≡ of.again) → Fits HasNoMemory (IsFinding subset contents) finding
-        → line_of (entry_of file.path file.stamp (subset || again) finding) ≡ line_of (entry_of file.path file.stamp (is_sought_in subset contents) finding)
+        → line_of (entry_of file.path file.stamp (subset || again) file.tagged finding) ≡ line_of (entry_of file.path file.stamp (is_sought_in subset contents) file.tagged finding)
     kinds None (Good facts) seen fits = elim fits.right [ inl out ↦ absurd out | inr is ↦ absurd is ]
-    kinds (Some of) (Good facts) seen fits = ap (λ a. line_of (entry_of file.path file.stamp (subset || a) (Good facts))) seen
+    kinds (Some of) (Good facts) seen fits = ap (λ a. line_of (entry_of file.path file.stamp (subset || a) file.tagged (Good facts))) seen
     kinds contents (Bad fault) seen fits = refl
     kinds contents Unopened seen fits = refl
 

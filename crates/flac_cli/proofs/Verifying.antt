@@ -1,7 +1,7 @@
 -- What a file was found to be, by how it was read.
 use Rattle.std.proofs.Common.{◌≡◌, ◌≢◌, ◌⊎◌, ◌↔◌, ◌≤◌, ℕ, Bool, true, false, List, [], ◌∷◌, Option, Some, None, IfSome, unwrap_or, refl, sym, ap, subst, ◌∙◌, arith, inl, inr}
 use Rattle.flac_bits.specs.Bits.{bits_of}
-use Rattle.flac_bits.specs.State.{Mark, short_of}
+use Rattle.flac_bits.specs.State.{Mark, After, short_of}
 use Rattle.flac_bits.specs.Handing.{ReadsOnce, TakesAll}
 use Rattle.flac_bits.specs.declared.source.Source as source
 use Rattle.flac_bits.specs.declared.why.Why.{Why}
@@ -20,14 +20,17 @@ use Rattle.flac_ogg.proofs.LaxProfile as ogg
 use Rattle.flac_ogg.specs.Either.{begins_page, read_any}
 use Rattle.flac_shelf.specs.Listed.{Contents, Listed, Opens}
 use Rattle.flac_cli.specs.Outcomes.{Outcome, Fits, Reads, IsOutOfMemory, IsReadAs, input_reading}
-use Rattle.flac_cli.specs.Verified.{asked_profile, info_in, Describes, IsStreamOf, IsOutside, IsFinding, HasNoMemory}
-use Rattle.flac_cli.specs.inner.Taking.{frames_after, samples_after, info_after_item}
+use Rattle.flac_cli.specs.Counted.{samples_in_all, printed}
+use Rattle.flac_cli.specs.Verified.{asked_profile, info_in, Describes, IsStreamOf, IsRefusedAs, IsOutside, IsFinding, HasNoMemory}
+use Rattle.flac_cli.specs.inner.Taking.{frames_after, samples_after, info_after_item, IsRefusedBy}
 use Rattle.flac_cli.specs.Streams.{Tells}
-use Rattle.flac_cli.specs.inner.Verifying.{IsReading, IsReadingOutside, Stays}
+use Rattle.flac_cli.specs.inner.Verifying.{IsFlaw, IsReading, IsReadingOutside, Stays}
 use Rattle.flac_cli.specs.declared.verify_facts.Facts.{Facts}
+use Rattle.flac_cli.specs.declared.verify_facts.Flaw.{Flaw}
 use Rattle.flac_cli.specs.declared.verify.Finding.{Finding}
 use Rattle.flac_cli.specs.declared.verify.Finding.TheVariants.{Good, Bad, Unopened}
 use Rattle.flac_cli.proofs.Counting.{Counts, counted_from_none}
+use Rattle.flac_cli.proofs.Reported.{memory_or_not}
 
 -- ---- readings
 
@@ -111,18 +114,22 @@ same_bool true false p q = sym (q.1 (p.0 refl))
 same_bool false true p q = p.1 (q.0 refl)
 
 -- the facts of parts are determined
-same_facts : (parts : List Piece) (f g : Facts) → Describes parts f → Describes parts g → f.outside ≡ g.outside → f ≡ g
-same_facts parts f g df dg outside =
+same_facts : (parts : List Piece) (f g : Facts) → Describes parts f → Describes parts g → f.is_ogg ≡ g.is_ogg → f.outside ≡ g.outside → f ≡ g
+same_facts parts f g df dg container outside =
     let frames : f.counts.frames ≡ g.counts.frames = df.frames ∙ sym dg.frames in
     let samples : f.counts.samples ≡ g.counts.samples = df.samples ∙ sym dg.samples in
     let info : f.info ≡ g.info = df.info ∙ sym dg.info in
-    ap (λ n. record { counts = record { frames = n; samples = f.counts.samples }; info = f.info; outside = f.outside }) frames
-    ∙ ap (λ n. record { counts = record { frames = g.counts.frames; samples = n }; info = f.info; outside = f.outside }) samples
-    ∙ ap (λ i. record { counts = g.counts; info = i; outside = f.outside }) info
-    ∙ ap (λ o. record { counts = g.counts; info = g.info; outside = o }) outside
+    ap (λ n. record { counts = record { frames = n; samples = f.counts.samples }; info = f.info; is_ogg = f.is_ogg; outside = f.outside }) frames
+    ∙ ap (λ n. record { counts = record { frames = g.counts.frames; samples = n }; info = f.info; is_ogg = f.is_ogg; outside = f.outside }) samples
+    ∙ ap (λ i. record { counts = g.counts; info = i; is_ogg = f.is_ogg; outside = f.outside }) info
+    ∙ ap (λ o. record { counts = g.counts; info = g.info; is_ogg = o; outside = f.outside }) container
+    ∙ ap (λ o. record { counts = g.counts; info = g.info; is_ogg = g.is_ogg; outside = o }) outside
 
 same_fault : (f g : Fault) → f.at ≡ g.at → f.why ≡ g.why → f ≡ g
 same_fault f g at why = ap (λ a. record { at = a; why = f.why }) at ∙ ap (λ w. record { at = g.at; why = w }) why
+
+same_flaw : (f g : Flaw) → f.fault ≡ g.fault → f.samples ≡ g.samples → f ≡ g
+same_flaw f g fault samples = ap (λ x. record { fault = x; samples = f.samples }) fault ∙ ap (λ n. record { fault = g.fault; samples = n }) samples
 
 -- the reason and the place of an outcome that has them
 abbrev why_in : Why → Outcome → Why
@@ -143,33 +150,35 @@ module _ (subset : Bool) (of : Contents) where
     where
       only : (other : Finding) → IsFinding subset (Some of) other → HasNoMemory (Good facts) ⊎ (Good facts ≡ other)
       only (Good more) w =
-          let parts = (once_read (asked_profile subset) of).streams w.0.0 is.0 w.0.1 is.1 in
-          inr (ap Good (same_facts is.0 facts more is.2 (subst (λ ps. Describes ps more) parts w.0.2) (same_bool facts.outside more.outside outside w.1)))
-      only (Bad fault) w = absurd ((once_read (asked_profile subset) of).either is.0 w.2.0 w.0 fault.why is.1 w.2.1)
+          let parts = (once_read (asked_profile subset) of).streams w.0.0.0 is.0.0 w.0.0.1 is.0.1 in
+          inr (ap Good (same_facts is.0.0 facts more is.0.2 (subst (λ ps. Describes ps more) parts w.0.0.2) (is.1 ∙ sym w.0.1) (same_bool facts.outside more.outside outside w.1)))
+      only (Bad flaw) w = absurd ((once_read (asked_profile subset) of).either is.0.0 w.0 flaw.fault.at flaw.fault.why is.0.1 w.1)
       only Unopened w = absurd w
 
   -- it was refused
-  pub bad_fits : (fault : Fault) → Fits IsOutOfMemory (Reads (asked_profile subset) of.bytes of.after) (Some (Some fault.at, fault.why)) → Fits HasNoMemory (IsFinding subset (Some of)) (Bad fault)
-  bad_fits fault fits = record {
-    right = elim fits.right [ inl out ↦ inl (out_of out) | inr is ↦ inr is ];
+  pub bad_fits : (flaw : Flaw) → IsFlaw (asked_profile subset) of flaw → Fits HasNoMemory (IsFinding subset (Some of)) (Bad flaw)
+  bad_fits flaw is = record {
+    right = elim (memory_or_not flaw.fault.why) [ inl out ↦ inl out | inr calm ↦ inr (is.samples calm) ];
     each = only;
   }
     where
-      out_of : IsOutOfMemory (Some (Some fault.at, fault.why)) → fault.why ≡ why.Memory
+      out_of : IsOutOfMemory (Some (Some flaw.fault.at, flaw.fault.why)) → flaw.fault.why ≡ why.Memory
       out_of out = ap (why_in why.Memory) out.1
 
-      only : (other : Finding) → IsFinding subset (Some of) other → HasNoMemory (Bad fault) ⊎ (Bad fault ≡ other)
-      only (Good facts) w = elim (fits.each None (w.0.0, w.0.1)) [ inl out ↦ inl (out_of out) | inr e ↦ absurd cc ]
-      only (Bad more) w = elim (fits.each (Some (Some more.at, more.why)) w) [
-        | inl out ↦ inl (out_of out)
-        | inr e ↦
-            inr (ap Bad (same_fault fault more (ap (place_in fault.at) e) (ap (why_in fault.why) e)))
-      ]
+      by_reading : (more : Flaw) → flaw.fault.why ≢ why.Memory → IsRefusedAs (asked_profile subset) of more → flaw ≡ more
+      by_reading more calm w =
+          let own = is.samples calm in
+          let same = (once_read (asked_profile subset) of).refusals own.0 w.0 flaw.fault.at more.fault.at flaw.fault.why more.fault.why own.1 w.1 in
+          same_flaw flaw more (same_fault flaw.fault more.fault same.1 same.2) (own.2 ∙ ap (λ ps. printed (samples_in_all ps)) same.0 ∙ sym w.2)
+
+      only : (other : Finding) → IsFinding subset (Some of) other → HasNoMemory (Bad flaw) ⊎ (Bad flaw ≡ other)
+      only (Good facts) w = elim (is.fits.each None (w.0.0.0, w.0.0.1)) [ inl out ↦ inl (out_of out) | inr e ↦ absurd cc ]
+      only (Bad more) w = elim (memory_or_not flaw.fault.why) [ inl out ↦ inl out | inr calm ↦ inr (ap Bad (by_reading more calm w)) ]
       only Unopened w = absurd w
 
 -- memory ran out
-pub memory_fits : (subset : Bool) (contents : Option Contents) (fault : Fault) → fault.why ≡ why.Memory → Fits HasNoMemory (IsFinding subset contents) (Bad fault)
-memory_fits subset contents fault is = record {
+pub memory_fits : (subset : Bool) (contents : Option Contents) (flaw : Flaw) → flaw.fault.why ≡ why.Memory → Fits HasNoMemory (IsFinding subset contents) (Bad flaw)
+memory_fits subset contents flaw is = record {
   right = inl is;
   each = λ other w. inl is;
 }
@@ -183,23 +192,23 @@ unopened_fits subset = record {
   where
     only : (other : Finding) → IsFinding subset None other → HasNoMemory Unopened ⊎ (Unopened ≡ other)
     only (Good facts) w = absurd w
-    only (Bad fault) w = absurd w
+    only (Bad flaw) w = absurd w
     only Unopened w = inr refl
 
 -- One reading in the profile that is asked for finds what the file is, if the file is not looked at again.
 pub read_fits : (subset : Bool) (contents : Option Contents) (finding : Finding) → IsReading (asked_profile subset) contents finding → ((of : Contents) → contents ≡ Some of → IsOutside subset of → ⊥) → Fits HasNoMemory (IsFinding subset contents) finding
 read_fits subset None (Good facts) w never = absurd w
-read_fits subset None (Bad fault) w never = absurd w
+read_fits subset None (Bad flaw) w never = absurd w
 read_fits subset None Unopened w never = unopened_fits subset
 read_fits subset (Some of) (Good facts) w never = good_fits subset of facts w.0 ((λ holds. not_true facts.outside w.1 holds), (λ out. absurd (never of refl out)))
-read_fits subset (Some of) (Bad fault) w never = bad_fits subset of fault w
+read_fits subset (Some of) (Bad flaw) w never = bad_fits subset of flaw w
 read_fits subset (Some of) Unopened w never = absurd w
 
 -- A stream of the subset is one of all of FLAC, and is not outside.
 inside_fits : (of : Contents) (facts : Facts) → IsStreamOf Subset of facts → facts.outside ≡ false → Fits HasNoMemory (IsFinding false (Some of)) (Good facts)
 inside_fits of facts is fails =
-    good_fits false of facts (is.0, lax_read of is.0 is.1, is.2)
-    ((λ holds. not_true facts.outside fails holds), (λ out. absurd (out.outside (is.0, is.1))))
+    good_fits false of facts ((is.0.0, lax_read of is.0.0 is.0.1, is.0.2), is.1)
+    ((λ holds. not_true facts.outside fails holds), (λ out. absurd (out.outside (is.0.0, is.0.1))))
 
 pub first_good : (contents : Option Contents) (facts : Facts) → IsReading Subset contents (Good facts) → Fits HasNoMemory (IsFinding false contents) (Good facts)
 first_good None facts w = absurd w
@@ -210,19 +219,19 @@ first_unopened None w = unopened_fits false
 first_unopened (Some of) w = absurd w
 
 -- What the subset refuses is no stream of it.
-refused_is_outside : (of : Contents) (fault : Fault) → Fits IsOutOfMemory (Reads Subset of.bytes of.after) (Some (Some fault.at, fault.why)) → fault.why ≢ why.Memory → Reads Subset of.bytes of.after None → ⊥
-refused_is_outside of fault fits calm whole = elim (fits.each None whole) [
+refused_is_outside : (of : Contents) (flaw : Flaw) → IsFlaw Subset of flaw → flaw.fault.why ≢ why.Memory → Reads Subset of.bytes of.after None → ⊥
+refused_is_outside of flaw is calm whole = elim (is.fits.each None whole) [
   | inl out ↦ calm (ap (why_in why.Memory) out.1)
   | inr e ↦ absurd cc
 ]
 
 -- After a refusal in the subset, a reading of all of FLAC finds what the file is.
-pub again_fits : (contents : Option Contents) (first : Fault) (finding : Finding) → IsReading Subset contents (Bad first) → first.why ≢ why.Memory → ((of : Contents) → contents ≡ Some of → of.again ≡ true) → IsReadingOutside contents finding → Fits HasNoMemory (IsFinding false contents) finding
+pub again_fits : (contents : Option Contents) (first : Flaw) (finding : Finding) → IsReading Subset contents (Bad first) → first.fault.why ≢ why.Memory → ((of : Contents) → contents ≡ Some of → of.again ≡ true) → IsReadingOutside contents finding → Fits HasNoMemory (IsFinding false contents) finding
 again_fits None first finding w calm again r = absurd w
 again_fits (Some of) first (Good facts) w calm again r =
     let out : IsOutside false of = record { asked = refl; again = again of refl; outside = refused_is_outside of first w calm } in
     good_fits false of facts r.0 ((λ holds. out), (λ o. r.1))
-again_fits (Some of) first (Bad fault) w calm again r = bad_fits false of fault r
+again_fits (Some of) first (Bad flaw) w calm again r = bad_fits false of flaw r
 again_fits (Some of) first Unopened w calm again r = absurd r
 
 pub strict_fits : (subset : Bool) (contents : Option Contents) (finding : Finding) → subset ≡ true → IsReading Subset contents finding → Fits HasNoMemory (IsFinding subset contents) finding
@@ -253,28 +262,34 @@ module _ {F : Type 0} (g : source.Ghosts F) where
   pub tells_opened : {contents : Option Contents} {file read : F} → Opens g contents file → (g.errors read ≡ 0) × (g.raised read ≡ 0) → Tells g file read
   tells_opened o calm = (o.known, calm.0 ∙ sym o.errors, calm.1 ∙ sym o.raised)
 
-  pub good_reading : {contents : Option Contents} {file : F} (profile : Profile) (facts : Facts) → Opens g contents file → IsReadAs g profile file (λ parts. Describes parts facts) → facts.outside ≡ false → IsReading profile contents (Good facts)
-  good_reading {file = file} profile facts o is inside =
-      let after = subst (λ a. (input_reading profile (g.coming file) a).whole is.0) o.after is.1 in
-      let whole = subst (λ b. (input_reading profile b o.of.after).whole is.0) o.coming after in
-      subst (λ k. IsReading profile k (Good facts)) (sym o.is) ((is.0, whole, is.2), inside)
+  -- the bytes of a file, and what comes after them, are those that its source has to come
+  opened_as : {contents : Option Contents} {file : F} (Says : List ℕ → After → Type 0) (o : Opens g contents file) → Says (g.coming file) (g.after file) → Says o.of.bytes o.of.after
+  opened_as {file = file} Says o is = subst (λ b. Says b o.of.after) o.coming (subst (λ a. Says (g.coming file) a) o.after is)
 
-  pub bad_reading : {contents : Option Contents} {file : F} (profile : Profile) (fault : Fault) → Opens g contents file → Fits IsOutOfMemory (Reads profile (g.coming file) (g.after file)) (Some (Some fault.at, fault.why)) → IsReading profile contents (Bad fault)
-  bad_reading {file = file} profile fault o fits =
-      let after = subst (λ a. Fits IsOutOfMemory (Reads profile (g.coming file) a) (Some (Some fault.at, fault.why))) o.after fits in
-      let all = subst (λ b. Fits IsOutOfMemory (Reads profile b o.of.after) (Some (Some fault.at, fault.why))) o.coming after in
-      subst (λ k. IsReading profile k (Bad fault)) (sym o.is) all
+  pub good_reading : {contents : Option Contents} {file : F} (profile : Profile) (facts : Facts) → Opens g contents file → IsReadAs g profile file (λ parts. Describes parts facts) → facts.is_ogg ≡ begins_page (g.coming file) → facts.outside ≡ false → IsReading profile contents (Good facts)
+  good_reading profile facts o is container inside =
+      let parts = opened_as (λ b a. (ps : List Piece) × (input_reading profile b a).whole ps × Describes ps facts) o is in
+      subst (λ k. IsReading profile k (Good facts)) (sym o.is) ((parts, container ∙ ap begins_page o.coming), inside)
+
+  pub bad_reading : {contents : Option Contents} {file : F} (profile : Profile) (flaw : Flaw) → Opens g contents file → Fits IsOutOfMemory (Reads profile (g.coming file) (g.after file)) (Some (Some flaw.fault.at, flaw.fault.why))
+      → (flaw.fault.why ≢ why.Memory → IsRefusedBy g profile file flaw) → IsReading profile contents (Bad flaw)
+  bad_reading profile flaw o fits samples =
+      subst (λ k. IsReading profile k (Bad flaw)) (sym o.is)
+      (record {
+        fits = opened_as (λ b a. Fits IsOutOfMemory (Reads profile b a) (Some (Some flaw.fault.at, flaw.fault.why))) o fits;
+        samples = λ calm. opened_as (λ b a. (ps : List Piece) × (input_reading profile b a).refused ps flaw.fault.at flaw.fault.why × (flaw.samples ≡ printed (samples_in_all ps))) o (samples calm);
+      })
 
 pub unopened_reading : {contents : Option Contents} (profile : Profile) → contents ≡ None → IsReading profile contents Unopened
 unopened_reading profile is = subst (λ k. IsReading profile k Unopened) (sym is) tt
 
 pub outside_good : (contents : Option Contents) (facts : Facts) → IsReading Lax contents (Good facts) → IsReadingOutside contents (Good (record facts { outside = true }))
 outside_good None facts w = absurd w
-outside_good (Some of) facts w = ((w.0.0, w.0.1, record { frames = w.0.2.frames; samples = w.0.2.samples; info = w.0.2.info }), refl)
+outside_good (Some of) facts w = (((w.0.0.0, w.0.0.1, record { frames = w.0.0.2.frames; samples = w.0.0.2.samples; info = w.0.0.2.info }), w.0.1), refl)
 
-pub outside_bad : (contents : Option Contents) (fault : Fault) → IsReading Lax contents (Bad fault) → IsReadingOutside contents (Bad fault)
-outside_bad None fault w = absurd w
-outside_bad (Some of) fault w = w
+pub outside_bad : (contents : Option Contents) (flaw : Flaw) → IsReading Lax contents (Bad flaw) → IsReadingOutside contents (Bad flaw)
+outside_bad None flaw w = absurd w
+outside_bad (Some of) flaw w = w
 
 pub outside_unopened : (contents : Option Contents) → IsReading Lax contents Unopened → IsReadingOutside contents Unopened
 outside_unopened None w = tt

@@ -13,7 +13,7 @@ use Rattle.flac_wave.specs.Shift.{wave_width_of}
 use Rattle.flac_wave.specs.Wave.{Parts}
 use Rattle.flac_cli.specs.Asked.{Asked}
 use Rattle.flac_cli.specs.Encoded.{cut_as}
-use Rattle.flac_cli.specs.Raw.{IsRaw, raw_sound}
+use Rattle.flac_raw.specs.Raw.{IsRaw, raw_sound}
 use Rattle.flac_cli.specs.Refusals.{raw_fault}
 use Rattle.flac_cli.specs.WaveRefusals.{IsFileReason, IsOutside}
 use Rattle.flac_cli.specs.Waves.{stream_samples, format_with, format_as, blocks_for, contents}

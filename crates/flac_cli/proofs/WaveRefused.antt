@@ -20,7 +20,7 @@ use Rattle.flac_cli.specs.Asked.{Asked}
 use Rattle.flac_cli.specs.Encoded.{cut_as}
 use Rattle.flac_cli.specs.Predictors.{AreListed}
 use Rattle.flac_cli.specs.inner.Predictors.{IsWrongLine}
-use Rattle.flac_cli.specs.Raw.{IsRaw, raw_sound}
+use Rattle.flac_raw.specs.Raw.{IsRaw, raw_sound}
 use Rattle.flac_cli.specs.Refusals.{raw_fault, stream_fault, refusal_of, IsOutside as IsOutsideOf}
 use Rattle.flac_cli.specs.Reports.{Files, fault_line}
 use Rattle.flac_cli.specs.WaveRefusals.{samples_refusal, file_refusal, IsFileReason, IsWaveReason, refusal_of_wave, IsOutside, wave_path, wave_text, IsWaveReport}

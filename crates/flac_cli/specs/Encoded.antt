@@ -15,7 +15,7 @@ use Rattle.flac_ogg.specs.Writing.{EncodesOgg, BeginsOgg}
 use Rattle.flac_predict.specs.Found.{AllBegin}
 use Rattle.flac_cli.specs.Asked.{Asked}
 use Rattle.flac_cli.specs.Predictors.{AreListed}
-use Rattle.flac_cli.specs.Raw.{IsRaw}
+use Rattle.flac_raw.specs.Raw.{IsRaw}
 use Rattle.flac_cli.specs.Samples.{all_samples}
 use Rattle.flac_cli.specs.Streams.{profile_of}
 use Rattle.flac_cli.specs.declared.dispatch.Task.{Task}

@@ -1,5 +1,8 @@
 pub mod Asked
 pub mod Calls
+pub mod ChainDecoded
+pub mod ChainFormats
+pub mod Chains
 pub mod Changes
 pub mod Copies
 pub mod Counted
@@ -15,7 +18,6 @@ pub mod Objects
 pub mod OggEdits
 pub mod Outcomes
 pub mod Predictors
-pub mod Raw
 pub mod RecodeRefusals
 pub mod Recoded
 pub mod Refusals
@@ -35,5 +37,6 @@ pub mod Twice
 pub mod Verified
 pub mod Verifies
 pub mod WaveRefusals
+pub mod WaveTwice
 pub mod Waves
 pub mod inner

@@ -1,22 +1,26 @@
 -- What `flac verify --all` says of a file that is refused: which samples of its stream are missing, and where.
 use Rattle.std.specs.Prelude.{◌≡◌, ◌⊎◌, ⊤, ℕ, Bool, true, false, List, [], ◌∷◌, ◌++◌, codes, Option, Some, None}
 use Rattle.flac_bits.specs.declared.why.Why.TheVariants as why
-use Rattle.flac_rescue.specs.Report.{report_text}
+use Rattle.flac_rescue.specs.Placed.{left_text}
 use Rattle.flac_rescue.specs.Survey.{IsSurvey, IsSurveyFault}
 use Rattle.flac_rescue.specs.declared.survey.Survey.{Survey}
 use Rattle.flac_rescue.specs.declared.survey.SurveyFault.{SurveyFault}
 use Rattle.flac_rescue.specs.declared.survey.SurveyFault.TheVariants.{Head, Memory, Unordered}
+use Rattle.flac_whole_pages.specs.Left.{IsNativeLeft}
+use Rattle.flac_whole_pages.specs.declared.left.Left.{Left}
 use Rattle.flac_shelf.specs.Listed.{Contents, Listed}
 use Rattle.flac_shelf.specs.Shown.{shown}
 use Rattle.flac_cli.specs.Verified.{bad_of, file_line}
 use Rattle.flac_cli.specs.declared.verify.Finding.{Finding}
 use Rattle.flac_cli.specs.declared.verify.Finding.TheVariants.{Good, Bad, Unopened}
 
--- these lines are those of a survey of a native stream of these bytes
+-- these lines are those of a survey of the native stream that is left in these bytes
 pub record IsSurveyed (path bytes text : List ℕ) : Type 0 where
+  pub left : Left
+  pub native : IsNativeLeft bytes left
   pub survey : Survey
-  pub is : IsSurvey bytes survey
-  pub lines : text ≡ report_text (shown path) survey
+  pub is : IsSurvey left.bytes.items survey
+  pub lines : text ≡ left_text (shown path) left survey
 
 -- memory ran out in a survey, which no bytes show
 abbrev pub IsOutOfMemory : SurveyFault → Type 0
@@ -24,11 +28,13 @@ IsOutOfMemory (Head fault) = fault.why ≡ why.Memory
 IsOutOfMemory Memory = ⊤
 IsOutOfMemory Unordered = ⊥
 
--- These bytes are refused by a survey, by what they are: the marker or a metadata block is refused, or too many frames
+-- What is left of a stream in these bytes is refused by a survey, by what they are: the marker or a metadata block is refused, or too many frames
 -- are out of order.
 pub record AreUnlisted (bytes : List ℕ) : Type 0 where
+  pub left : Left
+  pub native : IsNativeLeft bytes left
   pub fault : SurveyFault
-  pub is : IsSurveyFault bytes fault
+  pub is : IsSurveyFault left.bytes.items fault
   pub shown : IsOutOfMemory fault → ⊥
 
 -- the line of a file of which it is not said what is missing, and that of one for which memory ran out
@@ -56,7 +62,7 @@ IsListing path (Some of) text = IsSaidIf of.again path of.bytes text
 -- it is said of a file that is refused, if all is asked for
 abbrev pub asks_missing : (all : Bool) → Finding → Bool
 asks_missing all (Good facts) = false
-asks_missing all (Bad fault) = all
+asks_missing all (Bad flaw) = all
 asks_missing all Unopened = false
 
 abbrev pub IsMissingIf : (asked : Bool) → Listed → (text : List ℕ) → Type 0

@@ -4,7 +4,6 @@ use Rattle.std.specs.Option.{option_or}
 use Rattle.flac_bits.specs.State.{After}
 use Rattle.flac_bits.specs.declared.source.Source as source
 use Rattle.flac_bits.specs.declared.target.Target as target
-use Rattle.flac_bits.specs.declared.why.Why.{Why}
 use Rattle.flac_bits.specs.declared.why.Why.TheVariants as why
 use Rattle.flac_info.specs.Info.{Info}
 use Rattle.flac_meta.specs.Listed.{list_fault, info_seen}

@@ -1,5 +1,5 @@
 -- Which raw samples cannot be encoded as asked for, and for which first reason.
-use Rattle.std.specs.Prelude.{◌≡◌, ◌⊎◌, ◌*◌, ◌%◌, ◌&&◌, not, is_some, ℕ, nat_eq, cond, List, length, codes, Err, Option, Some, None, option_map}
+use Rattle.std.specs.Prelude.{◌≡◌, ◌⊎◌, ◌&&◌, not, is_some, ℕ, cond, List, codes, Err, Option, Some, None, option_map}
 use Rattle.std.specs.Option.{option_or}
 use Rattle.flac_bits.specs.Reasons as reasons
 use Rattle.flac_bits.specs.declared.why.Why.TheVariants as why
@@ -7,11 +7,8 @@ use Rattle.flac_header.specs.declared.subset.Profile.{Profile}
 use Rattle.flac_meta.specs.Listed.{list_fault, info_seen}
 use Rattle.flac_meta.specs.declared.block.Block.{Block}
 use Rattle.flac_subframe.specs.declared.format.linear.LinearPredictor.{LinearPredictor}
-use Rattle.flac_frame.specs.Audio.{audio_fault}
 use Rattle.flac_frame.specs.Setup as setup
-use Rattle.flac_frame.specs.declared.setup.SetupFault.{SetupFault}
 use Rattle.flac_native.specs.Given.{Cut, plan_fault}
-use Rattle.flac_native.specs.Message.{sample_width}
 use Rattle.flac_native.specs.Numbers as numbers
 use Rattle.flac_native.specs.Seeking.{repeats_table}
 use Rattle.flac_native.specs.declared.fault.EncodeFault.{EncodeFault}
@@ -20,7 +17,10 @@ use Rattle.flac_ogg.specs.Writing.{may_be_ogg}
 use Rattle.flac_cli.specs.Asked.{Asked}
 use Rattle.flac_cli.specs.Encoded.{comment_list, cut_as}
 use Rattle.flac_cli.specs.Predictors.{predictors_in, AreListed}
-use Rattle.flac_cli.specs.Raw.{raw_channels, raw_sound}
+use Rattle.flac_raw.specs.Faults as samples
+use Rattle.flac_raw.specs.Raw.{raw_sound}
+use Rattle.flac_raw.specs.declared.raw_fault.RawFault.{RawFault}
+use Rattle.flac_raw.specs.declared.raw_fault.RawFault.TheVariants as raw
 use Rattle.flac_cli.specs.declared.encode.Refusal.{Refusal}
 use Rattle.flac_cli.specs.declared.predictors.ListFault.{ListFault}
 use Rattle.flac_cli.specs.declared.predictors.ListFault.TheVariants as faults
@@ -30,23 +30,21 @@ use Rattle.flac_jobs.specs.declared.formats.RawFormat.{RawFormat}
 use Rattle.flac_jobs.specs.declared.formats.ContainerKind.{ContainerKind}
 use Rattle.flac_jobs.specs.declared.formats.ContainerKind.TheVariants as container
 
--- Why samples of this format cannot be encoded, whatever they are: the rate, the depth or the number of channels.
-abbrev pub format_fault : Profile → RawFormat → Option SetupFault
-format_fault profile format = setup.format_fault profile format.rate format.bits format.channels
+-- the reason for which bytes are no samples, as the program has it
+abbrev pub refusal_as : RawFault → Refusal
+refusal_as (raw.Input why) = Input why
+refusal_as (raw.Setup fault) = Setup fault
+refusal_as raw.RawLength = RawLength
 
--- Why these bytes are no samples of this format: the format, then their number, then the samples.
-unfoldable pub raw_fault : Profile → RawFormat → (bytes : List ℕ) → Option Refusal
-raw_fault profile format bytes =
-    option_or (option_map Setup (format_fault profile format))
-    (cond (nat_eq (length bytes % (format.channels * sample_width format.bits)) 0)
-    (option_map Setup (audio_fault profile format.rate format.bits (raw_channels format.channels (sample_width format.bits) bytes)))
-    (Some RawLength))
+-- why these bytes are no samples of this format
+abbrev pub raw_fault : Profile → RawFormat → (bytes : List ℕ) → Option Refusal
+raw_fault profile format bytes = option_map refusal_as (samples.raw_fault profile format bytes)
 
 -- Why these bytes are not taken as such samples: the format; then, unless any bytes are taken, that they begin as a
 -- file that may hold a song, which would become noise; then their number and the samples.
 unfoldable pub input_fault : Asked → (bytes : List ℕ) → Option Refusal
 input_fault asked bytes =
-    option_or (option_map Setup (format_fault asked.profile asked.format))
+    option_or (option_map Setup (samples.format_fault asked.profile asked.format))
     (cond (not asked.any && is_some (file_kind bytes)) (Some NotRaw)
     (raw_fault asked.profile asked.format bytes))
 

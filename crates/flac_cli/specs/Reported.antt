@@ -4,15 +4,15 @@ use Rattle.flac_bits.specs.Reasons.{number_of, text_of}
 use Rattle.flac_bits.specs.declared.why.Why.{Why}
 use Rattle.flac_info.specs.Info.{Info}
 use Rattle.flac_native.specs.Places.{kind_name}
-use Rattle.flac_native.specs.declared.fault.Fault.{Fault}
 use Rattle.flac_native.specs.declared.fault.Place.{Place}
 use Rattle.flac_native.specs.declared.fault.Place.TheVariants as place
 use Rattle.flac_shelf.specs.Listed.{Contents, Listed}
 use Rattle.flac_shelf.specs.declared.stamp.Stamp.{Stamp}
-use Rattle.flac_report.specs.Entries.{GoodFile, BadFile, Found, good, bad, unopened, Entry, line_of}
+use Rattle.flac_report.specs.Entries.{Container, native, ogg, GoodFile, BadFile, Found, good, bad, unopened, Entry, line_of}
 use Rattle.flac_cli.specs.Changes.{stated}
 use Rattle.flac_cli.specs.Verified.{lacks_digest}
 use Rattle.flac_cli.specs.declared.verify_facts.Facts.{Facts}
+use Rattle.flac_cli.specs.declared.verify_facts.Flaw.{Flaw}
 use Rattle.flac_cli.specs.declared.verify.Finding.{Finding}
 use Rattle.flac_cli.specs.declared.verify.Finding.TheVariants.{Good, Bad, Unopened}
 
@@ -41,8 +41,13 @@ subset_of is_sought true = Some false
 subset_of true false = Some true
 subset_of false false = None
 
-abbrev pub good_file : (is_sought : Bool) → Facts → GoodFile
-good_file is_sought facts = record {
+-- the container of a stream (sections 6 and 10.1)
+abbrev pub container_in : (is_ogg : Bool) → Container
+container_in is_ogg = cond is_ogg ogg native
+
+abbrev pub good_file : (is_sought : Bool) → (tagged : Option Bool) → Facts → GoodFile
+good_file is_sought tagged facts = record {
+  container = Some (container_in facts.is_ogg);
   rate = rate_of facts.info;
   channels = channels_of facts.info;
   depth = depth_of facts.info;
@@ -51,6 +56,7 @@ good_file is_sought facts = record {
   digest = digest_of facts.info;
   checked = not (lacks_digest facts.info);
   subset = subset_of is_sought facts.outside;
+  id3 = tagged;
 }
 
 -- ---- where and why a file is refused
@@ -67,19 +73,26 @@ index_of place.End = None
 abbrev pub name_of : Why → List ℕ
 name_of why = drop (cond (nat_lt (number_of why) 10) 2 3) (text_of why)
 
-abbrev pub bad_file : Fault → BadFile
-bad_file fault = record { place = kind_name fault.at; index = index_of fault.at; error = number_of fault.why; name = name_of fault.why }
+-- and the number of the first sample that was not decoded
+abbrev pub bad_file : Flaw → BadFile
+bad_file flaw = record {
+  place = kind_name flaw.fault.at;
+  index = index_of flaw.fault.at;
+  error = number_of flaw.fault.why;
+  name = name_of flaw.fault.why;
+  sample = Some flaw.samples;
+}
 
 -- ---- what is said of a file
 
-abbrev pub found_of : (is_sought : Bool) → Finding → Found
-found_of is_sought (Good facts) = good (good_file is_sought facts)
-found_of is_sought (Bad fault) = bad (bad_file fault)
-found_of is_sought Unopened = unopened
+abbrev pub found_of : (is_sought : Bool) → (tagged : Option Bool) → Finding → Found
+found_of is_sought tagged (Good facts) = good (good_file is_sought tagged facts)
+found_of is_sought tagged (Bad flaw) = bad (bad_file flaw)
+found_of is_sought tagged Unopened = unopened
 
 -- its path, its size and its time, and what was found
-abbrev pub entry_of : (path : List ℕ) → Stamp → (is_sought : Bool) → Finding → Entry
-entry_of path stamp is_sought finding = record { path = path; stamp = stamp; found = found_of is_sought finding }
+abbrev pub entry_of : (path : List ℕ) → Stamp → (is_sought : Bool) → (tagged : Option Bool) → Finding → Entry
+entry_of path stamp is_sought tagged finding = record { path = path; stamp = stamp; found = found_of is_sought tagged finding }
 
 -- Whether it is looked for that a stream is in the streamable subset: if only that is asked for, or the file can be
 -- read again.
@@ -88,7 +101,7 @@ is_sought_in subset None = subset
 is_sought_in subset (Some of) = subset || of.again
 
 abbrev pub report_entry : (subset : Bool) → Listed → Finding → Entry
-report_entry subset file finding = entry_of file.path file.stamp (is_sought_in subset file.contents) finding
+report_entry subset file finding = entry_of file.path file.stamp (is_sought_in subset file.contents) file.tagged finding
 
 -- of all files, in order
 abbrev pub report_entries : (subset : Bool) → List Listed → List Finding → List Entry

@@ -1,4 +1,4 @@
--- What `flac salvage` writes of what is left of a native stream, and what it reports.
+-- What `flac salvage` writes of what is left of a stream, and what it reports.
 use Rattle.std.specs.Prelude.{◌≡◌, ◌⊎◌, ◌&&◌, ℕ, ℤ, Bool, true, false, not, nat_lt, cond, List, [], ◌∷◌, ◌++◌, Option, Some, None, option_map}
 use Rattle.std.specs.List.{filter}
 use Rattle.flac_bits.specs.State.{After}
@@ -9,7 +9,7 @@ use Rattle.flac_frame.specs.declared.setup.SetupFault.TheVariants as setup
 use Rattle.flac_meta.specs.declared.block.Block.{Block}
 use Rattle.flac_meta.specs.declared.block.Block.TheVariants as block_of
 use Rattle.flac_native.specs.declared.fault.Place.{Place}
-use Rattle.flac_rescue.specs.Report.{report_text}
+use Rattle.flac_rescue.specs.Placed.{left_text}
 use Rattle.flac_rescue.specs.Salvaged.{AreSalvaged, is_too_long}
 use Rattle.flac_rescue.specs.Survey.{IsSurvey, IsSurveyFault}
 use Rattle.flac_rescue.specs.declared.missing.Gap.{Gap}
@@ -18,6 +18,8 @@ use Rattle.flac_rescue.specs.declared.salvage.SalvageFault.TheVariants as salvag
 use Rattle.flac_rescue.specs.declared.survey.Survey.{Survey}
 use Rattle.flac_rescue.specs.declared.survey.SurveyFault.{SurveyFault}
 use Rattle.flac_rescue.specs.declared.survey.SurveyFault.TheVariants as surveying
+use Rattle.flac_whole_pages.specs.Left.{IsNativeLeft}
+use Rattle.flac_whole_pages.specs.declared.left.Left.{Left}
 use Rattle.flac_subframe.specs.declared.format.linear.LinearPredictor.{LinearPredictor}
 use Rattle.flac_jobs.specs.Salvages.{recoding_for}
 use Rattle.flac_jobs.specs.declared.salvages.Filling.{Filling}
@@ -104,13 +106,28 @@ pub record BeginsSalvaged (asked : Asked) (silence : Bool) (bytes : List ℕ) (b
 abbrev pub HasBegunSalvaged : Asked → (silence : Bool) → (bytes : List ℕ) → (before after : List Bool) → Type 0
 HasBegunSalvaged asked silence bytes before after = (after ≡ before) ⊎ BeginsSalvaged asked silence bytes before after
 
+-- This holds of the bytes of a native stream that are left in an input: of all of it, or of those that the whole pages of
+-- an Ogg stream hold.
+pub record OfLeft (Says : List ℕ → Type 0) (input : List ℕ) : Type 0 where
+  pub left : Left
+  pub native : IsNativeLeft input left
+  pub says : Says left.bytes.items
+
+-- such a stream was written of what is left in an input
+abbrev pub SalvagesInput : Asked → (silence : Bool) → (input : List ℕ) → (before after : List Bool) → Type 0
+SalvagesInput asked silence input before after = OfLeft (λ bytes. Salvages asked silence bytes before after) input
+
+-- nothing was written, or a prefix of it
+abbrev pub HasBegunInput : Asked → (silence : Bool) → (input : List ℕ) → (before after : List Bool) → Type 0
+HasBegunInput asked silence input before after = (after ≡ before) ⊎ OfLeft (λ bytes. BeginsSalvaged asked silence bytes before after) input
+
 -- what was written is what a salvage asks for of the bytes of the source
 abbrev pub SalvagesFile : {S T : Type 0} (g : source.Ghosts S) (h : target.Ghosts T) → Salvage → (from : S) (old new : T) → Type 0
-SalvagesFile g h s from old new = HasWritten g h from old new (Salvages (salvage_asks s) (fills s.filling))
+SalvagesFile g h s from old new = HasWritten g h from old new (SalvagesInput (salvage_asks s) (fills s.filling))
 
 -- nothing was written, or a prefix of that
 abbrev pub BeginsSalvage : {S T : Type 0} (g : source.Ghosts S) (h : target.Ghosts T) → Salvage → (from : S) (old new : T) → Type 0
-BeginsSalvage g h s from old new = HasWritten g h from old new (HasBegunSalvaged (salvage_asks s) (fills s.filling))
+BeginsSalvage g h s from old new = HasWritten g h from old new (HasBegunInput (salvage_asks s) (fills s.filling))
 
 -- ---- reasons
 
@@ -133,27 +150,33 @@ IsSalvageReason asked silence bytes reason =
     ⊎ (((s : Survey) × IsSurvey bytes s × (is_too_long silence s ≡ true) × (reason ≡ Some (salvage_refusal salvaging.TooLong)))
     ⊎ ((s : Survey) × (list : List Block) × (channels : List (List ℤ)) × IsLeft silence bytes s list channels × (reason ≡ option_map Refused (held_refusal asked [] s.info list channels))))
 
+-- the same of what is left in an input
+abbrev pub IsInputReason : Asked → (silence : Bool) → (input : List ℕ) → Option RecodeRefusal → Type 0
+IsInputReason asked silence input reason = OfLeft (λ bytes. IsSalvageReason asked silence bytes reason) input
+
 -- there is no such reason
-abbrev pub CanBeSalvaged : Asked → Salvage → (bytes : List ℕ) → Type 0
-CanBeSalvaged asked s bytes = IsSalvageReason asked (fills s.filling) bytes None
+abbrev pub CanBeSalvaged : Asked → Salvage → (input : List ℕ) → Type 0
+CanBeSalvaged asked s input = IsInputReason asked (fills s.filling) input None
 
 -- ---- what is printed
 
 -- The line of the first reason was added; or memory ran out, maybe at a place of the stream, and it says that.
-abbrev pub IsSalvageRefusal : Asked → (silence : Bool) → Files → (bytes : List ℕ) → (before after : List ℕ) → Type 0
-IsSalvageRefusal asked silence files bytes before after =
-    ((e : RecodeRefusal) × IsSalvageReason asked silence bytes (Some e) × (after ≡ before ++ fault_line (recode_path files e) (recode_text e)))
+abbrev pub IsSalvageRefusal : Asked → (silence : Bool) → Files → (input : List ℕ) → (before after : List ℕ) → Type 0
+IsSalvageRefusal asked silence files input before after =
+    ((e : RecodeRefusal) × IsInputReason asked silence input (Some e) × (after ≡ before ++ fault_line (recode_path files e) (recode_text e)))
     ⊎ ((at : Option Place) × (after ≡ before ++ fault_line files.input (reason_text at why.Memory)))
 
 -- the same of what is asked for, in the order in which calls name it
 abbrev pub RefusesSalvage : Salvage → List ℕ → After → (before after : List ℕ) → Type 0
-RefusesSalvage s bytes follows before after = IsSalvageRefusal (salvage_asks s) (fills s.filling) (salvage_files s) bytes before after
+RefusesSalvage s input follows before after = IsSalvageRefusal (salvage_asks s) (fills s.filling) (salvage_files s) input before after
 
 -- the lines of what is missing, and nothing else
-pub record TellsLeft (path bytes before after : List ℕ) : Type 0 where
+pub record TellsLeft (path input before after : List ℕ) : Type 0 where
+  pub left : Left
+  pub native : IsNativeLeft input left
   pub survey : Survey
-  pub is : IsSurvey bytes survey
-  pub printed : after ≡ before ++ report_text path survey
+  pub is : IsSurvey left.bytes.items survey
+  pub printed : after ≡ before ++ left_text path left survey
 
 -- if the bytes of the source are known, and standard error did not fail, it got these lines
 abbrev pub TellsMissing : {S E : Type 0} (g : source.Ghosts S) (k : target.Ghosts E) → Salvage → (from : S) (before after : E) → Type 0

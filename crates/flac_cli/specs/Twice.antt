@@ -24,9 +24,9 @@ abbrev pub is_native : ContainerKind → Bool
 is_native container.Native = true
 is_native (container.Ogg serial) = false
 
--- the job encodes raw samples to a native stream
+-- the job encodes raw samples
 abbrev pub is_twice : Job → Bool
-is_twice (job.Encode input output format c comments lax predictors effort raw) = is_native c
+is_twice (job.Encode input output format c comments lax predictors effort raw) = true
 is_twice other = false
 
 -- ---- why it fails

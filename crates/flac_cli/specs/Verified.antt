@@ -10,10 +10,12 @@ use Rattle.flac_shelf.specs.Listed.{Contents, Listed}
 use Rattle.flac_shelf.specs.Shown.{shown}
 use Rattle.flac_cli.specs.Changes.{change_in, is_kept, word_of}
 use Rattle.flac_cli.specs.Counted.{frames_in, samples_in_all, printed}
+use Rattle.flac_ogg.specs.Either.{begins_page}
 use Rattle.flac_cli.specs.Outcomes.{Fits, Reads, input_reading}
 use Rattle.flac_cli.specs.Reports.{fault_line}
 use Rattle.flac_cli.specs.declared.verify_change.Change.{Change}
 use Rattle.flac_cli.specs.declared.verify_facts.Facts.{Facts}
+use Rattle.flac_cli.specs.declared.verify_facts.Flaw.{Flaw}
 use Rattle.flac_cli.specs.declared.verify.Finding.{Finding}
 use Rattle.flac_cli.specs.declared.verify.Finding.TheVariants.{Good, Bad, Unopened}
 
@@ -37,8 +39,19 @@ pub record Describes (parts : List Piece) (facts : Facts) : Type 0 where
   pub info : facts.info ≡ info_in None parts
 
 -- these bytes are a stream in this profile, of parts that these facts describe
+abbrev pub HasParts : Profile → Contents → Facts → Type 0
+HasParts profile of facts = (parts : List Piece) × (input_reading profile of.bytes of.after).whole parts × Describes parts facts
+
+-- They are one in the container that the facts name: Ogg (section 10.1) if the first byte is that of a page, else
+-- native (section 6). `input_reading` reads them so.
 abbrev pub IsStreamOf : Profile → Contents → Facts → Type 0
-IsStreamOf profile of facts = (parts : List Piece) × (input_reading profile of.bytes of.after).whole parts × Describes parts facts
+IsStreamOf profile of facts = HasParts profile of facts × (facts.is_ogg ≡ begins_page of.bytes)
+
+-- These bytes are refused in this profile, at this place and for this reason, after parts of so many samples. So that is
+-- the number of the first sample that was not decoded.
+abbrev pub IsRefusedAs : Profile → Contents → Flaw → Type 0
+IsRefusedAs profile of flaw =
+    (parts : List Piece) × (input_reading profile of.bytes of.after).refused parts flaw.fault.at flaw.fault.why × (flaw.samples ≡ printed (samples_in_all parts))
 
 -- A stream of FLAC that is none of the streamable subset. It is looked for only if all of FLAC is asked for and the
 -- file can be read again.
@@ -47,16 +60,16 @@ pub record IsOutside (subset : Bool) (of : Contents) : Type 0 where
   pub again : of.again ≡ true
   pub outside : Reads Subset of.bytes of.after None → ⊥
 
--- What a file is: a stream, with these facts; refused at this place and for this reason; or it cannot be opened.
+-- What a file is: a stream, with these facts; refused, with this flaw; or it cannot be opened.
 abbrev pub IsFinding : (subset : Bool) → Option Contents → Finding → Type 0
 IsFinding subset None Unopened = Unit {0}
 IsFinding subset (Some of) (Good facts) = IsStreamOf (asked_profile subset) of facts × (facts.outside ≡ true ↔ IsOutside subset of)
-IsFinding subset (Some of) (Bad fault) = Reads (asked_profile subset) of.bytes of.after (Some (Some fault.at, fault.why))
+IsFinding subset (Some of) (Bad flaw) = IsRefusedAs (asked_profile subset) of flaw
 IsFinding subset contents finding = ⊥
 
 -- memory ran out, which no file shows
 abbrev pub HasNoMemory : Finding → Type 0
-HasNoMemory (Bad fault) = fault.why ≡ why.Memory
+HasNoMemory (Bad flaw) = flaw.fault.why ≡ why.Memory
 HasNoMemory other = ⊥
 
 -- the same, and nothing else is, unless memory ran out
@@ -107,34 +120,39 @@ lacks_total (Some info) = nat_eq info.total 0
 abbrev pub word_if : Bool → (word : List ℕ) → List ℕ
 word_if holds word = cond holds word []
 
+-- tags of other programs are around a stream, as far as that was looked for
+abbrev pub is_tagged : (tagged : Option Bool) → Bool
+is_tagged None = false
+is_tagged (Some tagged) = tagged
+
 -- the words after the counts of a stream, the last of which is that of a change
-abbrev pub words_of : Change → Facts → List ℕ
-words_of change facts =
+abbrev pub words_of : Change → (tagged : Option Bool) → Facts → List ℕ
+words_of change tagged facts =
     word_if (lacks_digest facts.info) (codes " no-md5") ++ (word_if (lacks_total facts.info) (codes " no-total") ++ (word_if facts.outside (codes " outside-subset")
-    ++ word_of change))
+    ++ (word_if (is_tagged tagged) (codes " id3") ++ word_of change)))
 
 -- the line of a text about a file, whose path is printed without control characters
 abbrev pub file_line : (path text : List ℕ) → List ℕ
 file_line path text = fault_line (shown path) text
 
 -- the line of a stream: `ok PATH: frames 2 samples 8192 no-md5 same`
-abbrev pub ok_line : (path : List ℕ) → Change → Facts → List ℕ
-ok_line path change facts =
-    codes "ok " ++ (shown path ++ (codes ": frames " ++ (decimal facts.counts.frames ++ (codes " samples " ++ (decimal facts.counts.samples ++ (words_of change facts ++ codes "\n"))))))
+abbrev pub ok_line : (path : List ℕ) → Change → (tagged : Option Bool) → Facts → List ℕ
+ok_line path change tagged facts =
+    codes "ok " ++ (shown path ++ (codes ": frames " ++ (decimal facts.counts.frames ++ (codes " samples " ++ (decimal facts.counts.samples ++ (words_of change tagged facts ++ codes "\n"))))))
 
 -- what a file adds to standard output
-abbrev pub ok_part : (path : List ℕ) → Change → Finding → List ℕ
-ok_part path change (Good facts) = ok_line path change facts
-ok_part path change other = []
+abbrev pub ok_part : (path : List ℕ) → Change → (tagged : Option Bool) → Finding → List ℕ
+ok_part path change tagged (Good facts) = ok_line path change tagged facts
+ok_part path change tagged other = []
 
 -- what a file adds to standard error: the line of its fault, and the word of a change
 abbrev pub bad_part : (path : List ℕ) → Change → Finding → List ℕ
 bad_part path change (Good facts) = []
-bad_part path change (Bad fault) = file_line path (fault_text fault ++ word_of change)
+bad_part path change (Bad flaw) = file_line path (fault_text flaw.fault ++ word_of change)
 bad_part path change Unopened = file_line path (codes "cannot be opened" ++ word_of change)
 
 abbrev pub ok_of : Listed → Finding → List ℕ
-ok_of file finding = ok_part file.path (change_in file finding) finding
+ok_of file finding = ok_part file.path (change_in file finding) file.tagged finding
 
 abbrev pub bad_of : Listed → Finding → List ℕ
 bad_of file finding = bad_part file.path (change_in file finding) finding

@@ -16,7 +16,7 @@ use Rattle.flac_cli.specs.Asked.{Asked}
 use Rattle.flac_cli.specs.Encoded.{cut_as}
 use Rattle.flac_cli.specs.Lined.{text_at}
 use Rattle.flac_cli.specs.Predictors.{predictors_in, AreListed}
-use Rattle.flac_cli.specs.Raw.{raw_sound}
+use Rattle.flac_raw.specs.Raw.{raw_sound}
 use Rattle.flac_cli.specs.Refusals.{raw_fault, stream_fault, IsOutside as IsOutsideOf}
 use Rattle.flac_cli.specs.Reports.{Files, fault_line, path_of, line_text, files_of}
 use Rattle.flac_cli.specs.Waves.{samples_for, blocks_for, asked_of_wave, wave_asked_by}

@@ -20,7 +20,7 @@ use Rattle.flac_wave.specs.declared.format.WaveFormat.{WaveFormat}
 use Rattle.flac_cli.specs.Asked.{Asked}
 use Rattle.flac_cli.specs.Encoded.{EncodesIn, BeginsIn, AreFound, comment_list, cut_found, parts_in}
 use Rattle.flac_cli.specs.Predictors.{AreListed}
-use Rattle.flac_cli.specs.Raw.{IsRaw}
+use Rattle.flac_raw.specs.Raw.{IsRaw}
 use Rattle.flac_cli.specs.Samples.{all_samples}
 use Rattle.flac_cli.specs.Speakers.{mask_in, words_with}
 use Rattle.flac_cli.specs.Streams.{profile_of}

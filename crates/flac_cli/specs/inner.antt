@@ -1,4 +1,8 @@
 -- What private contracts and proofs need, and no contract of an exported function.
+pub mod ChainDecoding
+pub mod ChainSamples
+pub mod ChainTaking
+pub mod Chains
 pub mod Heading
 pub mod HeldWaves
 pub mod Decoded
@@ -16,16 +20,18 @@ pub mod Passing
 pub mod Predictors
 pub mod Preparing
 pub mod Reported
-pub mod Raw
 pub mod Recoding
 pub mod Salvaging
 pub mod Searching
 pub mod Same
 pub mod Sought
-pub mod Sources
 pub mod Taking
 pub mod Twice
 pub mod Verifying
+pub mod LoweredSource
 pub mod WaveOutcomes
+pub mod WaveRaw
 pub mod WaveSamples
+pub mod WaveSurvey
+pub mod WaveTwice
 pub mod Waving

@@ -8,8 +8,7 @@ ghost use Rattle.flac_cli.specs.Calls.{IfServed, IfKnown};
 ghost use Rattle.flac_cli.specs.Asked.{asked_of, texts_of};
 ghost use Rattle.flac_cli.specs.Encoded.{comments_of, comment_list, EncodesRaw, HasBegunRaw, SendsEncodedIn, SendsPrefixIn};
 ghost use Rattle.flac_cli.specs.Lined.{text_at};
-ghost use Rattle.flac_cli.specs.Raw.{IsRaw, raw_sound};
-ghost use Rattle.flac_cli.specs.Refusals.{raw_fault, input_fault, stream_fault, refusal_of, text_of, IsReason};
+ghost use Rattle.flac_cli.specs.Refusals.{refusal_as, input_fault, stream_fault, refusal_of, text_of, IsReason};
 ghost use Rattle.flac_cli.specs.Reports.{line_text, AddsLine, path_of, files_of};
 ghost use Rattle.flac_cli.specs.declared.encode.Refusal.TheVariants.{Input, Setup, Output};
 ghost use Rattle.flac_cli.specs.inner.Encoding.{AreRawFor, sound_for, CanBeInput, AreAllowed, IsListFault, WritesAs, RefusesRead, RefusesAsRaw, IsStreamFault};
@@ -17,14 +16,14 @@ ghost use Rattle.flac_cli.specs.inner.Encoding.{AreRawFor, sound_for, CanBeInput
 use crate::comments::comments_of;
 use crate::lines::{At, write_line};
 use crate::predictors::{ListFault, predictors_in};
-use crate::raw::read_channels;
 use crate::searching::searched;
 use flac_bits::{Source, Target, Why};
 use flac_frame::{Audio, SetupFault, format_fault};
 use flac_jobs::{ContainerKind, Job, RawFormat, SearchEffort, file_kind};
 use flac_meta::BlockList;
-use flac_native::{EncodeFault, Plan, Profile, encode, sample_width};
+use flac_native::{EncodeFault, Plan, Profile, encode};
 use flac_ogg::encode_ogg;
+use flac_raw::{RawFault, audio_of};
 use flac_subframe::LinearPredictor;
 use flac_wave::fill;
 use std::alloc::Global;
@@ -177,36 +176,15 @@ impl Refusal {
     }
 }
 
-/// The samples that the bytes of a source are.
-///
-/// # Errors
-/// The first reason for which they are no samples of the format: rate, depth, channels, the number of bytes, a sample
-/// that does not fit the depth, too many samples. An error of the source, or out of memory.
-pub(crate) fn audio_of<R: Source>(
-    alloc: Global,
-    source: &mut R,
-    profile: Profile,
-    format: RawFormat,
-) -> Result<Audio, Refusal>
-    ensures raw { IfOk result (λ a. R.known source.old ≡ true → IsRaw profile format (R.coming source.old) a) }
-    ensures sound { IfOk result (λ a. R.known source.old ≡ true → a ≡ raw_sound profile format (R.coming source.old)) }
-    ensures accepted { OnOk result (R.known source.old ≡ true → raw_fault profile format (R.coming source.old) ≡ None) }
-    ensures refused { RefusesRead R.Source source.old source.new (raw_fault profile format) result }
-    ensures unwritten { IfErr result (λ e. e ≢ Output EncodeFault.Write) }
-    ensures names { R.names source.new ≡ R.names source.old }
+/// The reason for which bytes are no samples of a format, as the program has it.
+pub(crate) fn refusal_as(fault: RawFault) -> Refusal
+    ensures { result ≡ refusal_as fault }
 {
-    let channels = format.channels as usize;
-    if let Some(fault) = format_fault(profile, format.rate, format.bits, channels) {
-        return Err(Refusal::Setup(fault));
+    match fault {
+        RawFault::Input(why) => Refusal::Input(why),
+        RawFault::Setup(fault) => Refusal::Setup(fault),
+        RawFault::RawLength => Refusal::RawLength,
     }
-    let width = sample_width(format.bits);
-    let Some(lists) = read_channels(alloc, source, channels, width)? else {
-        return Err(Refusal::RawLength);
-    };
-    let audio = Audio::new_in(profile, format.rate, format.bits, lists)?;
-    // Read only for the proof, which then knows what the model of an `Audio` keeps to.
-    let _channels = audio.channels();
-    Ok(audio)
 }
 
 /// How the samples are divided into frames, in their own profile.
@@ -221,7 +199,7 @@ fn own_plan(format: RawFormat, audio: &Audio) -> Result<Plan, SetupFault>
 }
 
 /// Whether bytes that begin so are not taken as samples.
-fn is_refused(any: bool, front: &[u8]) -> bool
+pub(crate) fn is_refused(any: bool, front: &[u8]) -> bool
     ensures { result ≡ (not any && is_some (file_kind front.now)) }
 {
     !any && file_kind(front).is_some()
@@ -258,7 +236,10 @@ fn samples_of<R: Source>(
     let mut fronted = Fronted { front, source };
     let audio = audio_of(alloc, &mut fronted, encoding.profile, format);
     let _source = fronted.into_source(); // for its clauses alone
-    audio
+    match audio {
+        Ok(audio) => Ok(audio),
+        Err(fault) => Err(refusal_as(fault)),
+    }
 }
 
 /// How the samples are divided into frames, for which these predictors are tried.
@@ -284,7 +265,7 @@ pub(crate) fn plan_of(
 }
 
 /// The one block after STREAMINFO: comments of these words.
-fn comment_list(alloc: Global, words: &[&str]) -> Result<BlockList, Why>
+pub(crate) fn comment_list(alloc: Global, words: &[&str]) -> Result<BlockList, Why>
     ensures list { IfOk result (λ list. list ≡ comment_list (texts_of words.now)) }
     ensures accepted { OnOk result (AreAllowed (comment_list (texts_of words.now))) }
     ensures refused { IfErr result (λ e. IsListFault (comment_list (texts_of words.now)) e) }

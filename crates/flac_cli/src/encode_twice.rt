@@ -2,7 +2,6 @@
 
 ghost use Rattle.std.specs.Prelude.{◌≡◌, ◌≢◌, ◌&&◌, not, is_some, true, None, Some, IfOk, IfErr, OnOk};
 ghost use Rattle.flac_jobs.specs.Kinds.{file_kind};
-ghost use Rattle.flac_jobs.specs.declared.formats.ContainerKind.TheVariants as container;
 ghost use Rattle.flac_native.specs.declared.fault.EncodeFault.TheVariants as encode;
 ghost use Rattle.flac_cli.specs.Asked.{asked_of, texts_of};
 ghost use Rattle.flac_cli.specs.Calls.{IfServed, IfKnown};
@@ -13,22 +12,22 @@ ghost use Rattle.flac_cli.specs.Twice.{is_twice, AddsTwiceLine, FailsTwice, Stop
 ghost use Rattle.flac_cli.specs.declared.encode.Refusal.TheVariants.{Input, Setup, Output};
 ghost use Rattle.flac_cli.specs.inner.Encoding.{AreAllowed, IsListFault, CanBeInput, RefusesRead, WritesAs};
 ghost use Rattle.flac_cli.specs.inner.Searching.{search_of};
-ghost use Rattle.flac_cli.specs.inner.Twice.{refusal_as, reason_as, as_twice, AreSamplesFor, StopsFor};
+ghost use Rattle.flac_cli.specs.inner.Twice.{reason_as, as_twice, AreSamplesFor, StopsFor};
 
-use crate::comments::comments_of;
 use crate::dispatch::Task;
-use crate::encode::{Encoding, Fronted, Refusal, refuse_encoding};
+use crate::encode::{
+    Encoding, Fronted, Refusal, comment_list, is_refused, refusal_as, refuse_encoding,
+};
 use crate::lines::{At, write_line};
 use crate::predictors::{ListFault, predictors_in};
+use crate::searching::search_of;
 use crate::streams::profile_of;
 use flac_bits::{Source, Target, Why};
 use flac_draft::Rewritable;
 use flac_frame::{SetupFault, format_fault};
-use flac_jobs::{ContainerKind, Job, SearchEffort, file_kind};
-use flac_meta::BlockList;
+use flac_jobs::Job;
 use flac_native::EncodeFault;
-use flac_predict::Search;
-use flac_raw::{RawEncodeFault, RawFault, RawPlan, encode_judged, judge};
+use flac_raw::{RawEncodeFault, RawFault, RawPlan, encode_judged_in, judge};
 use flac_wave::fill;
 use std::alloc::Global;
 
@@ -89,19 +88,8 @@ impl From<RawEncodeFault> for TwiceFault {
     }
 }
 
-/// The reason for which bytes are no samples of a format, as the program has it.
-fn refusal_as(fault: RawFault) -> Refusal
-    ensures { result ≡ refusal_as fault }
-{
-    match fault {
-        RawFault::Input(why) => Refusal::Input(why),
-        RawFault::Setup(fault) => Refusal::Setup(fault),
-        RawFault::RawLength => Refusal::RawLength,
-    }
-}
-
 /// The reason for which they are not encoded.
-fn reason_as(fault: RawEncodeFault) -> Option<Refusal>
+pub(crate) fn reason_as(fault: RawEncodeFault) -> Option<Refusal>
     ensures { result ≡ reason_as fault }
 {
     match fault {
@@ -109,34 +97,6 @@ fn reason_as(fault: RawEncodeFault) -> Option<Refusal>
         RawEncodeFault::Encode(fault) => Some(Refusal::Output(fault)),
         RawEncodeFault::Changed => None,
     }
-}
-
-/// How a search is called; `None` if it is not.
-fn search_for(effort: SearchEffort) -> Option<Search>
-    ensures { result ≡ search_of effort }
-{
-    match effort {
-        SearchEffort::None => None,
-        SearchEffort::Quick => Some(Search::Quick),
-        SearchEffort::Full => Some(Search::Full),
-    }
-}
-
-/// The one block after STREAMINFO: comments of these words.
-fn list_of(alloc: Global, words: &[&str]) -> Result<BlockList, Why>
-    ensures list { IfOk result (λ list. list ≡ comment_list (texts_of words.now)) }
-    ensures accepted { OnOk result (AreAllowed (comment_list (texts_of words.now))) }
-    ensures refused { IfErr result (λ e. IsListFault (comment_list (texts_of words.now)) e) }
-{
-    let comments = comments_of(alloc, words)?;
-    BlockList::of_comments(alloc, comments)
-}
-
-/// Whether bytes that begin so are not taken as samples.
-fn is_other_kind(any: bool, front: &[u8]) -> bool
-    ensures { result ≡ (not any && is_some (file_kind front.now)) }
-{
-    !any && file_kind(front).is_some()
 }
 
 /// How many samples of each channel the bytes of a source are, for an encoding. It holds none. The bytes of a file that
@@ -159,7 +119,7 @@ fn judged<R: Source>(alloc: Global, encoding: &Encoding<'_>, source: &mut R) -> 
     let mut places = [0; 4];
     let count = fill(source, &mut places, 4)?;
     let front = &places[..count];
-    if is_other_kind(encoding.any, front) {
+    if is_refused(encoding.any, front) {
         return Err(Refusal::NotRaw);
     }
     let mut fronted = Fronted { front, source };
@@ -179,7 +139,6 @@ fn encode_passes<A: Source, R: Source, W: Rewritable + Drop>(
     second: &mut R,
     target: W,
 ) -> Result<W, TwiceFault>
-    requires native { encoding.now.container ≡ container.Native }
     ensures written { IfOk result
         (λ out. WritesAs R.Source W.Target EncodesRaw encoding.now second.old target out) }
     ensures accepted { OnOk result (IfKnown A.Source first.old (λ bytes. IsReason (asked_of encoding.now) bytes None)) }
@@ -192,10 +151,10 @@ fn encode_passes<A: Source, R: Source, W: Rewritable + Drop>(
 {
     let predictors = predictors_in(alloc, encoding.list)?;
     let total = judged(alloc, encoding, first)?;
-    let search = search_for(encoding.effort);
+    let search = search_of(encoding.effort);
     let plan = RawPlan::new(encoding.profile, encoding.format, total, predictors, search)?;
-    let list = list_of(alloc, encoding.comments)?;
-    let out = encode_judged(alloc, plan, list, second, target)?;
+    let list = comment_list(alloc, encoding.comments)?;
+    let out = encode_judged_in(alloc, encoding.container, plan, list, second, target)?;
     Ok(out)
 }
 
@@ -214,26 +173,21 @@ fn refuse_twice<E: Target>(err: &mut E, job: &Job<'_>, fault: TwiceFault)
     }
 }
 
-/// Whether a job is one for [`encode_file_twice`]: it encodes raw samples to a native stream.
+/// Whether a job is one for [`encode_file_twice`]: it encodes raw samples.
 pub fn encodes_twice(job: &Job<'_>) -> bool
     ensures { result ≡ is_twice job.now }
 {
-    match job {
-        Job::Encode { container, .. } => match container {
-            ContainerKind::Native => true,
-            ContainerKind::Ogg { .. } => false,
-        },
-        _ => false,
-    }
+    matches!(job, Job::Encode { .. })
 }
 
-/// Encodes raw samples that can be read twice, as those of a file, to a native stream: what [`crate::run`] does for the
-/// same job, but it holds one block of samples. It returns the target, which has the whole stream. The first source is
-/// judged, then the second is encoded; it has the same bytes, once more from the first on.
+/// Encodes raw samples that can be read twice, as those of a file, to a native or an Ogg stream: what [`crate::run`]
+/// does for the same job, but it holds one block of samples. It returns the target, which has the whole stream. The
+/// first source is judged, then the second is encoded; it has the same bytes, once more from the first on.
 ///
 /// - `task`: the job ([`encodes_twice`]), and the text of its list of predictors.
 /// - `first`, `second`: the file that the job reads, twice.
-/// - `target`: the file that it writes. Its first bytes are written over at the end.
+/// - `target`: the file that it writes. Its first bytes are written over at the end: what comes before the frames, or
+///   in Ogg the first page.
 /// - `err`: standard error.
 ///
 /// ```

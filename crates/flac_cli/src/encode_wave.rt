@@ -161,7 +161,7 @@ fn kept_list(
 
 /// The blocks after STREAMINFO that an encoding asks for of a WAV file of this format: its comments, and the pieces of
 /// the file, if this is kept.
-fn blocks_of(
+pub(crate) fn blocks_of(
     alloc: Global,
     encoding: &Encoding<'_>,
     format: &WaveFormat,
@@ -189,7 +189,7 @@ struct Ready {
 }
 
 /// The format of the samples of a WAV file, for a stream of this depth.
-fn format_of(format: &WaveFormat, depth: u32, asked: RawFormat) -> RawFormat
+pub(crate) fn format_of(format: &WaveFormat, depth: u32, asked: RawFormat) -> RawFormat
     ensures { result ≡ format_with asked format.now depth }
 {
     RawFormat {
@@ -302,7 +302,7 @@ pub(crate) fn encode_wave<R: Source, W: Target>(
 }
 
 /// Where in a WAV file a fault is.
-fn chunk_at(chunk: Option<u64>) -> At
+pub(crate) fn chunk_at(chunk: Option<u64>) -> At
     ensures { result ≡ at_chunk chunk }
 {
     match chunk {
@@ -312,7 +312,7 @@ fn chunk_at(chunk: Option<u64>) -> At
 }
 
 /// Writes the line of a WAV file that is refused, and returns the status 1.
-fn refuse_wave<E: Target>(err: &mut E, path: &str, fault: WaveFault) -> u8
+pub(crate) fn refuse_wave<E: Target>(err: &mut E, path: &str, fault: WaveFault) -> u8
     ensures status { result ≡ 1 }
     ensures line { IfServed E.Target err.old err.new (AddsLine path.now (wave_text (WaveRefusal.Wave fault))) }
 {

@@ -25,9 +25,9 @@ pub fn lines_have_one_reading()
     ensures { LinesHaveOneReading }
 {}
 
-/// The lines that [`crate::verify_files`] adds to a report are read back by `recorded_of` of `flac_report`: in order, as
-/// the path of each file, its size, its time, and its audio, or that it was not good. So a file that did not change is
-/// the same as in the report.
+/// The lines that [`crate::verify_files`] adds to a report are read back by `recorded_of` of `flac_report`: in order,
+/// as the path of each file, its size, its time, and its audio, or that it was not good. So a file that did not change
+/// is the same as in the report.
 pub fn reports_are_read_back()
     ensures read { ReportsAreReadBack }
     ensures same { ReadFilesAreSame }

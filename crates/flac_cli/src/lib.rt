@@ -1,6 +1,8 @@
 //! The program `flac` as a library: [`run`] does a [`Task`] over a source and targets.
 #![tactic(auto)]
 
+mod chain;
+mod chain_samples;
 mod chosen;
 mod comments;
 mod copy;
@@ -11,6 +13,7 @@ mod edit;
 mod encode;
 mod encode_twice;
 mod encode_wave;
+mod encode_wave_twice;
 mod excerpt;
 mod export;
 mod frame_search;
@@ -27,7 +30,6 @@ mod ogg_export;
 mod ogg_tag;
 mod points;
 mod predictors;
-mod raw;
 mod recode;
 mod report;
 mod retag;
@@ -36,6 +38,7 @@ mod same;
 mod searching;
 mod sought;
 mod speakers;
+mod stream_format;
 mod streams;
 mod tag;
 mod tag_lines;
@@ -49,13 +52,18 @@ mod verify_missing;
 mod verify_paths;
 mod verify_report;
 mod wave_file;
+mod wave_raw;
 mod wave_samples;
+mod wave_survey;
 
+pub use chain::{ChainDone, test_chain};
+pub use chain_samples::{ChainPaths, decode_chain_samples};
 pub use chosen::ListedFile;
 pub use copy::copy_file;
 pub use dispatch::{Task, run};
 pub use edit::{EditPaths, edit_changes, edit_file, picture_of, removals_of};
 pub use encode_twice::{TwiceFault, encode_file_twice, encodes_twice};
+pub use encode_wave_twice::{WaveTwiceFault, encode_wave_file_twice, encodes_wave_twice};
 pub use excerpt::decode_excerpt;
 pub use export::export_file;
 pub use flac_jobs::{ContainerKind, Job, LineFault, RawFormat, SearchEffort};

@@ -83,8 +83,8 @@ fn change_in<R: Source>(
 }
 
 /// Whether edits change the metadata blocks of a stream, native or Ogg, as [`edits_change`] says; no frame is read.
-/// `None` if it is refused, or the edits do not fit its blocks: then the line of the error was written to `err`, if that
-/// could be written.
+/// `None` if it is refused, or the edits do not fit its blocks: then the line of the error was written to `err`, if
+/// that could be written.
 pub fn ogg_edits_change<R: Source + Drop, E: Target>(
     alloc: Global,
     paths: &EditPaths<'_>,
@@ -138,11 +138,11 @@ fn edit_stream<R: Source + Drop, W: Target>(
     }
 }
 
-/// Writes a stream with edited metadata blocks in the container in which it was read, an Ogg stream with the same serial
-/// number; the bytes of each frame stay. An Ogg stream has the comments first, and no seek table, since its offsets have
-/// no meaning there. The frames are decoded, also outside the streamable subset, and what STREAMINFO states of all
-/// samples is compared. Returns the status: 1 if it failed, and the line of the error was written to `err`, if that could
-/// be written.
+/// Writes a stream with edited metadata blocks in the container in which it was read, an Ogg stream with the same
+/// serial number; the bytes of each frame stay. An Ogg stream has the comments first, and no seek table, since its
+/// offsets have no meaning there. The frames are decoded, also outside the streamable subset, and what STREAMINFO
+/// states of all samples is compared. Returns the status: 1 if it failed, and the line of the error was written to
+/// `err`, if that could be written.
 pub fn edit_ogg<R: Source + Drop, W: Target, E: Target>(
     alloc: Global,
     paths: &EditPaths<'_>,
@@ -152,8 +152,8 @@ pub fn edit_ogg<R: Source + Drop, W: Target, E: Target>(
     err: &mut E,
 ) -> u8
     ensures status { result ≤ 1 }
-    // After status 0 the input is a stream whose blocks the edits fit, and it was written with the edited blocks and the
-    // same frames.
+    // After status 0 the input is a stream whose blocks the edits fit, and it was written with the edited blocks and
+    // the same frames.
     ensures edited { result ≡ 0 → EditsAlike R.Source W.Target source edits.now target.old target.new }
     // After status 0 nothing was written to standard error.
     ensures silent { result ≡ 0 → err.new ≡ err.old }

@@ -145,7 +145,8 @@ pub fn export_ogg<R: Source + Drop, W: Target, E: Target>(
     ensures exported { result ≡ 0 → ExportsItsPart R.Source W.Target exporting.now part source target.old target.new }
     // After status 0 nothing was written to standard error.
     ensures silent { result ≡ 0 → err.new ≡ err.old }
-    // After status 1 the line of a fault of the input or of the output was added to standard error, if that did not fail.
+    // After status 1 the line of a fault of the input or of the output was added to standard error, if that did not
+    // fail.
     ensures named { result ≡ 1 → IfServed E.Target err.old err.new (NamesExport exporting.now) }
 {
     let mut source = source;

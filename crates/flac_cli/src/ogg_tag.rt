@@ -36,8 +36,8 @@ fn change_in<R: Source>(
     }
 }
 
-/// Whether edits change the comments of a stream, native or Ogg, as [`comments_change`] says; no frame is read. `None` if
-/// it is refused before its last metadata block: then the line of the error was written to `err`, if that could be
+/// Whether edits change the comments of a stream, native or Ogg, as [`comments_change`] says; no frame is read. `None`
+/// if it is refused before its last metadata block: then the line of the error was written to `err`, if that could be
 /// written.
 pub fn ogg_comments_change<R: Source + Drop, E: Target>(
     alloc: Global,
@@ -89,10 +89,11 @@ fn retag_stream<R: Source + Drop, W: Target>(
     }
 }
 
-/// Writes a stream with edited comments in the container in which it was read, an Ogg stream with the same serial number.
-/// All other metadata blocks stay, in Ogg after the comments, and so do the bytes of each frame. No padding is added.
-/// The frames are decoded, also outside the streamable subset, and what STREAMINFO states of all samples is compared.
-/// Returns the status: 1 if it failed, and the line of the error was written to `err`, if that could be written.
+/// Writes a stream with edited comments in the container in which it was read, an Ogg stream with the same serial
+/// number. All other metadata blocks stay, in Ogg after the comments, and so do the bytes of each frame. No padding is
+/// added. The frames are decoded, also outside the streamable subset, and what STREAMINFO states of all samples is
+/// compared. Returns the status: 1 if it failed, and the line of the error was written to `err`, if that could be
+/// written.
 pub fn retag_ogg<R: Source + Drop, W: Target, E: Target>(
     alloc: Global,
     path: &str,

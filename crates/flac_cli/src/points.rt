@@ -20,8 +20,8 @@ fn refuse_points<E: Target>(err: &mut E, path: &str, fault: PointsFault) {
     };
 }
 
-/// The seek points of a native stream, as [`seek_points`] gives them; `None` if it is refused: then the line of the error
-/// was written to `err`, if that could be written. The stream is verified before, all of it.
+/// The seek points of a native stream, as [`seek_points`] gives them; `None` if it is refused: then the line of the
+/// error was written to `err`, if that could be written. The stream is verified before, all of it.
 pub fn points_of<E: Target>(
     alloc: Global,
     path: &str,

@@ -3,9 +3,10 @@
 ghost use Rattle.std.specs.Prelude.{◌≡◌, ◌≢◌, ◌≤◌, ◌⊎◌, ◌∷◌, ◌++◌, [], true, Some, None, IfOk, IfErr, OnOk, OnErr};
 ghost use Rattle.flac_meta.specs.declared.block.Block.{Block};
 ghost use Rattle.flac_native.specs.Sent.{TargetFailed};
-ghost use Rattle.flac_rescue.specs.Report.{report_text};
+ghost use Rattle.flac_rescue.specs.Placed.{left_text};
 ghost use Rattle.flac_rescue.specs.Survey.{IsSurvey};
 ghost use Rattle.flac_rescue.specs.declared.survey.Survey.{Survey};
+ghost use Rattle.flac_whole_pages.specs.Left.{IsNativeLeft};
 ghost use Rattle.flac_cli.specs.Asked.{asked_of};
 ghost use Rattle.flac_cli.specs.Calls.{IfServed, IfAllServe, IfKnown};
 ghost use Rattle.flac_cli.specs.Recoded.{carried};
@@ -13,7 +14,7 @@ ghost use Rattle.flac_cli.specs.RecodeRefusals.{IsOutside, NamesRecoding};
 ghost use Rattle.flac_cli.specs.Salvages.{salvage_asks, salvage_files, fills, keeps_wave, lack, is_shorter, fitting, salvage_refusal, IsSalvageReason, RefusesSalvage, SalvagesFile, BeginsSalvage, CanBeSalvaged, TellsMissing};
 ghost use Rattle.flac_cli.specs.declared.encode.Refusal.TheVariants as refusal;
 ghost use Rattle.flac_cli.specs.declared.recode.RecodeRefusal.TheVariants.{Refused};
-ghost use Rattle.flac_cli.specs.inner.Salvaging.{HoldsLeft, IsTooMuchSilence, AreLinesOf, SalvagesBytes, BeginsBytes, SalvagesTo, BeginsTo, IsSalvageError};
+ghost use Rattle.flac_cli.specs.inner.Salvaging.{HoldsLeft, IsTooMuchSilence, AreLinesOf, AreLinesFor, SalvagesBytes, BeginsBytes, SalvagesTo, BeginsTo, IsSalvageError};
 ghost use Rattle.flac_cli.specs.inner.Recoding.{not_written};
 
 use crate::encode::{Encoding, Refusal, write_stream};
@@ -26,8 +27,11 @@ use flac_frame::SetupFault;
 use flac_jobs::{Filling, Salvage};
 use flac_meta::Block;
 use flac_native::EncodeFault;
-use flac_rescue::{Gap, SalvageFault, Survey, SurveyFault, report, salvage_samples, survey_bytes};
+use flac_rescue::{
+    Gap, SalvageFault, Survey, SurveyFault, report_left, salvage_samples, survey_bytes,
+};
 use flac_wave::read_all;
+use flac_whole_pages::{Left, left_of};
 use std::alloc::{AllocError, Global};
 
 impl From<SurveyFault> for RecodeRefusal {
@@ -57,12 +61,21 @@ impl From<SalvageFault> for RecodeRefusal {
     }
 }
 
-/// The lines of what is missing of the stream of a file of this path.
-fn lines_of(alloc: Global, path: &str, survey: &Survey) -> Result<Vec<u8>, Why>
-    ensures lines { IfOk result (λ text. text.items ≡ report_text path.now survey.now) }
+/// What is left of a native stream in an input.
+fn left_in(alloc: Global, bytes: Vec<u8>) -> Result<Left, Why>
+    ensures left { IfOk result (λ left. IsNativeLeft bytes.items left) }
     ensures memory { IfErr result (λ e. e ≡ Why.Memory) }
 {
-    let text = report(alloc, path, survey)?;
+    let left = left_of(alloc, bytes)?;
+    Ok(left)
+}
+
+/// The lines of what is missing of the stream of a file of this path, of which this is left.
+fn lines_of(alloc: Global, path: &str, left: &Left, survey: &Survey) -> Result<Vec<u8>, Why>
+    ensures lines { IfOk result (λ text. text.items ≡ left_text path.now left.now survey.now) }
+    ensures memory { IfErr result (λ e. e ≡ Why.Memory) }
+{
+    let text = report_left(alloc, path, left, survey)?;
     Ok(text)
 }
 
@@ -177,28 +190,32 @@ fn write_left<W: Target>(
     Ok(())
 }
 
-/// Does what [`write_left`] does with what is found in these bytes, and returns the lines of what is missing.
+/// Does what [`write_left`] does with what is found in what is left of a stream, and returns the lines of what is
+/// missing.
 ///
 /// # Errors
 /// Those of [`survey_bytes`] and of [`write_left`].
-fn salvage_bytes<W: Target>(
+fn salvage_left<W: Target>(
     alloc: Global,
     encoding: &Encoding<'_>,
     path: &str,
-    bytes: &[u8],
+    left: &Left,
     silence: bool,
     target: &mut W,
 ) -> Result<Vec<u8>, RecodeRefusal>
-    ensures written { OnOk result (SalvagesBytes W.Target encoding.now silence bytes.now target.old target.new) }
-    ensures lines { IfOk result (λ text. AreLinesOf path.now text.items bytes.now) }
-    ensures begun { OnErr result (BeginsBytes W.Target encoding.now silence bytes.now target.old target.new) }
-    ensures accepted { OnOk result (IsSalvageReason (asked_of encoding.now) silence bytes.now None) }
+    ensures written { OnOk result (SalvagesBytes W.Target encoding.now silence left.now.bytes.items
+        target.old target.new) }
+    ensures lines { IfOk result (λ text. AreLinesOf path.now text.items left.now) }
+    ensures begun { OnErr result (BeginsBytes W.Target encoding.now silence left.now.bytes.items
+        target.old target.new) }
+    ensures accepted { OnOk result (IsSalvageReason (asked_of encoding.now) silence left.now.bytes.items None) }
     ensures refused { IfErr result (λ e.
-        IsOutside e ⊎ IsSalvageReason (asked_of encoding.now) silence bytes.now (Some e)) }
+        IsOutside e ⊎ IsSalvageReason (asked_of encoding.now) silence left.now.bytes.items (Some e)) }
     ensures failed { IfErr result (λ e. e ≡ not_written → TargetFailed W.Target target.old target.new) }
 {
+    let bytes = left.bytes.as_slice();
     let survey = survey_bytes(alloc, bytes)?;
-    let text = lines_of(alloc, path, &survey)?;
+    let text = lines_of(alloc, path, left, &survey)?;
     write_left(alloc, encoding, bytes, &survey, silence, target)?;
     Ok(text)
 }
@@ -213,7 +230,7 @@ fn fills(filling: Filling) -> bool
     }
 }
 
-/// Reads all bytes of a source, and does what [`salvage_bytes`] does with them.
+/// Reads all bytes of a source, and does what [`salvage_left`] does with what is left of a stream in them.
 fn salvage_source<R: Source, W: Target>(
     alloc: Global,
     encoding: &Encoding<'_>,
@@ -223,7 +240,7 @@ fn salvage_source<R: Source, W: Target>(
 ) -> Result<Vec<u8>, RecodeRefusal>
     ensures written { OnOk result (SalvagesTo R.Source W.Target encoding.now salvage.now
         source.old target.old target.new) }
-    ensures lines { IfOk result (λ text. IfKnown R.Source source.old (AreLinesOf salvage.now.input.now text.items)) }
+    ensures lines { IfOk result (λ text. IfKnown R.Source source.old (AreLinesFor salvage.now.input.now text.items)) }
     ensures begun { OnErr result (BeginsTo R.Source W.Target encoding.now salvage.now
         source.old target.old target.new) }
     ensures accepted { OnOk result (IfKnown R.Source source.old (CanBeSalvaged (asked_of encoding.now) salvage.now)) }
@@ -231,17 +248,19 @@ fn salvage_source<R: Source, W: Target>(
     ensures failed { IfErr result (λ e. e ≡ not_written → TargetFailed W.Target target.old target.new) }
 {
     let bytes = read_all(alloc, source)?;
+    let left = left_in(alloc, bytes)?;
     let silence = fills(salvage.filling);
-    let text = salvage_bytes(alloc, encoding, salvage.input, &bytes, silence, target)?;
+    let text = salvage_left(alloc, encoding, salvage.input, &left, silence, target)?;
     Ok(text)
 }
 
-/// Writes a stream of what is left of a native stream, damaged or not, also outside the streamable subset. Returns the
-/// exit status: 0 if the new stream is written, whatever is missing, else 1.
+/// Writes a stream of what is left of a stream, damaged or not, native or in Ogg, also outside the streamable subset.
+/// Returns the exit status: 0 if the new stream is written, whatever is missing, else 1.
 ///
-/// All bytes of the stream are held. The whole frames in it that belong together are decoded, and their samples are
-/// encoded anew, with the same metadata blocks but for STREAMINFO and the seek table. What is missing is silence; or it
-/// is left out, and so are the blocks that keep a WAV file.
+/// All bytes of the stream are held. An input that does not begin with the marker `fLaC` is searched for whole Ogg
+/// pages; what those of its first stream of FLAC hold is what is left ([`left_of`]). The whole frames in it that belong
+/// together are decoded, and their samples are encoded anew, with the same metadata blocks but for STREAMINFO and the
+/// seek table. What is missing is silence; or it is left out, and so are the blocks that keep a WAV file.
 ///
 /// `source` is the stream, `target` the file that is written, `err` is standard error. After status 0 the lines of
 /// [`report`] were written to `err`: what is missing, none if nothing is. After status 1 it was the line of the error:

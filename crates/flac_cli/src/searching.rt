@@ -12,7 +12,7 @@ use flac_predict::{Search, found_in};
 use std::alloc::Global;
 
 /// How the search is called; `None` if it is not.
-fn search_of(effort: SearchEffort) -> Option<Search>
+pub(crate) fn search_of(effort: SearchEffort) -> Option<Search>
     ensures { result ≡ search_of effort }
 {
     match effort {

@@ -19,8 +19,8 @@ use flac_reader::{BitReader, Container, Keep, Opened, Reader, move_to, open};
 use std::alloc::Global;
 use std::io::{Read, Seek};
 
-/// Whether the frames of a stream are of one size, that of STREAMINFO, and numbered from 0 on (RFC 9639, section 9.1.5), as
-/// its first frame says, at which its reader is. Then each number says which samples a frame has.
+/// Whether the frames of a stream are of one size, that of STREAMINFO, and numbered from 0 on (RFC 9639, section
+/// 9.1.5), as its first frame says, at which its reader is. Then each number says which samples a frame has.
 fn is_numbered<C: Container>(reader: &Reader<C>) -> bool {
     let block = usize::from(reader.info().greatest_block());
     match reader.frame() {
@@ -84,8 +84,8 @@ fn send_found<C: Container, W: Target>(
     }
 }
 
-/// A reader of the same stream, in a device whose bytes are those of the stream, at the frame that holds a sample. `None` if
-/// it is not found, or if it is not worth a search.
+/// A reader of the same stream, in a device whose bytes are those of the stream, at the frame that holds a sample.
+/// `None` if it is not found, or if it is not worth a search.
 fn found<R: Source + Drop, T: Read + Seek + Copy + Drop>(
     alloc: Global,
     reader: Reader<BitReader<R>>,
@@ -133,8 +133,8 @@ fn at_frame<C: Container + Drop>(reader: Reader<C>) -> Option<Reader<C>>
     }
 }
 
-/// Opens a native stream, finds the part that is asked for, and sends it. `None` if it is to be read from the beginning:
-/// nothing was sent.
+/// Opens a native stream, finds the part that is asked for, and sends it. `None` if it is to be read from the
+/// beginning: nothing was sent.
 fn send_sought<T: Read + Seek + Copy + Drop, W: Target>(
     alloc: Global,
     excerpt: &Excerpt<'_>,
@@ -165,16 +165,16 @@ fn send_sought<T: Read + Seek + Copy + Drop, W: Target>(
     }
 }
 
-/// Decodes a part of a native stream as [`crate::decode_excerpt`] does, but reads it from a frame shortly before the part
-/// on. Returns the exit status; `None` if the part has to be decoded from the beginning of the stream: then nothing was
-/// written. `device`, such as `&File`, is at the first byte of the stream, which is that of the device; each copy of it
-/// moves all others.
+/// Decodes a part of a native stream as [`crate::decode_excerpt`] does, but reads it from a frame shortly before the
+/// part on. Returns the exit status; `None` if the part has to be decoded from the beginning of the stream: then
+/// nothing was written. `device`, such as `&File`, is at the first byte of the stream, which is that of the device;
+/// each copy of it moves all others.
 ///
 /// The frame is found by halving the file among whole frames: their numbers say which samples they have, since all have
 /// the same size (RFC 9639, section 9.1.5). Seek tables are not read. What is before that frame, and what is after the
-/// part, may be damaged. `None` comes for an Ogg stream; for one whose first frame is not number 0, has a variable block
-/// size or another than STREAMINFO states; if the part begins near the first frame, or after the last; and if the stream is
-/// refused before the part.
+/// part, may be damaged. `None` comes for an Ogg stream; for one whose first frame is not number 0, has a variable
+/// block size or another than STREAMINFO states; if the part begins near the first frame, or after the last; and if the
+/// stream is refused before the part.
 pub fn seek_excerpt<T: Read + Seek + Copy + Drop, W: Target, E: Target>(
     alloc: Global,
     excerpt: &Excerpt<'_>,
@@ -189,8 +189,8 @@ pub fn seek_excerpt<T: Read + Seek + Copy + Drop, W: Target, E: Target>(
     // After status 0 the input is read as the metadata of a native stream, and some of its bytes on as frames of it, of
     // which the first that holds the first sample of the part, by its number, was taken: exactly the part was added.
     ensures sought { result ≡ Some 0 → HasSought T.Seek T.Read W.Target excerpt.now device target.old target.new }
-    // After status 1, whatever failed, its line was added to standard error, if that did not fail. It names the output if
-    // that could not be written, and else the input.
+    // After status 1, whatever failed, its line was added to standard error, if that did not fail. It names the output
+    // if that could not be written, and else the input.
     ensures named { result ≡ Some 1 → IfServed E.Target err.old err.new (NamesExcerpt excerpt.now) }
 {
     match send_sought(alloc, excerpt, device, target) {

@@ -15,8 +15,8 @@ use flac_jobs::TagEdit;
 use flac_meta::Bytes;
 use std::alloc::{AllocError, Global};
 
-/// The edits that the command line gives; `lines` are the comments of its file of lines, and `files` the bytes of the files
-/// that its edits name, in their order. A value whose file is not among them is empty.
+/// The edits that the command line gives; `lines` are the comments of its file of lines, and `files` the bytes of the
+/// files that its edits name, in their order. A value whose file is not among them is empty.
 ///
 /// # Errors
 /// `AllocError` if an allocation fails.

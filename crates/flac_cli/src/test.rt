@@ -75,7 +75,7 @@ fn put_counts<O: Target>(lines: &mut Lines<O>, counts: &Counts) -> Result<(), Wh
 }
 
 /// Writes the line of counts.
-fn write_counts<O: Target>(out: &mut O, counts: &Counts) -> Result<(), Why>
+pub(crate) fn write_counts<O: Target>(out: &mut O, counts: &Counts) -> Result<(), Why>
     ensures sent { HasSent O.Target out.old out.new (line_of counts.now.frames counts.now.samples) result }
     ensures failed { OnErr result (O.known out.old ≡ true → O.errors out.old < O.errors out.new) }
 {

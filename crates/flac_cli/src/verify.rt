@@ -6,12 +6,12 @@ ghost use Rattle.flac_cli.specs.Verifies.{VerifiesFiles};
 ghost use Rattle.flac_cli.specs.inner.Verifying.{IsFoundAgain, IsCounted, Stays, ReadsIn, ReadsOutside, Finds, IsAllGood, IfAllGood};
 
 use crate::verify_change::{Change, compare};
-use crate::verify_facts::{Facts, read_facts};
+use crate::verify_facts::{Facts, Flaw, read_facts};
 use crate::verify_lines::{report, report_end};
 use crate::verify_missing::list_missing;
 use crate::verify_report::{Entry, enter};
 use flac_bits::{Target, Why};
-use flac_native::{Fault, Profile};
+use flac_native::Profile;
 use flac_shelf::Shelf;
 use std::alloc::Global;
 
@@ -30,7 +30,7 @@ pub(crate) enum Finding {
     /// A stream.
     Good(Facts),
     /// Refused at a place, for a reason.
-    Bad(Fault),
+    Bad(Flaw),
     /// It cannot be opened.
     Unopened,
 }
@@ -79,9 +79,9 @@ fn read_in<S: Shelf>(alloc: Global, shelf: &mut S, profile: Profile) -> Finding
                 shelf.close(file);
                 Finding::Good(facts)
             }
-            Err(fault) => {
+            Err(flaw) => {
                 shelf.close(file);
-                Finding::Bad(fault)
+                Finding::Bad(flaw)
             }
         },
         None => Finding::Unopened,
@@ -98,7 +98,7 @@ fn read_outside<S: Shelf>(alloc: Global, shelf: &mut S) -> Finding
             outside: true,
             ..facts
         }),
-        Finding::Bad(fault) => Finding::Bad(fault),
+        Finding::Bad(flaw) => Finding::Bad(flaw),
         Finding::Unopened => Finding::Unopened,
     }
 }
@@ -120,9 +120,9 @@ fn find_again<S: Shelf>(alloc: Global, shelf: &mut S) -> Finding
     match read_in(alloc, shelf, Profile::Subset) {
         Finding::Good(facts) => Finding::Good(facts),
         Finding::Unopened => Finding::Unopened,
-        Finding::Bad(fault) => {
-            if is_memory(fault.why) {
-                return Finding::Bad(fault);
+        Finding::Bad(flaw) => {
+            if is_memory(flaw.fault.why) {
+                return Finding::Bad(flaw);
             }
             read_outside(alloc, shelf)
         }
@@ -175,7 +175,8 @@ fn status_of(is_written: bool, tally: &Tally) -> u8
 ///
 /// - ` no-md5`, if STREAMINFO does not state the digest of the samples (section 8.2);
 /// - ` no-total`, if it does not state their number;
-/// - ` outside-subset`, if the file can be read again and is not in the streamable subset.
+/// - ` outside-subset`, if the file can be read again and is not in the streamable subset;
+/// - ` id3`, if the list says that tags of other programs are around the stream ([`Shelf::tagged`]).
 ///
 /// The line of another file is written to `err`: `flac: PATH: PLACE: NUMBER NAME`, or `flac: PATH: cannot be opened`.
 /// Paths are printed as [`flac_shelf::shown`] gives them, so that each line is that of one file. After all files `out`
@@ -228,12 +229,14 @@ pub fn verify_files<S: Shelf, O: Target, E: Target, P: Target>(
         let finding = find(alloc, shelf, checks.subset);
         let stamp = shelf.stamp();
         let change = compare(&shelf.earlier(), &stamp, &finding);
-        let is_sent = report(&finding, change, shelf.path(), out, err);
+        let tagged = shelf.tagged();
+        let is_sent = report(&finding, change, tagged, shelf.path(), out, err);
         let again = shelf.reads_again();
         let entry = Entry {
             path: shelf.path(),
             stamp,
             is_sought: is_sought(checks.subset, again),
+            tagged,
         };
         let is_entered = enter(report_to, &entry, &finding, tally.is_reported);
         list_missing(alloc, shelf, checks.all, &finding, err);

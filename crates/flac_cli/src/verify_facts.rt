@@ -2,17 +2,15 @@
 
 ghost use Rattle.std.specs.Prelude.{◌≡◌, true, false, [], None, IfOk};
 ghost use Rattle.flac_native.specs.Stream.{info_after, is_unknown};
-ghost use Rattle.flac_cli.specs.inner.Taking.{frames_after, samples_after, info_after_item, DescribesStream};
-ghost use Rattle.flac_cli.specs.Streams.{Tells};
+ghost use Rattle.flac_cli.specs.inner.Taking.{frames_after, samples_after, info_after_item, DescribesStream, NamesContainer, CountsFlaw, FitsFacts};
 ghost use Rattle.flac_cli.specs.Verified.{lacks_digest, lacks_total};
-ghost use Rattle.flac_cli.specs.inner.Outcomes.{FitsStream};
 
 use crate::test::Counts;
 use flac_bits::Source;
 use flac_frame::FrameView;
 use flac_meta::{Block, StreamInfo};
 use flac_native::{Fault, Profile, Sink, SinkFault};
-use flac_ogg::decode_any;
+use flac_ogg::{Fronted, begins_page, decode_any, pull_front};
 use std::alloc::Global;
 
 /// What a stream is.
@@ -22,8 +20,19 @@ pub(crate) struct Facts {
     pub(crate) counts: Counts,
     /// Its STREAMINFO (RFC 9639, section 8.2); `None` before it is read.
     pub(crate) info: Option<StreamInfo>,
+    /// Whether it is in Ogg (section 10.1); else it is native (section 6).
+    pub(crate) is_ogg: bool,
     /// Whether it is known not to be in the streamable subset (section 7).
     pub(crate) outside: bool,
+}
+
+/// What is wrong with a file.
+#[derive(Clone, Copy)]
+pub(crate) struct Flaw {
+    /// Where and why it is refused.
+    pub(crate) fault: Fault,
+    /// How many samples each channel has of the frames before, up to 2^64 - 1.
+    pub(crate) samples: u64,
 }
 
 /// The STREAMINFO that is known after a block.
@@ -55,6 +64,7 @@ impl Facts {
                 samples: 0,
             },
             info: None,
+            is_ogg: false,
             outside: false,
         }
     }
@@ -103,22 +113,55 @@ impl Sink for Facts {
     }
 }
 
-/// Decodes a stream, and returns what it is.
-pub(crate) fn read_facts<R: Source>(
+/// Decodes a stream in either container, and returns what it is; `is_ogg` says in which container.
+fn count_facts<R: Source>(
     alloc: Global,
+    is_ogg: bool,
     source: &mut R,
     profile: Profile,
-) -> Result<Facts, Fault>
+) -> Result<Facts, Flaw>
     ensures facts { DescribesStream R.Source profile source.old source.new result }
-    ensures outcome { Tells R.Source source.old source.new → FitsStream R.Source profile source.old result }
+    ensures container { IfOk result (λ facts. facts.is_ogg ≡ is_ogg) }
+    ensures flaw { CountsFlaw R.Source profile source.old source.new result }
+    ensures outcome { FitsFacts R.Source profile source.old source.new result }
     ensures outside { IfOk result (λ facts. facts.outside ≡ false) }
+    ensures names { R.names source.new ≡ R.names source.old }
 {
     let mut facts = Facts::none();
     match decode_any(alloc, source, profile, &mut facts) {
         Ok(()) => Ok(Facts {
+            is_ogg,
             outside: false,
             ..facts
         }),
-        Err(fault) => Err(fault),
+        Err(fault) => Err(Flaw {
+            fault,
+            samples: facts.counts.samples,
+        }),
     }
+}
+
+/// Decodes a stream in either container, and returns what it is.
+pub(crate) fn read_facts<R: Source>(
+    alloc: Global,
+    source: &mut R,
+    profile: Profile,
+) -> Result<Facts, Flaw>
+    ensures facts { DescribesStream R.Source profile source.old source.new result }
+    ensures container { NamesContainer R.Source source.old source.new result }
+    ensures flaw { CountsFlaw R.Source profile source.old source.new result }
+    ensures outcome { FitsFacts R.Source profile source.old source.new result }
+    ensures outside { IfOk result (λ facts. facts.outside ≡ false) }
+{
+    let front = match pull_front(source) {
+        Ok(front) => front,
+        Err(fault) => return Err(Flaw { fault, samples: 0 }),
+    };
+    let mut fronted = Fronted { front, source };
+    let found = count_facts(alloc, begins_page(front), &mut fronted, profile);
+    let Fronted {
+        front: _,
+        source: _source,
+    } = fronted;
+    found
 }

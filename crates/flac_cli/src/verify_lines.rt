@@ -4,7 +4,7 @@ ghost use Rattle.std.specs.Prelude.{◌≡◌, ◌≤◌, ◌<◌, ◌+◌, ◌+
 ghost use Rattle.flac_cli.specs.Calls.{HasSent};
 ghost use Rattle.flac_cli.specs.Lined.{text_at};
 ghost use Rattle.flac_cli.specs.Reports.{fault_line};
-ghost use Rattle.flac_cli.specs.Verified.{file_line, ok_line, ok_part, bad_part, words_of, word_if, last_line};
+ghost use Rattle.flac_cli.specs.Verified.{file_line, ok_line, ok_part, bad_part, words_of, word_if, is_tagged, last_line};
 ghost use Rattle.flac_cli.specs.inner.Verifying.{IsEnded, IsSent, IsTold};
 ghost use Rattle.flac_cli.specs.inner.Lines.{SendsLine, AddsTo};
 
@@ -21,13 +21,29 @@ fn word_if(holds: bool, word: &'static str) -> &'static str
     if holds { word } else { "" }
 }
 
+/// Whether tags of other programs are around a stream, as far as that was looked for.
+fn is_tagged(tagged: Option<bool>) -> bool
+    ensures { result ≡ is_tagged tagged }
+{
+    match tagged {
+        Some(tagged) => tagged,
+        None => false,
+    }
+}
+
 /// Adds the words after the counts of a stream.
-fn put_words<O: Target>(lines: &mut Lines<O>, change: Change, facts: &Facts) -> Result<(), Why>
-    ensures { AddsTo O.Target (words_of change facts.now) lines.old lines.new result }
+fn put_words<O: Target>(
+    lines: &mut Lines<O>,
+    change: Change,
+    tagged: Option<bool>,
+    facts: &Facts,
+) -> Result<(), Why>
+    ensures { AddsTo O.Target (words_of change tagged facts.now) lines.old lines.new result }
 {
     lines.put(word_if(facts.lacks_digest(), " no-md5"))?;
     lines.put(word_if(facts.lacks_total(), " no-total"))?;
     lines.put(word_if(facts.outside, " outside-subset"))?;
+    lines.put(word_if(is_tagged(tagged), " id3"))?;
     lines.put(change.word())
 }
 
@@ -36,15 +52,16 @@ fn put_ok<O: Target>(
     lines: &mut Lines<O>,
     path: &str,
     change: Change,
+    tagged: Option<bool>,
     facts: &Facts,
 ) -> Result<(), Why>
     requires { lines.old.held ≡ 0 }
-    ensures { SendsLine O.Target (ok_line path.now change facts.now) lines.old lines.new result }
+    ensures { SendsLine O.Target (ok_line path.now change tagged facts.now) lines.old lines.new result }
 {
     lines.put_path("ok ", path)?;
     lines.put_counted(": frames ", facts.counts.frames)?;
     lines.put_counted(" samples ", facts.counts.samples)?;
-    put_words(lines, change, facts)?;
+    put_words(lines, change, tagged, facts)?;
     lines.put("\n")?;
     lines.send()
 }
@@ -57,15 +74,16 @@ pub(crate) fn write_ok<O: Target>(
     out: &mut O,
     path: &str,
     change: Change,
+    tagged: Option<bool>,
     facts: &Facts,
 ) -> Result<(), Why>
     ensures kept { O.errors out.old ≤ O.errors out.new }
     ensures known { OnOk result (O.known out.old ≡ true → O.known out.new ≡ true) }
-    ensures sent { HasSent O.Target out.old out.new (ok_line path.now change facts.now) result }
+    ensures sent { HasSent O.Target out.old out.new (ok_line path.now change tagged facts.now) result }
     ensures failed { OnErr result (O.known out.old ≡ true → O.errors out.old < O.errors out.new) }
 {
     let mut lines = Lines::new(out);
-    put_ok(&mut lines, path, change, facts)
+    put_ok(&mut lines, path, change, tagged, facts)
 }
 
 /// Sends the last line through a buffer.
@@ -153,21 +171,22 @@ pub(crate) fn tell_bad<E: Target>(err: &mut E, path: &str, at: At, text: &str, w
 pub(crate) fn report<O: Target, E: Target>(
     finding: &Finding,
     change: Change,
+    tagged: Option<bool>,
     path: &str,
     out: &mut O,
     err: &mut E,
 ) -> bool
-    ensures out { IsSent O.Target (ok_part path.now change finding.now) out.old out.new result }
+    ensures out { IsSent O.Target (ok_part path.now change tagged finding.now) out.old out.new result }
     ensures err { IsTold E.Target (bad_part path.now change finding.now) err.old err.new }
 {
     match finding {
-        Finding::Good(facts) => write_ok(out, path, change, facts).is_ok(),
-        Finding::Bad(fault) => {
+        Finding::Good(facts) => write_ok(out, path, change, tagged, facts).is_ok(),
+        Finding::Bad(flaw) => {
             tell_bad(
                 err,
                 path,
-                At::Place(fault.at),
-                fault.why.as_str(),
+                At::Place(flaw.fault.at),
+                flaw.fault.why.as_str(),
                 change.word(),
             );
             true

@@ -1,20 +1,21 @@
 //! What `flac verify --all` prints of a file that is refused: what is missing of its stream.
 
-ghost use Rattle.std.specs.Prelude.{◌≡◌, ◌⊎◌, ◌↔◌, true, IfOk, IfErr, codes};
-ghost use Rattle.flac_rescue.specs.Report.{report_text};
+ghost use Rattle.std.specs.Prelude.{◌≡◌, ◌↔◌, true, IfOk, IfErr, codes};
+ghost use Rattle.flac_rescue.specs.Placed.{left_text};
 ghost use Rattle.flac_rescue.specs.Survey.{IsSurvey};
 ghost use Rattle.flac_shelf.specs.Shown.{shown};
-ghost use Rattle.flac_cli.specs.Missing.{IsOutOfMemory, AreUnlisted, IsSaidOf, asks_missing};
-ghost use Rattle.flac_cli.specs.inner.Missing.{line_for, IsUnlisted, HasContents, IsUnreadFile, SaysAgain, IsUnsaid, SaysListed, ListsMissing, ListsIfAsked, OkOfCurrent, ErrOfCurrent};
+ghost use Rattle.flac_cli.specs.Missing.{IsOutOfMemory, IsSaidOf, asks_missing};
+ghost use Rattle.flac_cli.specs.inner.Missing.{line_for, AreLinesAbout, IsUnsurveyed, IsUnlisted, HasContents, IsUnreadFile, SaysAgain, IsUnsaid, SaysListed, ListsMissing, ListsIfAsked, OkOfCurrent, ErrOfCurrent};
 ghost use Rattle.flac_cli.specs.inner.Verifying.{IsTold, Stays};
 
 use crate::lines::At;
 use crate::verify::{Finding, is_memory};
 use crate::verify_lines::tell_bad;
 use flac_bits::{Target, Why, send_all};
-use flac_rescue::{Survey, SurveyFault, report, survey_bytes};
+use flac_rescue::{Survey, SurveyFault, report_left, survey_bytes};
 use flac_shelf::{Shelf, shown};
 use flac_wave::read_all;
+use flac_whole_pages::{Left, left_of};
 use std::alloc::{AllocError, Global};
 
 /// Why it is not said what is missing of a file.
@@ -64,7 +65,7 @@ impl Unlisted {
 /// A survey of a native stream of these bytes.
 fn survey_of(alloc: Global, bytes: &[u8]) -> Result<Survey, Unlisted>
     ensures survey { IfOk result (λ survey. IsSurvey bytes.now survey) }
-    ensures unlisted { IfErr result (λ e. (e ≡ Unlisted.Memory) ⊎ (AreUnlisted bytes.now × (e ≡ Unlisted.Unsurveyed))) }
+    ensures unlisted { IfErr result (IsUnsurveyed bytes.now) }
 {
     match survey_bytes(alloc, bytes) {
         Ok(survey) => Ok(survey),
@@ -72,25 +73,36 @@ fn survey_of(alloc: Global, bytes: &[u8]) -> Result<Survey, Unlisted>
     }
 }
 
-/// The lines of a survey of the file of this path.
-fn lines_of(alloc: Global, path: &str, survey: &Survey) -> Result<Vec<u8>, AllocError>
-    ensures { IfOk result (λ text. text.items ≡ report_text (shown path.now) survey.now) }
+/// The lines of a survey of the file of this path, of which this is left.
+fn lines_of(alloc: Global, path: &str, left: &Left, survey: &Survey) -> Result<Vec<u8>, AllocError>
+    ensures { IfOk result (λ text. text.items ≡ left_text (shown path.now) left.now survey.now) }
 {
     let name = shown(alloc, path)?;
-    report(alloc, name.as_str(), survey)
+    report_left(alloc, name.as_str(), left, survey)
 }
 
-/// The lines about a native stream of these bytes.
-fn lines_about(alloc: Global, path: &str, bytes: &[u8]) -> Result<Vec<u8>, Unlisted>
-    ensures lines { IfOk result (λ text. IsSaidOf path.now bytes.now text.items) }
-    ensures unlisted { IfErr result (λ e. IsSaidOf path.now bytes.now (line_for path.now e)) }
+/// The lines about what is left of a stream.
+fn lines_about(alloc: Global, path: &str, left: &Left) -> Result<Vec<u8>, Unlisted>
+    ensures lines { IfOk result (λ text. AreLinesAbout path.now left.now text.items) }
+    ensures unlisted { IfErr result (IsUnsurveyed left.now.bytes.items) }
 {
-    match survey_of(alloc, bytes) {
-        Ok(survey) => match lines_of(alloc, path, &survey) {
+    match survey_of(alloc, &left.bytes) {
+        Ok(survey) => match lines_of(alloc, path, left, &survey) {
             Ok(text) => Ok(text),
             Err(_) => Err(Unlisted::Memory),
         },
         Err(unlisted) => Err(unlisted),
+    }
+}
+
+/// The lines about the stream in these bytes: of all of them, or of the whole pages of an Ogg stream.
+fn lines_in(alloc: Global, path: &str, bytes: Vec<u8>) -> Result<Vec<u8>, Unlisted>
+    ensures lines { IfOk result (λ text. IsSaidOf path.now bytes.items text.items) }
+    ensures unlisted { IfErr result (λ e. IsSaidOf path.now bytes.items (line_for path.now e)) }
+{
+    match left_of(alloc, bytes) {
+        Ok(left) => lines_about(alloc, path, &left),
+        Err(_) => Err(Unlisted::Memory),
     }
 }
 
@@ -122,7 +134,7 @@ fn survey_again<S: Shelf>(alloc: Global, shelf: &mut S) -> Result<Vec<u8>, Unlis
     ensures stays { Stays S.known S.current S.files S.gone S.faults S.most shelf.old shelf.new }
 {
     match bytes_of(alloc, shelf) {
-        Ok(bytes) => lines_about(alloc, shelf.path(), &bytes),
+        Ok(bytes) => lines_in(alloc, shelf.path(), bytes),
         Err(unlisted) => Err(unlisted),
     }
 }

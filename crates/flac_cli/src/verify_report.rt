@@ -1,11 +1,11 @@
 //! The lines of the report of `flac verify`.
 
-ghost use Rattle.std.specs.Prelude.{◌≡◌, codes};
+ghost use Rattle.std.specs.Prelude.{◌≡◌, Some, codes};
 ghost use Rattle.flac_json.specs.Json.{number, text, truth};
 ghost use Rattle.flac_report.specs.Objects.{valued, counted};
-ghost use Rattle.flac_report.specs.Entries.{digest_member, subset_member};
+ghost use Rattle.flac_report.specs.Entries.{container_member, digest_member, subset_member, id3_member};
 ghost use Rattle.flac_cli.specs.Objects.{member_of};
-ghost use Rattle.flac_cli.specs.Reported.{rate_of, channels_of, depth_of, digest_of, subset_of, index_of, name_of};
+ghost use Rattle.flac_cli.specs.Reported.{container_in, rate_of, channels_of, depth_of, digest_of, subset_of, index_of, name_of};
 ghost use Rattle.flac_cli.specs.declared.verify.Finding.TheVariants.{Good, Bad, Unopened};
 ghost use Rattle.flac_cli.specs.inner.Objects.{given_member};
 ghost use Rattle.flac_cli.specs.inner.Reported.{digest_in, EntrySent, entry_text};
@@ -13,10 +13,10 @@ ghost use Rattle.flac_cli.specs.inner.Verifying.{IsEntered};
 
 use crate::json::{Member, Value, write_object};
 use crate::verify::Finding;
-use crate::verify_facts::Facts;
+use crate::verify_facts::{Facts, Flaw};
 use flac_bits::{Target, Why};
 use flac_meta::StreamInfo;
-use flac_native::{Fault, Place};
+use flac_native::Place;
 use flac_shelf::Stamp;
 
 /// What the line of a file says beside what it was found to be.
@@ -26,6 +26,8 @@ pub(crate) struct Entry<'a> {
     pub(crate) stamp: Stamp,
     /// Whether it was looked for that the stream is in the streamable subset.
     pub(crate) is_sought: bool,
+    /// Whether tags of other programs are around the stream, if that was looked for.
+    pub(crate) tagged: Option<bool>,
 }
 
 /// A member whose value is a text.
@@ -128,6 +130,26 @@ fn subset_member(is_sought: bool, outside: bool) -> Option<Member<'static>>
     None
 }
 
+/// The member of tags of other programs, if they were looked for.
+fn id3_member(tagged: Option<bool>) -> Option<Member<'static>>
+    ensures { given_member result ≡ id3_member tagged }
+{
+    match tagged {
+        Some(tagged) => truth_member("id3", tagged),
+        None => None,
+    }
+}
+
+/// The member of the container.
+fn container_member(is_ogg: bool) -> Option<Member<'static>>
+    ensures { given_member result ≡ container_member (Some (container_in is_ogg)) }
+{
+    if is_ogg {
+        return text_member("container", b"ogg");
+    }
+    text_member("container", b"native")
+}
+
 /// The member that each line begins with.
 fn path_member(path: &str) -> Member<'_>
     ensures { member_of result ≡ record { name = codes "path"; value = text path.now } }
@@ -145,6 +167,7 @@ fn write_good<P: Target>(report: &mut P, entry: &Entry<'_>, facts: &Facts) -> Re
     let digest = digest_of(facts.info);
     let members = [
         text_member("status", b"ok"),
+        container_member(facts.is_ogg),
         counted_member("bytes", entry.stamp.bytes),
         counted_member("modified", entry.stamp.modified),
         counted_member("nanoseconds", entry.stamp.nanoseconds),
@@ -156,6 +179,7 @@ fn write_good<P: Target>(report: &mut P, entry: &Entry<'_>, facts: &Facts) -> Re
         md5_member(facts, &digest),
         truth_member("md5_checked", !facts.lacks_digest()),
         subset_member(entry.is_sought, facts.outside),
+        id3_member(entry.tagged),
     ];
     write_object(report, path_member(entry.path), &members)
 }
@@ -183,9 +207,10 @@ fn name_of(why: Why) -> &'static [u8]
 }
 
 /// Sends the line of a file that is refused.
-fn write_bad<P: Target>(report: &mut P, entry: &Entry<'_>, fault: Fault) -> Result<(), Why>
-    ensures { EntrySent P.Target entry.now (Bad fault) report.old report.new result }
+fn write_bad<P: Target>(report: &mut P, entry: &Entry<'_>, flaw: Flaw) -> Result<(), Why>
+    ensures { EntrySent P.Target entry.now (Bad flaw) report.old report.new result }
 {
+    let Flaw { fault, samples } = flaw;
     let members = [
         text_member("status", b"bad"),
         counted_member("bytes", entry.stamp.bytes),
@@ -195,6 +220,7 @@ fn write_bad<P: Target>(report: &mut P, entry: &Entry<'_>, fault: Fault) -> Resu
         counted_member("index", index_of(fault.at)),
         counted_member("error", Some(u64::from(fault.why.number()))),
         text_member("name", name_of(fault.why)),
+        counted_member("sample", Some(samples)),
     ];
     write_object(report, path_member(entry.path), &members)
 }
@@ -221,7 +247,7 @@ fn write_entry<P: Target>(report: &mut P, entry: &Entry<'_>, finding: &Finding) 
 {
     match finding {
         Finding::Good(facts) => write_good(report, entry, facts),
-        Finding::Bad(fault) => write_bad(report, entry, *fault),
+        Finding::Bad(flaw) => write_bad(report, entry, *flaw),
         Finding::Unopened => write_unopened(report, entry),
     }
 }

@@ -148,7 +148,7 @@ fn read_unsized<R: Source>(
 }
 
 /// Whether the header of the samples states 0 bytes.
-fn states_none(size: Option<u64>) -> bool
+pub(crate) fn states_none(size: Option<u64>) -> bool
     ensures { result ≡ states_none size }
 {
     match size {

@@ -5,13 +5,13 @@ ghost use Rattle.flac_frame.specs.Audio.{samples_each};
 ghost use Rattle.flac_wave.specs.Calls.{IfRead};
 ghost use Rattle.flac_wave.specs.Format.{IsInRange, row_of};
 ghost use Rattle.flac_cli.specs.inner.HeldWaves.{shifted, HasRoom, IsHeld, AreHeld, HoldsMore, AreHeldOf};
-ghost use Rattle.flac_cli.specs.inner.Sources.{HasRead, IfSomeRead, IfNoneRead, EndsInside};
+ghost use Rattle.flac_raw.specs.Reading.{HasRead, IfSomeRead, IfNoneRead, EndsInside};
 ghost use Rattle.flac_cli.specs.inner.WaveSamples.{AreTaken, AreTakenOf};
 
 use crate::decode_wave::turn;
-use crate::raw::{PIECE, no_samples, push_piece};
 use flac_bits::{Source, Why, bytes_fit};
 use flac_native::sample_width;
+use flac_raw::{PIECE, no_samples, push_piece};
 use flac_wave::{WaveFormat, fill};
 use std::alloc::Global;
 

@@ -83,8 +83,8 @@ impl<R: Source> Input<R> {
     /// samples were not compared yet.
     ///
     /// # Errors
-    /// The fault of the frame at its place, or of a page, as decoding reports it; but a packet that is cut off, or longer
-    /// than any part, is refused as such, whatever its bytes are. [`Why::Memory`] if an allocation fails.
+    /// The fault of the frame at its place, or of a page, as decoding reports it; but a packet that is cut off, or
+    /// longer than any part, is refused as such, whatever its bytes are. [`Why::Memory`] if an allocation fails.
     pub(crate) fn next(&mut self, track: &mut Track, bytes: &mut Vec<u8>) -> Result<bool, Fault>
         ensures { IfOk result (NextFrame R.Source track.old track.new self.old self.new bytes.new.items) }
     {

@@ -1,5 +1,5 @@
-//! Moves the frames of a FLAC stream into another container, or under other metadata, each frame's bytes as they are (RFC
-//! 9639, sections 6, 9 and 10.1).
+//! Moves the frames of a FLAC stream into another container, or under other metadata, each frame's bytes as they are
+//! (RFC 9639, sections 6, 9 and 10.1).
 //!
 //! | To | Call |
 //! |---|---|

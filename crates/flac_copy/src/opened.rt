@@ -161,8 +161,9 @@ fn open_ogg<S: Source + Drop>(
     }
 }
 
-/// Opens a stream to be copied: an Ogg stream if the first byte is `O`, that of a page (RFC 9639, section 10.1), a native
-/// one otherwise (section 6). Returns its metadata blocks, of which STREAMINFO is the first, and the stream after them.
+/// Opens a stream to be copied: an Ogg stream if the first byte is `O`, that of a page (RFC 9639, section 10.1), a
+/// native one otherwise (section 6). Returns its metadata blocks, of which STREAMINFO is the first, and the stream
+/// after them.
 ///
 /// It holds the blocks, and up to 8192 bytes more, in an Ogg stream one packet and one page more.
 ///

@@ -16,8 +16,8 @@ pub(crate) enum Output {
 }
 
 impl Output {
-    /// Writes a frame with `count` samples of each channel; in Ogg the one before it, since the last page of a stream is
-    /// marked.
+    /// Writes a frame with `count` samples of each channel; in Ogg the one before it, since the last page of a stream
+    /// is marked.
     ///
     /// # Errors
     /// [`Why::Memory`] if an allocation fails, [`Why::Write`] if the target returns an error.

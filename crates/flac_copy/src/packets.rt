@@ -47,8 +47,8 @@ fn hold_packet<R: Source>(pages: &mut Pages<R>, bytes: &mut Vec<u8>) -> Result<(
     told
 }
 
-/// Reads the next packet, and puts its bytes in place of those that there are. False if there is none: the last page was
-/// read, and the input ends after it. `missing` says whether a metadata block is still to come.
+/// Reads the next packet, and puts its bytes in place of those that there are. False if there is none: the last page
+/// was read, and the input ends after it. `missing` says whether a metadata block is still to come.
 ///
 /// # Errors
 /// - [`Why::PacketLength`] if the packet is longer than any item, or still open at the end of the last page; or if a

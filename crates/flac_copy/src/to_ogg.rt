@@ -17,8 +17,8 @@ use std::mem::drop;
 /// ones if there are none, and a seek table is left out, since its offsets have no meaning in Ogg. Each frame is a
 /// packet, whose last page has the number of samples so far as its granule position.
 ///
-/// It holds the blocks, their packets with the pages, two frames with the pages of one, and up to 8192 bytes more, of an
-/// Ogg stream one page more.
+/// It holds the blocks, their packets with the pages, two frames with the pages of one, and up to 8192 bytes more, of
+/// an Ogg stream one page more.
 ///
 /// ```
 /// copy_to_ogg(rt.alloc(), serial, Profile::Subset, &mut source, &mut target)?;
@@ -37,8 +37,8 @@ pub fn copy_to_ogg<R: Source, W: Target>(
     source: &mut R,
     target: &mut W,
 ) -> Result<(), CopyFault>
-    // Ok only if the bytes are a stream of the profile, and the target was sent an Ogg stream with the same frames, byte
-    // by byte.
+    // Ok only if the bytes are a stream of the profile, and the target was sent an Ogg stream with the same frames,
+    // byte by byte.
     ensures { OnOk result (CopiesToOgg R.Source W.Target serial profile source.old target.old target.new) }
 {
     match open(alloc, source, profile) {

@@ -153,8 +153,8 @@ impl<S: Source + Drop> Copying<S> {
     /// It holds the new metadata as bytes, and one frame.
     ///
     /// # Errors
-    /// - [`CopyFault::Blocks`]: the first block is not the stream's own STREAMINFO ([`Why::NotStreamInfoFirst`]), or the
-    ///   others may not follow it, or an allocation failed. Nothing was written.
+    /// - [`CopyFault::Blocks`]: the first block is not the stream's own STREAMINFO ([`Why::NotStreamInfoFirst`]), or
+    ///   the others may not follow it, or an allocation failed. Nothing was written.
     /// - [`CopyFault::Input`]: the stream is refused at this place, or the source returned an error there
     ///   ([`Why::Read`]), or an allocation failed ([`Why::Memory`]). A prefix was written.
     /// - [`CopyFault::Write`]: the target returned an error. A prefix was written.
@@ -169,9 +169,9 @@ impl<S: Source + Drop> Copying<S> {
         copying.send_native(blocks, target)
     }
 
-    /// Writes an Ogg stream with this serial number: header packets, and then each frame's bytes as a packet, whose last
-    /// page has the number of samples so far as its granule position (RFC 9639, section 10.1). The frames are decoded,
-    /// and the number of samples and the digest are compared with STREAMINFO.
+    /// Writes an Ogg stream with this serial number: header packets, and then each frame's bytes as a packet, whose
+    /// last page has the number of samples so far as its granule position (RFC 9639, section 10.1). The frames are
+    /// decoded, and the number of samples and the digest are compared with STREAMINFO.
     ///
     /// Of these blocks STREAMINFO comes first, then the comments, empty ones if there are none, and then the others in
     /// their order, without a seek table, since its offsets have no meaning in Ogg.
@@ -179,8 +179,8 @@ impl<S: Source + Drop> Copying<S> {
     /// It holds the header packets with their pages, and two frames with the pages of one.
     ///
     /// # Errors
-    /// - [`CopyFault::Blocks`]: the first block is not the stream's own STREAMINFO ([`Why::NotStreamInfoFirst`]), or the
-    ///   others may not follow it, or an allocation failed. Nothing was written.
+    /// - [`CopyFault::Blocks`]: the first block is not the stream's own STREAMINFO ([`Why::NotStreamInfoFirst`]), or
+    ///   the others may not follow it, or an allocation failed. Nothing was written.
     /// - [`CopyFault::Input`]: the stream is refused at this place, or the source returned an error there
     ///   ([`Why::Read`]), or an allocation failed ([`Why::Memory`]). A prefix was written.
     /// - [`CopyFault::Write`]: the target returned an error. A prefix was written.

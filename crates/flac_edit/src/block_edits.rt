@@ -23,8 +23,8 @@ pub enum Removal {
 pub struct BlockEdits<'a> {
     /// Which blocks are removed, by their numbers and types before the edit.
     pub removals: &'a [Removal],
-    /// The text of a cue sheet ([`flac_cue::cue_sheet`]), which takes the place of all cue sheets (section 8.7), before the
-    /// comments and the padding; `None` to keep them.
+    /// The text of a cue sheet ([`flac_cue::cue_sheet`]), which takes the place of all cue sheets (section 8.7), before
+    /// the comments and the padding; `None` to keep them.
     pub cue: Option<&'a [u8]>,
     /// The points of a seek table that takes the place of all seek tables (section 8.5), before the comments and the
     /// padding; none to remove them all, and `None` to keep them. They must be in order (section 8.5.1).

@@ -38,9 +38,9 @@ fn are_alike(alloc: Global, ones: &[Block], others: &[Block]) -> Result<bool, Wh
     Ok(true)
 }
 
-/// Whether edits change these metadata blocks of a stream, of which STREAMINFO is the first, in any container (RFC 9639,
-/// section 8). False only if the edited blocks ([`edited_blocks`]) would be written with the bits of the old ones, so
-/// that nothing need be written.
+/// Whether edits change these metadata blocks of a stream, of which STREAMINFO is the first, in any container (RFC
+/// 9639, section 8). False only if the edited blocks ([`edited_blocks`]) would be written with the bits of the old
+/// ones, so that nothing need be written.
 ///
 /// # Errors
 /// - [`EditFault::Blocks`]: the edits do not fit the blocks, as [`crate::rewrite_blocks`] says.
@@ -64,8 +64,8 @@ pub fn edits_change(
     }
 }
 
-/// Whether edits change the metadata blocks of a native stream (RFC 9639, section 8). False only if the edited blocks would
-/// be written with the bits of the old ones, so that nothing need be written. It reads the blocks, and no frame.
+/// Whether edits change the metadata blocks of a native stream (RFC 9639, section 8). False only if the edited blocks
+/// would be written with the bits of the old ones, so that nothing need be written. It reads the blocks, and no frame.
 ///
 /// ```
 /// if blocks_change(rt.alloc(), &mut source, &edits)? {

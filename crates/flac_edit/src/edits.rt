@@ -136,8 +136,8 @@ fn edited_by(alloc: Global, edit: &Edit<'_>, texts: &[Bytes]) -> Result<Vec<Byte
     }
 }
 
-/// The comments after these edits, one after another. The vendor stays, and so does each comment that no edit names, byte
-/// by byte, also if it is not UTF-8.
+/// The comments after these edits, one after another. The vendor stays, and so does each comment that no edit names,
+/// byte by byte, also if it is not UTF-8.
 ///
 /// ```
 /// let edits = [Edit::Remove(b"COMMENT"), Edit::Set(b"ARTIST", b"A"), Edit::Add(b"ARTIST", b"B")];

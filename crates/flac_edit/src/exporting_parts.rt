@@ -128,8 +128,8 @@ fn send_part<W: Target>(bytes: Vec<u8>, target: &mut W) -> Result<(), EditFault>
     }
 }
 
-/// Writes a part of the metadata blocks of a stream, of which STREAMINFO is the first, to a target, in whatever container
-/// they were (RFC 9639, section 8).
+/// Writes a part of the metadata blocks of a stream, of which STREAMINFO is the first, to a target, in whatever
+/// container they were (RFC 9639, section 8).
 ///
 /// ```
 /// part_of_blocks(rt.alloc(), &blocks, Part::Tags, &mut target)?;
@@ -159,7 +159,8 @@ pub fn part_of_blocks<W: Target>(
     }
 }
 
-/// Writes a part of the metadata of a native stream to a target (RFC 9639, section 8). It reads the blocks, and no frame.
+/// Writes a part of the metadata of a native stream to a target (RFC 9639, section 8). It reads the blocks, and no
+/// frame.
 ///
 /// ```
 /// export_part(rt.alloc(), &mut source, Part::Picture, &mut target)?;
@@ -168,8 +169,8 @@ pub fn part_of_blocks<W: Target>(
 /// # Errors
 /// - [`EditFault::Blocks`]: the stream has no such block, no picture or no cue sheet. Nothing was written.
 /// - [`EditFault::Stream`] with a reason of the marker or of a metadata block, at its place, as [`flac_native::decode`]
-///   refuses it; [`Why::Read`] there if the source returned an error; [`Why::Memory`] at a block or without a place if an
-///   allocation failed. Nothing was written.
+///   refuses it; [`Why::Read`] there if the source returned an error; [`Why::Memory`] at a block or without a place if
+///   an allocation failed. Nothing was written.
 /// - The same with [`Why::Write`] without a place: the target returned an error. A prefix of the part was written.
 pub fn export_part<R: Source, W: Target>(
     alloc: Global,

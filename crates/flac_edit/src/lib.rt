@@ -1,5 +1,5 @@
-//! Edits the metadata of streams: comments of a native file in place, where a crash at any moment leaves the old blocks or
-//! the new ones; a native stream that is written anew; and lists of blocks, in whatever container they were.
+//! Edits the metadata of streams: comments of a native file in place, where a crash at any moment leaves the old blocks
+//! or the new ones; a native stream that is written anew; and lists of blocks, in whatever container they were.
 #![tactic(auto)]
 
 mod block_edits;

@@ -171,9 +171,9 @@ fn comments_between(alloc: Global, text: &[u8]) -> Result<Vec<Bytes>, LinesFault
 }
 
 /// The comments of lines, one of each: a name, `=` and a value (RFC 9639, section 8.6). A byte from 20 on (hexadecimal)
-/// but 7F and the backslash is itself; any byte may be a backslash, `x` and two hexadecimal digits. The last line need not
-/// be ended; a text without bytes has no line. So it reads what [`crate::comment_lines`] writes of comments that have
-/// names.
+/// but 7F and the backslash is itself; any byte may be a backslash, `x` and two hexadecimal digits. The last line need
+/// not be ended; a text without bytes has no line. So it reads what [`crate::comment_lines`] writes of comments that
+/// have names.
 ///
 /// ```
 /// let comments = comments_of_lines(rt.alloc(), b"TITLE=Air\nARTIST=J. S. Bach\n")?;

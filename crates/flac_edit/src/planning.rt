@@ -98,8 +98,8 @@ pub(crate) fn change_before(
     })
 }
 
-/// New comments inside padding after `preceding` bytes of blocks at an offset, which become one padding. What is left of
-/// the padding is the last block if `last` says so.
+/// New comments inside padding after `preceding` bytes of blocks at an offset, which become one padding. What is left
+/// of the padding is the last block if `last` says so.
 pub(crate) fn change_after(
     alloc: Global,
     at: usize,

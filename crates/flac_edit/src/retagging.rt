@@ -60,8 +60,8 @@ fn with_comments(alloc: Global, new: Comments, blocks: &[Block]) -> Result<Vec<B
 }
 
 /// The metadata blocks of a stream, of which STREAMINFO is the first, with edited comments in the place of the comment
-/// block, after all others if there is none (RFC 9639, section 8.6). All other blocks stay, also padding, so a stream in
-/// any container can be written anew with them. In Ogg the comments come first, wherever they are in this list.
+/// block, after all others if there is none (RFC 9639, section 8.6). All other blocks stay, also padding, so a stream
+/// in any container can be written anew with them. In Ogg the comments come first, wherever they are in this list.
 ///
 /// ```
 /// let news = retagged_blocks(rt.alloc(), &blocks, &[Edit::Set(b"TITLE", b"Air")])?;

@@ -41,8 +41,8 @@ fn others_of(alloc: Global, blocks: &[Block]) -> Result<Vec<Block>, AllocError>
 }
 
 /// The metadata blocks of a stream, of which STREAMINFO is the first, with edited comments, as [`rewrite`] writes them:
-/// the other blocks in their order, the edited comments, and `padding` bytes of padding, no such block if that is 0. Old
-/// padding is left out (RFC 9639, section 8).
+/// the other blocks in their order, the edited comments, and `padding` bytes of padding, no such block if that is 0.
+/// Old padding is left out (RFC 9639, section 8).
 ///
 /// # Errors
 /// `AllocError` if an allocation fails.
@@ -66,7 +66,8 @@ pub fn rewritten_blocks(
 
 /// Writes a native stream with edited comments (RFC 9639, sections 6 and 8.6): the marker, STREAMINFO, the other
 /// metadata blocks in their order, the edited comments, padding of `padding` bytes, and then all bytes that follow the
-/// metadata. These are copied as they are, and not verified. Old padding is left out, and there is none if `padding` is 0.
+/// metadata. These are copied as they are, and not verified. Old padding is left out, and there is none if `padding` is
+/// 0.
 ///
 /// With padding after the comments the next edit can be made in place ([`crate::tag_in_place`]).
 ///
@@ -78,7 +79,8 @@ pub fn rewritten_blocks(
 /// # Errors
 /// - A reason of the marker or of a metadata block, at its place, as [`flac_native::decode`] refuses it; [`Why::Read`]
 ///   there if the source returned an error. Nothing was written.
-/// - [`Why::BlockLength`] without a place: the comments or the padding are longer than 16777215 bytes. Nothing was written.
+/// - [`Why::BlockLength`] without a place: the comments or the padding are longer than 16777215 bytes. Nothing was
+///   written.
 /// - [`Why::Memory`] at a block or without a place: an allocation failed. Nothing was written.
 /// - [`Why::Read`] at frame 0: the source returned an error after the metadata. A prefix of the output was written.
 /// - [`Why::Write`] without a place: the target returned an error. A prefix of the output was written.

@@ -22,12 +22,13 @@ pub enum EditFault {
     Stream(RetagFault),
 }
 
-/// The blocks after these edits, STREAMINFO the first: those that are not removed, with the new cue sheet and then the new
-/// pictures before the comments and the padding, and the new padding last. A cue sheet is that of the audio that
+/// The blocks after these edits, STREAMINFO the first: those that are not removed, with the new cue sheet and then the
+/// new pictures before the comments and the padding, and the new padding last. A cue sheet is that of the audio that
 /// STREAMINFO says, and of a CD if its format is that of one and it is a whole number of frames of 588 samples.
 ///
 /// # Errors
-/// The edits do not fit the blocks, as [`rewrite_blocks`] says, or an allocation failed ([`Why::Memory`], without a place).
+/// The edits do not fit the blocks, as [`rewrite_blocks`] says, or an allocation failed ([`Why::Memory`], without a
+/// place).
 #[tactic(auto, unfolding(crate::specs::BlockEdits::edited_blocks))]
 pub fn edited_blocks(
     alloc: Global,
@@ -54,9 +55,9 @@ pub fn edited_blocks(
 }
 
 /// Writes a native stream with edited metadata blocks (RFC 9639, sections 6 and 8): the marker, the blocks that are not
-/// removed, with a new seek table, cue sheet and new pictures before the comments and the padding, new padding last, and then all
-/// bytes that follow the metadata. These are copied as they are, and not verified; so the offsets of a seek table stay
-/// right.
+/// removed, with a new seek table, cue sheet and new pictures before the comments and the padding, new padding last,
+/// and then all bytes that follow the metadata. These are copied as they are, and not verified; so the offsets of a
+/// seek table stay right.
 ///
 /// ```
 /// let removals = &[Removal::Kind(6)];
@@ -66,14 +67,14 @@ pub fn edited_blocks(
 ///
 /// # Errors
 /// - [`EditFault::Blocks`]: a removal names a block that is not there, or STREAMINFO; STREAMINFO does not say how many
-///   samples a cue sheet is of, or a line of its text is wrong (section 8.7); or there would be two pictures of type 1, or
-///   of type 2, one of them new (section 8.8). Nothing was written.
+///   samples a cue sheet is of, or a line of its text is wrong (section 8.7); or there would be two pictures of type 1,
+///   or of type 2, one of them new (section 8.8). Nothing was written.
 /// - [`EditFault::Stream`] with a reason of the marker or of a metadata block, at its place, as [`flac_native::decode`]
 ///   refuses it; [`Why::Read`] there if the source returned an error. Nothing was written.
 /// - The same with [`Why::BlockLength`] without a place: a picture or the padding is longer than 16777215 bytes; with
 ///   [`Why::Memory`] at a block or without a place: an allocation failed. Nothing was written.
-/// - The same with [`Why::Read`] at frame 0: the source returned an error after the metadata; with [`Why::Write`] without
-///   a place: the target returned an error. A prefix of the output was written.
+/// - The same with [`Why::Read`] at frame 0: the source returned an error after the metadata; with [`Why::Write`]
+///   without a place: the target returned an error. A prefix of the output was written.
 pub fn rewrite_blocks<R: Source, W: Target>(
     alloc: Global,
     source: &mut R,

@@ -151,8 +151,8 @@ fn change_comments<D: Device>(
 /// ```
 ///
 /// # Errors
-/// - [`TagFault::Stream`]: the marker or a block is refused, as [`flac_native::decode`] refuses it; the source returned an
-///   error ([`Why::Read`]), or an allocation failed there ([`Why::Memory`]). Nothing was written.
+/// - [`TagFault::Stream`]: the marker or a block is refused, as [`flac_native::decode`] refuses it; the source returned
+///   an error ([`Why::Read`]), or an allocation failed there ([`Why::Memory`]). Nothing was written.
 /// - [`TagFault::Device`]: an allocation failed, or the device failed. The file has the old comments or the new ones:
 ///   open and sync it again before the next edit.
 pub fn tag_in_place<R: Source, D: Device>(
@@ -166,8 +166,8 @@ pub fn tag_in_place<R: Source, D: Device>(
         → (R.known source.old ≡ true) × (R.coming source.old ≡ D.seen device.old) }
     requires durable { D.known device.old ≡ true → Only (D.seen device.old) (D.time device.old) }
     ensures known { D.known device.new ≡ D.known device.old }
-    // A crash at any moment leaves a file that is read as the old blocks, or as those with the edited comments, before the
-    // same frames.
+    // A crash at any moment leaves a file that is read as the old blocks, or as those with the edited comments, before
+    // the same frames.
     ensures any_moment { LeavesTagged R.Source D.Device source.old edits.now device.old device.new }
     // Whatever is returned, a read finds the old blocks, or those with the edited comments.
     ensures reads { ReadsTagged R.Source D.Device source.old edits.now device.old device.new }

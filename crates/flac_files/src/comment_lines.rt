@@ -11,11 +11,12 @@ use std::io::ErrorKind;
 /// and 8.6).
 const MOST: u64 = 4 * 16_777_215;
 
-/// The most bytes of a value of a comment: its block has 4 bytes each for the vendor's length, the number of comments and
-/// the comment's length, and its name and `=` (RFC 9639, sections 8.1 and 8.6).
+/// The most bytes of a value of a comment: its block has 4 bytes each for the vendor's length, the number of comments
+/// and the comment's length, and its name and `=` (RFC 9639, sections 8.1 and 8.6).
 const MOST_OF_VALUE: u64 = 16_777_215 - 14;
 
-/// Reads the value of a comment, of at most 16777201 bytes, as many as a metadata block can have; `-` is standard input.
+/// Reads the value of a comment, of at most 16777201 bytes, as many as a metadata block can have; `-` is standard
+/// input.
 ///
 /// # Errors
 /// The file cannot be opened, or it cannot be read: the system returns an error, memory ran out, or it is longer.

@@ -184,8 +184,8 @@ impl Rule<'_> {
         })
     }
 
-    /// Whether a new file to which nothing was written is removed if the job fails: that of a job of WAV files. One of raw
-    /// samples, or of a stream that is tagged anew, stays, empty.
+    /// Whether a new file to which nothing was written is removed if the job fails: that of a job of WAV files. One of
+    /// raw samples, or of a stream that is tagged anew, stays, empty.
     fn removes_empty(&self) -> bool {
         matches!(self.job, Job::DecodeWave { .. } | Job::EncodeWave { .. })
     }
@@ -195,12 +195,12 @@ impl Rule<'_> {
         self.is_whole && matches!(self.job, Job::EncodeWave { .. })
     }
 
-    /// Whether the job may replace the file of this path, which has bytes ([`may_replace`], [`may_replace_recoded`]). False
-    /// if a retagging reads no native stream, which the job reports: nothing is replaced then.
+    /// Whether the job may replace the file of this path, which has bytes ([`may_replace`], [`may_replace_recoded`]).
+    /// False if a retagging reads no native stream, which the job reports: nothing is replaced then.
     ///
     /// # Errors
-    /// `AlreadyExists` if it may not, `InvalidData` if a stream that is encoded anew may not. The file cannot be read; or a
-    /// retagging reads a pipe, which has no first bytes to compare.
+    /// `AlreadyExists` if it may not, `InvalidData` if a stream that is encoded anew may not. The file cannot be read;
+    /// or a retagging reads a pipe, which has no first bytes to compare.
     fn allows(&self, rt: &HostRuntime, path: &str) -> io::Result<bool> {
         if self.force {
             return Ok(true);
@@ -286,8 +286,8 @@ fn read_front(file: &File, places: &mut [u8]) -> io::Result<usize>
 ///
 /// The files that the job reads are refused. First the paths are compared, with `.`, `..` and symbolic links resolved.
 /// Then the file is opened, and its device and inode are compared with those of each, so that a hard link is seen too.
-/// `-` and `/dev/stdout` are standard output itself and not its file opened anew, so that bytes are added to a file that the
-/// caller appends to.
+/// `-` and `/dev/stdout` are standard output itself and not its file opened anew, so that bytes are added to a file
+/// that the caller appends to.
 ///
 /// # Errors
 /// The file cannot be created, it is one that the job reads, or one that it may not replace.

@@ -35,8 +35,8 @@ impl<'a> JobFiles<'a> {
     /// it may replace any file that it does not read, else those that [`crate::may_replace`] lets it.
     ///
     /// # Errors
-    /// A file cannot be opened, read or created, or what the job writes is a file that it reads, or may not replace, or,
-    /// without `force`, a new file with the name of something else.
+    /// A file cannot be opened, read or created, or what the job writes is a file that it reads, or may not replace,
+    /// or, without `force`, a new file with the name of something else.
     pub fn open(
         rt: &HostRuntime,
         job: &Job<'a>,
@@ -49,8 +49,8 @@ impl<'a> JobFiles<'a> {
         JobFiles::opened(rt, job, force, false)
     }
 
-    /// Opens the files of a job as [`JobFiles::open`] does, whose output is of use only as a whole: if the job fails, a new
-    /// file is removed. A path that has no file gets one when the job is done, and none if the job fails.
+    /// Opens the files of a job as [`JobFiles::open`] does, whose output is of use only as a whole: if the job fails, a
+    /// new file is removed. A path that has no file gets one when the job is done, and none if the job fails.
     ///
     /// # Errors
     /// Those of [`JobFiles::open`].
@@ -163,10 +163,10 @@ pub struct Ending<'a> {
 }
 
 impl<'a> Ending<'a> {
-    /// Ends a job of this status, which wrote to `output`. If that is a regular file and the status is 0, it is
-    /// stored. A new file beside one that has bytes then takes the place of the old one. If the job failed, the new
-    /// file keeps what was written, and the old one stays as it was; a new file that is of use only as a whole is removed,
-    /// and so is one to which nothing was written.
+    /// Ends a job of this status, which wrote to `output`. If that is a regular file and the status is 0, it is stored.
+    /// A new file beside one that has bytes then takes the place of the old one. If the job failed, the new file keeps
+    /// what was written, and the old one stays as it was; a new file that is of use only as a whole is removed, and so
+    /// is one to which nothing was written.
     ///
     /// # Errors
     /// The job is done, but the file cannot be stored, or cannot take the place of the old one, or get its path.

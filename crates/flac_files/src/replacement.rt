@@ -22,8 +22,9 @@ pub(crate) enum Place {
 }
 
 impl Place {
-    /// Ends a job of this status, which wrote to `output`, with this path. If the status is 0, a regular file is stored,
-    /// and a new file beside the path gets it. Otherwise a file that is of no use while it is empty is removed if it is.
+    /// Ends a job of this status, which wrote to `output`, with this path. If the status is 0, a regular file is
+    /// stored, and a new file beside the path gets it. Otherwise a file that is of no use while it is empty is removed
+    /// if it is.
     ///
     /// # Errors
     /// What cannot be done with the file.
@@ -209,8 +210,8 @@ pub(crate) fn create_beside(
 }
 
 /// Creates a new file beside a path, with these permissions, or fewer if the system takes some away, and returns its
-/// path: the other followed by `.part`, or by `.part2` to `.part99` if that is taken. If its name would be too long, the
-/// end of the other's is left out.
+/// path: the other followed by `.part`, or by `.part2` to `.part99` if that is taken. If its name would be too long,
+/// the end of the other's is left out.
 ///
 /// # Errors
 /// The file cannot be created.

@@ -41,9 +41,9 @@ pub fn may_replace(job: &Job<'_>, input: &[u8], old: &[u8]) -> bool
     }
 }
 
-/// Whether a stream that is encoded anew, from a file that begins with the bytes `input`, may replace a file that begins
-/// with the bytes `old`: one that is no file of sound, or a native stream of the same samples, by the rate, the channels,
-/// the bits per sample, the total and the digest that its STREAMINFO states (RFC 9639, section 8.2).
+/// Whether a stream that is encoded anew, from a file that begins with the bytes `input`, may replace a file that
+/// begins with the bytes `old`: one that is no file of sound, or a native stream of the same samples, by the rate, the
+/// channels, the bits per sample, the total and the digest that its STREAMINFO states (RFC 9639, section 8.2).
 #[tactic(auto, unfolding(crate::specs::Replacing::may_replace_recoded))]
 pub fn may_replace_recoded(input: &[u8], old: &[u8]) -> bool
     ensures { result ≡ may_replace_recoded input.now old.now }

@@ -24,9 +24,9 @@ pub struct ReportFile {
 impl ReportFile {
     /// Opens the report that is asked for.
     ///
-    /// A new report is a file that is not there, or is empty, or a device. One that is resumed may have lines, which stay
-    /// until [`end_report`]; a last line that was cut off is taken away. A file that has other lines than those of a report
-    /// is refused, and stays as it was.
+    /// A new report is a file that is not there, or is empty, or a device. One that is resumed may have lines, which
+    /// stay until [`end_report`]; a last line that was cut off is taken away. A file that has other lines than those of
+    /// a report is refused, and stays as it was.
     ///
     /// # Errors
     /// The report cannot be created, or cannot be read or cut off, or another verification writes to it.

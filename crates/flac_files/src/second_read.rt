@@ -17,8 +17,8 @@ pub struct SecondRead {
 }
 
 impl SecondRead {
-    /// Whether the file has another length than when it was opened, or another time at which it was changed. True if the
-    /// system does not say.
+    /// Whether the file has another length than when it was opened, or another time at which it was changed. True if
+    /// the system does not say.
     pub fn is_changed(&self) -> bool {
         match self.file.metadata() {
             Ok(now) => !is_same(&self.found, &now),

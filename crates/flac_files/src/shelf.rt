@@ -7,8 +7,10 @@ use crate::job_files::StandIns;
 use crate::progress::Progress;
 use crate::walk::{Look, Names, look_at_found, look_at_named};
 use flac_bits::Counted;
-use flac_shelf::{Earlier, Shelf, Stamp};
+use flac_shelf::{Earlier, Edges, Shelf, Stamp};
+use std::fs::File;
 use std::io;
+use std::os::unix::fs::FileExt;
 
 /// A path that is still to be looked at.
 #[derive(Drop)]
@@ -19,9 +21,9 @@ struct Pending {
 }
 
 /// Files of the system, one after another: those that are named, whatever their names, and those of the named folders
-/// and of the folders in them whose names end in `.flac`, `.fla`, `.oga` or `.ogg`, in any case, but Ogg files whose first
-/// packet is that of another codec. The names of a folder come in the order of their bytes. Links to folders are not
-/// followed, unless they are named. `-` is standard input.
+/// and of the folders in them whose names end in `.flac`, `.fla`, `.oga` or `.ogg`, in any case, but Ogg files whose
+/// first packet is that of another codec. The names of a folder come in the order of their bytes. Links to folders are
+/// not followed, unless they are named. `-` is standard input.
 ///
 /// A folder that cannot be read, and one with a name that is no UTF-8, come as files that cannot be opened; so does a
 /// pipe or a device that is found in a folder, and whatever the system tells nothing of. The names of the folders that
@@ -141,6 +143,24 @@ fn add_reversed(pending: &mut Vec<Pending>, paths: &mut Vec<String>) -> io::Resu
     Ok(())
 }
 
+/// How a file begins and ends.
+///
+/// # Errors
+/// That of the system.
+fn read_edges(rt: &HostRuntime, path: &str) -> io::Result<Edges> {
+    let file = File::open(rt, path)?;
+    let size = file.metadata()?.len();
+    let mut first = [0; 10];
+    if size >= 10 {
+        file.read_exact_at(&mut first, 0)?;
+    }
+    let mut last = [0; 128];
+    if size >= 128 {
+        file.read_exact_at(&mut last, size - 128)?;
+    }
+    Ok(Edges { size, first, last })
+}
+
 impl Shelf for FileShelf {
     type File = Counted<Input>;
 
@@ -150,7 +170,7 @@ impl Shelf for FileShelf {
 
     ghost known = { λ _. false };
 
-    ghost current = { λ _. record { path = []; stamp = no_stamp; earlier = Unasked; contents = None } };
+    ghost current = { λ _. record { path = []; stamp = no_stamp; earlier = Unasked; stored = None; tagged = None; contents = None } };
 
     ghost files = { λ _. [] };
 
@@ -191,6 +211,17 @@ impl Shelf for FileShelf {
 
     fn reads_again(&self) -> bool {
         matches!(self.look, Look::Read { again: true, .. })
+    }
+
+    fn edges(&self) -> Option<Edges> {
+        if !self.reads_again() {
+            return None;
+        }
+        read_edges(&self.rt, self.path.as_str()).ok()
+    }
+
+    fn tagged(&self) -> Option<bool> {
+        None
     }
 
     fn open(&mut self) -> Option<Counted<Input>> {

@@ -74,12 +74,12 @@ pub struct TagFile<'a> {
 }
 
 impl<'a> TagFile<'a> {
-    /// Opens a regular file, to which symbolic links may lead, locks it for as long as it is open, so that no other edit of
-    /// it begins, and stores what was written to it before.
+    /// Opens a regular file, to which symbolic links may lead, locks it for as long as it is open, so that no other
+    /// edit of it begins, and stores what was written to it before.
     ///
     /// # Errors
-    /// The file cannot be opened for reading and writing, is no regular file, is locked by another program, or cannot be
-    /// stored.
+    /// The file cannot be opened for reading and writing, is no regular file, is locked by another program, or cannot
+    /// be stored.
     pub fn open(rt: &HostRuntime, path: &'a str) -> Result<TagFile<'a>, FileRefused<'a>> {
         TagFile::open_as(rt, path, TAGGED)
     }
@@ -128,7 +128,8 @@ impl<'a> TagFile<'a> {
         Ok(TagFile { path, file, found })
     }
 
-    /// Whether the file begins as an Ogg stream does: with `OggS` (RFC 3533, section 6). A file that cannot be read does not.
+    /// Whether the file begins as an Ogg stream does: with `OggS` (RFC 3533, section 6). A file that cannot be read
+    /// does not.
     pub fn is_ogg(&self) -> bool {
         is_ogg(&self.file)
     }
@@ -196,7 +197,8 @@ impl<'a> TagFile<'a> {
         self.give_time(&self.file)
     }
 
-    /// Gives a new file that is to take its place the time at which it was changed. What is no regular file stays as it is.
+    /// Gives a new file that is to take its place the time at which it was changed. What is no regular file stays as it
+    /// is.
     ///
     /// # Errors
     /// That of the system.
@@ -221,8 +223,8 @@ impl<'a> TagFile<'a> {
         }
     }
 
-    /// A new file beside it that is to take its place, with its permissions, and with its owner if the system lets it; and
-    /// what is left to do when it is written.
+    /// A new file beside it that is to take its place, with its permissions, and with its owner if the system lets it;
+    /// and what is left to do when it is written.
     ///
     /// # Errors
     /// The new file cannot be created.
@@ -248,8 +250,8 @@ pub struct NewFile<'a> {
 }
 
 impl<'a> NewFile<'a> {
-    /// Ends a job of this status, which wrote to `output`: if the status is 0, the new file is stored and takes the place
-    /// of the other, and else it is removed.
+    /// Ends a job of this status, which wrote to `output`: if the status is 0, the new file is stored and takes the
+    /// place of the other, and else it is removed.
     ///
     /// # Errors
     /// The new file cannot be stored, or cannot take the place of the other: it stays beside it.

@@ -37,8 +37,8 @@ fn is_of_another(packet: &[u8]) -> bool {
         || packet.starts_with(b"PCM     ")
 }
 
-/// Whether these first bytes of a file are an Ogg page whose first packet is not FLAC's, but that of another stream which
-/// is known.
+/// Whether these first bytes of a file are an Ogg page whose first packet is not FLAC's, but that of another stream
+/// which is known.
 fn begins_otherwise(front: &[u8]) -> bool {
     let Some(parts) = front.get(26) else {
         return false;

@@ -77,8 +77,8 @@ pub fn request<'a>(alloc: Global, words: &'a [String]) -> Result<Request<'a>, Li
     }
 }
 
-/// What names the command that is meant where a word is an option that other programs have for it: the first word, or one
-/// of `encode` or `recode`.
+/// What names the command that is meant where a word is an option that other programs have for it: the first word, or
+/// one of `encode` or `recode`.
 fn tip_of(words: &[String]) -> Option<LineFault>
     ensures { IfSome result (λ fault. fault.status ≤ 2) }
 {

@@ -3,6 +3,8 @@
 #![tactic(auto)]
 
 #[cfg(test)]
+mod chains;
+#[cfg(test)]
 mod copying;
 #[cfg(test)]
 mod excerpts;
@@ -32,3 +34,5 @@ mod strange;
 mod tables;
 #[cfg(test)]
 mod verifying;
+#[cfg(test)]
+mod waves_twice;

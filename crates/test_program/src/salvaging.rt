@@ -19,10 +19,17 @@ gap | ONE_INFO TITLE_X ONE_FRAME | 0 | ONE_INFO TITLE_X ONE_FRAME
  | ONE_INFO 03000012 00*16 0001 82000005 6162636401 ONE_FRAME | 0 | ONE_INFO 82000005 6162636401 ONE_FRAME
 # The total is too much silence.
  | 664c614380000022100010000000000000000ac442f04000000100000000000000000000000000000000 | 1 |  |  | flac: a.flac: 45 TooLong;
-# Streams that are refused: no marker, a block that is cut off, and one in Ogg.
+# Between tags, whose bytes count.
+ | 49443303000000000000 ONE_INFO TITLE_X ONE_FRAME 544147 00*125 | 0 | ONE_INFO TITLE_X ONE_FRAME
+ | 49443303000000000000 ONE_INFO TITLE_X FF00 ONE_FRAME | 0 | ONE_INFO TITLE_X ONE_FRAME |  | flac: a.flac: bytes 89 to 90: no frame, no sample is missing;flac: a.flac: found 1 of 1 samples in 1 frames;
+# In Ogg: whole, between other bytes, with a damaged page in which a frame is whole, and without its first page.
+ | MAPPING COMMENT FRAME | 0 | ONE_INFO 840000080000000000000000 ONE_FRAME
+gap | 4f67 MAPPING COMMENT 00112233 FRAME | 0 | ONE_INFO 840000080000000000000000 ONE_FRAME |  | flac: a.flac: bytes 121 to 152: no frame, no sample is missing;flac: a.flac: found 1 of 1 samples in 1 frames;
+ | MAPPING COMMENT 4f67675300040100000000000000010000000200000048872f1f010ffff869180000bf0158fd01128b5ab2 FRAME | 0 | ONE_INFO 840000080000000000000000 ONE_FRAME |  | flac: a.flac: bytes 119 to 146: no frame, no sample is missing;flac: a.flac: bytes 162 to 204: no frame, no sample is missing;flac: a.flac: frame at byte 190: out of order, 1 samples from 0;flac: a.flac: found 1 of 1 samples in 1 frames;
+ | COMMENT FRAME | 1 |  |  | flac: a.flac: marker: 4 BadMarker;
+# Streams that are refused: no marker, and a block that is cut off.
  | 00112233 | 1 |  |  | flac: a.flac: marker: 4 BadMarker;
- | 664c6143800000221000 | 1 |  |  | flac: a.flac: block 0: 3 Truncated;
- | MAPPING COMMENT FRAME | 1 |  |  | flac: a.flac: marker: 4 BadMarker;";
+ | 664c6143800000221000 | 1 |  |  | flac: a.flac: block 0: 3 Truncated;";
 
 /// Whether a row holds, on an input that comes in pieces of at most `most` bytes.
 fn row_holds(alloc: Global, row: &str, most: usize) -> Result<bool, Fail> {

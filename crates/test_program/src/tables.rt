@@ -756,7 +756,7 @@ flac --version | 0 flac (proved) 1.0.0;
 flac tag a.flac --set TITLE | 2 flac: command: comment without =;
 flac tag a.flac --from a.txt --add =x | 2 flac: command: 55 FieldName;
 flac tag a.flac --from a.txt --from b.txt | 2 error: the argument '--from <LINES>' cannot be used multiple times*
-flac tag a.flac | 2 flac: command: tag needs --clear, --from, --remove, --set, --add or --rewrite;
+flac tag a.flac | 2 flac: command: tag needs --clear, --from, --remove, --set, --set-file, --add or --rewrite;
 flac tag a.flac --remove GENRE=Other --remove X --set-file L=l.txt --set-file l=m=.txt --set K=k --out b.flac | Tag(Tagging { inputs: ["a.flac"], edits: [RemovePair("GENRE=Other"), Remove("X"), Set("K=k"), SetFile("L=l.txt"), AddFile("l=m=.txt")], lines: None, output: Some("b.flac"), mode: Some(Either), padding: 8192, keep_times: false, verbose: false })
 flac tag a.flac b.flac --set A=b --out c.flac | 2 flac: command: --out with several files;
 flac tag a.flac --out c.flac --in-place | 2 flac: command: --in-place with --out;
@@ -764,10 +764,10 @@ flac tag a.flac --out c.flac --keep-times | 2 flac: command: --keep-times with -
 flac tag a.flac --set-file L | 2 flac: command: comment without =;
 flac tag a.flac --remove =x | 2 flac: command: 55 FieldName;
 flac tag a.flac --padding 0 | 2 flac: command: to set the padding alone: flac edit --padding N FILE;
-flac tag a.flac --padding 8192 --in-place | 2 flac: command: tag needs --clear, --from, --remove, --set, --add or --rewrite;
+flac tag a.flac --padding 8192 --in-place | 2 flac: command: tag needs --clear, --from, --remove, --set, --set-file, --add or --rewrite;
 flac tag TITLE=x a.flac | 2 flac: command: to set a comment: flac tag --set NAME=VALUE FILE;
 flac tag a=b/c.flac --in-place | 2 flac: command: to set a comment: flac tag --set NAME=VALUE FILE;
-flac tag ./a=b.flac | 2 flac: command: tag needs --clear, --from, --remove, --set, --add or --rewrite;
+flac tag ./a=b.flac | 2 flac: command: tag needs --clear, --from, --remove, --set, --set-file, --add or --rewrite;
 flac edit a.flac | 2 flac: command: edit needs --remove-block, --picture, --cuesheet, --seek-every or --padding;
 flac edit a.flac --cuesheet a.cue --cuesheet b.cue | 2 error: the argument '--cuesheet <SHEET>' cannot be used multiple times*
 flac edit a.flac --remove-block 0 | 2 flac: command: --remove-block takes a number from 1 on, or a type other than STREAMINFO;

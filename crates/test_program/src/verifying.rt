@@ -1,5 +1,6 @@
 //! `flac verify` over files in memory.
 
+use crate::program::bytes_of as pages_of;
 use flac_around::BetweenShelf;
 use flac_bits::{Collected, Counted, Target};
 use flac_cli::{Checks, report_gone, verify_files};
@@ -11,7 +12,7 @@ use std::io;
 use std::io::{ErrorKind, Write};
 use std::process::Abort;
 use std::test::Fail;
-use test_vectors::{EXAMPLE, OUTSIDE, OUTSIDE_PAGES, bytes_of};
+use test_vectors::{EXAMPLE, OUTSIDE, OUTSIDE_PAGES, OUTSIDE_PUSHED, bytes_of};
 
 /// All of FLAC is read, and nothing more is listed.
 const PLAIN: Checks = Checks {
@@ -155,13 +156,15 @@ fn a_path_is_in_one_line(rt: HostRuntime) -> Result<(), Fail> {
     Ok(())
 }
 
-// The values are those of the streams by RFC 9639, section 8.2, and the layout is that of RFC 8259.
+// The values are those of the streams by RFC 9639, section 8.2, and the layout is that of RFC 8259. The last file has two
+// frames, of 16 and of 3 samples, the second of which lacks its last byte.
 #[test]
 fn each_file_is_in_the_report(rt: HostRuntime) -> Result<(), Fail> {
     let alloc = rt.alloc();
     let example = bytes_of(alloc, EXAMPLE)?;
     let outside = bytes_of(alloc, OUTSIDE)?;
     let pages = bytes_of(alloc, OUTSIDE_PAGES)?;
+    let pushed = bytes_of(alloc, OUTSIDE_PUSHED)?;
     let files = [
         stamped("a \"b\"/\\1\u{1f}\u{7f}\u{e9}.flac", &example, 1700000000),
         stamped("2.flac", &outside, 0),
@@ -171,23 +174,27 @@ fn each_file_is_in_the_report(rt: HostRuntime) -> Result<(), Fail> {
         unopened("6"),
         pipe("7.flac", b""),
         pipe("8.oga", &pages),
+        pipe("9.flac", &pushed[..64usize.min(pushed.len())]),
     ];
     let due = "{\"path\":\"a \\u0022b\\u0022/\\u005c1\\u001f\u{7f}\u{e9}.flac\",\"status\":\"ok\",\
-        \"bytes\":57,\"modified\":1700000000,\"nanoseconds\":5,\"rate\":44100,\
+        \"container\":\"native\",\"bytes\":57,\"modified\":1700000000,\"nanoseconds\":5,\"rate\":44100,\
         \"channels\":2,\"depth\":16,\"frames\":1,\"samples\":1,\"md5_checked\":false,\"subset\":true}\n\
-        {\"path\":\"2.flac\",\"status\":\"ok\",\"bytes\":53,\"modified\":0,\"nanoseconds\":5,\
+        {\"path\":\"2.flac\",\"status\":\"ok\",\"container\":\"native\",\"bytes\":53,\"modified\":0,\"nanoseconds\":5,\
         \"rate\":65537,\"channels\":1,\"depth\":5,\"frames\":1,\"samples\":16,\
         \"md5\":\"4ae71336e44bf9bf79d2752e234818a5\",\"md5_checked\":true,\"subset\":false}\n\
-        {\"path\":\"3.flac\",\"status\":\"ok\",\"rate\":65537,\"channels\":1,\"depth\":5,\
+        {\"path\":\"3.flac\",\"status\":\"ok\",\"container\":\"native\",\"rate\":65537,\"channels\":1,\"depth\":5,\
         \"frames\":1,\"samples\":16,\"md5\":\"4ae71336e44bf9bf79d2752e234818a5\",\"md5_checked\":true}\n\
         {\"path\":\"4.flac\",\"status\":\"bad\",\"place\":\"marker\",\"error\":3,\
-        \"name\":\"Truncated\"}\n\
+        \"name\":\"Truncated\",\"sample\":0}\n\
         {\"path\":\"5.flac\",\"status\":\"bad\",\"place\":\"frame\",\"index\":0,\"error\":3,\
-        \"name\":\"Truncated\"}\n\
+        \"name\":\"Truncated\",\"sample\":0}\n\
         {\"path\":\"6\",\"status\":\"unopened\"}\n\
-        {\"path\":\"7.flac\",\"status\":\"bad\",\"place\":\"marker\",\"error\":3,\"name\":\"Truncated\"}\n\
-        {\"path\":\"8.oga\",\"status\":\"ok\",\"rate\":65537,\"channels\":1,\"depth\":5,\
-        \"frames\":1,\"samples\":16,\"md5\":\"4ae71336e44bf9bf79d2752e234818a5\",\"md5_checked\":true}\n";
+        {\"path\":\"7.flac\",\"status\":\"bad\",\"place\":\"marker\",\"error\":3,\
+        \"name\":\"Truncated\",\"sample\":0}\n\
+        {\"path\":\"8.oga\",\"status\":\"ok\",\"container\":\"ogg\",\"rate\":65537,\"channels\":1,\"depth\":5,\
+        \"frames\":1,\"samples\":16,\"md5\":\"4ae71336e44bf9bf79d2752e234818a5\",\"md5_checked\":true}\n\
+        {\"path\":\"9.flac\",\"status\":\"bad\",\"place\":\"frame\",\"index\":1,\"error\":3,\
+        \"name\":\"Truncated\",\"sample\":16}\n";
     assert!(rt; is_reported(alloc, &files, due));
     Ok(())
 }
@@ -444,11 +451,16 @@ fn good_files_are_left_out(rt: HostRuntime) -> Result<(), Fail> {
     Ok(())
 }
 
+/// The pages of the example in Ogg, the checksum of the last one changed: its frame is whole.
+const BAD_PAGES: &str =
+    "MAPPING COMMENT 4f67675300040100000000000000010000000200000048872f1f010ffff869180000bf0158fd01128b5ab2";
+
 // The example has its only frame, of one sample, at byte 42.
 #[test]
 fn what_is_missing_is_listed(rt: HostRuntime) -> Result<(), Fail> {
     let alloc = rt.alloc();
     let example = bytes_of(alloc, EXAMPLE)?;
+    let pages = pages_of(alloc, BAD_PAGES)?;
     let cut = &example[..56usize.min(example.len())];
     let files = [
         file("1\n.flac", cut),
@@ -457,8 +469,9 @@ fn what_is_missing_is_listed(rt: HostRuntime) -> Result<(), Fail> {
         file("4.flac", b"fLa"),
         file("5.oga", b"OggS"),
         unopened("6"),
+        file("7.oga", &pages),
     ];
-    let out = "ok 2.flac: frames 1 samples 1 no-md5\nverified 6 ok 1 bad 5\n";
+    let out = "ok 2.flac: frames 1 samples 1 no-md5\nverified 7 ok 1 bad 6\n";
     let err = "flac: 1\\x0a.flac: frame 0: 3 Truncated\n\
         flac: 1\\x0a.flac: bytes 42 to 55: samples 0 to 0 missing, 0:00.000 to 0:00.000\n\
         flac: 1\\x0a.flac: found 0 of 1 samples in 0 frames\n\
@@ -468,7 +481,10 @@ fn what_is_missing_is_listed(rt: HostRuntime) -> Result<(), Fail> {
         flac: 4.flac: what is missing cannot be listed\n\
         flac: 5.oga: page 0: 3 Truncated\n\
         flac: 5.oga: what is missing cannot be listed\n\
-        flac: 6: cannot be opened\n";
+        flac: 6: cannot be opened\n\
+        flac: 7.oga: page 2: 32 PageCheck\n\
+        flac: 7.oga: bytes 119 to 146: no frame, no sample is missing\n\
+        flac: 7.oga: found 1 of 1 samples in 1 frames\n";
     assert!(rt; is_verified(alloc, &files, ALL, (1, out, err)));
     Ok(())
 }
@@ -505,5 +521,54 @@ fn tags_are_not_missing(rt: HostRuntime) -> Result<(), Fail> {
         flac: 2.flac: bytes 42 to 55: samples 0 to 0 missing, 0:00.000 to 0:00.000\n\
         flac: 2.flac: found 0 of 1 samples in 0 frames\n";
     assert!(rt; err.bytes() == due.as_bytes());
+    Ok(())
+}
+
+/// Whether verifying these files between tags prints these lines of good files, and writes this report.
+fn is_verified_between(alloc: Global, files: &[HeldFile<'_>], out_due: &str, due: &str) -> bool {
+    let mut shelf = BetweenShelf::new(HeldShelf::new(files));
+    let mut out = Collected::new(alloc);
+    let mut err = Collected::new(alloc);
+    let mut report = Collected::new(alloc);
+    let _status = verify_files(alloc, &mut shelf, PLAIN, &mut out, &mut err, &mut report);
+    out.bytes() == out_due.as_bytes() && report.bytes() == due.as_bytes()
+}
+
+// One file has both tags, one that before the stream, one that after it, and one none. A pipe is read once.
+#[test]
+fn tags_have_their_word(rt: HostRuntime) -> Result<(), Fail> {
+    let alloc = rt.alloc();
+    let example = bytes_of(alloc, EXAMPLE)?;
+    let both = tagged(alloc, &example)?;
+    let before = &both[..67usize.min(both.len())];
+    let after = &both[10usize.min(both.len())..];
+    let files = [
+        file("1.flac", &both),
+        file("2.flac", before),
+        file("3.flac", after),
+        file("4.flac", &example),
+        pipe("5.flac", &both),
+    ];
+    let out = "ok 1.flac: frames 1 samples 1 no-md5 id3\n\
+        ok 2.flac: frames 1 samples 1 no-md5 id3\n\
+        ok 3.flac: frames 1 samples 1 no-md5 id3\n\
+        ok 4.flac: frames 1 samples 1 no-md5\n\
+        ok 5.flac: frames 1 samples 1 no-md5\n\
+        verified 5 ok 5 bad 0\n";
+    let report = "{\"path\":\"1.flac\",\"status\":\"ok\",\"container\":\"native\",\"rate\":44100,\
+        \"channels\":2,\"depth\":16,\"frames\":1,\"samples\":1,\"md5_checked\":false,\
+        \"subset\":true,\"id3\":true}\n\
+        {\"path\":\"2.flac\",\"status\":\"ok\",\"container\":\"native\",\"rate\":44100,\
+        \"channels\":2,\"depth\":16,\"frames\":1,\"samples\":1,\"md5_checked\":false,\
+        \"subset\":true,\"id3\":true}\n\
+        {\"path\":\"3.flac\",\"status\":\"ok\",\"container\":\"native\",\"rate\":44100,\
+        \"channels\":2,\"depth\":16,\"frames\":1,\"samples\":1,\"md5_checked\":false,\
+        \"subset\":true,\"id3\":true}\n\
+        {\"path\":\"4.flac\",\"status\":\"ok\",\"container\":\"native\",\"rate\":44100,\
+        \"channels\":2,\"depth\":16,\"frames\":1,\"samples\":1,\"md5_checked\":false,\
+        \"subset\":true,\"id3\":false}\n\
+        {\"path\":\"5.flac\",\"status\":\"ok\",\"container\":\"native\",\"rate\":44100,\
+        \"channels\":2,\"depth\":16,\"frames\":1,\"samples\":1,\"md5_checked\":false}\n";
+    assert!(rt; is_verified_between(alloc, &files, out, report));
     Ok(())
 }

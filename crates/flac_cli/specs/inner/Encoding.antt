@@ -11,7 +11,7 @@ use Rattle.flac_native.specs.Given.{Cut}
 use Rattle.flac_native.specs.declared.fault.EncodeFault.{EncodeFault}
 use Rattle.flac_cli.specs.Asked.{Asked, asked_of}
 use Rattle.flac_cli.specs.Calls.{HasWritten, IfRead}
-use Rattle.flac_cli.specs.Raw.{IsRaw, raw_sound}
+use Rattle.flac_raw.specs.Raw.{IsRaw, raw_sound}
 use Rattle.flac_cli.specs.Refusals.{input_fault, stream_fault, IsReason, IsOutside}
 use Rattle.flac_cli.specs.declared.encode.Encoding.{Encoding}
 use Rattle.flac_cli.specs.declared.encode.Refusal.{Refusal}

@@ -6,7 +6,7 @@ use Rattle.flac_wave.specs.Format.{row_of}
 use Rattle.flac_wave.specs.Shift.{wave_width_of, depth_in, AreBytes}
 use Rattle.flac_wave.specs.declared.format.WaveFormat.{WaveFormat}
 use Rattle.flac_cli.specs.Waves.{wave_samples}
-use Rattle.flac_cli.specs.inner.Raw.{AreParts, AreChannels, IsMore}
+use Rattle.flac_raw.specs.Reading.{AreParts, AreChannels, IsMore}
 use Rattle.flac_cli.specs.declared.wave_samples.HeldSamples.{HeldSamples}
 
 -- each sample, shifted down by `shift` bits

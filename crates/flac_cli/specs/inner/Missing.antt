@@ -1,9 +1,15 @@
 -- For proofs of `flac verify --all`: a file that is read again.
-use Rattle.std.specs.Prelude.{◌≡◌, ℕ, Bool, List, Vec, Option, Some, None, Result, IfOk, IfErr}
+use Rattle.std.specs.Prelude.{◌≡◌, ◌⊎◌, ℕ, Bool, List, Vec, Option, Some, None, Result, IfOk, IfErr}
 use Rattle.std.specs.Global.{Global}
 use Rattle.flac_bits.specs.declared.target.Target as target
+use Rattle.flac_rescue.specs.Placed.{left_text}
+use Rattle.flac_rescue.specs.Survey.{IsSurvey, IsSurveyFault}
+use Rattle.flac_rescue.specs.declared.survey.Survey.{Survey}
+use Rattle.flac_rescue.specs.declared.survey.SurveyFault.{SurveyFault}
+use Rattle.flac_shelf.specs.Shown.{shown}
+use Rattle.flac_whole_pages.specs.declared.left.Left.{Left}
 use Rattle.flac_shelf.specs.Listed.{Contents, Listed}
-use Rattle.flac_cli.specs.Missing.{IsSaidOf, IsListing, unlisted_line, memory_line, asks_missing}
+use Rattle.flac_cli.specs.Missing.{IsOutOfMemory, IsSaidOf, IsListing, unlisted_line, memory_line, asks_missing}
 use Rattle.flac_cli.specs.Verified.{IfNoneFails}
 use Rattle.flac_cli.specs.inner.Verifying.{IsListed}
 use Rattle.flac_cli.specs.declared.verify.Finding.{Finding}
@@ -32,6 +38,20 @@ IsUnreadFile file e = IsUnread file.contents e
 abbrev pub line_for : (path : List ℕ) → Unlisted → List ℕ
 line_for path Unsurveyed = unlisted_line path
 line_for path Memory = memory_line path
+
+-- what is left of a stream is refused by a survey, by what it is
+pub record IsLeftUnlisted (bytes : List ℕ) : Type 0 where
+  pub fault : SurveyFault
+  pub is : IsSurveyFault bytes fault
+  pub shown : IsOutOfMemory fault → ⊥
+
+-- it is so, or memory ran out
+abbrev pub IsUnsurveyed : (bytes : List ℕ) → Unlisted → Type 0
+IsUnsurveyed bytes e = (e ≡ Memory) ⊎ (IsLeftUnlisted bytes × (e ≡ Unsurveyed))
+
+-- these lines are those of a survey of what is left of a stream
+abbrev pub AreLinesAbout : (path : List ℕ) → Left → (text : List ℕ) → Type 0
+AreLinesAbout path l text = (s : Survey) × IsSurvey l.bytes.items s × (text ≡ left_text (shown path) l s)
 
 -- what is said of a file that is read again
 abbrev pub IsSaidAgain : (path : List ℕ) → Option Contents → (text : List ℕ) → Type 0

@@ -1,5 +1,5 @@
 -- For proofs of encoding a stream anew: what is made of what a source gives, and why it is refused.
-use Rattle.std.specs.Prelude.{◌≡◌, ◌⊎◌, ℕ, ℤ, true, List, map, Vec, Some, None}
+use Rattle.std.specs.Prelude.{◌≡◌, ◌⊎◌, ℤ, true, List, map, Vec, Some, None}
 use Rattle.std.specs.Global.{Global}
 use Rattle.flac_bits.specs.declared.source.Source as source
 use Rattle.flac_bits.specs.declared.why.Why.TheVariants as why

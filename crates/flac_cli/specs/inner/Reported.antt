@@ -14,7 +14,7 @@ digest_in (Some info) = info.digest
 
 -- the line of a file that was found to be this
 abbrev pub entry_text : Entry → Finding → List ℕ
-entry_text entry finding = line_of (entry_of entry.path.now entry.stamp entry.is_sought finding)
+entry_text entry finding = line_of (entry_of entry.path.now entry.stamp entry.is_sought entry.tagged finding)
 
 -- a call that was to send the line of a file
 pub record EntrySent {T X E : Type 0} (g : target.Ghosts T) (entry : Entry) (finding : Finding) (old new : T) (result : Result X E) : Type 0 where

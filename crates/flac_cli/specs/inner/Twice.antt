@@ -2,23 +2,16 @@
 use Rattle.std.specs.Prelude.{ℕ, List, Option, Some, None}
 use Rattle.flac_bits.specs.declared.source.Source as source
 use Rattle.flac_raw.specs.Faults.{AreSamples}
-use Rattle.flac_raw.specs.declared.raw_fault.RawFault.{RawFault}
-use Rattle.flac_raw.specs.declared.raw_fault.RawFault.TheVariants as raw
 use Rattle.flac_raw.specs.declared.raw_fault.RawEncodeFault.{RawEncodeFault}
 use Rattle.flac_raw.specs.declared.raw_fault.RawEncodeFault.TheVariants as fault
 use Rattle.flac_cli.specs.Asked.{asked_of}
 use Rattle.flac_cli.specs.Calls.{IfRead}
+use Rattle.flac_cli.specs.Refusals.{refusal_as}
 use Rattle.flac_cli.specs.Twice.{IsTwiceReason}
 use Rattle.flac_cli.specs.declared.encode.Encoding.{Encoding}
 use Rattle.flac_cli.specs.declared.encode.Refusal.{Refusal}
-use Rattle.flac_cli.specs.declared.encode.Refusal.TheVariants.{Input, Setup, RawLength, Output}
+use Rattle.flac_cli.specs.declared.encode.Refusal.TheVariants.{Output}
 use Rattle.flac_cli.specs.declared.encode_twice.TwiceFault.{TwiceFault}
-
--- the reason for which bytes are no samples, as the program has it
-abbrev pub refusal_as : RawFault → Refusal
-refusal_as (raw.Input why) = Input why
-refusal_as (raw.Setup fault) = Setup fault
-refusal_as raw.RawLength = RawLength
 
 -- the reason for which they are not encoded; `None` if other bytes came
 abbrev pub reason_as : RawEncodeFault → Option Refusal

@@ -1,6 +1,7 @@
 -- For proofs of `flac verify`: what calls did to the list of files and to the targets, and how a file is read.
-use Rattle.std.specs.Prelude.{◌≡◌, ◌≤◌, ◌<◌, ℕ, ◌+◌, Bool, true, false, ◌&&◌, List, ◌++◌, length, Option, Some, None, IfSome}
+use Rattle.std.specs.Prelude.{◌≡◌, ◌≢◌, ◌≤◌, ◌<◌, ℕ, ◌+◌, Bool, true, false, ◌&&◌, List, ◌++◌, length, Option, Some, None, IfSome}
 use Rattle.flac_bits.specs.declared.target.Target as target
+use Rattle.flac_bits.specs.declared.why.Why.TheVariants as why
 use Rattle.flac_header.specs.declared.subset.Profile.{Profile}
 use Rattle.flac_header.specs.declared.subset.Profile.TheVariants.{Lax}
 use Rattle.flac_shelf.specs.Listed.{Contents, Listed}
@@ -9,12 +10,13 @@ use Rattle.flac_cli.specs.Counted.{printed}
 use Rattle.flac_cli.specs.Outcomes.{Fits, Reads, IsOutOfMemory}
 use Rattle.flac_cli.specs.Reported.{report_lines}
 use Rattle.flac_cli.specs.Missing.{IsMissingIf, AreMissing, told_lines}
-use Rattle.flac_cli.specs.Verified.{IsStreamOf, IsFound, AreFound, ok_lines, last_line, good_count, bad_count, all_kept}
+use Rattle.flac_cli.specs.Verified.{IsStreamOf, IsRefusedAs, IsFound, AreFound, ok_lines, last_line, good_count, bad_count, all_kept}
 use Rattle.flac_cli.specs.declared.verify.Checks.{Checks}
 use Rattle.flac_cli.specs.declared.verify.Finding.{Finding}
 use Rattle.flac_cli.specs.declared.verify.Finding.TheVariants.{Good, Bad, Unopened}
 use Rattle.flac_cli.specs.declared.verify.Tally.{Tally}
 use Rattle.flac_cli.specs.declared.verify_change.Change.{Change}
+use Rattle.flac_cli.specs.declared.verify_facts.Flaw.{Flaw}
 
 -- A call that was to send this text: it was sent, or the target returned an error.
 pub record IsSent {T : Type 0} (g : target.Ghosts T) (text : List ℕ) (old new : T) (done : Bool) : Type 0 where
@@ -49,18 +51,23 @@ pub record Stays {S : Type 0} (known : S → Bool) (current : S → Listed) (fil
   pub left : gone new ≡ gone old
   pub room : most new ≡ most old
 
+-- The input is refused so, unless memory ran out.
+pub record IsFlaw (profile : Profile) (of : Contents) (flaw : Flaw) : Type 0 where
+  pub fits : Fits IsOutOfMemory (Reads profile of.bytes of.after) (Some (Some flaw.fault.at, flaw.fault.why))
+  pub samples : flaw.fault.why ≢ why.Memory → IsRefusedAs profile of flaw
+
 -- What a reading in this profile found: a stream, or a fault, which is reported as the input is.
 abbrev pub IsReading : Profile → Option Contents → Finding → Type 0
 IsReading profile None Unopened = Unit {0}
 IsReading profile (Some of) (Good facts) = IsStreamOf profile of facts × (facts.outside ≡ false)
-IsReading profile (Some of) (Bad fault) = Fits IsOutOfMemory (Reads profile of.bytes of.after) (Some (Some fault.at, fault.why))
+IsReading profile (Some of) (Bad flaw) = IsFlaw profile of flaw
 IsReading profile contents finding = ⊥
 
 -- the same of a file that is not in the streamable subset
 abbrev pub IsReadingOutside : Option Contents → Finding → Type 0
 IsReadingOutside None Unopened = Unit {0}
 IsReadingOutside (Some of) (Good facts) = IsStreamOf Lax of facts × (facts.outside ≡ true)
-IsReadingOutside (Some of) (Bad fault) = Fits IsOutOfMemory (Reads Lax of.bytes of.after) (Some (Some fault.at, fault.why))
+IsReadingOutside (Some of) (Bad flaw) = IsFlaw Lax of flaw
 IsReadingOutside contents finding = ⊥
 
 -- what a file was found to be that can be read again

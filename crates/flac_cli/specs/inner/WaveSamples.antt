@@ -17,11 +17,11 @@ use Rattle.flac_wave.specs.declared.waves.WaveError.{WaveError}
 use Rattle.flac_wave.specs.declared.waves.WaveError.TheVariants as error
 use Rattle.flac_wave.specs.declared.why.WaveWhy.{WaveWhy}
 use Rattle.flac_cli.specs.Waves.{stream_samples, contents}
-use Rattle.flac_cli.specs.Raw.{IsRaw, raw_sound}
+use Rattle.flac_raw.specs.Raw.{IsRaw, raw_sound}
 use Rattle.flac_cli.specs.Refusals.{raw_fault}
 use Rattle.flac_cli.specs.declared.encode.Refusal.TheVariants.{Setup}
 use Rattle.flac_jobs.specs.declared.formats.RawFormat.{RawFormat}
-use Rattle.flac_cli.specs.inner.Raw.{AreChannels}
+use Rattle.flac_raw.specs.Reading.{AreChannels}
 use Rattle.flac_cli.specs.declared.wave_samples.WaveSamples.{WaveSamples}
 use Rattle.flac_cli.specs.declared.wave_file.WaveFile.{WaveFile}
 

@@ -21,16 +21,17 @@ Example, the part between two times, and the first 44100 samples:
 --from and --to take the number of a sample, counted per channel from 0 on, or a time m:ss
 or h:mm:ss, also with a fraction of a second of up to nine digits. The sample at --to is
 not in the part. A part is written as a plain WAV file or as raw samples. Of a native stream
-in a file only the part is read and judged, of standard input all up to its end.
+in a file at most some 256 KiB before the part are read and judged too, of standard input
+all up to its end.
 
 OUT has to be another file than IN: else it cannot be created, and IN stays as it is. If
 decoding fails, the samples written before stay in OUT. But if OUT was a file with
 bytes, it stays as it was, and these samples are in OUT.part beside it.
 
 OUT is not replaced if it is a file of sound: a stream, or one that begins with RIFF,
-RF64, BW64, FORM or ID3. A WAV file that is written may replace another. A name of OUT
-that ends as that of a stream, in .flac, .fla, .oga or .ogg, is refused. With --force any
-file is replaced, and any name taken.";
+RF64, BW64, FORM or ID3. A WAV file that is written may replace another. Any name is taken:
+if it does not end in .wav, OUT gets raw samples, also as song.flac. With --force any file
+is replaced.";
 
 pub(crate) static DECODE: Usage = Usage {
     name: "decode",

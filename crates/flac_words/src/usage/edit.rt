@@ -141,7 +141,8 @@ fn pictures_of<'a>(
     Ok(Some(pictures))
 }
 
-/// The picture that a word names. What is before its first `:` is a type if it is a number, and else belongs to the path.
+/// The picture that a word names. What is before its first `:` is a type if it is a number, and else belongs to the
+/// path.
 fn picture_word(word: &str) -> Option<PictureWord<'_>> {
     let cover = PictureWord {
         kind: 3,

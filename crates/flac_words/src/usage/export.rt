@@ -18,8 +18,8 @@ each, escaped as list has them: bytes outside 20 to 7E (hexadecimal) and the bac
 the first one, which edit --cuesheet takes; of a block the content without its header; that
 of padding is zeros. No frame is read.
 
-A file OUT that is a stream or a WAV file is not replaced without --force; any other that has
-bytes is replaced once the new one is whole.";
+A file OUT that is a stream or another file of sound (RIFF, RF64, BW64, FORM, ID3) is not
+replaced without --force; any other that has bytes is replaced once the new one is whole.";
 
 pub(crate) static EXPORT: Usage = Usage {
     name: "export",

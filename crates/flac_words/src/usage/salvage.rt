@@ -11,7 +11,7 @@ IN is read also after an error, and each frame is looked for that is whole: its 
 and it fits STREAMINFO and the frames before and after it. Their samples are encoded anew,
 each at its place. What is lost between them is silence in OUT; with --gap it is left out,
 and OUT is shorter. What is lost is listed on standard error. The status is 0 if OUT was
-written, whatever is lost, and 1 if it was not. IN has to be native, and its metadata whole.
+written, whatever is lost, and 1 if it was not. The metadata of IN has to be whole.
 
 OUT has to be another file than IN. It is written beside its place, as OUT.part, and named OUT
 when all is done; after an error nothing of it stays. It may replace a native stream that has
@@ -37,7 +37,7 @@ const SALVAGE_WORDS: [Word; 6] = [
     Word {
         name: "silence",
         kind: WordKind::Flag,
-        help: "Writes zeros for samples that are lost, which is usual",
+        help: "Writes zeros for samples that are lost, the default",
     },
     Word {
         name: "gap",

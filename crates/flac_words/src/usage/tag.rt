@@ -286,7 +286,7 @@ fn line_of_none(tagging: &Tagging<'_>) -> &'static str {
     if tagging.padding != USUAL_PADDING {
         return "flac: command: to set the padding alone: flac edit --padding N FILE\n";
     }
-    "flac: command: tag needs --clear, --from, --remove, --set, --add or --rewrite\n"
+    "flac: command: tag needs --clear, --from, --remove, --set, --set-file, --add or --rewrite\n"
 }
 
 /// Whether the comment of an edit has no `=`.

@@ -16,7 +16,8 @@ const VERIFY_EXAMPLE: &str = "Example:
 
 The line of a good file goes to standard output, that of a bad one to standard error. A
 word says what a stream does not state: its MD5 digest (no-md5), the number of its samples
-(no-total); or that it is outside the streamable subset (outside-subset).
+(no-total); or that it is outside the streamable subset (outside-subset), or that tags of
+other programs are around it (id3).
 
 --report writes a line of JSON for each file, as it is done: its path, size and time, and
 what was found. --resume goes on with such a report after a run that was cut off, or over
@@ -32,11 +33,11 @@ means as many samples in the same format, and no more.
 
 With --all a bad file is read again, whole into memory, and lines after its own say what
 is lost: for each damaged part its samples, their time and their bytes, and then how much
-was found. This is of native streams: of an Ogg stream a line says that it is not listed.
+was found.
 
 In a folder, and in the folders in it, files are read whose names end in .flac, .fla, .oga
 or .ogg, but not Ogg files of Vorbis, Opus and other codecs. Links to folders are not
-followed. The exit status is 0 if all files are good.";
+followed, unless they are named. The exit status is 0 if all files are good.";
 
 pub(crate) static VERIFY: Usage = Usage {
     name: "verify",

@@ -1,38 +1,15 @@
-use Rattle.std.proofs.Common.{rules, ◌≡◌, ◌∙◌, ◌⊎◌, ◌++◌, ℕ, Bool, true, List, Some, None, Result, Ok, Err, IfOk, IfErr, OnOk, take, ap, sym, subst, inl, inr, arith}
+use Rattle.std.proofs.Common.{rules, ◌≡◌, ◌∙◌, ◌++◌, None, true, take, sym, subst, inr, arith}
 use Rattle.std.proofs.lemmas.Result.{err_from_is_err_and}
-use Rattle.flac_cli.specs.Asked.{Asked, asked_of}
-use Rattle.flac_cli.specs.Raw.{IsRaw, raw_sound}
-use Rattle.flac_cli.specs.Refusals.{raw_fault, input_fault, IsOutside}
-use Rattle.flac_cli.specs.declared.encode.Refusal.{Refusal}
+use Rattle.flac_cli.specs.Asked.{asked_of}
+use Rattle.flac_raw.specs.Faults as samples
+use Rattle.flac_raw.specs.Raw.{IsRaw, raw_sound}
+use Rattle.flac_cli.specs.Refusals.{raw_fault, input_fault}
 use Rattle.flac_cli.proofs.Failed.{not_setup, not_input, not_kind}
 use Rattle.flac_cli.proofs.Fronts.{kind_read}
 use Rattle.flac_cli.proofs.Jobs.{rose}
 use Rattle.flac_cli.proofs.Refused.{bad_asked_format, not_taken, taken}
+use Rattle.flac_cli.proofs.Twice.{fault_none, refused_taken, not_written_as}
 use Rattle.flac_cli.proofs.encode.samples_of.Goals as goal
-
--- what holds of the bytes that come again, and of what comes after them, holds of all bytes
-ok_all : {A E : Type 0} (F : List ℕ → A → Type 0) (bytes all : List ℕ) (r : Result A E) (k km : Bool) → (k ≡ true → (km ≡ true) × (bytes ≡ all))
-    → IfOk r (λ a. km ≡ true → F all a) → IfOk r (λ a. k ≡ true → F bytes a)
-ok_all F bytes all (Ok a) k km facts h = λ known. let f = facts known in subst (λ bs. F bs a) (sym f.1) (h f.0)
-ok_all F bytes all (Err e) k km facts h = tt
-
-accepted_all : {A E : Type 0} (asked : Asked) (bytes all : List ℕ) (r : Result A E) (k km : Bool)
-    → (k ≡ true → (km ≡ true) × (bytes ≡ all) × (input_fault asked bytes ≡ raw_fault asked.profile asked.format bytes))
-    → OnOk r (km ≡ true → raw_fault asked.profile asked.format all ≡ None) → OnOk r (k ≡ true → input_fault asked bytes ≡ None)
-accepted_all asked bytes all (Ok a) k km facts h = λ known. let f = facts known in f.2 ∙ ap (raw_fault asked.profile asked.format) f.1 ∙ h f.0
-accepted_all asked bytes all (Err e) k km facts h = tt
-
-refused_so : (asked : Asked) (bytes all : List ℕ) (e : Refusal) → bytes ≡ all → input_fault asked bytes ≡ raw_fault asked.profile asked.format bytes
-    → IsOutside e ⊎ (raw_fault asked.profile asked.format all ≡ Some e) → IsOutside e ⊎ (input_fault asked bytes ≡ Some e)
-refused_so asked bytes all e same is (inl out) = inl out
-refused_so asked bytes all e same is (inr h) = inr (is ∙ ap (raw_fault asked.profile asked.format) same ∙ h)
-
-refused_all : {A : Type 0} (asked : Asked) (bytes all : List ℕ) (r : Result A Refusal) (k km : Bool) (ro rm rn rn' : ℕ) → rn ≡ rn' → rm ≡ ro
-    → (k ≡ true → (km ≡ true) × (bytes ≡ all) × (input_fault asked bytes ≡ raw_fault asked.profile asked.format bytes))
-    → IfErr r (λ e. km ≡ true → rn' ≡ rm → IsOutside e ⊎ (raw_fault asked.profile asked.format all ≡ Some e))
-    → IfErr r (λ e. k ≡ true → rn ≡ ro → IsOutside e ⊎ (input_fault asked bytes ≡ Some e))
-refused_all asked bytes all (Ok a) k km ro rm rn rn' new old facts h = tt
-refused_all asked bytes all (Err e) k km ro rm rn rn' new old facts h = λ known same. let f = facts known in refused_so asked bytes all e f.1 f.2 (h f.0 (sym new ∙ same ∙ sym old))
 
 pub returns-in-Some : goal.returns-in-Some
 returns-in-Some g c = record {
@@ -70,8 +47,30 @@ returns-then-is_refused g c =
       unwritten = not_kind _;
     }
 
-pub returns : goal.returns
-returns g c =
+pub returns-in-Ok : goal.returns-in-Ok
+returns-in-Ok g c =
+    let asked = asked_of c.args.encoding.now in
+    let profile = c.args.encoding.now.profile in
+    let format = c.args.encoding.now.format in
+    let bytes = g.R.Source.coming c.args.source.now in
+    let rest = g.R.Source.coming c.fill.new.source in
+    let ok = c.in_ok-count.ensures in
+    let e = c.in-Ok.ensures in
+    let here = λ (known : g.R.Source.known c.args.source.now ≡ true). sym (ok.bytes known) in
+    record {
+      raw = λ known. subst (λ bs. IsRaw profile format bs c.in-Ok.audio) (here known) (e.raw (ok.known known));
+      sound = λ known. subst (λ bs. c.in-Ok.audio ≡ raw_sound profile format bs) (here known) (e.sound (ok.known known));
+      accepted = λ known.
+          taken asked bytes c.is_refused.result
+          (kind_read c.args.encoding.now.any c.in_ok-count.count c.fill.new.places bytes rest c.is_refused.result c.is_refused.ensures (omega (arith, c.fill.auto.places)) ok.few (ok.bytes known) (λ fewer. ok.end fewer known))
+          c.in_default.ensures.fault c.if-is_refused.false
+          ∙ fault_none profile format bytes (subst (λ bs. samples.raw_fault profile format bs ≡ None) (here known) (e.accepted (ok.known known)));
+      refused = tt;
+      unwritten = tt;
+    }
+
+pub returns-in-Err : goal.returns-in-Err
+returns-in-Err g c =
     let asked = asked_of c.args.encoding.now in
     let profile = c.args.encoding.now.profile in
     let format = c.args.encoding.now.format in
@@ -81,7 +80,6 @@ returns g c =
     let k = g.R.Source.known c.args.source.now in
     let km = g.R.Source.known c.fill.new.source in
     let ok = c.in_ok-count.ensures in
-    let e = c.audio_of-audio.ensures in
     let facts : k ≡ true → (km ≡ true) × (bytes ≡ front ++ rest) × (input_fault asked bytes ≡ raw_fault profile format bytes) = λ known. (
       ok.known known,
       ok.bytes known,
@@ -90,9 +88,9 @@ returns g c =
           c.in_default.ensures.fault c.if-is_refused.false,
     ) in
     record {
-      raw = ok_all (λ bs a. IsRaw profile format bs a) bytes (front ++ rest) c.audio_of-audio.result k km (λ known. (ok.known known, ok.bytes known)) e.raw;
-      sound = ok_all (λ bs a. a ≡ raw_sound profile format bs) bytes (front ++ rest) c.audio_of-audio.result k km (λ known. (ok.known known, ok.bytes known)) e.sound;
-      accepted = accepted_all asked bytes (front ++ rest) c.audio_of-audio.result k km facts e.accepted;
-      refused = refused_all asked bytes (front ++ rest) c.audio_of-audio.result k km (g.R.Source.raised c.args.source.now) (g.R.Source.raised c.fill.new.source) _ (g.R.Source.raised c.audio_of-audio.new.source.source.now) (search rules) ok.counted facts e.refused;
-      unwritten = e.unwritten;
+      raw = tt;
+      sound = tt;
+      accepted = tt;
+      refused = refused_taken asked bytes (front ++ rest) c.in-Err.fault c.refusal_as.result k km (g.R.Source.raised c.args.source.now) (g.R.Source.raised c.fill.new.source) _ (g.R.Source.raised c.audio_of-audio.new.source.source.now) c.refusal_as.ensures (search rules) ok.counted facts c.in-Err.ensures.refused;
+      unwritten = λ is. not_written_as c.in-Err.fault (sym c.refusal_as.ensures ∙ is);
     }

@@ -4,11 +4,7 @@ use Rattle.flac_cli.specs.Encoded.{HasEncoded}
 use Rattle.flac_cli.specs.Refusals.{CanBeEncoded}
 use Rattle.flac_cli.specs.Twice.{RefusesTwice}
 use Rattle.flac_cli.proofs.Jobs.{asked_is}
-use Rattle.flac_cli.proofs.Twice.{native_of}
 use Rattle.flac_cli.proofs.encode_twice.encode_file_twice.Goals as goal
-
-pub encode_passes-requires : goal.encode_passes-requires
-encode_passes-requires g c = record { native = native_of c.args.task.now.job.now c.requires.twice c.in-Encode.is }
 
 pub returns-in-Ok : goal.returns-in-Ok
 returns-in-Ok g c =

@@ -1,13 +1,14 @@
-use Rattle.std.proofs.Common.{◌∙◌, refl, ap, inr}
+use Rattle.std.proofs.Common.{◌≡◌, ◌∙◌, None, refl, sym, ap, subst, inr}
 use Rattle.std.proofs.lemmas.Result.{err_from_is_err_and}
 use Rattle.flac_bits.specs.Bits.{bits_of}
 use Rattle.flac_raw.specs.Planned.{planned}
 use Rattle.flac_cli.specs.Asked.{asked_of}
-use Rattle.flac_cli.specs.Encoded.{cut_as}
-use Rattle.flac_cli.specs.Raw.{raw_sound}
+use Rattle.flac_raw.specs.Encoded.{container_fault}
+use Rattle.flac_raw.specs.Raw.{raw_sound}
+use Rattle.flac_cli.specs.Encoded.{comment_list, cut_as}
 use Rattle.flac_cli.proofs.Failed.{not_list, not_setup, not_input}
 use Rattle.flac_cli.proofs.Refused.{refused_list, reasoned, unreasoned, refused_raw, refused_words}
-use Rattle.flac_cli.proofs.Twice.{same_some, fails_as, plan_refused, plan_good, all_accepted, stops_by, second_wrote}
+use Rattle.flac_cli.proofs.Twice.{same_some, fails_as, plan_refused, plan_good, same_stream, all_accepted, stops_by, second_wrote}
 use Rattle.flac_cli.proofs.encode_twice.encode_passes.Goals as goal
 
 pub returns-in_err-predictors : goal.returns-in_err-predictors
@@ -86,7 +87,9 @@ returns-in_err-out g c =
     rw (p.1, p.2) (record {
       written = tt;
       accepted = tt;
-      refused = λ known same told still. stops_by asked ps bytes c.in_ok-total.total (c.in_ok-total.ensures.samples known) c.in_ok-plan.plan c.in_ok-list.list others _ _ c.in_ok-plan.ensures.made c.in_ok-list.ensures.list (e.refused told still);
+      refused = λ known same told still.
+          stops_by asked ps bytes c.in_ok-total.total (c.in_ok-total.ensures.samples known) _ c.in_ok-predictors.ensures.list (c.in_ok-total.ensures.accepted known) c.in_ok-plan.ensures.good c.in_ok-list.ensures.accepted
+          c.in_ok-plan.plan c.in_ok-list.list others _ c.in_ok-plan.ensures.made c.in_ok-list.ensures.list (e.refused told still);
       failed = fails_as g.W.Target c.args.target _ e.failed;
       known = tt;
       counted = tt;
@@ -105,12 +108,16 @@ returns g c =
     let ok = c.in_ok-total.ensures in
     let plan = c.in_ok-plan.ensures in
     let e = c.in_ok-out.ensures in
+    let plan_is = planned asked.profile asked.format total ps c.search_of-search.result in
+    let list_is = comment_list asked.words in
+    let fits = subst (λ l. container_fault asked.container plan_is l ≡ None) c.in_ok-list.ensures.list (subst (λ q. container_fault asked.container q c.in_ok-list.list ≡ None) plan.made e.fits) in
     record {
       written = λ known told.
-          second_wrote asked ps others total c.requires.native c.in_ok-predictors.ensures.list c.in_ok-plan.plan c.in_ok-list.list
-          (plan.made ∙ ap (planned asked.profile asked.format total ps) c.search_for-search.ensures) c.in_ok-list.ensures.list (e.samples known) plan.good before after (e.written known told);
+          second_wrote asked ps others total c.in_ok-predictors.ensures.list c.in_ok-plan.plan c.in_ok-list.list
+          (plan.made ∙ ap (planned asked.profile asked.format total ps) c.search_of-search.ensures) c.in_ok-list.ensures.list (e.samples known) plan.good before after (e.written known told);
       accepted = λ known.
-          unreasoned asked ps bytes c.in_ok-predictors.ensures.list (all_accepted asked ps bytes total (ok.samples known) c.requires.native (ok.accepted known) plan.good c.in_ok-list.ensures.accepted);
+          unreasoned asked ps bytes c.in_ok-predictors.ensures.list (all_accepted asked ps bytes total (ok.samples known) (ok.accepted known) plan.good c.in_ok-list.ensures.accepted
+          (sym (same_stream asked.container plan_is list_is) ∙ fits));
       refused = tt;
       failed = tt;
       known = e.known;

@@ -28,18 +28,18 @@ returns-in_err-count g c =
       unwritten = not_input _ _;
     })
 
-pub returns-then-is_other_kind : goal.returns-then-is_other_kind
-returns-then-is_other_kind g c =
+pub returns-then-is_refused : goal.returns-then-is_refused
+returns-then-is_refused g c =
     let asked = asked_of c.args.encoding.now in
     let bytes = g.R.Source.coming c.args.source.now in
     let ok = c.in_ok-count.ensures in
     record {
       samples = tt;
       accepted = tt;
-      refused = λ known same. inr (not_taken asked bytes c.is_other_kind.result
-          (kind_read c.args.encoding.now.any c.in_ok-count.count c.fill.new.places bytes (g.R.Source.coming c.fill.new.source) c.is_other_kind.result c.is_other_kind.ensures
+      refused = λ known same. inr (not_taken asked bytes c.is_refused.result
+          (kind_read c.args.encoding.now.any c.in_ok-count.count c.fill.new.places bytes (g.R.Source.coming c.fill.new.source) c.is_refused.result c.is_refused.ensures
           (omega (arith, c.fill.auto.places)) ok.few (ok.bytes known) (λ fewer. ok.end fewer known))
-          c.in_default.ensures.fault c.if-is_other_kind.true);
+          c.in_default.ensures.fault c.if-is_refused.true);
       unwritten = not_kind _;
     }
 
@@ -55,9 +55,9 @@ returns-in-Ok g c =
     record {
       samples = are;
       accepted = λ known.
-          taken asked bytes c.is_other_kind.result
-          (kind_read c.args.encoding.now.any c.in_ok-count.count c.fill.new.places bytes rest c.is_other_kind.result c.is_other_kind.ensures (omega (arith, c.fill.auto.places)) ok.few (ok.bytes known) (λ fewer. ok.end fewer known))
-          c.in_default.ensures.fault c.if-is_other_kind.false
+          taken asked bytes c.is_refused.result
+          (kind_read c.args.encoding.now.any c.in_ok-count.count c.fill.new.places bytes rest c.is_refused.result c.is_refused.ensures (omega (arith, c.fill.auto.places)) ok.few (ok.bytes known) (λ fewer. ok.end fewer known))
+          c.in_default.ensures.fault c.if-is_refused.false
           ∙ fault_none profile format bytes (are known).good;
       refused = tt;
       unwritten = tt;
@@ -77,9 +77,9 @@ returns-in-Err g c =
     let facts : k ≡ true → (km ≡ true) × (bytes ≡ front ++ rest) × (input_fault asked bytes ≡ raw_fault profile format bytes) = λ known. (
       ok.known known,
       ok.bytes known,
-      taken asked bytes c.is_other_kind.result
-          (kind_read c.args.encoding.now.any c.in_ok-count.count c.fill.new.places bytes rest c.is_other_kind.result c.is_other_kind.ensures (omega (arith, c.fill.auto.places)) ok.few (ok.bytes known) (λ fewer. ok.end fewer known))
-          c.in_default.ensures.fault c.if-is_other_kind.false,
+      taken asked bytes c.is_refused.result
+          (kind_read c.args.encoding.now.any c.in_ok-count.count c.fill.new.places bytes rest c.is_refused.result c.is_refused.ensures (omega (arith, c.fill.auto.places)) ok.few (ok.bytes known) (λ fewer. ok.end fewer known))
+          c.in_default.ensures.fault c.if-is_refused.false,
     ) in
     record {
       samples = tt;

@@ -1,7 +1,8 @@
 use Rattle.std.proofs.Common.{refl, length}
 use Rattle.std.proofs.lemmas.Result.{err_from_is_err_and}
-use Rattle.flac_cli.proofs.Rows.{raw_is}
-use Rattle.flac_cli.proofs.Refused.{sound_of, bad_format, bad_samples, good_samples}
+use Rattle.flac_raw.proofs.Rows.{raw_is}
+use Rattle.flac_raw.proofs.Refused.{sound_of}
+use Rattle.flac_cli.proofs.Refused.{bad_format, bad_samples, good_samples}
 use Rattle.flac_cli.proofs.encode_wave.wave_audio.Goals as goal
 
 pub returns-in-Some : goal.returns-in-Some

@@ -1,4 +1,4 @@
-use Rattle.std.proofs.Common.{◌≡◌, List, subst, ◌∙◌}
+use Rattle.std.proofs.Common.{List, subst, ◌∙◌}
 use Rattle.flac_meta.specs.declared.block.Block.{Block}
 use Rattle.flac_cli.specs.OggEdits.{AreEdited}
 use Rattle.flac_cli.proofs.OggEdits.{remakes}

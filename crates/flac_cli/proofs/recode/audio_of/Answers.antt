@@ -1,6 +1,6 @@
 use Rattle.std.proofs.Common.{◌≡◌, ◌∙◌, ℤ, Vec, Global, None, map, subst}
 use Rattle.flac_frame.specs.Audio.{Sound, audio_fault}
-use Rattle.flac_cli.proofs.Refused.{sound_good}
+use Rattle.flac_raw.proofs.Refused.{sound_good}
 use Rattle.flac_cli.proofs.recode.audio_of.Goals as goal
 
 pub returns-clause-good : goal.returns-clause-good

@@ -1,6 +1,5 @@
 use Rattle.std.proofs.Common.{◌≡◌, ◌++◌, subst}
 use Rattle.flac_cli.specs.Reports.{fault_line, path_of, line_text}
-use Rattle.flac_cli.specs.RecodeRefusals.{recode_path, recode_text, files_for}
 use Rattle.flac_cli.proofs.Recoding.{same_files}
 use Rattle.flac_cli.proofs.recode.refuse_recoding.Goals as goal
 

@@ -1,4 +1,4 @@
-use Rattle.std.proofs.Common.{◌∙◌, ℤ, List, Vec, Global, map, refl, ap}
+use Rattle.std.proofs.Common.{◌∙◌, ℤ, Vec, Global, map, refl, ap}
 use Rattle.std.proofs.lemmas.Result.{err_from_is_err_and}
 use Rattle.flac_cli.specs.Recoded.{carried}
 use Rattle.flac_cli.specs.Salvages.{is_shorter, fitting}

@@ -2,7 +2,7 @@ use Rattle.std.proofs.Common.{◌≡◌, ◌∙◌, ◌++◌, [], true, None, re
 use Rattle.flac_bits.specs.Bits.{bits_of}
 use Rattle.flac_cli.specs.RecodeRefusals.{asked_for, files_for, recode_path, recode_text}
 use Rattle.flac_cli.specs.Reports.{fault_line}
-use Rattle.flac_cli.specs.Salvages.{fills, salvage_files, Salvages, HasBegunSalvaged, IsSalvageReason, IsSalvageRefusal}
+use Rattle.flac_cli.specs.Salvages.{fills, salvage_files, SalvagesInput, HasBegunInput, IsInputReason, IsSalvageRefusal}
 use Rattle.flac_cli.proofs.Jobs.{not_both, at_most_one}
 use Rattle.flac_cli.proofs.Recoding.{served}
 use Rattle.flac_cli.proofs.Salvages.{salvage_reported, told}
@@ -16,16 +16,18 @@ returns-in-Ok g c =
     let silence = fills c.args.salvage.now.filling in
     record {
       status = omega arith;
-      salvaged = λ done known sent. subst (λ a. Salvages a silence bytes (bits_of (g.W.Target.sent c.args.target.now)) (bits_of (g.W.Target.sent c.salvage_source.new.target))) asked (e.written known sent);
+      salvaged = λ done known sent. subst (λ a. SalvagesInput a silence bytes (bits_of (g.W.Target.sent c.args.target.now)) (bits_of (g.W.Target.sent c.salvage_source.new.target))) asked (e.written known sent);
       told = λ done known. λ knows same.
           let l = e.lines known in
           record {
-            survey = l.0;
-            is = l.1;
+            left = l.left;
+            native = l.native;
+            survey = l.lines.0;
+            is = l.lines.1;
             printed = told g.E.Target c.deref.result.now c.args.err.now c.send_all.new.target c.send_all.result c.send_all.ensures.sends knows same
-                ∙ ap (λ t. g.E.Target.sent c.args.err.now ++ t) (c.deref.ensures.value ∙ l.2);
+                ∙ ap (λ t. g.E.Target.sent c.args.err.now ++ t) (c.deref.ensures.value ∙ l.lines.2);
           };
-      accepted = λ done known. subst (λ a. IsSalvageReason a silence bytes None) asked (e.accepted known);
+      accepted = λ done known. subst (λ a. IsInputReason a silence bytes None) asked (e.accepted known);
       begun = λ failed. not_both _ failed refl;
       refused = λ failed. not_both _ failed refl;
       named = λ failed. not_both _ failed refl;
@@ -48,7 +50,7 @@ returns-in-Err g c =
       salvaged = λ done. not_both _ r.status done;
       told = λ done. not_both _ r.status done;
       accepted = λ done. not_both _ r.status done;
-      begun = λ failed known sent. subst (λ a. HasBegunSalvaged a silence bytes (bits_of (g.W.Target.sent c.args.target.now)) (bits_of (g.W.Target.sent c.salvage_source.new.target))) asked (e.begun known sent);
+      begun = λ failed known sent. subst (λ a. HasBegunInput a silence bytes (bits_of (g.W.Target.sent c.args.target.now)) (bits_of (g.W.Target.sent c.salvage_source.new.target))) asked (e.begun known sent);
       refused = λ failed. λ tells serves tolds. subst (λ a. IsSalvageRefusal a silence (salvage_files c.args.salvage.now) bytes before now) asked
           (salvage_reported _ silence bytes (salvage_files c.args.salvage.now) why before now (line tolds.0 tolds.1) (λ is. served _ _ (e.failed is serves.0) serves.1) (e.refused tells));
       named = λ failed. λ knows same. (why, line knows same);

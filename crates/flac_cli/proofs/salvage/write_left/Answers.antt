@@ -4,7 +4,7 @@ use Rattle.flac_bits.specs.Bits.{bits_of}
 use Rattle.flac_cli.specs.Asked.{asked_of}
 use Rattle.flac_cli.specs.inner.Holding.{IsReady}
 use Rattle.flac_cli.proofs.Failed.{same_output}
-use Rattle.flac_cli.proofs.Recoding.{not_refused, same_refused}
+use Rattle.flac_cli.proofs.Recoding.{same_refused}
 use Rattle.flac_cli.proofs.Salvages.{written, begun, unheld, left_reason, accepted, container_reason, no_memory, not_input}
 use Rattle.flac_cli.proofs.Searched.{same_stream, same_refusal}
 use Rattle.flac_cli.proofs.salvage.write_left.Goals as goal

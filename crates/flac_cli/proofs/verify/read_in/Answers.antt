@@ -11,7 +11,8 @@ returns-in-Ok g c =
       found = λ known same.
           let calm = still opened closed same in
           let o = got.opened known in
-          good_reading _ _ _ o (c.in-Ok.ensures.facts (tells_opened _ o (back.unfailed (got.known known) calm.1))) c.in-Ok.ensures.outside;
+          let tells = tells_opened _ o (back.unfailed (got.known known) calm.1) in
+          good_reading _ _ _ o (c.in-Ok.ensures.facts tells) (c.in-Ok.ensures.container tells) c.in-Ok.ensures.outside;
       stays = stays_then opened closed;
     }
 
@@ -25,7 +26,8 @@ returns-in-Err g c =
       found = λ known same.
           let calm = still opened closed same in
           let o = got.opened known in
-          bad_reading _ _ _ o (c.in-Err.ensures.outcome (tells_opened _ o (back.unfailed (got.known known) calm.1)));
+          let tells = tells_opened _ o (back.unfailed (got.known known) calm.1) in
+          bad_reading _ _ _ o (c.in-Err.ensures.outcome tells) (c.in-Err.ensures.flaw tells);
       stays = stays_then opened closed;
     }
 

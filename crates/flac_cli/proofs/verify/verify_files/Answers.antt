@@ -36,14 +36,16 @@ files-preserved g c =
           let path = c.path.ensures after ∙ ap (λ k. k.path) file in
           let stamp = c.stamp-stamp.ensures after ∙ ap (λ k. k.stamp) file in
           let earlier = c.earlier.ensures after ∙ ap (λ k. k.earlier) file in
+          let tags = c.tagged-tagged.ensures after ∙ ap (λ k. k.tagged) file in
           let change = c.compare-change.ensures ∙ ap (λ e. change_of e c.stamp-stamp.result c.find-finding.result) earlier
           ∙ ap (λ s. change_of (g.S.Shelf.current c.next.new.self).earlier s c.find-finding.result) stamp in
-          let out = sent_same g.O.Target c.report-is_sent.ensures.out (ap (λ p. ok_part p c.compare-change.result c.find-finding.result) path
-          ∙ ap (λ d. ok_part (g.S.Shelf.current c.next.new.self).path d c.find-finding.result) change) in
+          let out = sent_same g.O.Target c.report-is_sent.ensures.out (ap (λ p. ok_part p c.compare-change.result c.tagged-tagged.result c.find-finding.result) path
+          ∙ ap (λ d. ok_part (g.S.Shelf.current c.next.new.self).path d c.tagged-tagged.result c.find-finding.result) change
+          ∙ ap (λ t. ok_part (g.S.Shelf.current c.next.new.self).path (change_of (g.S.Shelf.current c.next.new.self).earlier (g.S.Shelf.current c.next.new.self).stamp c.find-finding.result) t c.find-finding.result) tags) in
           let err = told_same g.E.Target c.report-is_sent.ensures.err (ap (λ p. bad_part p c.compare-change.result c.find-finding.result) path
           ∙ ap (λ d. bad_part (g.S.Shelf.current c.next.new.self).path d c.find-finding.result) change) in
           let counted = subst (λ d. IsCounted c.find-finding.result d c.report-is_sent.result c.enter-is_entered.result c.files.tally c.add.new.self) change c.add.ensures in
-          let line = line_is _ c.reads_again-again.result c.is_sought.result (g.S.Shelf.current c.next.new.self) _ _ c.find-finding.result c.is_sought.ensures (c.path-in-files.ensures after ∙ ap (λ k. k.path) file) stamp
+          let line = line_is _ c.reads_again-again.result c.is_sought.result (g.S.Shelf.current c.next.new.self) _ _ c.tagged-tagged.result c.find-finding.result c.is_sought.ensures (c.path-in-files.ensures after ∙ ap (λ k. k.path) file) stamp tags
           (subst (λ k. IfSome k.contents (λ of. c.reads_again-again.result ≡ of.again)) file (c.reads_again-again.ensures after)) (found.found here each.0) in
           let entered = entered_same g.P.Target c.enter-is_entered.ensures line in
           let told = said.told after each.1 in

@@ -1,18 +1,44 @@
-use Rattle.std.proofs.Common.{Ok, Err, refl}
-use Rattle.flac_cli.proofs.Reported.{decoded_fits}
-use Rattle.flac_cli.proofs.Verifying.{described}
+use Rattle.std.proofs.Common.{rules, ◌++◌, ℕ, Option, Result, Ok, ap, sym, ◌∙◌}
+use Rattle.flac_native.specs.declared.fault.Fault.{Fault}
+use Rattle.flac_ogg.specs.Fronts.{front_bytes}
+use Rattle.flac_ogg.proofs.FirstByte.{first_of}
+use Rattle.flac_cli.proofs.Containers.{facts_moved, flaw_moved, outcome_moved, container_by, rose}
 use Rattle.flac_cli.proofs.verify_facts.read_facts.Goals as goal
 
-pub returns-in-Ok-clause-facts : goal.returns-in-Ok-clause-facts
-returns-in-Ok-clause-facts g c tells =
-    let d = (c.in-Ok.ensures.hands tells.0 refl).done (tells.1, tells.2) refl in
-    let all = described _ d.0 _ d.2 c.none-facts.ensures.counts.0 c.none-facts.ensures.counts.1 c.none-facts.ensures.info in
-    (d.0, d.1, record { frames = all.frames; samples = all.samples; info = all.info })
+abbrev answer : Option ℕ → Result (Option ℕ) Fault
+answer o = Ok o
 
-pub returns-in-Ok-clause-outcome : goal.returns-in-Ok-clause-outcome
-returns-in-Ok-clause-outcome g c tells =
-    decoded_fits c.args.profile (g.R.Source.coming c.args.source.now) (g.R.Source.after c.args.source.now) _ _ _ _ _ (Ok tt) (c.in-Ok.ensures.hands tells.0 refl) (c.in-Ok.ensures.decides tells.0 refl tells.1 tells.2 refl) (tells.1, tells.2) refl
+pub returns-clause-facts : goal.returns-clause-facts
+returns-clause-facts g c = λ tells.
+    let R = g.R.Source in
+    let told = c.in-Ok.ensures in
+    facts_moved c.args.profile (R.coming c.args.source.now) (front_bytes c.in-Ok.front ++ R.coming c.pull_front.new.source) (R.after c.args.source.now) (R.after c.pull_front.new.source) (told.bytes tells.0) (sym (told.after tells.0 told.counted.0))
+    c.count_facts-found.result (c.count_facts-found.ensures.facts (told.known tells.0, search (rules, tells.1, told.counted.0), search (rules, tells.2, told.counted.1)))
+
+pub returns-clause-flaw : goal.returns-clause-flaw
+returns-clause-flaw g c = λ tells.
+    let R = g.R.Source in
+    let told = c.in-Ok.ensures in
+    flaw_moved c.args.profile (R.coming c.args.source.now) (front_bytes c.in-Ok.front ++ R.coming c.pull_front.new.source) (R.after c.args.source.now) (R.after c.pull_front.new.source) (told.bytes tells.0) (sym (told.after tells.0 told.counted.0))
+    c.count_facts-found.result (c.count_facts-found.ensures.flaw (told.known tells.0, search (rules, tells.1, told.counted.0), search (rules, tells.2, told.counted.1)))
+
+pub returns-clause-outcome : goal.returns-clause-outcome
+returns-clause-outcome g c = λ tells.
+    let R = g.R.Source in
+    let told = c.in-Ok.ensures in
+    outcome_moved c.args.profile (R.coming c.args.source.now) (front_bytes c.in-Ok.front ++ R.coming c.pull_front.new.source) (R.after c.args.source.now) (R.after c.pull_front.new.source) (told.bytes tells.0) (sym (told.after tells.0 told.counted.0))
+    c.count_facts-found.result (c.count_facts-found.ensures.outcome (told.known tells.0, search (rules, tells.1, told.counted.0), search (rules, tells.2, told.counted.1)))
+
+pub returns-clause-container : goal.returns-clause-container
+returns-clause-container g c = λ tells.
+    let R = g.R.Source in
+    let told = c.in-Ok.ensures in
+    container_by (R.coming c.args.source.now) c.begins_page.result c.count_facts-found.result
+    (c.begins_page.ensures ∙ sym (first_of c.in-Ok.front (R.coming c.pull_front.new.source) (R.coming c.args.source.now) (told.bytes tells.0) (λ none. told.end (ap answer none) tells.0)))
+    c.count_facts-found.ensures.container
+
+pub returns-in-Err-clause-flaw : goal.returns-in-Err-clause-flaw
+returns-in-Err-clause-flaw g c = λ tells. rose _ _ (c.in-Err.ensures.rises tells.0) tells.2
 
 pub returns-in-Err-clause-outcome : goal.returns-in-Err-clause-outcome
-returns-in-Err-clause-outcome g c tells =
-    decoded_fits c.args.profile (g.R.Source.coming c.args.source.now) (g.R.Source.after c.args.source.now) _ _ _ _ _ (Err c.in-Err.fault) (c.in-Err.ensures.hands tells.0 refl) (c.in-Err.ensures.decides tells.0 refl tells.1 tells.2 refl) (tells.1, tells.2) refl
+returns-in-Err-clause-outcome g c = λ tells. rose _ _ (c.in-Err.ensures.rises tells.0) tells.2

@@ -1,4 +1,4 @@
-use Rattle.std.proofs.Common.{◌≡◌, ap, ◌∙◌, ◌++◌, take, [], subst, codes, append_assoc}
+use Rattle.std.proofs.Common.{◌≡◌, ap, ◌∙◌, take, [], subst, codes, append_assoc}
 use Rattle.std.proofs.lemmas.Result.{err_from_is_err_and}
 use Rattle.flac_shelf.specs.Shown.{shown}
 use Rattle.flac_cli.specs.Verified.{gone_line}

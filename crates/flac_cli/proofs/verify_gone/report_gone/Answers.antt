@@ -1,4 +1,4 @@
-use Rattle.flac_cli.proofs.Gone.{begins_gone, more_gone, shorter, all_gone, none_gone, is_none_gone}
+use Rattle.flac_cli.proofs.Gone.{begins_gone}
 use Rattle.flac_cli.proofs.verify_gone.report_gone.Goals as goal
 
 pub gone-init : goal.gone-init

@@ -1,4 +1,4 @@
-use Rattle.std.proofs.Common.{◌≡◌, ◌≤◌, ◌++◌, true, false, length, []}
+use Rattle.std.proofs.Common.{length}
 use Rattle.flac_shelf.specs.Records.{left_in}
 use Rattle.flac_cli.proofs.Gone.{GoneSoFar}
 use Rattle.flac_cli.proofs.verify_gone.report_gone.Given as goal

@@ -37,4 +37,4 @@ returns g c =
     let d = adds_then g.O.Target _ c.in_ok-put_words.ensures (adds_then g.O.Target _ c.in_ok-put.ensures sent) in
     let a = adds_then g.O.Target _ c.in_ok-put_counted.ensures (adds_then g.O.Target _ c.in_ok-put_counted-2.ensures d) in
     let none : take c.args.lines.now.held c.args.lines.now.bytes ≡ [] = ap (λ n. take n c.args.lines.now.bytes) c.requires ∙ none_taken c.args.lines.now.bytes in
-    subst (λ held. Adds g.O.Target (ok_line c.args.path.now c.args.change c.args.facts.now) c.args.lines.now.target c.send.new.self.target held [] c.send.result) none (adds_then g.O.Target _ c.in_ok-put_path.ensures a)
+    subst (λ held. Adds g.O.Target (ok_line c.args.path.now c.args.change c.args.tagged c.args.facts.now) c.args.lines.now.target c.send.new.self.target held [] c.send.result) none (adds_then g.O.Target _ c.in_ok-put_path.ensures a)

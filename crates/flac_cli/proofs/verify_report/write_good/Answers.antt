@@ -11,8 +11,8 @@ returns g c =
     let depth = c.counted_member-6.ensures ∙ ap (counted (codes "depth")) c.depth_of.ensures in
     let checked = c.truth_member.ensures ∙ ap (λ b. valued (codes "md5_checked") (truth (not b))) c.lacks_digest.ensures in
     let stream = one_known c.counted_member-4.result rate (one_known c.counted_member-5.result channels (one_known c.counted_member-6.result depth (one_known c.counted_member-7.result c.counted_member-7.ensures (one_known c.counted_member-8.result c.counted_member-8.ensures
-    (one_known c.md5_member.result c.md5_member.ensures (one_known c.truth_member.result checked (one_known c.subset_member.result c.subset_member.ensures none_known))))))) in
-    let are = one_known c.text_member.result c.text_member.ensures (one_known c.counted_member.result c.counted_member.ensures (one_known c.counted_member-2.result c.counted_member-2.ensures (one_known c.counted_member-3.result c.counted_member-3.ensures stream)))
+    (one_known c.md5_member.result c.md5_member.ensures (one_known c.truth_member.result checked (one_known c.subset_member.result c.subset_member.ensures (one_known c.id3_member.result c.id3_member.ensures none_known)))))))) in
+    let are = one_known c.text_member.result c.text_member.ensures (one_known c.container_member.result c.container_member.ensures (one_known c.counted_member.result c.counted_member.ensures (one_known c.counted_member-2.result c.counted_member-2.ensures (one_known c.counted_member-3.result c.counted_member-3.ensures stream))))
     in
     let w = c.write_object.ensures in
     sent_as g.P.Target c.args.entry.now _ c.write_object.result (line_same c.path_member.result c.path_member.ensures are) w.kept w.known w.sent w.failed

@@ -1,4 +1,4 @@
-use Rattle.std.proofs.Common.{◌≡◌, ◌∙◌, true, sym, refl}
+use Rattle.std.proofs.Common.{◌≡◌, ◌∙◌, true, sym}
 use Rattle.flac_cli.proofs.TakenWaves.{other_size, sized_taken, sized_refused, rest_refused}
 use Rattle.flac_cli.proofs.wave_file.read_file.Goals as goal
 

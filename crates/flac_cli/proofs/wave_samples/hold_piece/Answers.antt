@@ -6,7 +6,7 @@ use Rattle.flac_wave.specs.Format.{row_of}
 use Rattle.flac_wave.specs.Shift.{wave_width_of}
 use Rattle.flac_cli.specs.Waves.{wave_samples}
 use Rattle.flac_cli.proofs.HeldWaves.{held_more, more_as, on_ok}
-use Rattle.flac_cli.proofs.Rows.{whole_rows}
+use Rattle.flac_raw.proofs.Rows.{whole_rows}
 use Rattle.flac_cli.proofs.Waved.{are_wave_bytes}
 use Rattle.flac_cli.proofs.wave_samples.hold_piece.Goals as goal
 

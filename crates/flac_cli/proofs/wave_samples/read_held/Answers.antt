@@ -4,7 +4,7 @@ use Rattle.std.proofs.lemmas.Result.{err_from_is_err_and}
 use Rattle.std.proofs.Math.Nat.{div-mul-le_self}
 use Rattle.flac_wave.specs.Format.{row_of}
 use Rattle.flac_cli.proofs.HeldWaves.{first_held, next_held, all_held, part_held}
-use Rattle.flac_cli.proofs.Rows.{not_full, whole_rows}
+use Rattle.flac_raw.proofs.Rows.{not_full, whole_rows}
 use Rattle.flac_cli.proofs.wave_samples.read_held.Goals as goal
 
 -- a count that rose is not as it was

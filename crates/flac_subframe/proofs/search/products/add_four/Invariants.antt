@@ -1,6 +1,0 @@
-use Rattle.std.proofs.Common.{◌+◌}
-use Rattle.flac_subframe.proofs.lemmas.search.Lanes.{SumsTo}
-use Rattle.flac_subframe.proofs.search.products.add_four.Given as goal
-
-abbrev pub invariant-loop-index : goal.invariant-loop-index
-invariant-loop-index l = SumsTo l.done (l.done + 4) l.coefficients l.samples l.index l.sums
