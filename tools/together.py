@@ -251,10 +251,10 @@ def batched(edits, most=MOST):
     return made
 
 
-def batches(rt, crate, files):
-    """The edits of a crate to try together: lists of at least two files. All others are tried alone."""
+def batches(rt, crate, files, least=2):
+    """The edits of a crate to try together: lists of at least so many files. All others are tried alone."""
     _, edits = all_understood(rt, crate, files)
-    return [[it.file for it in batch] for batch in batched(edits) if len(batch) > 1]
+    return [[it.file for it in batch] for batch in batched(edits) if len(batch) >= least]
 
 
 def applied(folder, edits):

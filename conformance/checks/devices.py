@@ -258,7 +258,7 @@ def replaced(place, words, source, linked=False):
 
 def in_passes(words):
     """Whether it is an encoding in two passes: its first bytes are written last, so that a part of it is no stream, and is not kept."""
-    return words[0] == "encode" and "--ogg" not in words
+    return words[0] == "encode"
 
 
 def kept(place, words, source, name):

@@ -25,6 +25,7 @@ import sys
 import tempfile
 
 import folders  # noqa: F401  (the path of the modules below)
+from other_readers import read_by_others
 from program import PROGRAM, Wrong, expect, read
 from tag import COMMENTS, PADDING, blocks_of, content_of, layout, stream_of
 
@@ -74,7 +75,7 @@ def edited(blocks, removals, pictures, padding, sheets=(), tables=None):
 
 def one(rng, folder, info, frames, number):
     path, cover = os.path.join(folder, f"{number}.flac"), os.path.join(folder, "any.bin")
-    old = stream_of(layout(rng, info), frames)
+    old = stream_of(layout(rng, info, number % 40 == 39), frames)
     with open(path, "wb") as file:
         file.write(old)
     os.chmod(path, 0o600 if number % 2 else 0o644)
@@ -109,10 +110,7 @@ def one(rng, folder, info, frames, number):
     if times:
         expect(os.stat(path).st_mtime_ns, before.st_mtime_ns)
     expect(stat.S_IMODE(os.stat(path).st_mode), mode)
-    if number % 7 == 0 and all(k != 9 and not (k == 3 and not b) for k, b in blocks_of(due)[0]):
-        expect(subprocess.run(["flac", "-s", "-t", path], capture_output=True, check=False).returncode, 0)
-        listed = subprocess.run(["metaflac", "--list", path], capture_output=True, check=True).stdout
-        expect(listed.count(b"METADATA block #"), len(blocks_of(due)[0]))
+    read_by_others(path, blocks_of(due)[0])
     os.remove(path)
 
 
@@ -246,6 +244,8 @@ def sheet_text(rng, sound):
     unit = rate // 75 if timed else 1
     end, lines = "\r\n" if rng.random() < 0.3 else "\n", []
     tracks = [(1 if rng.random() < 0.5 else rng.randrange(1, 4), rng.random() < 0.5) for _ in range(rng.randrange(1, 20))]
+    while sum(n + pre for n, pre in tracks) > total // unit:
+        tracks.pop()
     points = sorted(rng.sample(range(1, total // unit), sum(n + pre for n, pre in tracks) - 1))
     places = iter([0] + points)
     if rng.random() < 0.5:
@@ -597,7 +597,7 @@ def main():
     parser.add_argument("--seed", type=int, default=1)
     asked = parser.parse_args()
     rng = random.Random(asked.seed)
-    rounds = 40 if asked.quick else 400
+    rounds = 40 if asked.quick else 1000
     with tempfile.TemporaryDirectory() as folder:
         raw, path = os.path.join(folder, "a.raw"), os.path.join(folder, "a.flac")
         with open(raw, "wb") as file:
@@ -607,14 +607,14 @@ def main():
         blocks, frames = blocks_of(read(path))
         fixed(folder, blocks[0][1], frames)
         count = pictures(folder, read(path))
-        cue_sheets(rng, folder, rounds // 2)
-        seek_tables(rng, folder, rounds // 2)
+        cue_sheets(rng, folder, rounds // 5)
+        seek_tables(rng, folder, rounds // 5)
         for number in range(rounds):
             try:
                 one(rng, folder, blocks[0][1], frames, number)
             except Wrong as wrong:
                 raise Wrong(f"layout {number}: {wrong}") from None
-    print(f"edit: {rounds} layouts, {count} pictures, {rounds // 2} cue sheets and seek tables, words, files and exports are right")
+    print(f"edit: {rounds} layouts, {count} pictures, {rounds // 5} cue sheets and seek tables, words, files and exports are right")
 
 
 if __name__ == "__main__":

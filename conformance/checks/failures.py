@@ -212,7 +212,8 @@ def listed_line(job, call, at):
 def opened_line(job, call, at):
     """What is due if IN or OUT is not opened, or an empty line if the failure does no harm. None in the midst of a job."""
     if at["open"] == 0:
-        return "flac: command: 2 Memory"
+        # (an encoding asks whether IN is a regular file; else it is one in one pass)
+        return "" if call == "statx" and in_passes(job) else "flac: command: 2 Memory"
     if listed_line(job, call, at):
         return listed_line(job, call, at)
     if job.listed is not None and at["open"] > 1:
@@ -257,7 +258,7 @@ def place_of(job, call, taken):
 
 def in_passes(job):
     """Whether it is an encoding in two passes, whose first bytes are written last: what it wrote is no stream, and is not kept."""
-    return job.kind == "encode" and "--rate" in job.words and "--ogg" not in job.words
+    return job.kind == "encode" and ("--rate" in job.words or "--ogg" not in job.words)
 
 
 def files_are_right(job, ran, due, line):

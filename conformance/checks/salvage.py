@@ -147,20 +147,47 @@ def best_chain(spots, total):
         reach = spots[at][2] + spots[at][3]
 
 
-def due_lines(path, kept, spots, rate, total, front, end):
+class Plain:
+    """Places in a native stream: those of its bytes."""
+
+    def __init__(self, before=0):
+        self.before = before
+
+    def of(self, at):
+        return at + self.before
+
+    def after(self, at):
+        return at + self.before
+
+
+class Placed:
+    """Places in the input of the bytes that its pages hold."""
+
+    def __init__(self, places, end):
+        self.places, self.end = places, end
+
+    def of(self, at):
+        return self.places[at] if at < len(self.places) else self.end
+
+    def after(self, at):
+        return self.places[at - 1] + 1
+
+
+def due_lines(path, kept, spots, rate, total, front, end, where=Plain()):
     """The lines of what is missing."""
     def time(sample):
         return f"{sample // rate // 60}:{sample // rate % 60:02}.{sample % rate * 1000 // rate:03}"
 
     lines, at, first = [], front, 0
     for spot in kept + [(end, 0, total, 0)]:
-        place = f"bytes {at} to {spot[0] - 1}" if at < spot[0] else f"byte {at}"
+        start, stop = where.after(at), where.of(spot[0])
+        place = f"bytes {start} to {stop - 1}" if start < stop else f"byte {start}"
         if first < spot[2]:
             lines.append(f"{place}: samples {first} to {spot[2] - 1} missing, {time(first)} to {time(spot[2] - 1)}")
         elif at < spot[0]:
             lines.append(f"{place}: no frame, no sample is missing")
         at, first = spot[0] + spot[1], spot[2] + spot[3]
-    lines += [f"frame at byte {spot[0]}: out of order, {spot[3]} samples from {spot[2]}" for spot in spots if spot not in kept]
+    lines += [f"frame at byte {where.of(spot[0])}: out of order, {spot[3]} samples from {spot[2]}" for spot in spots if spot not in kept]
     if lines:
         lines.append(f"found {sum(spot[3] for spot in kept)} of {total} samples in {len(kept)} frames")
     return "".join(f"flac: {path}: {line}\n" for line in lines).encode()
@@ -211,6 +238,87 @@ def damaged(data, front, chance, kind):
 KINDS = ["none", "bits", "holes", "insertions", "zeros", "swapped", "cut"]
 
 
+# ---- pages (RFC 3533, section 6), by their checksums
+
+def crc32(data):
+    value = 0
+    for byte in data:
+        value = (value << 8 & 0xFFFFFFFF) ^ CRC32[value >> 24 ^ byte]
+    return value
+
+
+CRC32 = table(32, 0x04C11DB7)
+
+
+def page_at(data, at):
+    """Where the segments of the page at an offset begin and where it ends, and its serial number; none if it is not whole."""
+    if data[at:at + 5] != b"OggS\0" or at + 27 > len(data):
+        return None
+    body = at + 27 + data[at + 26]
+    end = body + sum(data[at + 27:body])
+    if end > len(data) or body > len(data):
+        return None
+    page = bytearray(data[at:end])
+    page[22:26] = bytes(4)
+    return (at, body, end, data[at + 14:at + 18]) if crc32(page).to_bytes(4, "little") == data[at + 22:at + 26] else None
+
+
+def pages_in(data):
+    """The whole pages, none of which begins inside another."""
+    pages, at = [], 0
+    while True:
+        at = data.find(b"OggS\0", at)
+        if at < 0:
+            return pages
+        page = page_at(data, at)
+        if page:
+            pages.append(page)
+        at = page[2] if page else at + 1
+
+
+def left_in(data):
+    """What the pages of the first stream of FLAC hold after the mapping header, with the bytes that are in no page as soon as there may be
+    frames, and where each of these bytes is."""
+    left, places, serial, frames, last = bytearray(), [], None, False, 0
+
+    def add(start, end):
+        left.extend(data[start:end])
+        places.extend(range(start, end))
+
+    for at, body, end, number in pages_in(data):
+        if serial is None:
+            if data[body:body + 5] == b"\x7fFLAC":
+                serial = number
+                add(body + 9, end)
+        else:
+            if frames:
+                add(last, at)
+            if serial == number:
+                add(body, end)
+                frames = frames or data[at + 5] % 2 == 0 and data[body:body + 1] >= b"\x80"
+        last = end
+    if frames:
+        add(last, len(data))
+    return bytes(left), Placed(places, len(data))
+
+
+def audio_pages(data):
+    """The pages of a good stream that hold frames."""
+    pages = pages_in(data)
+    first = next(index for index, page in enumerate(pages) if data[page[1]:page[1] + 2] == b"\xff\xf8")
+    return pages[first:]
+
+
+def swapped_pages(data, chance):
+    """Two pages in each other's place, and one twice."""
+    pages = audio_pages(data)
+    parts = [data[at:end] for at, _, end, _ in pages]
+    a, b = chance.randrange(len(parts)), chance.randrange(len(parts))
+    parts[a], parts[b] = parts[b], parts[a]
+    parts.insert(chance.randrange(len(parts)), parts[chance.randrange(len(parts))])
+    return data[:pages[0][0]] + b"".join(parts)
+
+
 # ---- streams
 
 def noise(chance, channels, bits, count):
@@ -258,6 +366,108 @@ def judge(frames, kept, raw, width, front, spots, form, gap):
         subprocess.run(["flac", "-s", "-t", "out.flac"], check=True, stderr=subprocess.DEVNULL)
     test = call("test", "out.flac")
     expect((test[0], test[2]), (0, b""))
+
+
+def judge_pages(frames, raw, width, form, gap):
+    """One call, over the Ogg stream `bad.oga`; how many frames are found and kept."""
+    _, bits, rate, _ = form
+    total = len(raw) // width
+    bad = read("bad.oga")
+    left, where = left_in(bad)
+    with open("left.flac", "wb") as file:
+        file.write(left)
+    front = 4 + sum(4 + length for _, length, _ in blocks_of("left.flac"))
+    spots = whole(frames, left, front)
+    kept = best_chain(spots, total)
+    lines = due_lines("bad.oga", kept, spots, rate, total, front, len(left), where)
+    if os.path.exists("out.flac"):
+        os.remove("out.flac")
+    status, out, err = call("salvage", "bad.oga", "out.flac", *(["--gap"] if gap else []))
+    expect((status, out), (0, b""))
+    expect(err, lines)
+    expect(read("bad.oga"), bad)
+    due = samples_due(kept, raw, width, total, gap)
+    info = blocks_of("out.flac")[0][2]
+    digest = hashlib.md5(due).digest()
+    expect((info["total"], info["digest"], info["rate"], info["depth"]), (len(due) // width, digest, rate, bits))
+    expect(kept_blocks("out.flac"), kept_blocks("left.flac"))
+    if due:
+        expect(hashlib.md5(decoded("out.flac")).digest(), digest)
+    status, out, err = call("verify", "--all", "bad.oga")
+    if status == 0:
+        expect(err, b"")
+    else:
+        expect(err.split(b"\n", 1)[1], lines)
+    return len(spots), len(kept)
+
+
+def through_ffmpeg(path, bits):
+    """What FFmpeg decodes of a damaged stream."""
+    form = "s8" if bits == 8 else f"s{bits}le"
+    words = ["ffmpeg", "-v", "quiet", "-i", path, "-c:a", f"pcm_{form}", "-f", form, "-"]
+    return subprocess.run(words, check=False, stdin=subprocess.DEVNULL, stdout=subprocess.PIPE, stderr=subprocess.DEVNULL).stdout
+
+
+def ogg_streams(chance, form, raw, quick, counts):
+    """Damaged Ogg streams of the samples of `good.flac`: pages of several frames, as the reference makes them, and of one."""
+    channels, bits, rate, block = form
+    width = channels * (bits // 8)
+    words = ["flac", "-s", "-f", "--force-raw-format", "--endian=little", "--sign=signed", f"--channels={channels}", f"--bps={bits}", f"--sample-rate={rate}",
+             f"--blocksize={block}", "-5", "--tag=TITLE=some", "--padding=100", "--lax", "--ogg", "-o", "reference.oga", "in.raw"]
+    subprocess.run(words, check=True)
+    if os.path.exists("recoded.oga"):
+        os.remove("recoded.oga")
+    expect(call("recode", "good.flac", "recoded.oga", "--ogg", "--lax", "--block", str(block))[0], 0)
+    for name in ("reference.oga", "recoded.oga"):
+        data = read(name)
+        left, _ = left_in(data)
+        with open("left.flac", "wb") as file:
+            file.write(left)
+        front = 4 + sum(4 + length for _, length, _ in blocks_of("left.flac"))
+        frames = frames_of(left, front, len(raw) // width, block)
+        begin = audio_pages(data)[0][0]
+        kinds = [*KINDS, "pages", *(["header"] if pages_in(data)[2][0] < begin else [])]
+        for kind in kinds * (1 if quick else 4):
+            if kind == "pages":
+                bad = swapped_pages(data, chance)
+            elif kind == "header":
+                second = pages_in(data)[1]
+                bad = bytearray(data)
+                bad[chance.randrange(second[0], second[2])] ^= 1 << chance.randrange(8)
+            else:
+                bad = damaged(data, begin, chance, kind)
+            with open("bad.oga", "wb") as file:
+                file.write(bad)
+            for gap in (False, True):
+                found, kept = judge_pages(frames, raw, width, form, gap)
+            others = [decoded("bad.oga", through=True)]
+            if bits != 8 and channels <= 2:
+                others.append(through_ffmpeg("bad.oga", bits))
+            for there, other in zip(others, ("the reference", "FFmpeg")):
+                restored = sum(raw[first * width:(first + size) * width] in there for _, first, size in frames)
+                if restored > found:
+                    raise Wrong(f"{name}, {kind}: {other} restores {restored} frames, of which {found} are found")
+                counts["Ogg by " + other] += restored
+            counts["Ogg files"] += 1
+            counts["Ogg frames"] += len(frames)
+            counts["Ogg kept"] += kept
+
+
+def between_tags(data, raw, width, front, frames, form, chance):
+    """A damaged native stream between tags of other programs: the lines tell where in the file it is."""
+    bad = damaged(data, front, chance, "bits")
+    spots = whole(frames, bad, front)
+    kept = best_chain(spots, len(raw) // width)
+    tag = b"ID3\3\0\0\0\0\1\0" + bytes(128)
+    with open("tagged.flac", "wb") as file:
+        file.write(tag + bad + b"TAG" + bytes(125))
+    if os.path.exists("out.flac"):
+        os.remove("out.flac")
+    status, out, err = call("salvage", "tagged.flac", "out.flac")
+    expect((status, out), (0, b""))
+    expect(err, due_lines("tagged.flac", kept, spots, form[2], len(raw) // width, front, len(bad), Plain(len(tag))))
+    due = samples_due(kept, raw, width, len(raw) // width, False)
+    expect(hashlib.md5(decoded("out.flac")).digest(), hashlib.md5(due).digest())
 
 
 def stream(chance, form, count):
@@ -342,6 +552,7 @@ def main():
     given = parser.parse_args()
     chance = random.Random(given.seed)
     counts = {"files": 0, "frames": 0, "kept": 0, "reference": 0}
+    counts.update({"Ogg files": 0, "Ogg frames": 0, "Ogg kept": 0, "Ogg by the reference": 0, "Ogg by FFmpeg": 0})
     with tempfile.TemporaryDirectory(prefix="flac-salvage-") as room:
         os.chdir(room)
         for form in FORMATS[:3 if given.quick else None]:
@@ -369,8 +580,12 @@ def main():
                 counts["reference"] += restored
             refused(data, chance)
             too_long(data)
+            between_tags(data, raw, width, front, frames, form, chance)
+            ogg_streams(chance, form, raw, given.quick, counts)
         kept_wave(chance)
     print(f"salvage: {counts['files']} damaged files of {counts['frames']} frames; {counts['kept']} kept, {counts['reference']} restored by flac -F")
+    print(f"salvage: {counts['Ogg files']} damaged Ogg files of {counts['Ogg frames']} frames; {counts['Ogg kept']} kept, {counts['Ogg by the reference']} "
+          f"restored by flac -F, {counts['Ogg by FFmpeg']} of one or two channels by FFmpeg")
     return 0
 
 
