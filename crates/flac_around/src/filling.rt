@@ -64,7 +64,8 @@ fn skip_some<S: Source>(source: &mut S, most: u64) -> io::Result<usize>
 /// That of the source.
 pub(crate) fn skip<S: Source>(source: &mut S, most: u64) -> io::Result<u64>
     ensures few { IfOk result (λ n. n ≤ most) }
-    ensures bytes { IfOk result (λ n. S.known source.old ≡ true → S.coming source.new ≡ drop most (S.coming source.old)) }
+    ensures bytes { IfOk result
+        (λ n. S.known source.old ≡ true → S.coming source.new ≡ drop most (S.coming source.old)) }
     ensures count { IfOk result (λ n. S.known source.old ≡ true → n ≡ min most (length (S.coming source.old))) }
     ensures goes { OnOk result (Goes S.Source source.old source.new) }
     ensures fails { OnErr result (Fails S.Source (λ coming. drop most coming ≡ []) source.old source.new) }

@@ -43,7 +43,8 @@ fn put_one_empty(lead: &mut [u8])
 fn put_kept(lead: &mut [u8], kept: usize, body: &[u8])
     requires few { 27 + kept ≤ length lead.old }
     requires most { length lead.old ≤ 282 }
-    ensures { take (27 + kept) lead.new ++ body.now ≡ page_bytes (checked (page_of (take (27 + kept) lead.old) body.now)) }
+    ensures { take (27 + kept) lead.new ++ body.now ≡ page_bytes
+        (checked (page_of (take (27 + kept) lead.old) body.now)) }
 {
     complete(&mut lead[..HEAD + kept], body);
 }

@@ -71,7 +71,8 @@ fn audio_of(
 ) -> Result<Audio, u32>
     ensures sound { IfOk result (λ a. a ≡ sound_of profile settings.now samples.now) }
     ensures good { OnOk result (CanBeEncoded profile settings.now samples.now) }
-    ensures refused { IfErr result (IsMemoryOr (option_map number_of (samples_fault profile settings.now samples.now))) }
+    ensures refused { IfErr result
+        (IsMemoryOr (option_map number_of (samples_fault profile settings.now samples.now))) }
     ensures some { IfErr result (λ n. n ≢ 0) }
 {
     let count = settings.channels as usize;

@@ -39,7 +39,8 @@ fn read_front(alloc: Global, bytes: &[u8], found: &mut Metadata) -> Result<u64, 
 /// Makes a cursor at the first frame. `found` gets the seek point at or before the sample that is sought.
 fn read_start(alloc: Global, bytes: &[u8], found: &mut Metadata) -> Result<FlacProvedCursor, Fault>
     requires { (profile : Profile) → IsFound profile found.old.sample [] found.old }
-    ensures read { IfOk result (λ c. (profile : Profile) → IsStart profile bytes.now found.old.sample c found.new.point) }
+    ensures read { IfOk result
+        (λ c. (profile : Profile) → IsStart profile bytes.now found.old.sample c found.new.point) }
     ensures refused { IfErr result (λ f. (profile : Profile) → RefusesHead profile bytes.now (Some (fault_pair f))) }
 {
     let offset = match read_front(alloc, bytes, found) {

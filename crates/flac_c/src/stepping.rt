@@ -79,7 +79,8 @@ fn step(
     requires block { info.now.greatest_block ≤ buffers.old.max_block }
     requires first { buffers.old.before ≡ None }
     requires short { cursor.old.info.greatest_block ≤ 65535 }
-    ensures found { IfOk result (λ len. HandsNext profile info.now bytes.now cursor.old cursor.new out.old out.new len) }
+    ensures found { IfOk result
+        (λ len. HandsNext profile info.now bytes.now cursor.old cursor.new out.old out.new len) }
     ensures fault { IfErr result (λ why. NoFrameAt profile info.now (drop cursor.old.offset bytes.now) why) }
     ensures kept { IfErr result (λ _. (cursor.new ≡ cursor.old) × (out.new ≡ out.old)) }
     ensures only { HandsIfThere profile info.now bytes.now result cursor.old cursor.new out.old out.new }
@@ -196,7 +197,8 @@ pub extern "C" fn flac_proved_next_in(
     len: &mut usize,
     fault: &mut FlacProvedFault,
 ) -> u32
-    ensures given { result ≡ 0 → GivesNext (profile_of profile) bytes.now cursor.old cursor.new out.old out.new len.new }
+    ensures given { result ≡ 0 →
+        GivesNext (profile_of profile) bytes.now cursor.old cursor.new out.old out.new len.new }
     ensures refused { result ≢ 0 → IsAnswered (RefusesNext (profile_of profile) bytes.now cursor.old) fault.new }
     ensures frames { HandsAny (profile_of profile) bytes.now result cursor.old cursor.new out.old out.new len.new }
     ensures streams { GoesOnAny (profile_of profile) bytes.now result cursor.old cursor.new out.old out.new len.new }

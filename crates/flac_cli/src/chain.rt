@@ -89,7 +89,8 @@ pub(crate) fn write_stream_line<E: Target>(
     at: At,
     text: &str,
 ) -> Result<(), Why>
-    ensures sent { HasSent E.Target err.old err.new (fault_line (numbered path.now number) (text_at at text.now)) result }
+    ensures sent { HasSent E.Target err.old err.new
+        (fault_line (numbered path.now number) (text_at at text.now)) result }
     ensures failed { OnErr result (E.known err.old ≡ true → E.errors err.old < E.errors err.new) }
 {
     let mut lines = Lines::new(err);

@@ -335,7 +335,8 @@ pub(crate) fn run_encode_wave<R: Source, W: Target, E: Target>(
         WritesAs R.Source W.Target EncodesWave encoding.now source.old target.old target.new }
     ensures accepted { result ≡ 0 → IfKnown R.Source source.old (CanBeEncodedAs encoding.now) }
     ensures begun { result ≡ 1 → WritesAs R.Source W.Target MayBeginWave encoding.now source.old target.old target.new }
-    ensures refused { IfAllServe R.Source W.Target E.Target source target err (ReportsFile encoding.now job.now result) }
+    ensures refused { IfAllServe R.Source W.Target E.Target source target err
+        (ReportsFile encoding.now job.now result) }
     ensures named { result ≡ 1 → IfServed E.Target err.old err.new (NamesWaveEncoding (files_of job.now)) }
 {
     match encode_wave(alloc, encoding, source, target) {

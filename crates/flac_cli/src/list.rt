@@ -352,7 +352,8 @@ pub fn list_stream<R: Source, O: Target, E: Target>(
         Tells R.Source source.old source.new → GivesStream R.Source (profile_of lax) source.old }
     // If the source and standard error did not fail, the status and the line say what the input is; or memory ran out,
     // or standard output failed: then the line says that.
-    ensures reported { ReportsListed R.Source O.Target E.Target (profile_of lax) file.now.path.now result source out err }
+    ensures reported { ReportsListed R.Source O.Target E.Target
+        (profile_of lax) file.now.path.now result source out err }
 {
     match list(alloc, file.names, source, profile_of(lax), out) {
         Ok(()) => 0,

@@ -255,7 +255,8 @@ fn prepared<R: Source>(
     ensures found { IfOk result (λ r. IsReadyFrom R.Source encoding.now predictors.items source.old r) }
     ensures fits { IfOk result (λ r. fits_plan r.plan r.audio ≡ true) }
     ensures none { IfOk result (λ r. r.plan.found ≡ []) }
-    ensures refused { IfErr result (λ e. IsInputRefusal R.Source encoding.now predictors.items source.old source.new e) }
+    ensures refused { IfErr result
+        (λ e. IsInputRefusal R.Source encoding.now predictors.items source.old source.new e) }
     ensures unwritten { IfErr result (λ e. e ≢ Refused (refusal.Output EncodeFault.Write)) }
 {
     let held = read_stream(alloc, source)?;

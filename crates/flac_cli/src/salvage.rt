@@ -288,7 +288,8 @@ pub fn salvage_file<R: Source, W: Target, E: Target>(
     ensures begun { result ≡ 1 → BeginsSalvage R.Source W.Target salvage.now source.old target.old target.new }
     // After status 1, if no device failed, the line of the first reason to refuse it was added to standard error; or
     // memory ran out, and the line says that.
-    ensures refused { result ≡ 1 → IfAllServe R.Source W.Target E.Target source target err (RefusesSalvage salvage.now) }
+    ensures refused { result ≡ 1 →
+        IfAllServe R.Source W.Target E.Target source target err (RefusesSalvage salvage.now) }
     // After status 1, whatever failed, its line was added to standard error, if that did not fail. It names the output
     // if that could not be written (39), and else the input.
     ensures named { result ≡ 1 → IfServed E.Target err.old err.new (NamesRecoding (salvage_files salvage.now)) }

@@ -272,7 +272,8 @@ impl<S: Source> Lowered<S> {
     /// The source's own.
     fn top_up(&mut self) -> io::Result<()>
         ensures form { self.new.form ≡ self.old.form }
-        ensures bytes { OnOk result (S.known self.old.source ≡ true → left_of S.Source self.old ≡ left_of S.Source self.new) }
+        ensures bytes { OnOk result
+            (S.known self.old.source ≡ true → left_of S.Source self.old ≡ left_of S.Source self.new) }
         ensures end { OnOk result (S.known self.old.source ≡ true → held_of S.Source self.new ≡ [] →
             left_of S.Source self.new ≡ []) }
         ensures failed { OnOk result (self.new.failed ≡ self.old.failed) }

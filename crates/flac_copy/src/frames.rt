@@ -32,7 +32,8 @@ pub(crate) fn take_frame<R: Source>(
 /// Reads the next frame, of which no byte was given yet, and lets its bytes come again. Returns how many they are.
 fn pass_frame<R: Source>(again: &mut Again<R>, track: &mut Track) -> Result<u64, Why>
     requires { again.old.given ≡ 0 }
-    ensures passed { IfOk result (λ n. PassesFrame R.Source (stand_of track.old) (shown track.new) again.old again.new n) }
+    ensures passed { IfOk result
+        (λ n. PassesFrame R.Source (stand_of track.old) (shown track.new) again.old again.new n) }
     ensures next { OnOk result (ReadsPart track.old (framed (shown track.new)) track.new) }
     ensures made { OnOk result (is_some (stand_of track.new).info ≡ true) }
 {
@@ -49,7 +50,8 @@ fn pass_frame<R: Source>(again: &mut Again<R>, track: &mut Track) -> Result<u64,
 /// Those of [`Track::next_frame`], and [`Why::Memory`] if an allocation fails.
 pub(crate) fn next_frame<R: Source>(again: &mut Again<R>, track: &mut Track) -> Result<usize, Why>
     requires { again.old.given ≡ 0 }
-    ensures given { IfOk result (λ n. GivesFrame R.Source (stand_of track.old) (shown track.new) again.old again.new n) }
+    ensures given { IfOk result
+        (λ n. GivesFrame R.Source (stand_of track.old) (shown track.new) again.old again.new n) }
     ensures next { OnOk result (ReadsPart track.old (framed (shown track.new)) track.new) }
     ensures made { OnOk result (is_some (stand_of track.new).info ≡ true) }
 {

@@ -20,7 +20,8 @@ fn take_block<R: Source>(
 ) -> Result<(), Why>
     // proof only
     ensures spends { OnOk result (reader.new.most + 32 ≤ reader.old.most) }
-    ensures taken { OnOk result (TakesBlock track.old track.new reader.old reader.new blocks.old.items blocks.new.items) }
+    ensures taken { OnOk result
+        (TakesBlock track.old track.new reader.old reader.new blocks.old.items blocks.new.items) }
     ensures counts { Counts reader.old reader.new result }
 {
     let (_last, block) = track.block(reader)?;
@@ -34,7 +35,8 @@ fn take_blocks<R: Source>(
     track: &mut Track,
     blocks: &mut Vec<Block>,
 ) -> Result<(), Fault>
-    ensures taken { OnOk result (TakesBlocks track.old track.new reader.old reader.new blocks.old.items blocks.new.items) }
+    ensures taken { OnOk result
+        (TakesBlocks track.old track.new reader.old reader.new blocks.old.items blocks.new.items) }
     ensures counts { Counts reader.old reader.new (reason_of fault_pair result) }
 {
     'reading: while !track.is_past_metadata() {
@@ -67,7 +69,8 @@ fn take_head<R: Source>(
     track: &mut Track,
     blocks: &mut Vec<Block>,
 ) -> Result<u64, Fault>
-    ensures taken { IfOk result (TakesHead track.old track.new reader.old reader.new blocks.old.items blocks.new.items) }
+    ensures taken { IfOk result
+        (TakesHead track.old track.new reader.old reader.new blocks.old.items blocks.new.items) }
     ensures names { reader.new.names ≡ reader.old.names }
 {
     if let Err(why) = read_marker(reader) {
@@ -90,7 +93,8 @@ fn pass_head<R: Source>(
     blocks: &mut Vec<Block>,
 ) -> Result<u64, Fault>
     requires { again.old.given ≡ 0 }
-    ensures { IfOk result (PassesHead R.Source track.old track.new again.old again.new blocks.old.items blocks.new.items) }
+    ensures { IfOk result
+        (PassesHead R.Source track.old track.new again.old again.new blocks.old.items blocks.new.items) }
 {
     let mut reader = BitReader::new(again);
     let taken = take_head(&mut reader, track, blocks);

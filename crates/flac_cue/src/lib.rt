@@ -6,8 +6,6 @@ mod fault;
 mod laws;
 mod open;
 mod reading;
-#[cfg(test)]
-mod tests;
 mod text;
 mod words;
 

@@ -170,7 +170,8 @@ fn push_lead_outs(text: &mut Vec<u8>, tracks: &[CueTrack]) -> Result<(), AllocEr
 
 /// Adds the lines of the tracks, and those of lead-in and lead-out.
 fn push_ending(text: &mut Vec<u8>, sheet: &CueSheet) -> Result<(), AllocError>
-    ensures { OnOk result (text.new.items ≡ text.old.items ++ ending_text sheet.now.cd sheet.now.lead_in sheet.now.tracks) }
+    ensures { OnOk result
+        (text.new.items ≡ text.old.items ++ ending_text sheet.now.cd sheet.now.lead_in sheet.now.tracks) }
 {
     let tracks = sheet.tracks.as_slice();
     let end = tracks.len().saturating_sub(1);

@@ -145,7 +145,8 @@ impl<W: Rewritable + Drop> DraftEncoder<W> {
         ensures list { IfOk result (λ e. e.list ≡ list) }
         ensures table { IfOk result (λ e. e.table ≡ table_for total seek_every) }
         ensures begun { IfOk result (λ e. BeginsDraft W.Target target e) }
-        ensures written { IfOk result (λ e. SentHead W.Target (list_for format.now total seek_every list) target e.pushed) }
+        ensures written { IfOk result
+            (λ e. SentHead W.Target (list_for format.now total seek_every list) target e.pushed) }
         ensures known { IfOk result (λ e. W.known target ≡ true → W.known e.pushed.target ≡ true) }
         ensures counted { IfOk result (λ e. W.errors e.pushed.target ≡ W.errors target) }
         ensures names { IfOk result (λ e. W.names e.pushed.target ≡ W.names target) }
@@ -154,7 +155,8 @@ impl<W: Rewritable + Drop> DraftEncoder<W> {
         ensures refused { IfErr result (λ e. IsFirst
             (begin_fault (shape_of format.now) list (table_for total seek_every)) e) }
         // An error of the target is counted, and a prefix was sent before it.
-        ensures failed { FailsHead W.Target (shape_of format.now) (list_for format.now total seek_every list) target result }
+        ensures failed { FailsHead W.Target (shape_of format.now)
+            (list_for format.now total seek_every list) target result }
     {
         if let Some(fault) = begin_fault(format, &list, total, seek_every) {
             return Err(fault);

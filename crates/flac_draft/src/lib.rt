@@ -18,13 +18,9 @@ mod laws;
 mod memory;
 mod ogg_draft_encoder;
 mod ogg_pages;
-#[cfg(test)]
-mod ogg_tests;
 mod point_table;
 mod rewritable;
 mod table_faults;
-#[cfg(test)]
-mod tests;
 
 pub use draft_encoder::DraftEncoder;
 pub use draft_fault::{DraftFault, Unfinished};

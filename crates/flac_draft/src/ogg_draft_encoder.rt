@@ -222,7 +222,8 @@ impl<W: Rewritable + Drop> OggDraftEncoder<W> {
         ensures kept { IfErr result (λ e. e ≢ EncodeFault.Write → self.new ≡ self.old) }
         ensures begun { IfErr result (λ e.
             BegunPacket W.Target (block_channels block.now) (pushed_ogg self.old) (pushed_ogg self.new) e) }
-        ensures spent { IfErr result (λ e. e ≡ EncodeFault.Write → IsSpent self.old.draft.pushed self.new.draft.pushed) }
+        ensures spent { IfErr result
+            (λ e. e ≡ EncodeFault.Write → IsSpent self.old.draft.pushed self.new.draft.pushed) }
         ensures failed { IfErr result (λ e.
             HasWriteError W.Target self.old.draft.pushed.target self.new.draft.pushed.target e) }
         // An error of the target is counted, if the count can rise, whatever is known of it.

@@ -23,8 +23,10 @@ pub trait Rewritable: Target {
     fn write_over(&mut self, at: u64, bytes: &[u8]) -> io::Result<()>
         ensures names { Self.names self.new ≡ Self.names self.old }
         ensures known { OnOk result (Self.known self.old ≡ true → Self.known self.new ≡ true) }
-        ensures written { OnOk result (WritesAt (Self.known self.old) at bytes.now (Self.sent self.old) (Self.sent self.new)) }
-        ensures outside { OnErr result (Spares (Self.known self.old) at bytes.now (Self.sent self.old) (Self.sent self.new)) }
+        ensures written { OnOk result
+            (WritesAt (Self.known self.old) at bytes.now (Self.sent self.old) (Self.sent self.new)) }
+        ensures outside { OnErr result
+            (Spares (Self.known self.old) at bytes.now (Self.sent self.old) (Self.sent self.new)) }
         ensures counted { OnOk result (Self.errors self.new ≡ Self.errors self.old) }
         ensures kept { Self.errors self.old ≤ Self.errors self.new }
         ensures rises { OnErr result (Self.known self.old ≡ true → Self.errors self.old < Self.errors self.new) }

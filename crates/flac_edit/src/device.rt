@@ -52,7 +52,8 @@ pub trait Device {
         ensures known { known self.new ≡ known self.old }
         ensures durable { OnOk result (known self.old ≡ true → Only (seen self.old) (time self.new)) }
         ensures seen { known self.old ≡ true → seen self.new ≡ seen self.old }
-        ensures crash { known self.old ≡ true → (c : List ℕ) → (time self.new).may_leave c → (time self.old).may_leave c }
+        ensures crash { known self.old ≡ true → (c : List ℕ) → (time self.new).may_leave c →
+            (time self.old).may_leave c }
         ensures time { known self.old ≡ true → Elapses (time self.old) (time self.new) }
         ensures cause { known self.old ≡ true → HasCause (faults self.old) (faults self.new) result };
 

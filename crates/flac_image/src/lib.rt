@@ -4,7 +4,5 @@
 mod image;
 mod jpeg;
 mod png;
-#[cfg(test)]
-mod tests;
 
 pub use image::{Image, ImageKind, image_of};

@@ -5,8 +5,6 @@ mod blocks;
 mod fields;
 mod laws;
 mod lines;
-#[cfg(test)]
-mod tests;
 mod texts;
 
 pub use blocks::{block_json, without_zeros};

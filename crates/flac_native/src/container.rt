@@ -87,7 +87,8 @@ pub trait Container {
         ensures stands { IfOk result (λ o. IfSome o (λ _. stands self.new (stand_of track.new) ≡ true)) }
         ensures spends { IfOk result (λ o. IfSome o (λ _. most self.new < most self.old)) }
         ensures counts { IfOk result (λ _. MeetsNone known errors raised met self.old self.new) }
-        ensures clear { IfOk result (λ o. IfSome o (λ _. StaysClear known clear self.old track.old self.new track.new)) }
+        ensures clear { IfOk result
+            (λ o. IfSome o (λ _. StaysClear known clear self.old track.old self.new track.new)) }
         ensures kept { errors self.old ≤ errors self.new }
         ensures read { IfErr result (λ f. ReadIsCounted known raised clear track.old self.old self.new f.why) }
         ensures risen { IfErr result (λ f. f.why ≡ Why.Read → Rises (met self.old) (met self.new)) }

@@ -130,7 +130,9 @@ pub fn send_head<W: Target>(
     target: &mut W,
 ) -> Result<(), Why>
     requires { block_fault (block_of.SeekTable points.items) ≡ None }
-    ensures { SendsBits W.Target (head_spelling info (list.now ++ table_of points.items)) target.old target.new result }
+    ensures sends { SendsBits W.Target (head_spelling info (list.now ++ table_of points.items))
+        target.old target.new result }
+    ensures write { IfErr result (λ e. e ≡ Why.Write) }
 {
     let mut writer = BitWriter::new(Borrowed::over(target));
     let outcome = finish_head(info, list, points, &mut writer);

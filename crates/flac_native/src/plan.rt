@@ -325,7 +325,8 @@ impl Plan {
 
     /// Whether [`Plan::with_found`] takes these lists: no order in them is above that of the plan's profile and rate.
     pub fn takes(&self, found: &[Vec<Vec<LinearPredictor>>]) -> bool
-        ensures { IsTrue result ↔ AreFoundWithin (limits_at self.now.profile self.now.rate).linear (frame_lists found.now) }
+        ensures { IsTrue result ↔ AreFoundWithin (limits_at self.now.profile self.now.rate).linear
+            (frame_lists found.now) }
     {
         found_are_within(found, greatest_order(self.asked.profile, self.asked.rate))
     }

@@ -408,7 +408,8 @@ pub fn retag<R: Source, W: Target>(
     target: &mut W,
 ) -> Result<(), RetagFault>
     // Comments that are too long are refused before anything is read, and nothing else is refused so.
-    ensures long { 16777215 < comments_length comments.now → IsTooLong source.old source.new target.old target.new result }
+    ensures long { 16777215 < comments_length comments.now →
+        IsTooLong source.old source.new target.old target.new result }
     ensures short { result ≡ Err too_long → 16777215 < comments_length comments.now }
     // Ok only if the input begins with a marker and blocks; what was written is exactly these with the comments, and
     // the rest.
@@ -442,7 +443,8 @@ pub fn retag<R: Source, W: Target>(
     ensures begun { IfOfDevice result (SendsPrefixOf R.Source W.Target source.old comments.now target.old target.new) }
     // An error of the source is reported after the blocks only when the new blocks were written whole: the target's
     // bytes say so, and which prefix of the rest was copied.
-    ensures copied { IfUnread result (SendsHeadAndPartOf R.Source W.Target source.old comments.now target.old target.new) }
+    ensures copied { IfUnread result
+        (SendsHeadAndPartOf R.Source W.Target source.old comments.now target.old target.new) }
     // Only faults of the comments and of the target have no place. A device's error that is returned is counted.
     ensures placeless { IfErr result (λ f. f.at ≡ None → (f ≡ too_long) ⊎ (f ≡ not_written)) }
     // So an error of a target is never at a place, and none is of a sink.

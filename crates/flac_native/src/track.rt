@@ -131,7 +131,8 @@ impl Track {
         ensures position { self.new.position ≡ self.old.position }
         ensures profile { OnOk result (profile_of self.new ≡ profile_of self.old) }
         ensures info { OnOk result (info_in self.new.format ≡ info_after (info_in self.old.format) block.now) }
-        ensures before { OnOk result (before_in self.new.format ≡ before_after_block (before_in self.old.format) block.now) }
+        ensures before { OnOk result
+            (before_in self.new.format ≡ before_after_block (before_in self.old.format) block.now) }
         ensures samples { self.new.samples ≡ self.old.samples }
         ensures hasher { self.new.hasher ≡ self.old.hasher }
         ensures last { self.new.last ≡ self.old.last }

@@ -173,7 +173,8 @@ impl Finder {
         requires room { range.end - range.start ≤ self.old }
         ensures after { IfOk result (λ v. All (IsFoundAfter given.now) (plane_lists v.items)) }
         ensures pair { IfOk result (λ v. length audio.now.channels ≡ 2 → length v.items ≡ 4) }
-        ensures apart { IfOk result (λ v. (length audio.now.channels ≡ 2 → ⊥) → length v.items ≡ length audio.now.channels) }
+        ensures apart { IfOk result
+            (λ v. (length audio.now.channels ≡ 2 → ⊥) → length v.items ≡ length audio.now.channels) }
         ensures memory { IfErr result (λ e. e ≡ Why.Memory) }
         ensures room { self.new ≡ self.old }
     {

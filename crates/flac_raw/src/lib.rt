@@ -19,8 +19,6 @@ mod raw_draft;
 mod raw_fault;
 mod raw_plan;
 mod second_pass;
-#[cfg(test)]
-mod tests;
 mod two_passes;
 
 pub use audio::audio_of;

@@ -192,7 +192,8 @@ impl<W: Rewritable + Drop> RawDraft<W> {
         ensures counted { OnOk result
             (W.errors (draft_in self.new).pushed.target ≡ W.errors (draft_in self.old).pushed.target) }
         ensures accepted { OnOk result (push_fault (draft_in self.old).pushed (block_channels block.now) ≡ None) }
-        ensures refused { IfErr result (λ e. IsFirst (push_fault (draft_in self.old).pushed (block_channels block.now)) e) }
+        ensures refused { IfErr result
+            (λ e. IsFirst (push_fault (draft_in self.old).pushed (block_channels block.now)) e) }
         ensures failed { IfErr result (λ e. e ≡ EncodeFault.Write
             → Fails W.Target (draft_in self.old).pushed.target (draft_in self.new).pushed.target) }
         ensures names { W.names (draft_in self.new).pushed.target ≡ W.names (draft_in self.old).pushed.target }

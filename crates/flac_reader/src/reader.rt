@@ -312,8 +312,8 @@ impl<C: Container> Reader<C> {
     /// Those of [`Decoder::next`]. After an error each call returns [`Why::Spent`](crate::Why::Spent) at the place of
     /// that error.
     pub fn next(&mut self) -> Result<Option<FrameView<'_>>, Fault>
-        ensures* after { sem 𝓛 (follows_so (the_row C.row C.Container) (the_row C.row C.Container) self.entry.ghost_name none (λ _ _. ⊤)
-            (λ last. Gives self.old last lent result)) }
+        ensures* after { sem 𝓛 (follows_so (the_row C.row C.Container) (the_row C.row C.Container)
+            self.entry.ghost_name none (λ _ _. ⊤) (λ last. Gives self.old last lent result)) }
     {
         self.step()?;
         Ok(self.frame())

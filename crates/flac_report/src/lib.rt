@@ -7,8 +7,6 @@ mod laws;
 mod lines;
 mod members;
 mod numbers;
-#[cfg(test)]
-mod tests;
 mod texts;
 
 pub use laws::{cut_reports_are_read, lines_are_apart, lines_are_determined};

@@ -19,8 +19,6 @@ mod points;
 mod salvage;
 mod survey;
 mod tell;
-#[cfg(test)]
-mod tests;
 mod texts;
 
 pub use channels::{empty_channels, extend_channels};

@@ -30,7 +30,8 @@ pub(crate) fn last_of(total: u64, first: u64) -> u64
 /// Whether the kept frame of this index is at an offset.
 fn is_kept(kept: &[WholeFrame], index: usize, at: usize) -> bool
     ensures yes { result ≡ true → IsKeptAt kept.now index at }
-    ensures not { result ≡ false → index < length kept.now → nat_eq (slice_index_or kept.now index no_frame).at at ≡ false }
+    ensures not { result ≡ false → index < length kept.now →
+        nat_eq (slice_index_or kept.now index no_frame).at at ≡ false }
 {
     index < kept.len() && kept[index].at == at
 }

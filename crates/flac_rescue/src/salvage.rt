@@ -83,7 +83,8 @@ fn add_frame(
     requires channels { info.now.channels ≤ buffers.old.channels }
     requires block { info.now.greatest_block ≤ buffers.old.max_block }
     ensures room { (buffers.new.channels ≡ buffers.old.channels) × (buffers.new.max_block ≡ buffers.old.max_block) }
-    ensures added { OnOk result (EachStanding Profile.Lax info.now bytes.now at (IsExtendedBy channels.old channels.new)) }
+    ensures added { OnOk result
+        (EachStanding Profile.Lax info.now bytes.now at (IsExtendedBy channels.old channels.new)) }
 {
     buffers.anew();
     match whole_at(bytes, at, info, Profile::Lax, buffers) {
@@ -144,7 +145,8 @@ pub fn salvage_samples(
     silence: bool,
 ) -> Result<Vec<Vec<i32>>, SalvageFault>
     requires { IsSurvey bytes.now survey.now }
-    ensures made { IfOk result (λ channels. AreSalvaged bytes.now survey.now silence (map (λ c. c.items) channels.items)) }
+    ensures made { IfOk result
+        (λ channels. AreSalvaged bytes.now survey.now silence (map (λ c. c.items) channels.items)) }
     ensures accepted { OnOk result (is_too_long silence survey.now ≡ false) }
     ensures fault { IfErr result (IsSalvageFault silence survey.now) }
 {

@@ -5,8 +5,6 @@ mod chain;
 mod find;
 mod laws;
 mod next;
-#[cfg(test)]
-mod tests;
 
 pub use chain::{MOST_UNORDERED, best_chain};
 pub use find::{WholeFrame, WholeFrames, whole_frames};

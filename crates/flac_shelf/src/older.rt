@@ -67,7 +67,8 @@ impl Older {
 
     /// Takes out the first of the paths that were not met, in the order of their bytes.
     pub fn take_gone(&mut self) -> Option<String>
-        ensures { MatchOption result (left_in self.old ≡ []) (λ path. left_in self.old ≡ string_bytes path ∷ left_in self.new) }
+        ensures { MatchOption result (left_in self.old ≡ [])
+            (λ path. left_in self.old ≡ string_bytes path ∷ left_in self.new) }
     {
         self.left.pop_first()
     }

@@ -28,7 +28,8 @@ impl<S: Shelf> ResumedShelf<S> {
 
     /// Whether the report has the file as good that the list is at.
     fn has_good(&self) -> bool
-        ensures { S.known self.now.shelf ≡ true → result ≡ has_good (report_of self.now.good) (S.current self.now.shelf) }
+        ensures { S.known self.now.shelf ≡ true →
+            result ≡ has_good (report_of self.now.good) (S.current self.now.shelf) }
     {
         match self.good.get(self.shelf.path()) {
             Some(past) => past.is_good_at(&self.shelf.stamp()),

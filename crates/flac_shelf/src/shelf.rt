@@ -80,7 +80,8 @@ pub trait Shelf {
 
     /// Takes an opened file back, and counts it if its device failed.
     fn close(&mut self, file: Self::File)
-        ensures unfailed { known self.old ≡ true → faults self.new ≡ faults self.old → HasNotFailed Self.File.Source file }
+        ensures unfailed { known self.old ≡ true → faults self.new ≡ faults self.old →
+            HasNotFailed Self.File.Source file }
         ensures kept { faults self.old ≤ faults self.new }
         ensures known { known self.old ≡ true → faults self.new ≡ faults self.old → known self.new ≡ true }
         ensures current { current self.new ≡ current self.old }

@@ -189,7 +189,8 @@ impl Seen {
     #[tactic(auto, unfolding(crate::specs::Chunks::content_fault, crate::specs::Chunks::after_chunk))]
     fn format_after(&self, bytes: &[u8]) -> Result<Option<WaveFormat>, WaveWhy>
         requires { 8 + size_of bytes.now ≤ length bytes.now }
-        ensures found { IfOk result (λ f. (content_fault self.now bytes.now ≡ None) × (f ≡ format_after self.now bytes.now)) }
+        ensures found { IfOk result
+            (λ f. (content_fault self.now bytes.now ≡ None) × (f ≡ format_after self.now bytes.now)) }
         ensures fault { IfErr result (λ e. content_fault self.now bytes.now ≡ Some e) }
     {
         if !is_format(bytes) {
@@ -209,7 +210,8 @@ impl Seen {
     #[tactic(auto, unfolding(crate::specs::Chunks::chunk_fault, crate::specs::Chunks::after_chunk))]
     pub(crate) fn next(&self, bytes: &[u8]) -> Result<Seen, WaveWhy>
         requires { 8 ≤ length bytes.now }
-        ensures found { IfOk result (λ s. (chunk_fault self.now bytes.now ≡ None) × (s ≡ after_chunk self.now bytes.now)) }
+        ensures found { IfOk result
+            (λ s. (chunk_fault self.now bytes.now ≡ None) × (s ≡ after_chunk self.now bytes.now)) }
         ensures within { OnOk result ((chunk_len bytes.now ≤ length bytes.now) × (chunk_len bytes.now ≤ most_kept)) }
         ensures fault { IfErr result (λ e. chunk_fault self.now bytes.now ≡ Some e) }
     {

@@ -25,7 +25,8 @@ fn piece_len(bytes: &[u8]) -> usize
 
 /// Adds bytes to pieces, cut into pieces that a metadata block can keep.
 fn cut_onto(pieces: &mut Vec<Vec<u8>>, alloc: Global, bytes: &[u8]) -> Result<(), AllocError>
-    ensures { OnOk result (AddsCuts (map (λ p. p.items) pieces.old.items) (map (λ p. p.items) pieces.new.items) bytes.now) }
+    ensures { OnOk result
+        (AddsCuts (map (λ p. p.items) pieces.old.items) (map (λ p. p.items) pieces.new.items) bytes.now) }
 {
     let mut rest = bytes;
     while !rest.is_empty() {

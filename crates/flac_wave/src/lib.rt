@@ -21,8 +21,6 @@ mod plain;
 mod reading;
 mod seen;
 mod shift;
-#[cfg(test)]
-mod tests;
 mod unstated;
 mod waves;
 mod why;

@@ -48,7 +48,8 @@ pub fn fill<R: Source>(source: &mut R, places: &mut [u8], most: usize) -> Result
 pub fn read_at_most<R: Source>(alloc: Global, source: &mut R, most: u64) -> Result<Vec<u8>, Why>
     ensures few { IfOk result (λ bytes. length bytes.items ≤ most) }
     ensures bytes { IfOk result (λ bytes. Gave R.Source source.old source.new bytes.items) }
-    ensures end { IfOk result (λ bytes. length bytes.items < most → R.known source.old ≡ true → R.coming source.new ≡ []) }
+    ensures end { IfOk result
+        (λ bytes. length bytes.items < most → R.known source.old ≡ true → R.coming source.new ≡ []) }
     ensures known { OnOk result (R.known source.old ≡ true → R.known source.new ≡ true) }
     ensures counted { OnOk result (R.raised source.new ≡ R.raised source.old) }
     ensures after { OnOk result (R.known source.old ≡ true → R.after source.new ≡ R.after source.old) }

@@ -8,8 +8,6 @@ mod left;
 mod native;
 mod page_at;
 mod part;
-#[cfg(test)]
-mod tests;
 
 pub use find::{WholePages, next_whole_page, whole_pages};
 pub use laws::whole_pages_are_found;

@@ -1,4 +1,5 @@
 use Rattle.std.proofs.Common.{rules, subst, ◌++◌, List, Bool}
+use Rattle.std.proofs.lemmas.Result.{IfErr-weaker}
 use Rattle.flac_native.specs.Seeking.{table_of}
 use Rattle.flac_native.specs.Writing.{head_spelling}
 use Rattle.flac_native.proofs.Lending.{lends_at, Returns, same_lent, lent_sends}
@@ -24,4 +25,7 @@ returns g c =
     } in
     let same = (same_lent t old back.began.value back.target.now lent.target.ghost_name back.target.ghost_name c.new-writer.result w first last all.names).0 in
     let sends = lent_sends t text old back.began.value back.target.now lent.target.ghost_name back.target.ghost_name c.new-writer.result w r first last all in
-    subst (λ n. SendsBits t text old n r) (search (rules, same)) sends
+    record {
+      sends = subst (λ n. SendsBits t text old n r) (search (rules, same)) sends;
+      write = IfErr-weaker r _ _ (λ e fails. fails.reason) all.failed;
+    }

@@ -51,7 +51,7 @@ returns-in-Ok-send_head g c =
     let t = c.send_head.new.target in
     let list = c.args.list in
     let ok = c.in_ok-blocks.ensures in
-    let sends = c.in-Ok-send_head.ensures in
+    let sends = c.in-Ok-send_head.ensures.sends in
     let shape = shape_of c.args.format.now in
     let table = c.args.table in
     let head = placed c.info_with-info.result (open_info shape) list _ (reserved shape.block_size table) c.info_with-info.ensures c.in-Ok.ensures in
@@ -76,7 +76,7 @@ returns-in-Ok-send_head g c =
 
 pub returns-in-Err : goal.returns-in-Err
 returns-in-Err g c =
-    let sends = c.in-Err.ensures in
+    let sends = c.in-Err.ensures.sends in
     record {
       made = tt;
       list = tt;

@@ -38,7 +38,7 @@ returns-in-Ok g c =
     let t = c.send_head.new.target in
     let list = c.args.list.now in
     let ok = c.in_ok-blocks.ensures in
-    let sends = c.in-Ok.ensures in
+    let sends = c.in-Ok.ensures.sends in
     let same = c.open_info-info.ensures ∙ sym (ap (λ (b : Pushed ⊤). open_info b.shape) ok.made) in
     record {
       made = ap (λ (b : Pushed ⊤). with_target b t) ok.made;
@@ -57,7 +57,7 @@ returns-in-Ok g c =
 
 pub returns-in-Err : goal.returns-in-Err
 returns-in-Err g c =
-    let sends = c.in-Err.ensures in
+    let sends = c.in-Err.ensures.sends in
     record {
       made = tt;
       stands = tt;

@@ -1,6 +1,6 @@
 //! Headers of pictures, as other programs write them.
 
-use crate::{Image, ImageKind, image_of};
+use flac_image::{Image, ImageKind, image_of};
 use std::test::Fail;
 
 /// The first bytes of a greyscale picture with alpha of 32 by 32 pixels, by the program `file`.

@@ -1,6 +1,6 @@
 //! Blocks as lines of JSON, as they were written by hand from RFC 8259.
 
-use crate::{Field, block_json, line_end, line_front};
+use flac_json::{Field, block_json, line_end, line_front};
 use flac_meta::{Block, Bytes, Comments, StreamInfo, Texts};
 use std::alloc::{AllocError, Global};
 use std::test::Fail;

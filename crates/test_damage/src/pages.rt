@@ -1,6 +1,6 @@
 //! Whole pages among other bytes.
 
-use crate::{
+use flac_whole_pages::{
     Left, WholePage, left_of, next_whole_page, none_reached, whole_page_at, whole_pages,
     whole_pages_are_found,
 };

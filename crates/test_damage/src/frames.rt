@@ -1,12 +1,12 @@
 //! Whole frames among other bytes.
 
-use crate::{
-    WholeFrame, best_chain, frames_are_local, next_whole, whole_at, whole_frames,
-    whole_frames_are_found,
-};
 use flac_frame::FrameBuffers;
 use flac_header::Profile;
 use flac_info::StreamInfo;
+use flac_salvage::{
+    WholeFrame, best_chain, frames_are_local, next_whole, whole_at, whole_frames,
+    whole_frames_are_found,
+};
 use std::alloc::Global;
 use std::test::Fail;
 

@@ -1,10 +1,10 @@
 //! Streams whose head is written last, beside those that are encoded at once.
 
-use crate::{
+use flac_bits::{Collected, send_all};
+use flac_draft::{
     DraftEncoder, DraftFile, DraftMemory, Rewritable, Unfinished, drafts_are_encoded,
     found_are_encoded,
 };
-use flac_bits::{Collected, send_all};
 use flac_encoder::{StreamEncoder, StreamFormat};
 use flac_meta::{Block, BlockList, SeekPoint, SeekTable};
 use flac_native::{Audio, EncodeFault, LinearPredictor, Plan, Profile, encode};

@@ -1,7 +1,7 @@
 //! Ogg streams whose first page is written last.
 
-use crate::{DraftFile, DraftMemory, OggDraftEncoder, Rewritable};
 use flac_bits::{Collected, send_all};
+use flac_draft::{DraftFile, DraftMemory, OggDraftEncoder, Rewritable};
 use flac_encoder::{OggEncoder, StreamFormat};
 use flac_meta::{Block, BlockList, Bytes, Comments, Texts};
 use flac_native::{EncodeFault, LinearPredictor, Profile};

@@ -3,11 +3,11 @@
 ghost use Rattle.std.specs.Prelude.{◌<◌, ◌≤◌};
 ghost use Rattle.flac_wave.specs.Plain.{CanBeWritten};
 
-use crate::{
+use flac_bits::{Memory, Pieces};
+use flac_wave::{
     Limited, WaveError, WaveFault, WaveFormat, WaveWhy, begins_wave, cut, cut_after, front_fault,
     is_unstated, lower, plain_pieces, raise, read_all, read_at_most, read_front, size_in, wave_of,
 };
-use flac_bits::{Memory, Pieces};
 use std::alloc::Global;
 use std::test::Fail;
 

@@ -1,6 +1,6 @@
 //! Cue sheets as text. The expected texts and numbers are those of metaflac 1.4.2.
 
-use crate::{CueAudio, CueFault, CueWhy, cue_sheet, cue_text};
+use flac_cue::{CueAudio, CueFault, CueWhy, cue_sheet, cue_text};
 use flac_meta::{CueSheet, CueTrack};
 use std::alloc::{AllocError, Global};
 use std::test::Fail;

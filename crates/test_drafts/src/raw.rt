@@ -1,12 +1,12 @@
 //! Raw samples that are encoded block by block, beside those that are encoded at once.
 
-use crate::{RawEncoding, RawPlan, audio_of, encode_judged_in, encode_twice, judge};
 use flac_bits::{Collected, Memory};
 use flac_draft::DraftMemory;
 use flac_jobs::{ContainerKind, RawFormat};
 use flac_meta::{Block, BlockList, Bytes, Comments, Texts};
 use flac_native::{Plan, Profile, encode};
 use flac_predict::Search;
+use flac_raw::{RawEncoding, RawPlan, audio_of, encode_judged_in, encode_twice, judge};
 use std::alloc::Global;
 use std::test::Fail;
 

@@ -1,6 +1,6 @@
 //! Lines as Python's `json` writes them, and what it reads of them; parts of lines, and lines that are none.
 
-use crate::{BEGINNING, Recorded, is_line, path_of, recorded_of};
+use flac_report::{BEGINNING, Recorded, is_line, path_of, recorded_of};
 use flac_shelf::{Audio, Past, Stamp};
 use std::alloc::{AllocError, Global};
 use std::test::Fail;

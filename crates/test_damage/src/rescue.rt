@@ -1,10 +1,10 @@
 //! Surveys of small streams.
 
-use crate::{
+use flac_bits::Collected;
+use flac_rescue::{
     MOST_SILENCE, PointsFault, SalvageFault, SurveyFault, report, report_left, salvage_samples,
     seek_points, survey_bytes, tell_missing,
 };
-use flac_bits::Collected;
 use flac_whole_pages::left_of;
 use std::alloc::Global;
 use std::test::Fail;
