@@ -1,27 +1,32 @@
-pub mod Moments
-pub mod Writes
-pub mod ThreeWrites
+-- ---- blocks as bytes, and their lengths
 pub mod Spelled
 pub mod Lengths
+pub mod BlockContents
+pub mod Alike
+-- ---- the blocks of a file, and edits of them
+pub mod Runs
+pub mod HasRuns
+pub mod Choices
+pub mod Heads
+pub mod EditedOrder
+pub mod SameComments
+pub mod TaggedFiles
+pub mod RetaggedBlocks
+pub mod Settled
+-- ---- edits in place
 pub mod BeforeComments
 pub mod AfterComments
 pub mod Collecting
 pub mod Planned
-pub mod HasRuns
-pub mod Runs
-pub mod Choices
-pub mod PastContents
-pub mod Heads
-pub mod EditedOrder
 pub mod Tied
 pub mod WholeStreams
+-- ---- what a crash may leave
+pub mod Moments
+pub mod Writes
+pub mod ThreeWrites
+pub mod PastContents
 pub mod Crashes
-pub mod Settled
-pub mod SheetsBack
-pub mod SameComments
-pub mod TaggedFiles
-pub mod BlockContents
+-- ---- comments and cue sheets as text
 pub mod LinesRead
 pub mod LinesWritten
-pub mod Alike
-pub mod RetaggedBlocks
+pub mod SheetsBack

@@ -1,7 +1,9 @@
-pub mod Determined
+-- ---- texts and digits
 pub mod Digits
-pub mod Files
-pub mod Pushed
-pub mod Reading
 pub mod Utf8
 pub mod Zeros
+pub mod Pushed
+-- ---- one reading
+pub mod Reading
+pub mod Determined
+pub mod Files

@@ -1,11 +1,14 @@
-pub mod Again
-pub mod Cuts
+-- ---- numbers, digests and texts, read again
+pub mod Digits
 pub mod Decimals
 pub mod Digests
-pub mod Digits
-pub mod Ends
 pub mod Escapes
-pub mod Parts
-pub mod Pasts
 pub mod Quoted
+-- ---- lines, read again
 pub mod Tails
+pub mod Pasts
+pub mod Again
+pub mod Ends
+-- ---- reports that were cut off
+pub mod Parts
+pub mod Cuts

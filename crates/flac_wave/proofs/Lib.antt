@@ -1,10 +1,13 @@
+-- ---- files, taken apart and put together
 pub mod Files
+pub mod Parts
+pub mod Pieces
+pub mod Walks
 pub mod Formats
+pub mod PlainFiles
+-- ---- reading what comes before the samples
 pub mod Fronts
 pub mod Local
 pub mod NextPieces
-pub mod Parts
-pub mod Pieces
-pub mod PlainFiles
+-- ---- samples
 pub mod Shifts
-pub mod Walks

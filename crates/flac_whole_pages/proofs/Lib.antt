@@ -1,8 +1,11 @@
+-- ---- one page
 pub mod Sums
+pub mod Stated
+-- ---- all whole pages
 pub mod Lists
 pub mod Nones
-pub mod Stated
 pub mod Finding
 pub mod Founds
+-- ---- what is left of a stream
 pub mod Parts
 pub mod Natives
