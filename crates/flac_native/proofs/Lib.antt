@@ -6,6 +6,7 @@ pub mod Passing
 pub mod Arriving
 pub mod Advancing
 pub mod Handed
+pub mod Locating
 pub mod Received
 pub mod SameStart
 -- ---- the grammar: one reading, and what streams are

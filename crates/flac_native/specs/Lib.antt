@@ -4,6 +4,7 @@ pub mod Stream
 pub mod Track
 pub mod Item
 pub mod Decoding
+pub mod Located
 pub mod Ends
 pub mod Coming
 pub mod Giving

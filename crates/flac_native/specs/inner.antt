@@ -4,3 +4,4 @@ pub mod Retag
 pub mod InOrder
 pub mod Steps
 pub mod Borrowed
+pub mod Located

@@ -5,6 +5,7 @@
 //! | decode block by block and frame by frame | [`Decoder::new`] |
 //! | decode into a [`Sink`] | [`decode`] |
 //! | read a stream from a frame on | [`Decoder::resume`] |
+//! | find the byte at which one is refused | [`locate_fault`] |
 //! | encode samples that are all there | [`Audio`], [`Plan`] and [`encode`] |
 //! | encode outside the streamable subset | [`Audio::new_in`] |
 //! | try linear predictors of one's own | [`LinearPredictor`] and [`Plan::with_predictors`] |
@@ -27,6 +28,7 @@ mod format;
 mod found;
 mod item;
 mod laws;
+mod located;
 mod native;
 mod plan;
 mod position;
@@ -63,6 +65,7 @@ pub use laws::{
     points_name_frames, retagged_are_read, some_way, streams_are_ordered, streams_are_whole,
     subset_is_lax,
 };
+pub use located::{Located, locate_fault};
 pub use native::{MARKER, read_marker};
 pub use plan::{Plan, count_points, has_point, predictors_fault};
 pub use retagging::{RetagFault, read_blocks, retag};

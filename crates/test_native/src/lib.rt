@@ -14,6 +14,8 @@ mod digest;
 #[cfg(test)]
 mod encoding;
 #[cfg(test)]
+mod located;
+#[cfg(test)]
 mod parts;
 #[cfg(test)]
 mod retagging;
