@@ -3,7 +3,7 @@
 use crate::edited::end_edit;
 use flac_around::Trimmed;
 use flac_bits::Counted;
-use flac_cli::{ogg_comments_change, refuse_room, retag_ogg};
+use flac_cli::{Paths, ogg_comments_change, refuse_room, retag_ogg};
 use flac_edit::Edit;
 use flac_files::{FileRefused, TagFile};
 use flac_jobs::{TagMode, Tagging};
@@ -45,7 +45,11 @@ fn rewrite_ogg<'a>(
     let (output, ending) = file.beside(rt)?;
     let mut target = Counted::new(output);
     let mut err = Counted::new(rt.stderr());
-    let status = retag_ogg(rt.alloc(), path, edits, source, &mut target, &mut err);
+    let paths = Paths {
+        input: path,
+        output: path,
+    };
+    let status = retag_ogg(rt.alloc(), &paths, edits, source, &mut target, &mut err);
     end_edit(
         rt,
         file,

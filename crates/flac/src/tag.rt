@@ -4,7 +4,7 @@ use crate::edited::{end_edit, tell_edited};
 use crate::ogg_tag::tag_ogg;
 use crate::tag_out::tag_to;
 use flac_bits::Counted;
-use flac_cli::{edits_of, refuse_lines, refuse_room, rewrite_file, tag_file};
+use flac_cli::{Paths, edits_of, refuse_lines, refuse_room, rewrite_file, tag_file};
 use flac_edit::{Edit, Tagged, comments_of_lines};
 use flac_files::{FileRefused, TagFile, read_comment_lines, read_value};
 use flac_jobs::{TagEdit, TagMode, Tagging};
@@ -147,9 +147,13 @@ fn rewrite_opened<'a>(
     let (output, ending) = file.beside(rt)?;
     let mut target = Counted::new(output);
     let mut err = Counted::new(rt.stderr());
+    let paths = Paths {
+        input: path,
+        output: path,
+    };
     let status = rewrite_file(
         rt.alloc(),
-        path,
+        &paths,
         edits,
         tagging.padding,
         &mut source,

@@ -2,7 +2,7 @@
 
 use flac_around::Trimmed;
 use flac_bits::Counted;
-use flac_cli::{retag_ogg, rewrite_file};
+use flac_cli::{Paths, retag_ogg, rewrite_file};
 use flac_edit::Edit;
 use flac_files::{Input, JobFiles, Output, is_ogg_at};
 use flac_jobs::{Job, Tagging};
@@ -23,7 +23,13 @@ pub(crate) fn tag_to(
             comments: Vec::new(rt.alloc()),
         };
         status = match JobFiles::open_whole(rt, &job, false) {
-            Ok(files) => tag_over(rt, tagging, path, edits, files),
+            Ok(files) => {
+                let paths = Paths {
+                    input: path,
+                    output,
+                };
+                tag_over(rt, tagging, &paths, edits, files)
+            }
             Err(refused) => refused.tell(rt),
         };
     }
@@ -34,7 +40,7 @@ pub(crate) fn tag_to(
 fn tag_over(
     rt: &HostRuntime,
     tagging: &Tagging<'_>,
-    path: &str,
+    paths: &Paths<'_>,
     edits: &[Edit<'_>],
     files: JobFiles<'_>,
 ) -> u8 {
@@ -45,12 +51,12 @@ fn tag_over(
         ending,
     } = files;
     let mut target = Counted::new(output);
-    let status = if is_ogg_at(rt, path) {
+    let status = if is_ogg_at(rt, paths.input) {
         let mut err = Counted::new(rt.stderr());
         let source = Trimmed::new(Counted::new(input));
-        retag_ogg(rt.alloc(), path, edits, source, &mut target, &mut err)
+        retag_ogg(rt.alloc(), paths, edits, source, &mut target, &mut err)
     } else {
-        tag_native(rt, tagging, path, edits, input, &mut target)
+        tag_native(rt, tagging, paths, edits, input, &mut target)
     };
     match ending.end(rt, target.into_inner(), status) {
         Ok(()) => status,
@@ -62,7 +68,7 @@ fn tag_over(
 fn tag_native(
     rt: &HostRuntime,
     tagging: &Tagging<'_>,
-    path: &str,
+    paths: &Paths<'_>,
     edits: &[Edit<'_>],
     input: Input,
     target: &mut Counted<Output>,
@@ -71,7 +77,7 @@ fn tag_native(
     let mut err = Counted::new(rt.stderr());
     rewrite_file(
         rt.alloc(),
-        path,
+        paths,
         edits,
         tagging.padding,
         &mut source,

@@ -79,6 +79,7 @@ pub use ogg_export::export_ogg;
 pub use ogg_tag::{ogg_comments_change, retag_ogg};
 pub use points::points_of;
 pub use recode::recode_file;
+pub use report::Paths;
 pub use salvage::salvage_file;
 pub use same::compare_files;
 pub use sought::seek_excerpt;

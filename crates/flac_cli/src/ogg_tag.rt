@@ -3,10 +3,13 @@
 ghost use Rattle.std.specs.Prelude.{◌≡◌, ◌≤◌, true, false, Some, None, IfOk, IfSome, OnOk};
 ghost use Rattle.flac_cli.specs.Calls.{IfServed};
 ghost use Rattle.flac_cli.specs.ListedJson.{IsReasonOf};
+ghost use Rattle.flac_cli.specs.Named.{NamesRetagging};
 ghost use Rattle.flac_cli.specs.OggEdits.{KeepsItsComments, ChangesItsComments, RetagsAlike};
 
 use crate::ogg_edit::{refuse_stream, write_opened};
 use crate::ogg_export::{head_blocks, no_memory, placed};
+use crate::report::{Paths, refuse};
+use crate::retag::is_of_target;
 use flac_bits::{Source, Target};
 use flac_copy::open;
 use flac_edit::{Edit, comments_change, retagged_blocks};
@@ -96,7 +99,7 @@ fn retag_stream<R: Source + Drop, W: Target>(
 /// written.
 pub fn retag_ogg<R: Source + Drop, W: Target, E: Target>(
     alloc: Global,
-    path: &str,
+    paths: &Paths<'_>,
     edits: &[Edit<'_>],
     source: R,
     target: &mut W,
@@ -107,11 +110,16 @@ pub fn retag_ogg<R: Source + Drop, W: Target, E: Target>(
     ensures retagged { result ≡ 0 → RetagsAlike R.Source W.Target source edits.now target.old target.new }
     // After status 0 nothing was written to standard error.
     ensures silent { result ≡ 0 → err.new ≡ err.old }
-    // After status 1 the line of a reason of this file was added to standard error, if that did not fail.
-    ensures named { result ≡ 1 → IfServed E.Target err.old err.new (IsReasonOf path.now) }
+    // After status 1 the line of a reason was added to standard error, if that did not fail. It names the output if that
+    // could not be written (39), and else the input.
+    ensures named { result ≡ 1 → IfServed E.Target err.old err.new
+        (NamesRetagging paths.now.input.now paths.now.output.now) }
 {
     match retag_stream(alloc, edits, source, target) {
         Ok(()) => 0,
-        Err(fault) => refuse_stream(err, path, fault),
+        Err(fault) => {
+            let path = paths.at_fault(is_of_target(fault));
+            refuse(err, path, fault.at, fault.why)
+        }
     }
 }

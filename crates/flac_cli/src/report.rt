@@ -18,11 +18,13 @@ pub(crate) fn refuse<E: Target>(err: &mut E, path: &str, at: Option<Place>, why:
     1
 }
 
-/// The paths of the files of a job that writes one.
+/// The paths of the files of a job that writes one, as its lines name them.
 #[derive(Clone, Copy)]
-pub(crate) struct Paths<'a> {
-    pub(crate) input: &'a str,
-    pub(crate) output: &'a str,
+pub struct Paths<'a> {
+    /// The path of the file that is read.
+    pub input: &'a str,
+    /// The path of the file that is written.
+    pub output: &'a str,
 }
 
 impl<'a> Paths<'a> {

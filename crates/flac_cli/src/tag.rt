@@ -4,11 +4,13 @@ ghost use Rattle.std.specs.Prelude.{◌≡◌, ◌≢◌, ◌≤◌, true, lengt
 ghost use Rattle.flac_edit.specs.Device.{Only};
 ghost use Rattle.flac_edit.specs.Tagged.{LeavesTagged, ReadsTagged, HasTagged, KeepsComments, IfNothingChanges, SendsRewritten};
 ghost use Rattle.flac_cli.specs.Calls.{IfServed};
+ghost use Rattle.flac_cli.specs.Named.{NamesRetagging};
 ghost use Rattle.flac_cli.specs.Reports.{AddsLine};
 ghost use Rattle.flac_edit.specs.declared.tagging.Tagged.TheVariants.{Flipped};
 
 use crate::lines::{At, write_line};
-use crate::report::refuse;
+use crate::report::{Paths, refuse};
+use crate::retag::is_of_target;
 use flac_bits::{Source, Target, Why};
 use flac_edit::{Device, DeviceError, Edit, TagFault, Tagged, rewrite, tag_in_place};
 use flac_jobs::TagEdit;
@@ -152,7 +154,7 @@ pub fn refuse_room<E: Target>(err: &mut E, path: &str) -> u8
 /// 1 if it failed, and the line of the error was written to `err`, if that could be written.
 pub fn rewrite_file<R: Source, W: Target, E: Target>(
     alloc: Global,
-    path: &str,
+    paths: &Paths<'_>,
     edits: &[Edit<'_>],
     padding: u32,
     source: &mut R,
@@ -165,9 +167,16 @@ pub fn rewrite_file<R: Source, W: Target, E: Target>(
         SendsRewritten R.Source W.Target source.old edits.now padding target.old target.new }
     // After status 0 nothing was written to standard error.
     ensures silent { result ≡ 0 → err.new ≡ err.old }
+    // After status 1 the line of a reason was added to standard error, if that did not fail. It names the output if that
+    // could not be written (39), and else the input.
+    ensures named { result ≡ 1 → IfServed E.Target err.old err.new
+        (NamesRetagging paths.now.input.now paths.now.output.now) }
 {
     match rewrite(alloc, source, edits, padding, target) {
         Ok(()) => 0,
-        Err(fault) => refuse(err, path, fault.at, fault.why),
+        Err(fault) => {
+            let path = paths.at_fault(is_of_target(fault));
+            refuse(err, path, fault.at, fault.why)
+        }
     }
 }

@@ -3,7 +3,8 @@
 use crate::program::{bytes_of, split_row, wanted_of};
 use flac_bits::{Collected, Memory, Pieces};
 use flac_cli::{
-    EditPaths, copy_file, edit_ogg, export_ogg, ogg_comments_change, ogg_edits_change, retag_ogg,
+    EditPaths, Paths, copy_file, edit_ogg, export_ogg, ogg_comments_change, ogg_edits_change,
+    retag_ogg,
 };
 use flac_edit::{BlockEdits, Edit};
 use flac_jobs::{ContainerKind, ExportPart, Exporting, StreamCopy};
@@ -68,6 +69,12 @@ fn padding() -> BlockEdits<'static> {
     }
 }
 
+/// The same stream, and the file that it is tagged to.
+const TAGGED: Paths<'static> = Paths {
+    input: "a.oga",
+    output: "b.oga",
+};
+
 const PATHS: EditPaths<'static> = EditPaths {
     stream: "a.oga",
     sheet: None,
@@ -124,7 +131,7 @@ fn done(
     match command {
         "native" => copied(alloc, ContainerKind::Native, source, file, err),
         "ogg" => copied(alloc, ContainerKind::Ogg { serial: 1 }, source, file, err),
-        "tag" => retag_ogg(alloc, "a.oga", &EDITS, source, file, err),
+        "tag" => retag_ogg(alloc, &TAGGED, &EDITS, source, file, err),
         "edit" => edit_ogg(alloc, &PATHS, &padding(), source, file, err),
         "tags" => exported(alloc, ExportPart::Tags, source, file, err),
         _ => exported(alloc, ExportPart::Picture, source, file, err),
