@@ -1,6 +1,7 @@
 -- What a sink has learned of the STREAMINFO of streams one after another, of which each has one.
 use Rattle.std.proofs.Common.{◌≡◌, ◌≤◌, ◌+◌, ◌||◌, ℕ, Bool, true, false, List, [], ◌∷◌, ◌++◌, length, map, Option, Some, None, unwrap_or, refl, sym, ap, subst, ◌∙◌, arith}
 use Rattle.std.specs.List.{list_any}
+use Rattle.std.specs.Prelude.{min}
 use Rattle.std.proofs.Math.Bool.{or_assoc}
 use Rattle.flac_bits.specs.Bits.{bits_of}
 use Rattle.flac_bits.specs.State.{Mark, the_end}
@@ -26,18 +27,18 @@ use Rattle.flac_around.specs.Chains.{first_link, later_links}
 use Rattle.flac_around.specs.EmptyPackets.{trimmed}
 use Rattle.flac_chain.specs.Chained.{link_reading, all_parts, IsChain, AreLater}
 use Rattle.flac_cli.specs.Counted.{printed}
-use Rattle.flac_cli.specs.Verified.{info_in, first_info, lacks_digest, lacks_total}
-use Rattle.flac_cli.specs.inner.Taking.{frames_after, samples_after, info_of, if_info, first_known, streams_after, digest_after, total_after, Learns}
+use Rattle.flac_cli.specs.Verified.{info_in, first_info}
+use Rattle.flac_cli.specs.inner.Taking.{frames_after, samples_after, info_of, if_info, first_known, streams_after, lacks_after, Learns}
 use Rattle.flac_cli.specs.declared.verify_facts.Facts.{Facts}
 
 -- ---- STREAMINFO among parts
 
-onto : Option Info → List Info → List Info
+abbrev onto : Option Info → List Info → List Info
 onto None is = is
 onto (Some i) is = i ∷ is
 
 -- that of each stream of these parts, in order
-pub infos_in : List Piece → List Info
+abbrev pub infos_in : List Piece → List Info
 infos_in [] = []
 infos_in (marked ∷ xs) = infos_in xs
 infos_in (block last b ∷ xs) = onto (info_after None b) (infos_in xs)
@@ -54,7 +55,7 @@ more_infos (block last b ∷ xs) ys = ap (onto (info_after None b)) (more_infos 
 more_infos (framed f ∷ xs) ys = more_infos xs ys
 
 -- what becomes of something after each of them
-pub folded : {X : Type 0} → (X → Info → X) → X → List Info → X
+abbrev pub folded : {X : Type 0} → (X → Info → X) → X → List Info → X
 folded after x [] = x
 folded after x (i ∷ is) = folded after (after x i) is
 
@@ -81,7 +82,7 @@ module _ {X : Type 0} (after : X → Info → X) (view : Facts → X) (one : (ol
 -- ---- one stream has one
 
 -- what is known after a STREAMINFO
-last_known : Option Info → Info → Option Info
+abbrev last_known : Option Info → Info → Option Info
 last_known known i = Some i
 
 after_is : (known : Option Info) (b : Block) → info_after known b ≡ if_info last_known known (info_after None b)
@@ -144,7 +145,7 @@ record IsInfoOf (p : List Piece) (i : Info) : Type 0 where
   alone : infos_in p ≡ i ∷ []
   known : info_in None p ≡ Some i
 
-pub AreInfos : List (List Piece) → List Info → Type 0
+abbrev pub AreInfos : List (List Piece) → List Info → Type 0
 AreInfos [] [] = Unit {0}
 AreInfos (p ∷ ps) (i ∷ is) = IsInfoOf p i × AreInfos ps is
 AreInfos ps is = ⊥
@@ -184,22 +185,28 @@ first_is [] (i ∷ is) h = absurd h
 first_is (p ∷ ps) [] h = absurd h
 first_is (p ∷ ps) (i ∷ is) h = first_stays i is ∙ sym h.0.known
 
+count_none : (n : ℕ) → n ≤ 18446744073709551615 → n ≡ printed (n + 0)
+count_none n few = omega (arith, few)
+
+count_more : (n k total : ℕ) → total ≡ printed (min (n + 1) 18446744073709551615 + k) → total ≡ printed (n + (k + 1))
+count_more n k total is = omega (arith, is)
+
+at_most : (n : ℕ) → min (n + 1) 18446744073709551615 ≤ 18446744073709551615
+at_most n = omega arith
+
 count_from : (n : ℕ) (ps : List (List Piece)) (is : List Info) → n ≤ 18446744073709551615 → AreInfos ps is → folded streams_after n is ≡ printed (n + length ps)
-count_from n [] [] few h = omega (arith, few)
+count_from n [] [] few h = count_none n few
 count_from n [] (i ∷ is) few h = absurd h
 count_from n (p ∷ ps) [] few h = absurd h
 count_from n (p ∷ ps) (i ∷ is) few h =
-    let more = count_from (streams_after n i) ps is (omega arith) h.1 in
-    omega (arith, few, more)
+    let same : length (p ∷ ps) ≡ length ps + 1 = omega arith in
+    count_more n (length ps) _ (count_from (streams_after n i) ps is (at_most n) h.1) ∙ ap (λ k. printed (n + k)) (sym same)
 
 pub count_is : (ps : List (List Piece)) (is : List Info) → AreInfos ps is → folded streams_after 0 is ≡ printed (length ps)
 count_is ps is h = count_from 0 ps is (omega arith) h
 
 module _ (lacks : Option Info → Bool) where
-  abbrev lacking : Bool → Info → Bool
-  lacking b i = b || lacks (Some i)
-
-  pub lacks_are : (b : Bool) (ps : List (List Piece)) (is : List Info) → AreInfos ps is → folded lacking b is ≡ (b || list_any (λ p. lacks (info_in None p)) ps)
+  pub lacks_are : (b : Bool) (ps : List (List Piece)) (is : List Info) → AreInfos ps is → folded (lacks_after lacks) b is ≡ (b || list_any (λ p. lacks (info_in None p)) ps)
   lacks_are true [] [] h = refl
   lacks_are false [] [] h = refl
   lacks_are b [] (i ∷ is) h = absurd h

@@ -24,7 +24,7 @@ use Rattle.flac_cli.specs.Outcomes.{Fits}
 use Rattle.flac_cli.specs.Chains.{ReadsAsChain}
 use Rattle.flac_cli.specs.Counted.{frames_in, samples_in_all, printed}
 use Rattle.flac_cli.specs.Verified.{asked_profile, lacks_digest, lacks_total, Describes, IsDescribed, IsStreamOf, IsRefusedAs, IsOutside, IsFinding, HasNoMemory}
-use Rattle.flac_cli.specs.inner.Taking.{first_known, streams_after, digest_after, total_after}
+use Rattle.flac_cli.specs.inner.Taking.{first_known, streams_after, lacks_after, AreNone}
 use Rattle.flac_cli.specs.Streams.{Tells}
 use Rattle.flac_cli.specs.inner.Verifying.{IsFlaw, IsReading, IsReadingOutside, Stays}
 use Rattle.flac_cli.specs.declared.verify_facts.Facts.{Facts}
@@ -63,16 +63,7 @@ module _ {S : Type 0} (T U : S → Item → S → Type 0) (less : (old : S) (x :
   takes_less old (block last b ∷ xs) new h = (h.0, less old _ h.0 h.1, takes_less h.0 xs new h.2)
   takes_less old (framed f ∷ xs) new h = (h.0, less old _ h.0 h.1, takes_less h.0 xs new h.2)
 
--- facts that began with nothing
-pub record AreNone (f : Facts) : Type 0 where
-  pub frames : f.counts.frames ≡ 0
-  pub samples : f.counts.samples ≡ 0
-  pub info : f.info ≡ None
-  pub streams : f.streams ≡ 0
-  pub no_digest : f.no_digest ≡ false
-  pub no_total : f.no_total ≡ false
-
--- count all parts,
+-- Facts that began with nothing count all parts,
 pub counted_facts : (old : Facts) (xs : List Piece) (new : Facts) → TakesAll (taken TakesFacts) old xs new → AreNone old → (new.counts.frames ≡ printed (frames_in xs)) × (new.counts.samples ≡ printed (samples_in_all xs))
 counted_facts old xs new h none =
     let counts = takes_less TakesFacts (Counts (λ (f : Facts). f.counts.frames) (λ (f : Facts). f.counts.samples)) (λ a x b t. record { frames = t.frames; samples = t.samples }) old xs new h in
@@ -90,8 +81,8 @@ described profile bytes ps old new chain h none =
       samples = counted.1;
       info = learned first_known (λ f. f.info) (λ a o b t. t.info) old (all_parts ps) new h ∙ ap (λ k. folded first_known k (infos_in (all_parts ps))) none.info ∙ ap (folded first_known None) all ∙ first_is ps is infos.1;
       streams = learned streams_after (λ f. f.streams) (λ a o b t. t.streams) old (all_parts ps) new h ∙ ap (λ n. folded streams_after n (infos_in (all_parts ps))) none.streams ∙ ap (folded streams_after 0) all ∙ count_is ps is infos.1;
-      no_digest = learned digest_after (λ f. f.no_digest) (λ a o b t. t.no_digest) old (all_parts ps) new h ∙ ap (λ b. folded digest_after b (infos_in (all_parts ps))) none.no_digest ∙ ap (folded digest_after false) all ∙ lacks_are lacks_digest false ps is infos.1;
-      no_total = learned total_after (λ f. f.no_total) (λ a o b t. t.no_total) old (all_parts ps) new h ∙ ap (λ b. folded total_after b (infos_in (all_parts ps))) none.no_total ∙ ap (folded total_after false) all ∙ lacks_are lacks_total false ps is infos.1;
+      no_digest = learned (lacks_after lacks_digest) (λ f. f.no_digest) (λ a o b t. t.no_digest) old (all_parts ps) new h ∙ ap (λ b. folded (lacks_after lacks_digest) b (infos_in (all_parts ps))) none.no_digest ∙ ap (folded (lacks_after lacks_digest) false) all ∙ lacks_are lacks_digest false ps is infos.1;
+      no_total = learned (lacks_after lacks_total) (λ f. f.no_total) (λ a o b t. t.no_total) old (all_parts ps) new h ∙ ap (λ b. folded (lacks_after lacks_total) b (infos_in (all_parts ps))) none.no_total ∙ ap (folded (lacks_after lacks_total) false) all ∙ lacks_are lacks_total false ps is infos.1;
     }
 
 -- ---- one finding

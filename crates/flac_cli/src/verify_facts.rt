@@ -3,7 +3,7 @@
 ghost use Rattle.std.specs.Prelude.{◌≡◌, true, false, [], None, IfOk};
 ghost use Rattle.flac_native.specs.Stream.{info_after, is_unknown};
 ghost use Rattle.flac_cli.specs.Changes.{stated, digest_of};
-ghost use Rattle.flac_cli.specs.inner.Taking.{frames_after, samples_after, info_of, Learns, DescribesStream, NamesContainer, CountsFlaw};
+ghost use Rattle.flac_cli.specs.inner.Taking.{frames_after, samples_after, info_of, AreNone, Learns, DescribesStream, NamesContainer, CountsFlaw};
 
 use crate::test::Counts;
 use flac_bits::Source;
@@ -74,10 +74,7 @@ fn stated(digest: [u8; 16]) -> Option<[u8; 16]>
 impl Facts {
     /// Of nothing.
     fn none() -> Facts
-        ensures counts { (result.counts.frames ≡ 0) × (result.counts.samples ≡ 0) }
-        ensures info { result.info ≡ None }
-        ensures streams { result.streams ≡ 0 }
-        ensures lacks { (result.no_digest ≡ false) × (result.no_total ≡ false) }
+        ensures { AreNone result }
     {
         Facts {
             counts: Counts {

@@ -1,5 +1,5 @@
 -- For proofs of the sinks: what they make of an item.
-use Rattle.std.specs.Prelude.{◌≡◌, ◌≢◌, ℕ, ◌+◌, min, Bool, ◌||◌, List, Option, Some, None, unwrap_or, Result, IfOk, IfErr}
+use Rattle.std.specs.Prelude.{◌≡◌, ◌≢◌, ℕ, ◌+◌, min, Bool, false, ◌||◌, List, Option, Some, None, unwrap_or, Result, IfOk, IfErr}
 use Rattle.flac_bits.specs.declared.source.Source as source
 use Rattle.flac_bits.specs.declared.why.Why.TheVariants as why
 use Rattle.flac_info.specs.Info.{Info}
@@ -41,18 +41,24 @@ first_known known info = Some (unwrap_or known info)
 abbrev pub streams_after : ℕ → Info → ℕ
 streams_after n info = min (n + 1) 18446744073709551615
 
-abbrev pub digest_after : Bool → Info → Bool
-digest_after lacks info = lacks || lacks_digest (Some info)
+abbrev pub lacks_after : (lacks : Option Info → Bool) → Bool → Info → Bool
+lacks_after lacks before info = before || lacks (Some info)
 
-abbrev pub total_after : Bool → Info → Bool
-total_after lacks info = lacks || lacks_total (Some info)
+-- facts of no stream
+pub record AreNone (facts : Facts) : Type 0 where
+  pub frames : facts.counts.frames ≡ 0
+  pub samples : facts.counts.samples ≡ 0
+  pub info : facts.info ≡ None
+  pub streams : facts.streams ≡ 0
+  pub no_digest : facts.no_digest ≡ false
+  pub no_total : facts.no_total ≡ false
 
 -- facts of the streams so far after a STREAMINFO, if one was found
 pub record Learns (old : Facts) (found : Option Info) (new : Facts) : Type 0 where
   pub info : new.info ≡ if_info first_known old.info found
   pub streams : new.streams ≡ if_info streams_after old.streams found
-  pub no_digest : new.no_digest ≡ if_info digest_after old.no_digest found
-  pub no_total : new.no_total ≡ if_info total_after old.no_total found
+  pub no_digest : new.no_digest ≡ if_info (lacks_after lacks_digest) old.no_digest found
+  pub no_total : new.no_total ≡ if_info (lacks_after lacks_total) old.no_total found
 
 -- the counts of these parts
 abbrev pub HasCounted : Counts → List Piece → Type 0
