@@ -542,7 +542,8 @@ fn streams_are_in_the_report(rt: HostRuntime) -> Result<(), Fail> {
         file("2.oga", &three),
         file("3.oga", &open),
     ];
-    let due = "{\"path\":\"1.oga\",\"status\":\"ok\",\"container\":\"ogg\",\"rate\":44100,\"channels\":2,\"depth\":16,\
+    let due =
+        "{\"path\":\"1.oga\",\"status\":\"ok\",\"container\":\"ogg\",\"rate\":44100,\"channels\":2,\"depth\":16,\
         \"frames\":2,\"samples\":2,\"md5_checked\":true,\"streams\":2}\n\
         {\"path\":\"2.oga\",\"status\":\"ok\",\"container\":\"ogg\",\"rate\":44100,\"channels\":2,\"depth\":16,\
         \"frames\":6,\"samples\":66,\"md5_checked\":false,\"subset\":true,\"streams\":3}\n\
