@@ -1,5 +1,5 @@
 #!/usr/bin/env python3
-"""`--any` of `flac test`, `decode` and `list` over Ogg streams one after another, by a reader of pages of its own.
+"""`--any` of `flac test`, `decode` and `list`, and `flac verify`, over Ogg streams one after another, by a reader of pages of its own.
 
 usage: conformance/checks/chains.py [--quick]
 
@@ -9,8 +9,10 @@ samples are those that the reference decodes from each stream alone, one after a
 in the stream and on the page where it was put; without `--any` the second stream is refused. FLAC names the program. Status 1 if an
 answer is not the one that is due.
 """
+import json
 import math
 import os
+import re
 import shutil
 import struct
 import subprocess
@@ -81,6 +83,23 @@ def frames_in(data):
     return sum(packet[:1] == b"\xff" and packet[1:2] in (b"\xf8", b"\xf9") for packet in packets)
 
 
+def info_of(data):
+    """The 34 bytes of STREAMINFO: after the page's head, and 9 and 4 bytes of the mapping and the marker, and the block's head."""
+    at = 28 + 9 + 4 + 4
+    return data[at:at + 34]
+
+
+def digest_of(data):
+    """The digest that STREAMINFO states, in hexadecimal; None if it states none."""
+    digest = info_of(data)[18:]
+    return digest.hex() if any(digest) else None
+
+
+def total_of(data):
+    """The number of samples that STREAMINFO states, 0 if it is unknown."""
+    return int.from_bytes(info_of(data)[13:18], "big") & ((1 << 36) - 1)
+
+
 def decoded(folder, data):
     """The raw samples of a stream, by the reference: by ffmpeg if that wrote the stream."""
     path, raw = os.path.join(folder, "one.oga"), os.path.join(folder, "one.raw")
@@ -97,11 +116,27 @@ class Chain:
     """Bytes in a file, and the calls that are compared."""
 
     def __init__(self, folder, data, name="chain.oga"):
-        self.path, self.out = os.path.join(folder, name), os.path.join(folder, "out.raw")
+        self.path, self.out, self.report = (os.path.join(folder, part) for part in (name, "out.raw", "out.jsonl"))
         with open(self.path, "wb") as file:
             file.write(data)
         if os.path.exists(self.out):
             os.remove(self.out)
+
+    def verified(self, *words):
+        """The status of `verify`, what it prints, and the line of its report, without what the system knows of the file."""
+        status, out, err = call("verify", *words, "--report", self.report, self.path)
+        entry = json.loads(read(self.report))
+        os.remove(self.report)
+        return status, out, err, {name: value for name, value in entry.items() if name not in ("path", "bytes", "modified", "nanoseconds")}
+
+    def is_verified(self, frames, count, streams, words, members):
+        """`words` come after the counts; `members` are those of the format, and of what is checked."""
+        many = f" streams {streams}" if streams > 1 else ""
+        line = f"ok {self.path}: frames {frames} samples {count}{many}{words}\nverified 1 ok 1 bad 0\n"
+        due = {"status": "ok", "container": "ogg", "frames": frames, "samples": count, **members}
+        if streams > 1:
+            due["streams"] = streams
+        expect("verify", self.verified(), (0, line.encode(), b"", due))
 
     def is_good(self, frames, count, raw):
         status, out, err = call("test", "--any", self.path)
@@ -114,6 +149,13 @@ class Chain:
         due = f"flac: {self.path}: {line}\n".encode()
         if test_too:
             expect("test", call("test", "--any", self.path), (1, b"", due))
+            status, out, err, entry = self.verified()
+            expect("verify", (status, out, err), (1, b"verified 1 ok 0 bad 1\n", due))
+            fault = re.fullmatch(r"(?:stream (\d+): )?(\w+)(?: (\d+))?: (\d+) (\w+)", line)
+            number, place, index, error, name = fault.groups()
+            said = {"status": "bad", "place": place, "index": index and int(index), "error": int(error), "name": name, "stream": number and int(number)}
+            expect("report", {**entry, "sample": None}, {**{key: value for key, value in said.items() if value is not None}, "sample": None})
+            expect("samples before", entry["sample"] >= len(raw) // 4, True)
         expect("decode", call("decode", "--any", self.path, self.out), (1, b"", due))
         found = read(self.out) if os.path.exists(self.out) else b""
         expect("samples before", found[:len(raw)] == raw, True)
@@ -140,11 +182,22 @@ def compare(folder, quick):
             raw = b"".join(raws[at] for at in chosen)
             if kind == "reference":
                 expect(f"{kind}: the reference's samples", b"".join(decoded(folder, part) for part in parts) == raw, True)
-            Chain(folder, b"".join(parts)).is_good(sum(map(frames_in, parts)), len(raw) // 4, raw)
-            done += 1
+            frames, count = sum(map(frames_in, parts)), len(raw) // 4
+            chain = Chain(folder, b"".join(parts))
+            chain.is_good(frames, count, raw)
+            members = {"rate": 44100, "channels": 2, "depth": 16}
+            whole, known = all(digest_of(part) for part in parts), all(total_of(part) for part in parts)
+            members.update({"md5_checked": whole, "subset": True, "id3": False})
+            if len(parts) == 1 and whole:
+                members["md5"] = digest_of(parts[0])
+            words = ("" if whole else " no-md5") + ("" if known else " no-total")
+            chain.is_verified(frames, count, len(parts), words, members)
+            done += 2
             tagged = b"ID3\x03\0\0\0\0\0\x05" + bytes(5) + b"".join(parts) + b"TAG" + bytes(125)
-            Chain(folder, tagged).is_good(sum(map(frames_in, parts)), len(raw) // 4, raw)
-            done += 1
+            chain = Chain(folder, tagged)
+            chain.is_good(frames, count, raw)
+            chain.is_verified(frames, count, len(parts), words + " id3", {**members, "id3": True})
+            done += 2
         first, second = each[0], each[1]
         # Damage in the second stream, on each page; its end is missing; other bytes follow.
         pages = pages_of(second)
@@ -175,7 +228,17 @@ def compare(folder, quick):
         expect("samples of the first alone", len(read(os.path.join(folder, "out.raw"))), len(raws[0]))
         status, out, err = call("test", "--any", os.path.join(folder, "chain.oga"))
         expect("test", (status, out, err), (0, f"frames {frames_in(one) + frames_in(other)} samples {9000 + 6000}\n".encode(), b""))
-        done += 2
+        frames = frames_in(one) + frames_in(other)
+        members = {"rate": 44100, "channels": 2, "depth": 16, "md5_checked": True, "subset": True, "id3": False}
+        Chain(folder, one + other).is_verified(frames, 9000 + 6000, 2, "", members)
+        done += 3
+    # One stream is outside the streamable subset: all are, but --subset refuses that one.
+    outside = by_reference(folder, raws[1], 44100, 2, 16, "--lax", "--blocksize=17000")
+    members = {"rate": 44100, "channels": 2, "depth": 16, "md5_checked": True, "subset": False, "id3": False}
+    chain = Chain(folder, one + outside)
+    chain.is_verified(frames_in(one) + frames_in(outside), 9000 + 5000, 2, " outside-subset", members)
+    expect("--subset", chain.verified("--subset")[2], f"flac: {chain.path}: stream 2: page 2: 14 NotSubset\n".encode())
+    done += 2
     # Streams that are mixed, page by page, are no chain.
     if shutil.which("oggz-merge"):
         for number, data in enumerate(streams[:2]):

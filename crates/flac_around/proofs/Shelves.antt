@@ -1,4 +1,4 @@
--- Files of a list that are read between tags, and without the empty packets at the end of an Ogg stream.
+-- Files of a list that are read between tags.
 use Rattle.std.proofs.Common.{◌≡◌, ◌∷◌, [], ℕ, Bool, true, false, List, Option, Some, None, map, option_map, refl, sym, ap, subst, ◌∙◌}
 use Rattle.std.specs.Prelude.{cond, is_some, IfSome}
 use Rattle.flac_bits.specs.State.{After}
@@ -9,10 +9,6 @@ use Rattle.flac_around.specs.Around.{middle_of, has_tags}
 use Rattle.flac_around.specs.Coming.{inside, ghosts_of}
 use Rattle.flac_around.specs.Shelves.{between_contents, between_listed}
 use Rattle.flac_around.specs.declared.between.Between.{Between}
-use Rattle.flac_around.specs.declared.trimmed.Trimmed.{Trimmed}
-use Rattle.flac_around.specs.EmptyPackets.{trimmed}
-use Rattle.flac_around.specs.Trimming as trimming
-use Rattle.flac_around.specs.Trimming.{without_end}
 
 pub next_listed : (there : Bool) (files more : List Listed) (at : Listed) → files ≡ cond there (at ∷ more) [] → map between_listed files ≡ cond there (between_listed at ∷ map between_listed more) []
 next_listed true files more at is = ap (map between_listed) is
@@ -43,18 +39,15 @@ module _ {S : Type 0} (g : source.Ghosts S) where
   abbrev between_ghosts : source.Ghosts (Between S)
   between_ghosts = ghosts_of g
 
-  pub opens_between : (contents : Option Contents) (file : S) (b : Between S) (t : Trimmed (Between S)) → b.source ≡ file → between_ghosts.coming b ≡ inside g file → t.source ≡ b → (trimming.ghosts_of between_ghosts).coming t ≡ without_end between_ghosts b → Opens g contents file
-      → Opens (trimming.ghosts_of between_ghosts) (between_contents contents) t
-  opens_between contents file b t same bytes around all o =
+  pub opens_between : (contents : Option Contents) (file : S) (b : Between S) → b.source ≡ file → between_ghosts.coming b ≡ inside g file → Opens g contents file → Opens between_ghosts (between_contents contents) b
+  opens_between contents file b same bytes o =
       let fails = is_some o.of.after.fails in
-      let after : g.after b.source ≡ o.of.after = ap g.after same ∙ o.after in
       record {
-        of = record o.of { bytes = trimmed fails (middle_of fails o.of.bytes) };
+        of = record o.of { bytes = middle_of fails o.of.bytes };
         is = ap between_contents o.is;
-        known = ap between_ghosts.known around ∙ ap g.known same ∙ o.known;
-        coming = all ∙ ap (λ (a : After). trimmed (is_some a.fails) (between_ghosts.coming b)) after ∙ ap (trimmed fails)
-            (bytes ∙ ap (λ (a : After). middle_of (is_some a.fails) (g.coming file)) o.after ∙ ap (middle_of fails) o.coming);
-        after = ap between_ghosts.after around ∙ after;
-        errors = ap between_ghosts.errors around ∙ ap g.errors same ∙ o.errors;
-        raised = ap between_ghosts.raised around ∙ ap g.raised same ∙ o.raised;
+        known = ap g.known same ∙ o.known;
+        coming = bytes ∙ ap (λ (a : After). middle_of (is_some a.fails) (g.coming file)) o.after ∙ ap (middle_of fails) o.coming;
+        after = ap g.after same ∙ o.after;
+        errors = ap g.errors same ∙ o.errors;
+        raised = ap g.raised same ∙ o.raised;
       }

@@ -1,13 +1,12 @@
--- Files of a list that are read between tags, and without the empty packets at the end of an Ogg stream.
+-- Files of a list that are read between tags.
 use Rattle.std.specs.Prelude.{ℕ, Bool, List, is_some, Option, Some, None, option_map}
 use Rattle.flac_shelf.specs.Listed.{Listed, Contents}
 use Rattle.flac_around.specs.Around.{middle_of, has_tags}
-use Rattle.flac_around.specs.EmptyPackets.{trimmed}
 
--- the bytes between without these packets, and what comes after all bytes
+-- the bytes between, and what comes after all bytes
 abbrev pub between_contents : Option Contents → Option Contents
 between_contents None = None
-between_contents (Some of) = Some (record of { bytes = trimmed (is_some of.after.fails) (middle_of (is_some of.after.fails) of.bytes) })
+between_contents (Some of) = Some (record of { bytes = middle_of (is_some of.after.fails) of.bytes })
 
 -- `tagged`: whether there are tags around them, if the file can be read more than once
 abbrev pub between_listed : Listed → Listed

@@ -1,14 +1,12 @@
-//! A list of files that are read between tags, and without the empty packets at the end of an Ogg stream.
+//! A list of files that are read between tags.
 
 ghost use Rattle.std.specs.Prelude.{◌≡◌, ◌<◌, map};
 
 use crate::between::Between;
 use crate::tags::has_tags;
-use crate::trimmed::Trimmed;
 use flac_shelf::{Earlier, Edges, Shelf, Stamp};
 
-/// The files of another list, each of which is read between the tags that other programs put around a stream, and
-/// without the empty packets at the end of an Ogg stream.
+/// The files of another list, each of which is read between the tags that other programs put around a stream.
 #[derive(Drop)]
 pub struct BetweenShelf<S> {
     shelf: S,
@@ -32,7 +30,7 @@ impl<S: Shelf> BetweenShelf<S> {
 }
 
 impl<S: Shelf> Shelf for BetweenShelf<S> {
-    type File = Trimmed<Between<S::File>>;
+    type File = Between<S::File>;
 
     ghost use Rattle.flac_around.specs.Shelves.{between_listed};
 
@@ -82,14 +80,14 @@ impl<S: Shelf> Shelf for BetweenShelf<S> {
         }
     }
 
-    fn open(&mut self) -> Option<Trimmed<Between<S::File>>> {
+    fn open(&mut self) -> Option<Between<S::File>> {
         match self.shelf.open() {
-            Some(file) => Some(Trimmed::new(Between::new(file))),
+            Some(file) => Some(Between::new(file)),
             None => None,
         }
     }
 
-    fn close(&mut self, file: Trimmed<Between<S::File>>) {
-        self.shelf.close(file.into_source().into_source());
+    fn close(&mut self, file: Between<S::File>) {
+        self.shelf.close(file.into_source());
     }
 }

@@ -50,21 +50,21 @@ module _ (profile : Profile) where
   not_later bytes (p ∷ ps) [] items at why a (inr b) = (once_at bytes).either p items at why a.1 b.1
   not_later bytes (p ∷ ps) (q ∷ qs) items at why a b = not_later (later_links bytes) ps qs items at why a.2 b.2
 
-  abbrev Same : (ps qs : List (List Piece)) (at to : Place) (v w : Why) → Type 0
-  Same ps qs at to v w = (ps ≡ qs) × (at ≡ to) × (v ≡ w)
+  abbrev Same : (ps qs : List (List Piece)) (xs ys : List Piece) (at to : Place) (v w : Why) → Type 0
+  Same ps qs xs ys at to v w = (ps ≡ qs) × (at ≡ to) × (v ≡ w) × (xs ≡ ys)
 
-  later_once : (bytes : List ℕ) (ps qs : List (List Piece)) (xs ys : List Piece) (at to : Place) (v w : Why) → IsLaterRefused profile bytes ps xs at v → IsLaterRefused profile bytes qs ys to w → Same ps qs at to v w
-  later_once bytes [] [] xs ys at to v w (inl a) (inl b) = (refl, a.3 ∙ sym b.3, a.4 ∙ sym b.4)
+  later_once : (bytes : List ℕ) (ps qs : List (List Piece)) (xs ys : List Piece) (at to : Place) (v w : Why) → IsLaterRefused profile bytes ps xs at v → IsLaterRefused profile bytes qs ys to w → Same ps qs xs ys at to v w
+  later_once bytes [] [] xs ys at to v w (inl a) (inl b) = (refl, a.3 ∙ sym b.3, a.4 ∙ sym b.4, a.2 ∙ sym b.2)
   later_once bytes [] [] xs ys at to v w (inl a) (inr b) = clash (begins_page bytes) b.0 a.1
   later_once bytes [] [] xs ys at to v w (inr a) (inl b) = clash (begins_page bytes) a.0 b.1
-  later_once bytes [] [] xs ys at to v w (inr a) (inr b) = let h = (once_at bytes).refusals xs ys at to v w a.1 b.1 in (refl, h.1, h.2)
+  later_once bytes [] [] xs ys at to v w (inr a) (inr b) = let h = (once_at bytes).refusals xs ys at to v w a.1 b.1 in (refl, h.1, h.2, h.0)
   later_once bytes [] (q ∷ qs) xs ys at to v w (inl a) b = clash (begins_page bytes) b.0 a.1
   later_once bytes [] (q ∷ qs) xs ys at to v w (inr a) b = absurd ((once_at bytes).either q xs at v b.1 a.1)
   later_once bytes (p ∷ ps) [] xs ys at to v w a (inl b) = clash (begins_page bytes) a.0 b.1
   later_once bytes (p ∷ ps) [] xs ys at to v w a (inr b) = absurd ((once_at bytes).either p ys to w a.1 b.1)
   later_once bytes (p ∷ ps) (q ∷ qs) xs ys at to v w a b =
       let h = later_once (later_links bytes) ps qs xs ys at to v w a.2 b.2 in
-      (ap (λ x. x ∷ ps) ((once_at bytes).streams p q a.1 b.1) ∙ ap (λ zs. q ∷ zs) h.0, h.1, h.2)
+      (ap (λ x. x ∷ ps) ((once_at bytes).streams p q a.1 b.1) ∙ ap (λ zs. q ∷ zs) h.0, h.1, h.2, h.3)
 
   same_chain : (bytes : List ℕ) (ps qs : List (List Piece)) → IsChain profile bytes ps → IsChain profile bytes qs → ps ≡ qs
   same_chain bytes [] qs a b = absurd a
@@ -76,13 +76,13 @@ module _ (profile : Profile) where
   not_both bytes (p ∷ ps) [] items at why a b = (once_at bytes).either p items at why a.0 b
   not_both bytes (p ∷ ps) (q ∷ qs) items at why a b = not_later (later_links bytes) ps qs items at why a.1 b.1
 
-  chain_once : (bytes : List ℕ) (ps qs : List (List Piece)) (xs ys : List Piece) (at to : Place) (v w : Why) → IsChainRefused profile bytes ps xs at v → IsChainRefused profile bytes qs ys to w → Same ps qs at to v w
-  chain_once bytes [] [] xs ys at to v w a b = let h = (once_at bytes).refusals xs ys at to v w a b in (refl, h.1, h.2)
+  chain_once : (bytes : List ℕ) (ps qs : List (List Piece)) (xs ys : List Piece) (at to : Place) (v w : Why) → IsChainRefused profile bytes ps xs at v → IsChainRefused profile bytes qs ys to w → Same ps qs xs ys at to v w
+  chain_once bytes [] [] xs ys at to v w a b = let h = (once_at bytes).refusals xs ys at to v w a b in (refl, h.1, h.2, h.0)
   chain_once bytes [] (q ∷ qs) xs ys at to v w a b = absurd ((once_at bytes).either q xs at v b.0 a)
   chain_once bytes (p ∷ ps) [] xs ys at to v w a b = absurd ((once_at bytes).either p ys to w a.0 b)
   chain_once bytes (p ∷ ps) (q ∷ qs) xs ys at to v w a b =
       let h = later_once (later_links bytes) ps qs xs ys at to v w a.1 b.1 in
-      (ap (λ x. x ∷ ps) ((once_at bytes).streams p q a.0 b.0) ∙ ap (λ zs. q ∷ zs) h.0, h.1, h.2)
+      (ap (λ x. x ∷ ps) ((once_at bytes).streams p q a.0 b.0) ∙ ap (λ zs. q ∷ zs) h.0, h.1, h.2, h.3)
 
 pub once : (profile : Profile) (bytes : List ℕ) → ChainIsReadOnce profile bytes
 once profile bytes = record { streams = same_chain profile bytes; either = not_both profile bytes; refusals = chain_once profile bytes }

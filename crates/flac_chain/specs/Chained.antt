@@ -54,12 +54,12 @@ IsChainRefused profile bytes (p ∷ ps) items at why = (link_reading profile (fi
 
 -- ---- laws
 
--- No input has two readings as a chain: its streams have one list of parts each, or it is refused in one stream, at one
--- place and for one reason.
+-- No input has two readings as a chain: its streams have one list of parts each, or it is refused in one stream, after
+-- one list of items, at one place and for one reason.
 pub record ChainIsReadOnce (profile : Profile) (bytes : List ℕ) : Type 0 where
   pub streams : (ps qs : List (List Piece)) → IsChain profile bytes ps → IsChain profile bytes qs → ps ≡ qs
   pub either : (ps qs : List (List Piece)) (items : List Piece) (at : Place) (why : Why) → IsChain profile bytes ps → IsChainRefused profile bytes qs items at why → ⊥
-  pub refusals : (ps qs : List (List Piece)) (xs ys : List Piece) (at to : Place) (v w : Why) → IsChainRefused profile bytes ps xs at v → IsChainRefused profile bytes qs ys to w → (ps ≡ qs) × (at ≡ to) × (v ≡ w)
+  pub refusals : (ps qs : List (List Piece)) (xs ys : List Piece) (at to : Place) (v w : Why) → IsChainRefused profile bytes ps xs at v → IsChainRefused profile bytes qs ys to w → (ps ≡ qs) × (at ≡ to) × (v ≡ w) × (xs ≡ ys)
 
 abbrev pub ChainsAreReadOnce : Type 0
 ChainsAreReadOnce = (profile : Profile) (bytes : List ℕ) → ChainIsReadOnce profile bytes

@@ -23,6 +23,7 @@ pub mod Told
 pub mod Gone
 pub mod Underway
 pub mod Missing
+pub mod Learned
 pub mod Verifying
 pub mod Containers
 -- Raw samples.

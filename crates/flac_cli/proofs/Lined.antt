@@ -60,6 +60,16 @@ module _ {T : Type 0} (g : target.Ghosts T) where
     rises = p.rises;
   }
 
+  -- nothing was to be added
+  pub none_added : {E : Type 0} (now : T) (held : List ℕ) → Adds {X = Unit {0}} {E = E} g [] now now held held (Ok tt)
+  none_added now held = record {
+    names = refl;
+    kept = omega arith;
+    known = λ k. k;
+    added = λ k. sym (append-nil (g.sent now ++ held));
+    rises = tt;
+  }
+
   -- what is held, sent
   pub sent_adds : {X E : Type 0} {old new : T} (held : List ℕ) (r : Result X E) → g.names new ≡ g.names old → g.errors old ≤ g.errors new
       → OnOk r (g.known old ≡ true → g.known new ≡ true) → OnOk r (g.known old ≡ true → g.sent new ≡ g.sent old ++ held)

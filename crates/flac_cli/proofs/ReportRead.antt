@@ -1,5 +1,5 @@
 -- The lines that are added to a report are read as what they say of the files.
-use Rattle.std.proofs.Common.{◌≡◌, ◌<◌, ◌^◌, ◌&&◌, ℕ, Bool, true, false, nat_eq, cond, List, [], ◌∷◌, map, All, Option, Some, None, IfSome, option_map, refl, sym, ap, subst, ◌∙◌, arith, inl, inr}
+use Rattle.std.proofs.Common.{◌≡◌, ◌<◌, ◌^◌, ◌&&◌, ℕ, Bool, true, false, nat_eq, nat_lt, cond, List, [], ◌∷◌, map, All, Option, Some, None, IfSome, option_map, refl, sym, ap, subst, ◌∙◌, arith, inl, inr}
 use Rattle.std.proofs.lemmas.Cmp.{nat_eq_equiv, nat_list_eq_equiv}
 use Rattle.std.proofs.lemmas.List.Elements.{All-nil, All-cons}
 use Rattle.std.specs.Cmp.Lexicographic.{options_equiv}
@@ -9,14 +9,14 @@ use Rattle.flac_bits.specs.Bits.{bits_of}
 use Rattle.flac_bits.specs.Forms.{AreBytes, IsBytes}
 use Rattle.flac_bits.specs.Items.{Joined}
 use Rattle.flac_bits.specs.Meaning.{Spells}
-use Rattle.flac_bits.specs.State.{Mark, past, fresh, short_of}
+use Rattle.flac_bits.specs.State.{Mark, past, fresh, the_end}
 use Rattle.flac_bits.specs.declared.why.Why.TheVariants.{Truncated}
 use Rattle.flac_info.specs.Info.{Info}
 use Rattle.flac_meta.specs.Valid.{IsInfo, FitsFields}
 use Rattle.flac_meta.specs.declared.block.Block.{Block}
 use Rattle.flac_meta.specs.declared.block.Block.TheVariants as block_of
 use Rattle.flac_header.specs.declared.subset.Profile.{Profile}
-use Rattle.flac_native.specs.Decoding.{beginning}
+use Rattle.flac_native.specs.Decoding.{beginning, start_mark}
 use Rattle.flac_native.specs.Stream.{Piece, marked, block, framed, Stand, Progress, opening, grammar, layout, next, stand_after, info_after, is_unknown}
 use Rattle.flac_native.specs.declared.track.Phase.{Phase}
 use Rattle.flac_native.specs.declared.track.Phase.TheVariants.{Opening, Blocks, Frames}
@@ -25,6 +25,9 @@ use Rattle.flac_native.proofs.Onwards.{frame_there}
 use Rattle.flac_ogg.specs.Either.{begins_page, read_either}
 use Rattle.flac_ogg.specs.Native.{native_text}
 use Rattle.flac_ogg.proofs.NativeItems.{ogg_streams_are_streams}
+use Rattle.flac_around.specs.Chains.{first_link}
+use Rattle.flac_around.specs.EmptyPackets.{trimmed}
+use Rattle.flac_chain.specs.Chained.{IsChain}
 use Rattle.flac_shelf.specs.Listed.{Contents, Listed}
 use Rattle.flac_shelf.specs.Past.{same_audio, same_stamp}
 use Rattle.flac_shelf.specs.declared.past.Audio.{Audio}
@@ -35,10 +38,10 @@ use Rattle.flac_report.specs.Entries.{IsDigest, FitsGood, FitsFound, line_of, pa
 use Rattle.flac_report.specs.Lines.{said}
 use Rattle.flac_report.specs.declared.lines.Recorded.{Recorded}
 use Rattle.flac_report.proofs.Ends.{apart}
-use Rattle.flac_cli.specs.Changes.{audio_of, audio_in}
-use Rattle.flac_cli.specs.Reported.{rate_of, channels_of, depth_of, digest_of, good_file, found_of, is_sought_in, report_entry, report_entries}
+use Rattle.flac_cli.specs.Changes.{audio_of, audio_in, stated_in, digest_of}
+use Rattle.flac_cli.specs.Reported.{rate_of, channels_of, depth_of, good_file, found_of, is_sought_in, report_entry, report_entries}
 use Rattle.flac_cli.specs.ReportRead.{IsNamed, AreNamed, found_audio, records_of, AreReadFrom, ReportsAreReadBack, ReadFilesAreSame}
-use Rattle.flac_cli.specs.Verified.{asked_profile, info_in, IsStreamOf, IsFound, AreFound}
+use Rattle.flac_cli.specs.Verified.{asked_profile, info_in, first_info, IsStreamOf, IsFound, AreFound}
 use Rattle.flac_cli.specs.declared.verify_facts.Facts.{Facts}
 use Rattle.flac_cli.specs.declared.verify.Finding.{Finding}
 use Rattle.flac_cli.specs.declared.verify.Finding.TheVariants.{Good, Bad, Unopened}
@@ -100,11 +103,16 @@ digest_by : (unknown : Bool) (digest : List ℕ) → IsBytes 16 digest → IfSom
 digest_by true digest is = tt
 digest_by false digest is = record { size = is.many; bytes = are_bytes digest is.small }
 
+-- of the first stream of a chain
+chain_fits : (profile : Profile) (bytes : List ℕ) (ps : List (List Piece)) → IsChain profile bytes ps → Fitting (first_info ps)
+chain_fits profile bytes [] is = absurd is
+chain_fits profile bytes (p ∷ ps) is = let link = trimmed false (first_link bytes) in stream_fits profile (begins_page link) (start_mark the_end) p (bits_of link) is.0
+
 record FitsInfo (info : Option Info) : Type 0 where
   rate : IfSome (rate_of info) (λ n. n < 2 ^ 64)
   channels : IfSome (channels_of info) (λ n. n < 2 ^ 64)
   depth : IfSome (depth_of info) (λ n. n < 2 ^ 64)
-  digest : IfSome (digest_of info) IsDigest
+  digest : IfSome (stated_in info) IsDigest
 
 info_fits : (info : Option Info) → Fitting info → FitsInfo info
 info_fits None told = record { rate = tt; channels = tt; depth = tt; digest = tt }
@@ -115,16 +123,21 @@ info_fits (Some i) told = record {
   digest = digest_by (is_unknown i.digest) i.digest told.digest;
 }
 
+-- several streams state none
+one_digest : (several : Bool) (digest : Option (List ℕ)) → IfSome digest IsDigest → IfSome (cond several None digest) IsDigest
+one_digest true digest fits = tt
+one_digest false digest fits = fits
+
 good_fits : (is_sought : Bool) (tagged : Option Bool) (profile : Profile) (of : Contents) (facts : Facts) → IsStreamOf profile of facts → FitsGood (good_file is_sought tagged facts)
 good_fits is_sought tagged profile of facts ((parts, whole, says), container) =
-    let info = info_fits facts.info (subst Fitting (sym says.info) (stream_fits profile (begins_page of.bytes) (beginning (short_of of.after.fails)) parts (bits_of of.bytes) whole)) in
+    let info = info_fits facts.info (subst Fitting (sym says.info) (chain_fits profile of.bytes parts whole)) in
     record {
       rate = info.rate;
       channels = info.channels;
       depth = info.depth;
       frames = omega (arith, says.frames);
       samples = omega (arith, says.samples);
-      digest = info.digest;
+      digest = one_digest (nat_lt 1 facts.streams) (stated_in facts.info) info.digest;
     }
 
 found_fits : (subset is_sought : Bool) (tagged : Option Bool) (contents : Option Contents) (finding : Finding) → IsFound subset contents finding → FitsFound (found_of is_sought tagged finding)
@@ -143,12 +156,12 @@ entry_fits subset file finding named found = record {
 -- ---- what is read
 
 -- the audio of a line is that of the stream
-audio_same : (info : Option Info) (samples : ℕ) → ◌≡◌ {A = Audio} (record { digest = digest_of info; samples = samples; rate = rate_of info; channels = channels_of info; depth = depth_of info }) (audio_in info samples)
-audio_same None samples = refl
-audio_same (Some info) samples = refl
+audio_same : (info : Option Info) (digest : Option (List ℕ)) (samples : ℕ) → ◌≡◌ {A = Audio} (record { digest = digest; samples = samples; rate = rate_of info; channels = channels_of info; depth = depth_of info }) (audio_in info digest samples)
+audio_same None digest samples = refl
+audio_same (Some info) digest samples = refl
 
 found_same : (is_sought : Bool) (tagged : Option Bool) (finding : Finding) → entries.audio_of (found_of is_sought tagged finding) ≡ found_audio finding
-found_same is_sought tagged (Good facts) = ap Some (audio_same facts.info facts.counts.samples)
+found_same is_sought tagged (Good facts) = ap Some (audio_same facts.info (digest_of facts) facts.counts.samples)
 found_same is_sought tagged (Bad flaw) = refl
 found_same is_sought tagged Unopened = refl
 

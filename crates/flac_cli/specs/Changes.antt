@@ -1,5 +1,5 @@
 -- How a file compares with what an older report has of it.
-use Rattle.std.specs.Prelude.{ℕ, Bool, true, false, cond, List, [], codes, Option, Some, None}
+use Rattle.std.specs.Prelude.{ℕ, Bool, true, false, cond, nat_lt, List, [], codes, Option, Some, None}
 use Rattle.flac_info.specs.Info.{Info}
 use Rattle.flac_native.specs.Stream.{is_unknown}
 use Rattle.flac_shelf.specs.Listed.{Listed}
@@ -14,20 +14,28 @@ use Rattle.flac_cli.specs.declared.verify_change.Change.{Change}
 use Rattle.flac_cli.specs.declared.verify_change.Change.TheVariants as change
 use Rattle.flac_cli.specs.declared.verify_facts.Facts.{Facts}
 
--- ---- the audio of a stream, as a report has it
+-- ---- the audio of a file, as a report has it
 
 -- a digest of STREAMINFO, if it is stated (RFC 9639, section 8.2)
 abbrev pub stated : (digest : List ℕ) → Option (List ℕ)
 stated digest = cond (is_unknown digest) None (Some digest)
 
--- of a stream with this STREAMINFO and this number of samples
-abbrev pub audio_in : Option Info → (samples : ℕ) → Audio
-audio_in None samples = record { digest = None; samples = samples; rate = None; channels = None; depth = None }
-audio_in (Some info) samples =
-    record { digest = stated info.digest; samples = samples; rate = Some info.rate; channels = Some info.channels; depth = Some info.depth }
+abbrev pub stated_in : Option Info → Option (List ℕ)
+stated_in None = None
+stated_in (Some info) = stated info.digest
+
+-- that of all samples: several streams have none
+abbrev pub digest_of : Facts → Option (List ℕ)
+digest_of facts = cond (nat_lt 1 facts.streams) None (stated_in facts.info)
+
+-- in the format that this STREAMINFO states
+abbrev pub audio_in : Option Info → (digest : Option (List ℕ)) → (samples : ℕ) → Audio
+audio_in None digest samples = record { digest = digest; samples = samples; rate = None; channels = None; depth = None }
+audio_in (Some info) digest samples =
+    record { digest = digest; samples = samples; rate = Some info.rate; channels = Some info.channels; depth = Some info.depth }
 
 abbrev pub audio_of : Facts → Audio
-audio_of facts = audio_in facts.info facts.counts.samples
+audio_of facts = audio_in facts.info (digest_of facts) facts.counts.samples
 
 -- ---- what changed
 

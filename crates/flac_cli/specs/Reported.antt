@@ -1,5 +1,5 @@
 -- The lines of the report of `flac verify`: for each file that which `line_of` of flac_report has.
-use Rattle.std.specs.Prelude.{ℕ, Bool, true, false, cond, not, ◌||◌, List, [], ◌∷◌, flat_map, nat_lt, drop, Option, Some, None}
+use Rattle.std.specs.Prelude.{ℕ, ◌+◌, min, Bool, true, false, cond, not, ◌||◌, nat_eq, List, [], ◌∷◌, flat_map, nat_lt, drop, Option, Some, None}
 use Rattle.flac_bits.specs.Reasons.{number_of, text_of}
 use Rattle.flac_bits.specs.declared.why.Why.{Why}
 use Rattle.flac_info.specs.Info.{Info}
@@ -9,8 +9,7 @@ use Rattle.flac_native.specs.declared.fault.Place.TheVariants as place
 use Rattle.flac_shelf.specs.Listed.{Contents, Listed}
 use Rattle.flac_shelf.specs.declared.stamp.Stamp.{Stamp}
 use Rattle.flac_report.specs.Entries.{Container, native, ogg, GoodFile, BadFile, Found, good, bad, unopened, Entry, line_of}
-use Rattle.flac_cli.specs.Changes.{stated}
-use Rattle.flac_cli.specs.Verified.{lacks_digest}
+use Rattle.flac_cli.specs.Changes.{digest_of}
 use Rattle.flac_cli.specs.declared.verify_facts.Facts.{Facts}
 use Rattle.flac_cli.specs.declared.verify_facts.Flaw.{Flaw}
 use Rattle.flac_cli.specs.declared.verify.Finding.{Finding}
@@ -30,11 +29,6 @@ abbrev pub depth_of : Option Info → Option ℕ
 depth_of None = None
 depth_of (Some info) = Some info.depth
 
--- the digest of the samples, if it is stated; then the samples were compared with it
-abbrev pub digest_of : Option Info → Option (List ℕ)
-digest_of None = None
-digest_of (Some info) = stated info.digest
-
 -- whether a stream is in the streamable subset (section 7); not known if it was not looked for
 abbrev pub subset_of : (is_sought outside : Bool) → Option Bool
 subset_of is_sought true = Some false
@@ -45,6 +39,11 @@ subset_of false false = None
 abbrev pub container_in : (is_ogg : Bool) → Container
 container_in is_ogg = cond is_ogg ogg native
 
+-- the number of streams, if there is more than one
+abbrev pub several : (streams : ℕ) → Option ℕ
+several n = cond (nat_lt 1 n) (Some n) None
+
+-- the samples of each stream were compared with its digest, if each states one
 abbrev pub good_file : (is_sought : Bool) → (tagged : Option Bool) → Facts → GoodFile
 good_file is_sought tagged facts = record {
   container = Some (container_in facts.is_ogg);
@@ -53,10 +52,11 @@ good_file is_sought tagged facts = record {
   depth = depth_of facts.info;
   frames = facts.counts.frames;
   samples = facts.counts.samples;
-  digest = digest_of facts.info;
-  checked = not (lacks_digest facts.info);
+  digest = digest_of facts;
+  checked = not facts.no_digest;
   subset = subset_of is_sought facts.outside;
   id3 = tagged;
+  streams = several facts.streams;
 }
 
 -- ---- where and why a file is refused
@@ -73,6 +73,10 @@ index_of place.End = None
 abbrev pub name_of : Why → List ℕ
 name_of why = drop (cond (nat_lt (number_of why) 10) 2 3) (text_of why)
 
+-- which stream it is, counted from 1, if it is not the first
+abbrev pub number_of_stream : (stream : ℕ) → Option ℕ
+number_of_stream n = cond (nat_eq n 0) None (Some (min (n + 1) 18446744073709551615))
+
 -- and the number of the first sample that was not decoded
 abbrev pub bad_file : Flaw → BadFile
 bad_file flaw = record {
@@ -81,6 +85,7 @@ bad_file flaw = record {
   error = number_of flaw.fault.why;
   name = name_of flaw.fault.why;
   sample = Some flaw.samples;
+  stream = number_of_stream flaw.stream;
 }
 
 -- ---- what is said of a file

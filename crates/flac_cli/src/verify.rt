@@ -164,21 +164,24 @@ fn status_of(is_written: bool, tally: &Tally) -> u8
     }
 }
 
-/// Reads the files of a list, one after another, and prints a line for each. Returns the status: 0 if all of them are
-/// streams, native or Ogg, and every line was written; else 1.
+/// Reads the files of a list, one after another, and prints a line for each. Returns the status: 0 if each of them is a
+/// stream, native or Ogg, or Ogg streams one after another (RFC 3533, section 4), and every line was written; else 1. The
+/// empty packets that other programs write at the end of an Ogg stream are left out.
 ///
 /// With [`Checks::subset`] a file must be in the streamable subset (RFC 9639, section 7); otherwise all of FLAC is
 /// read.
 ///
 /// The line of a stream is written to `out`: `ok PATH: frames N samples N`, with its numbers of frames and of
-/// inter-channel samples, both up to 2^64 - 1. Then come these words:
+/// inter-channel samples, both up to 2^64 - 1. Several streams are counted together, and ` streams N` comes after the
+/// counts. Then come these words:
 ///
-/// - ` no-md5`, if STREAMINFO does not state the digest of the samples (section 8.2);
+/// - ` no-md5`, if STREAMINFO, or that of one of the streams, does not state the digest of the samples (section 8.2);
 /// - ` no-total`, if it does not state their number;
-/// - ` outside-subset`, if the file can be read again and is not in the streamable subset;
+/// - ` outside-subset`, if the file can be read again and a stream is not in the streamable subset;
 /// - ` id3`, if the list says that tags of other programs are around the stream ([`Shelf::tagged`]).
 ///
-/// The line of another file is written to `err`: `flac: PATH: PLACE: NUMBER NAME`, or `flac: PATH: cannot be opened`.
+/// The line of another file is written to `err`: `flac: PATH: PLACE: NUMBER NAME`, or `flac: PATH: cannot be opened`. If a
+/// stream after the first is refused, it is `flac: PATH: stream N: PLACE: NUMBER NAME`, by the places of that stream.
 /// Paths are printed as [`flac_shelf::shown`] gives them, so that each line is that of one file. After all files `out`
 /// gets the line `verified N ok N bad N`.
 ///
@@ -209,9 +212,9 @@ pub fn verify_files<S: Shelf, O: Target, E: Target, P: Target>(
     ensures status { result ≤ 1 }
     // If no file's device fails: the lines say what each file is by its own bytes, in order, also those of the report;
     // after the line of a file that is refused come those of a survey of its bytes, if that is asked for. The status is
-    // 0 exactly if all files are streams and every line was written. Or memory ran out: then a line says that.
+    // 0 exactly if each file is a stream or several and every line was written. Or memory ran out: then a line says that.
     ensures verified { VerifiesFiles S.Shelf O.Target E.Target P.Target checks result shelf out err report_to }
-    // So after status 0 each file is a stream.
+    // So after status 0 each file is a stream, or streams one after another.
     ensures streams { result ≡ 0 → FilesAreWhole S.known S.faults S.files checks.subset shelf.old shelf.new }
     // All files have come. So the paths that are left of an older report are those that no file of the list has.
     ensures gone { IfNoneFails S.known S.faults shelf.old shelf.new

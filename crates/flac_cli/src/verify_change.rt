@@ -1,11 +1,11 @@
 //! How a file compares with what an older report has of it.
 
 ghost use Rattle.std.specs.Prelude.{◌≡◌, Some};
-ghost use Rattle.flac_cli.specs.Changes.{stated, audio_of, change_from, change_of, is_kept, word_of};
+ghost use Rattle.flac_cli.specs.Changes.{audio_of, change_from, change_of, is_kept, word_of};
 ghost use Rattle.flac_cli.specs.declared.verify.Finding.TheVariants.{Good};
 
 use crate::verify::Finding;
-use crate::verify_facts::{Facts, is_unknown};
+use crate::verify_facts::Facts;
 use flac_shelf::{Audio, Earlier, Past, Stamp};
 
 /// How a file compares with what an older report has of it.
@@ -51,31 +51,22 @@ impl Change {
     }
 }
 
-/// A digest, if it is stated.
-fn stated(digest: [u8; 16]) -> Option<[u8; 16]>
-    ensures { result ≡ stated digest }
-{
-    if is_unknown(&digest) {
-        return None;
-    }
-    Some(digest)
-}
-
-/// The audio of a stream, as a report has it.
+/// The audio of a file, as a report has it.
 fn audio_of(facts: &Facts) -> Audio
     ensures { result ≡ audio_of facts.now }
 {
     let samples = facts.counts.samples;
+    let digest = facts.digest();
     match facts.info {
         Some(info) => Audio {
-            digest: stated(info.digest()),
+            digest,
             samples,
             rate: Some(u64::from(info.rate())),
             channels: Some(u64::from(info.channels())),
             depth: Some(u64::from(info.depth())),
         },
         None => Audio {
-            digest: None,
+            digest,
             samples,
             rate: None,
             channels: None,

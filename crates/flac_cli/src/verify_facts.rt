@@ -1,62 +1,80 @@
-//! What `flac verify` reports of a stream.
+//! What `flac verify` reports of a stream, or of several.
 
 ghost use Rattle.std.specs.Prelude.{◌≡◌, true, false, [], None, IfOk};
 ghost use Rattle.flac_native.specs.Stream.{info_after, is_unknown};
-ghost use Rattle.flac_cli.specs.inner.Taking.{frames_after, samples_after, info_after_item, DescribesStream, NamesContainer, CountsFlaw, FitsFacts};
-ghost use Rattle.flac_cli.specs.Verified.{lacks_digest, lacks_total};
+ghost use Rattle.flac_cli.specs.Changes.{stated, digest_of};
+ghost use Rattle.flac_cli.specs.inner.Taking.{frames_after, samples_after, info_of, AreNone, Learns, DescribesStream, NamesContainer, CountsFlaw};
 
 use crate::test::Counts;
 use flac_bits::Source;
+use flac_chain::{ChainFault, ChainRead, decode_chain};
 use flac_frame::FrameView;
 use flac_meta::{Block, StreamInfo};
 use flac_native::{Fault, Profile, Sink, SinkFault};
-use flac_ogg::{Fronted, begins_page, decode_any, pull_front};
+use flac_ogg::{Fronted, begins_page, pull_front};
 use std::alloc::Global;
 
-/// What a stream is.
+/// What a stream is, or Ogg streams one after another (RFC 3533, section 4).
 #[derive(Drop)]
 pub(crate) struct Facts {
-    /// How many frames and samples it has.
+    /// How many frames and samples they have together.
     pub(crate) counts: Counts,
-    /// Its STREAMINFO (RFC 9639, section 8.2); `None` before it is read.
+    /// The STREAMINFO of the first one (RFC 9639, section 8.2); `None` before it is read.
     pub(crate) info: Option<StreamInfo>,
-    /// Whether it is in Ogg (section 10.1); else it is native (section 6).
+    /// How many streams there are, up to 2^64 - 1.
+    pub(crate) streams: u64,
+    /// Whether one of them states no digest of its samples.
+    pub(crate) no_digest: bool,
+    /// Whether one of them does not state how many samples it has.
+    pub(crate) no_total: bool,
+    /// Whether they are in Ogg (section 10.1); else there is one, which is native (section 6).
     pub(crate) is_ogg: bool,
-    /// Whether it is known not to be in the streamable subset (section 7).
+    /// Whether one of them is known not to be in the streamable subset (section 7).
     pub(crate) outside: bool,
 }
 
 /// What is wrong with a file.
 #[derive(Clone, Copy)]
 pub(crate) struct Flaw {
+    /// Which of the streams is refused, counted from 0.
+    pub(crate) stream: u64,
     /// Where and why it is refused.
     pub(crate) fault: Fault,
-    /// How many samples each channel has of the frames before, up to 2^64 - 1.
+    /// How many samples each channel has of the frames before, of all streams, up to 2^64 - 1.
     pub(crate) samples: u64,
 }
 
-/// The STREAMINFO that is known after a block.
-fn info_after(info: Option<StreamInfo>, block: &Block) -> Option<StreamInfo>
-    ensures { result ≡ info_after info block.now }
+/// The STREAMINFO of a block, if it is one.
+fn info_of(block: &Block) -> Option<StreamInfo>
+    ensures { result ≡ info_after None block.now }
 {
     match block {
         Block::StreamInfo(found) => Some(*found),
-        _ => info,
+        _ => None,
     }
 }
 
 /// Whether a digest of STREAMINFO is unknown: all its bytes are 0.
-pub(crate) fn is_unknown(digest: &[u8]) -> bool
+fn is_unknown(digest: &[u8]) -> bool
     ensures { result ≡ is_unknown digest.now }
 {
     digest.iter().all(|byte| *byte == 0)
 }
 
+/// A digest, if it is stated.
+fn stated(digest: [u8; 16]) -> Option<[u8; 16]>
+    ensures { result ≡ stated digest }
+{
+    if is_unknown(&digest) {
+        return None;
+    }
+    Some(digest)
+}
+
 impl Facts {
     /// Of nothing.
     fn none() -> Facts
-        ensures counts { (result.counts.frames ≡ 0) × (result.counts.samples ≡ 0) }
-        ensures info { result.info ≡ None }
+        ensures { AreNone result }
     {
         Facts {
             counts: Counts {
@@ -64,28 +82,37 @@ impl Facts {
                 samples: 0,
             },
             info: None,
+            streams: 0,
+            no_digest: false,
+            no_total: false,
             is_ogg: false,
             outside: false,
         }
     }
 
-    /// Whether STREAMINFO states no digest of the samples.
-    pub(crate) fn lacks_digest(&self) -> bool
-        ensures { result ≡ lacks_digest self.now.info }
+    /// The digest of all samples: it is stated if there is one stream, which states it.
+    pub(crate) fn digest(&self) -> Option<[u8; 16]>
+        ensures { result ≡ digest_of self.now }
     {
+        if self.streams > 1 {
+            return None;
+        }
         match self.info {
-            Some(info) => is_unknown(&info.digest()),
-            None => true,
+            Some(info) => stated(info.digest()),
+            None => None,
         }
     }
 
-    /// Whether STREAMINFO does not state how many samples there are.
-    pub(crate) fn lacks_total(&self) -> bool
-        ensures { result ≡ lacks_total self.now.info }
+    /// Takes the STREAMINFO with which a stream begins, if it is there.
+    fn learn(&mut self, info: Option<StreamInfo>)
+        ensures counts { self.new.counts ≡ self.old.counts }
+        ensures learns { Learns self.old info self.new }
     {
-        match self.info {
-            Some(info) => info.total() == 0,
-            None => true,
+        if let Some(info) = info {
+            self.info = Some(self.info.unwrap_or(info));
+            self.streams = self.streams.saturating_add(1);
+            self.no_digest = self.no_digest || is_unknown(&info.digest());
+            self.no_total = self.no_total || info.total() == 0;
         }
     }
 }
@@ -94,7 +121,7 @@ impl Sink for Facts {
     ghost takes = { λ old item new. record {
       frames : new.counts.frames ≡ frames_after old.counts.frames item;
       samples : new.counts.samples ≡ samples_after old.counts.samples item;
-      info : new.info ≡ info_after_item old.info item;
+      learns : Learns old (info_of item) new;
     } };
 
     ghost known = { λ _. true };
@@ -104,7 +131,7 @@ impl Sink for Facts {
     ghost names = { λ _. [] };
 
     fn block(&mut self, block: &Block) -> Result<(), SinkFault> {
-        self.info = info_after(self.info, block);
+        self.learn(info_of(block));
         Ok(())
     }
 
@@ -113,7 +140,7 @@ impl Sink for Facts {
     }
 }
 
-/// Decodes a stream in either container, and returns what it is; `is_ogg` says in which container.
+/// Decodes a stream, or Ogg streams one after another, and returns what they are; `is_ogg` says in which container.
 fn count_facts<R: Source>(
     alloc: Global,
     is_ogg: bool,
@@ -123,25 +150,29 @@ fn count_facts<R: Source>(
     ensures facts { DescribesStream R.Source profile source.old source.new result }
     ensures container { IfOk result (λ facts. facts.is_ogg ≡ is_ogg) }
     ensures flaw { CountsFlaw R.Source profile source.old source.new result }
-    ensures outcome { FitsFacts R.Source profile source.old source.new result }
     ensures outside { IfOk result (λ facts. facts.outside ≡ false) }
     ensures names { R.names source.new ≡ R.names source.old }
 {
     let mut facts = Facts::none();
-    match decode_any(alloc, source, profile, &mut facts) {
+    let ChainRead {
+        source: _source,
+        outcome,
+    } = decode_chain(alloc, source, profile, &mut facts);
+    match outcome {
         Ok(()) => Ok(Facts {
             is_ogg,
             outside: false,
             ..facts
         }),
-        Err(fault) => Err(Flaw {
+        Err(ChainFault { stream, fault }) => Err(Flaw {
+            stream,
             fault,
             samples: facts.counts.samples,
         }),
     }
 }
 
-/// Decodes a stream in either container, and returns what it is.
+/// Decodes a stream in either container, or Ogg streams one after another, and returns what they are.
 pub(crate) fn read_facts<R: Source>(
     alloc: Global,
     source: &mut R,
@@ -150,12 +181,17 @@ pub(crate) fn read_facts<R: Source>(
     ensures facts { DescribesStream R.Source profile source.old source.new result }
     ensures container { NamesContainer R.Source source.old source.new result }
     ensures flaw { CountsFlaw R.Source profile source.old source.new result }
-    ensures outcome { FitsFacts R.Source profile source.old source.new result }
     ensures outside { IfOk result (λ facts. facts.outside ≡ false) }
 {
     let front = match pull_front(source) {
         Ok(front) => front,
-        Err(fault) => return Err(Flaw { fault, samples: 0 }),
+        Err(fault) => {
+            return Err(Flaw {
+                stream: 0,
+                fault,
+                samples: 0,
+            });
+        }
     };
     let mut fronted = Fronted { front, source };
     let found = count_facts(alloc, begins_page(front), &mut fronted, profile);

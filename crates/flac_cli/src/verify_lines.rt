@@ -1,10 +1,12 @@
 //! The lines that `flac verify` prints.
 
-ghost use Rattle.std.specs.Prelude.{◌≡◌, ◌≤◌, ◌<◌, ◌+◌, ◌++◌, true, OnOk, OnErr};
+ghost use Rattle.std.specs.Prelude.{◌≡◌, ◌≤◌, ◌<◌, ◌+◌, ◌++◌, cond, decimal, true, [], OnOk, OnErr};
 ghost use Rattle.flac_cli.specs.Calls.{HasSent};
 ghost use Rattle.flac_cli.specs.Lined.{text_at};
 ghost use Rattle.flac_cli.specs.Reports.{fault_line};
-ghost use Rattle.flac_cli.specs.Verified.{file_line, ok_line, ok_part, bad_part, words_of, word_if, is_tagged, last_line};
+ghost use Rattle.flac_cli.specs.Chains.{stream_path};
+ghost use Rattle.flac_shelf.specs.Shown.{shown};
+ghost use Rattle.flac_cli.specs.Verified.{ok_line, ok_part, bad_part, words_of, word_if, is_tagged, last_line};
 ghost use Rattle.flac_cli.specs.inner.Verifying.{IsEnded, IsSent, IsTold};
 ghost use Rattle.flac_cli.specs.inner.Lines.{SendsLine, AddsTo};
 
@@ -31,6 +33,21 @@ fn is_tagged(tagged: Option<bool>) -> bool
     }
 }
 
+/// Adds a name and a number, if this holds.
+fn put_counted_if<W: Target>(
+    lines: &mut Lines<W>,
+    holds: bool,
+    name: &str,
+    number: u64,
+) -> Result<(), Why>
+    ensures { AddsTo W.Target (cond holds (name.now ++ decimal number) []) lines.old lines.new result }
+{
+    if holds {
+        return lines.put_counted(name, number);
+    }
+    Ok(())
+}
+
 /// Adds the words after the counts of a stream.
 fn put_words<O: Target>(
     lines: &mut Lines<O>,
@@ -40,8 +57,8 @@ fn put_words<O: Target>(
 ) -> Result<(), Why>
     ensures { AddsTo O.Target (words_of change tagged facts.now) lines.old lines.new result }
 {
-    lines.put(word_if(facts.lacks_digest(), " no-md5"))?;
-    lines.put(word_if(facts.lacks_total(), " no-total"))?;
+    lines.put(word_if(facts.no_digest, " no-md5"))?;
+    lines.put(word_if(facts.no_total, " no-total"))?;
     lines.put(word_if(facts.outside, " outside-subset"))?;
     lines.put(word_if(is_tagged(tagged), " id3"))?;
     lines.put(change.word())
@@ -61,12 +78,14 @@ fn put_ok<O: Target>(
     lines.put_path("ok ", path)?;
     lines.put_counted(": frames ", facts.counts.frames)?;
     lines.put_counted(" samples ", facts.counts.samples)?;
+    put_counted_if(lines, facts.streams > 1, " streams ", facts.streams)?;
     put_words(lines, change, tagged, facts)?;
     lines.put("\n")?;
     lines.send()
 }
 
-/// Sends the line of a stream: `ok PATH: frames N samples N`, what it lacks, and the word of a change.
+/// Sends the line of a stream: `ok PATH: frames N samples N`, how many streams there are, if there is more than one, what
+/// they lack, and the word of a change.
 ///
 /// # Errors
 /// [`Why::Write`] if the target fails.
@@ -120,18 +139,21 @@ fn tell<E: Target>(err: &mut E, path: &str, at: At, text: &str)
     let _ = write_line(err, path, at, text);
 }
 
-/// Sends the line of a file's fault, with a word at its end, through a buffer.
+/// Sends the line of a fault of a file, or of the stream of this number in it, with a word at its end, through a buffer.
 fn put_fault<E: Target>(
     lines: &mut Lines<E>,
     path: &str,
+    stream: u64,
     at: At,
     text: &str,
     word: &str,
 ) -> Result<(), Why>
     requires { lines.old.held ≡ 0 }
-    ensures { SendsLine E.Target (file_line path.now (text_at at text.now ++ word.now)) lines.old lines.new result }
+    ensures { SendsLine E.Target (fault_line (stream_path (shown path.now) stream) (text_at at text.now ++ word.now))
+        lines.old lines.new result }
 {
     lines.put_path("flac: ", path)?;
+    put_counted_if(lines, stream != 0, ": stream ", stream.saturating_add(1))?;
     lines.put(": ")?;
     lines.put_reason(at, text)?;
     lines.put(word)?;
@@ -139,32 +161,42 @@ fn put_fault<E: Target>(
     lines.send()
 }
 
-/// Sends the line of a file's fault, with a word at its end.
+/// Sends the line of a fault of a file, or of the stream of this number in it, with a word at its end.
 ///
 /// # Errors
 /// [`Why::Write`] if the target fails.
 fn write_fault<E: Target>(
     err: &mut E,
     path: &str,
+    stream: u64,
     at: At,
     text: &str,
     word: &str,
 ) -> Result<(), Why>
     ensures kept { E.errors err.old ≤ E.errors err.new }
     ensures known { OnOk result (E.known err.old ≡ true → E.known err.new ≡ true) }
-    ensures sent { HasSent E.Target err.old err.new (file_line path.now (text_at at text.now ++ word.now)) result }
+    ensures sent { HasSent E.Target err.old err.new
+        (fault_line (stream_path (shown path.now) stream) (text_at at text.now ++ word.now)) result }
     ensures failed { OnErr result (E.known err.old ≡ true → E.errors err.old < E.errors err.new) }
 {
     let mut lines = Lines::new(err);
-    put_fault(&mut lines, path, at, text, word)
+    put_fault(&mut lines, path, stream, at, text, word)
 }
 
-/// Sends the line of a file that is bad.
-pub(crate) fn tell_bad<E: Target>(err: &mut E, path: &str, at: At, text: &str, word: &str)
-    ensures { IsTold E.Target (file_line path.now (text_at at text.now ++ word.now)) err.old err.new }
+/// Sends the line of a file that is bad, or of the stream of this number in it: 0 is the first, which is not named.
+pub(crate) fn tell_bad<E: Target>(
+    err: &mut E,
+    path: &str,
+    stream: u64,
+    at: At,
+    text: &str,
+    word: &str,
+)
+    ensures { IsTold E.Target (fault_line (stream_path (shown path.now) stream) (text_at at text.now ++ word.now))
+        err.old err.new }
 {
     // If it cannot be written, there is no one left to report it to.
-    let _ = write_fault(err, path, at, text, word);
+    let _ = write_fault(err, path, stream, at, text, word);
 }
 
 /// Prints the line of a file. Returns false if standard output fails.
@@ -185,6 +217,7 @@ pub(crate) fn report<O: Target, E: Target>(
             tell_bad(
                 err,
                 path,
+                flaw.stream,
                 At::Place(flaw.fault.at),
                 flaw.fault.why.as_str(),
                 change.word(),
@@ -192,7 +225,7 @@ pub(crate) fn report<O: Target, E: Target>(
             true
         }
         Finding::Unopened => {
-            tell_bad(err, path, At::Whole, "cannot be opened", change.word());
+            tell_bad(err, path, 0, At::Whole, "cannot be opened", change.word());
             true
         }
     }

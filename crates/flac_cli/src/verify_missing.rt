@@ -167,7 +167,7 @@ fn tell_missing<S: Shelf, E: Target>(alloc: Global, shelf: &mut S, err: &mut E)
 {
     match survey(alloc, shelf) {
         Ok(text) => tell_all(err, &text),
-        Err(unlisted) => tell_bad(err, shelf.path(), At::Whole, unlisted.text(), ""),
+        Err(unlisted) => tell_bad(err, shelf.path(), 0, At::Whole, unlisted.text(), ""),
     }
 }
 

@@ -5,10 +5,10 @@ ghost use Rattle.flac_json.specs.Json.{number, text, truth};
 ghost use Rattle.flac_report.specs.Objects.{valued, counted};
 ghost use Rattle.flac_report.specs.Entries.{container_member, digest_member, subset_member, id3_member};
 ghost use Rattle.flac_cli.specs.Objects.{member_of};
-ghost use Rattle.flac_cli.specs.Reported.{container_in, rate_of, channels_of, depth_of, digest_of, subset_of, index_of, name_of};
+ghost use Rattle.flac_cli.specs.Reported.{container_in, rate_of, channels_of, depth_of, several, number_of_stream, subset_of, index_of, name_of};
 ghost use Rattle.flac_cli.specs.declared.verify.Finding.TheVariants.{Good, Bad, Unopened};
 ghost use Rattle.flac_cli.specs.inner.Objects.{given_member};
-ghost use Rattle.flac_cli.specs.inner.Reported.{digest_in, EntrySent, entry_text};
+ghost use Rattle.flac_cli.specs.inner.Reported.{EntrySent, entry_text};
 ghost use Rattle.flac_cli.specs.inner.Verifying.{IsEntered};
 
 use crate::json::{Member, Value, write_object};
@@ -93,28 +93,37 @@ fn depth_of(info: Option<StreamInfo>) -> Option<u64>
     }
 }
 
-/// The digest of STREAMINFO, zeros if there is none.
-fn digest_of(info: Option<StreamInfo>) -> [u8; 16]
-    ensures { result ≡ digest_in info }
+/// The member of the digest, if it is stated.
+fn md5_member(digest: &Option<[u8; 16]>) -> Option<Member<'_>>
+    ensures { given_member result ≡ digest_member digest.now }
 {
-    match info {
-        Some(info) => info.digest(),
-        None => [0; 16],
+    match digest {
+        Some(digest) => Some(Member {
+            name: "md5",
+            value: Value::Digits(digest),
+        }),
+        None => None,
     }
 }
 
-/// The member of the digest, if it is stated.
-fn md5_member<'a>(facts: &Facts, digest: &'a [u8; 16]) -> Option<Member<'a>>
-    requires { digest.now ≡ digest_in facts.now.info }
-    ensures { given_member result ≡ digest_member (digest_of facts.now.info) }
+/// How many streams there are, if there is more than one.
+fn several(streams: u64) -> Option<u64>
+    ensures { result ≡ several streams }
 {
-    if facts.lacks_digest() {
+    if streams > 1 {
+        return Some(streams);
+    }
+    None
+}
+
+/// Which stream it is, counted from 1, if it is not the first.
+fn number_of_stream(stream: u64) -> Option<u64>
+    ensures { result ≡ number_of_stream stream }
+{
+    if stream == 0 {
         return None;
     }
-    Some(Member {
-        name: "md5",
-        value: Value::Digits(digest),
-    })
+    Some(stream.saturating_add(1))
 }
 
 /// The member of the streamable subset, if it was looked for.
@@ -164,7 +173,7 @@ fn path_member(path: &str) -> Member<'_>
 fn write_good<P: Target>(report: &mut P, entry: &Entry<'_>, facts: &Facts) -> Result<(), Why>
     ensures { EntrySent P.Target entry.now (Good facts.now) report.old report.new result }
 {
-    let digest = digest_of(facts.info);
+    let digest = facts.digest();
     let members = [
         text_member("status", b"ok"),
         container_member(facts.is_ogg),
@@ -176,10 +185,11 @@ fn write_good<P: Target>(report: &mut P, entry: &Entry<'_>, facts: &Facts) -> Re
         counted_member("depth", depth_of(facts.info)),
         counted_member("frames", Some(facts.counts.frames)),
         counted_member("samples", Some(facts.counts.samples)),
-        md5_member(facts, &digest),
-        truth_member("md5_checked", !facts.lacks_digest()),
+        md5_member(&digest),
+        truth_member("md5_checked", !facts.no_digest),
         subset_member(entry.is_sought, facts.outside),
         id3_member(entry.tagged),
+        counted_member("streams", several(facts.streams)),
     ];
     write_object(report, path_member(entry.path), &members)
 }
@@ -210,7 +220,11 @@ fn name_of(why: Why) -> &'static [u8]
 fn write_bad<P: Target>(report: &mut P, entry: &Entry<'_>, flaw: Flaw) -> Result<(), Why>
     ensures { EntrySent P.Target entry.now (Bad flaw) report.old report.new result }
 {
-    let Flaw { fault, samples } = flaw;
+    let Flaw {
+        stream,
+        fault,
+        samples,
+    } = flaw;
     let members = [
         text_member("status", b"bad"),
         counted_member("bytes", entry.stamp.bytes),
@@ -221,6 +235,7 @@ fn write_bad<P: Target>(report: &mut P, entry: &Entry<'_>, flaw: Flaw) -> Result
         counted_member("error", Some(u64::from(fault.why.number()))),
         text_member("name", name_of(fault.why)),
         counted_member("sample", Some(samples)),
+        counted_member("stream", number_of_stream(stream)),
     ];
     write_object(report, path_member(entry.path), &members)
 }

@@ -23,7 +23,7 @@ abbrev pub stamp_then : Stamp → List (Option Member) → List (Option Member)
 stamp_then s ms = counted (codes "bytes") s.bytes ∷ counted (codes "modified") s.modified ∷ counted (codes "nanoseconds") s.nanoseconds ∷ ms
 
 abbrev after_audio : GoodFile → List (Option Member)
-after_audio g = valued (codes "md5_checked") (truth g.checked) ∷ subset_member g.subset ∷ id3_member g.id3 ∷ []
+after_audio g = valued (codes "md5_checked") (truth g.checked) ∷ subset_member g.subset ∷ id3_member g.id3 ∷ counted (codes "streams") g.streams ∷ []
 
 subset_differs : (front : List ℕ) (s : Option Bool) → ((rest : List ℕ) → begins front (opening (codes "subset") ++ rest) ≡ false) → Differs front (subset_member s)
 subset_differs front None d = tt
@@ -54,6 +54,8 @@ record NoneOf (front : List ℕ) : Type 0 where
   error : (rest : List ℕ) → begins front (opening (codes "error") ++ rest) ≡ false
   name : (rest : List ℕ) → begins front (opening (codes "name") ++ rest) ≡ false
   sample : (rest : List ℕ) → begins front (opening (codes "sample") ++ rest) ≡ false
+  streams : (rest : List ℕ) → begins front (opening (codes "streams") ++ rest) ≡ false
+  stream : (rest : List ℕ) → begins front (opening (codes "stream") ++ rest) ≡ false
 
 found_differ : (front : List ℕ) (f : Found) → NoneOf front → AllDiffer front (found_members f)
 found_differ front (good g) n = (
@@ -62,21 +64,21 @@ found_differ front (good g) n = (
     counted_differs front (codes "channels") g.channels n.channels,
     (
       counted_differs front (codes "depth") g.depth n.depth,
-      (n.frames, (n.samples, (digest_differs front g.digest n.md5, (n.checked, (subset_differs front g.subset n.subset, (id3_differs front g.id3 n.id3, n.end)))))),
+      (n.frames, (n.samples, (digest_differs front g.digest n.md5, (n.checked, (subset_differs front g.subset n.subset, (id3_differs front g.id3 n.id3, (counted_differs front (codes "streams") g.streams n.streams, n.end))))))),
     ),
   ),
 )
-found_differ front (bad b) n = (n.place, (counted_differs front (codes "index") b.index n.index, (n.error, (n.name, (counted_differs front (codes "sample") b.sample n.sample, n.end)))))
+found_differ front (bad b) n = (n.place, (counted_differs front (codes "index") b.index n.index, (n.error, (n.name, (counted_differs front (codes "sample") b.sample n.sample, (counted_differs front (codes "stream") b.stream n.stream, n.end))))))
 found_differ front unopened n = n.end
 
 bytes_alone : NoneOf (opening (codes "bytes"))
-bytes_alone = record { end = refl; rate = λ r. refl; channels = λ r. refl; depth = λ r. refl; frames = λ r. refl; samples = λ r. refl; md5 = λ r. refl; checked = λ r. refl; subset = λ r. refl; id3 = λ r. refl; place = λ r. refl; index = λ r. refl; error = λ r. refl; name = λ r. refl; sample = λ r. refl }
+bytes_alone = record { end = refl; rate = λ r. refl; channels = λ r. refl; depth = λ r. refl; frames = λ r. refl; samples = λ r. refl; md5 = λ r. refl; checked = λ r. refl; subset = λ r. refl; id3 = λ r. refl; place = λ r. refl; index = λ r. refl; error = λ r. refl; name = λ r. refl; sample = λ r. refl; streams = λ r. refl; stream = λ r. refl }
 
 modified_alone : NoneOf (opening (codes "modified"))
-modified_alone = record { end = refl; rate = λ r. refl; channels = λ r. refl; depth = λ r. refl; frames = λ r. refl; samples = λ r. refl; md5 = λ r. refl; checked = λ r. refl; subset = λ r. refl; id3 = λ r. refl; place = λ r. refl; index = λ r. refl; error = λ r. refl; name = λ r. refl; sample = λ r. refl }
+modified_alone = record { end = refl; rate = λ r. refl; channels = λ r. refl; depth = λ r. refl; frames = λ r. refl; samples = λ r. refl; md5 = λ r. refl; checked = λ r. refl; subset = λ r. refl; id3 = λ r. refl; place = λ r. refl; index = λ r. refl; error = λ r. refl; name = λ r. refl; sample = λ r. refl; streams = λ r. refl; stream = λ r. refl }
 
 nanoseconds_alone : NoneOf (opening (codes "nanoseconds"))
-nanoseconds_alone = record { end = refl; rate = λ r. refl; channels = λ r. refl; depth = λ r. refl; frames = λ r. refl; samples = λ r. refl; md5 = λ r. refl; checked = λ r. refl; subset = λ r. refl; id3 = λ r. refl; place = λ r. refl; index = λ r. refl; error = λ r. refl; name = λ r. refl; sample = λ r. refl }
+nanoseconds_alone = record { end = refl; rate = λ r. refl; channels = λ r. refl; depth = λ r. refl; frames = λ r. refl; samples = λ r. refl; md5 = λ r. refl; checked = λ r. refl; subset = λ r. refl; id3 = λ r. refl; place = λ r. refl; index = λ r. refl; error = λ r. refl; name = λ r. refl; sample = λ r. refl; streams = λ r. refl; stream = λ r. refl }
 
 -- ---- the size and the time
 
@@ -127,7 +129,7 @@ digest_read g (Some d) ms other fits =
     ap (digested (audio_with g None)) same
 
 no_digest : (g : GoodFile) → begins (codes ",\"md5\":\"") (tail_text (after_audio g)) ≡ false
-no_digest g = none_begins (codes ",\"md5\":\"") (after_audio g) ((λ r. refl), (subset_differs (codes ",\"md5\":\"") g.subset (λ r. refl), (id3_differs (codes ",\"md5\":\"") g.id3 (λ r. refl), refl)))
+no_digest g = none_begins (codes ",\"md5\":\"") (after_audio g) ((λ r. refl), (subset_differs (codes ",\"md5\":\"") g.subset (λ r. refl), (id3_differs (codes ",\"md5\":\"") g.id3 (λ r. refl), (counted_differs (codes ",\"md5\":\"") (codes "streams") g.streams (λ r. refl), refl))))
 
 -- the members of a good file, the first of them left out one after another
 abbrev at_digest : GoodFile → List (Option Member)
@@ -155,7 +157,7 @@ audio_read g fits =
           (λ r. refl),
           (
             (λ r. refl),
-            (digest_differs (opening (codes "rate")) g.digest (λ r. refl), ((λ r. refl), (subset_differs (opening (codes "rate")) g.subset (λ r. refl), (id3_differs (opening (codes "rate")) g.id3 (λ r. refl), refl)))),
+            (digest_differs (opening (codes "rate")) g.digest (λ r. refl), ((λ r. refl), (subset_differs (opening (codes "rate")) g.subset (λ r. refl), (id3_differs (opening (codes "rate")) g.id3 (λ r. refl), (counted_differs (opening (codes "rate")) (codes "streams") g.streams (λ r. refl), refl))))),
           ),
         ),
       ),
@@ -166,16 +168,16 @@ audio_read g fits =
         (λ r. refl),
         (
           (λ r. refl),
-          (digest_differs (opening (codes "channels")) g.digest (λ r. refl), ((λ r. refl), (subset_differs (opening (codes "channels")) g.subset (λ r. refl), (id3_differs (opening (codes "channels")) g.id3 (λ r. refl), refl)))),
+          (digest_differs (opening (codes "channels")) g.digest (λ r. refl), ((λ r. refl), (subset_differs (opening (codes "channels")) g.subset (λ r. refl), (id3_differs (opening (codes "channels")) g.id3 (λ r. refl), (counted_differs (opening (codes "channels")) (codes "streams") g.streams (λ r. refl), refl))))),
         ),
       ),
     ) fits.channels in
     let depth = counted_read (codes "depth") g.depth (at_frames g) (λ r. refl)
-    ((λ r. refl), ((λ r. refl), (digest_differs (opening (codes "depth")) g.digest (λ r. refl), ((λ r. refl), (subset_differs (opening (codes "depth")) g.subset (λ r. refl), (id3_differs (opening (codes "depth")) g.id3 (λ r. refl), refl)))))) fits.depth in
+    ((λ r. refl), ((λ r. refl), (digest_differs (opening (codes "depth")) g.digest (λ r. refl), ((λ r. refl), (subset_differs (opening (codes "depth")) g.subset (λ r. refl), (id3_differs (opening (codes "depth")) g.id3 (λ r. refl), (counted_differs (opening (codes "depth")) (codes "streams") g.streams (λ r. refl), refl))))))) fits.depth in
     let frames = counted_read (codes "frames") (Some g.frames) (at_samples g) (λ r. refl)
-    ((λ r. refl), (digest_differs (opening (codes "frames")) g.digest (λ r. refl), ((λ r. refl), (subset_differs (opening (codes "frames")) g.subset (λ r. refl), (id3_differs (opening (codes "frames")) g.id3 (λ r. refl), refl))))) fits.frames in
+    ((λ r. refl), (digest_differs (opening (codes "frames")) g.digest (λ r. refl), ((λ r. refl), (subset_differs (opening (codes "frames")) g.subset (λ r. refl), (id3_differs (opening (codes "frames")) g.id3 (λ r. refl), (counted_differs (opening (codes "frames")) (codes "streams") g.streams (λ r. refl), refl)))))) fits.frames in
     let samples = counted_read (codes "samples") (Some g.samples) (at_digest g) (λ r. refl)
-    (digest_differs (opening (codes "samples")) g.digest (λ r. refl), ((λ r. refl), (subset_differs (opening (codes "samples")) g.subset (λ r. refl), (id3_differs (opening (codes "samples")) g.id3 (λ r. refl), refl)))) fits.samples in
+    (digest_differs (opening (codes "samples")) g.digest (λ r. refl), ((λ r. refl), (subset_differs (opening (codes "samples")) g.subset (λ r. refl), (id3_differs (opening (codes "samples")) g.id3 (λ r. refl), (counted_differs (opening (codes "samples")) (codes "streams") g.streams (λ r. refl), refl))))) fits.samples in
     sym (audio_is (tail_text (found_members (good g))) (tail_text (at_channels g)) (tail_text (at_depth g)) (tail_text (at_frames g)) (tail_text (at_samples g)) (tail_text (at_digest g))
     g.rate g.channels g.depth (Some g.samples) g.samples (Some (audio_with g g.digest))
     (sym rate.value) (sym rate.after) (sym channels.value) (sym channels.after) (sym depth.value) (sym depth.after) (sym frames.after) (sym samples.value) (sym samples.after) refl
@@ -191,10 +193,10 @@ container_read (Some native) ms no_native no_ogg = refl
 container_read (Some ogg) ms no_native no_ogg = refl
 
 native_alone : NoneOf (codes ",\"container\":\"native\"")
-native_alone = record { end = refl; rate = λ r. refl; channels = λ r. refl; depth = λ r. refl; frames = λ r. refl; samples = λ r. refl; md5 = λ r. refl; checked = λ r. refl; subset = λ r. refl; id3 = λ r. refl; place = λ r. refl; index = λ r. refl; error = λ r. refl; name = λ r. refl; sample = λ r. refl }
+native_alone = record { end = refl; rate = λ r. refl; channels = λ r. refl; depth = λ r. refl; frames = λ r. refl; samples = λ r. refl; md5 = λ r. refl; checked = λ r. refl; subset = λ r. refl; id3 = λ r. refl; place = λ r. refl; index = λ r. refl; error = λ r. refl; name = λ r. refl; sample = λ r. refl; streams = λ r. refl; stream = λ r. refl }
 
 ogg_alone : NoneOf (codes ",\"container\":\"ogg\"")
-ogg_alone = record { end = refl; rate = λ r. refl; channels = λ r. refl; depth = λ r. refl; frames = λ r. refl; samples = λ r. refl; md5 = λ r. refl; checked = λ r. refl; subset = λ r. refl; id3 = λ r. refl; place = λ r. refl; index = λ r. refl; error = λ r. refl; name = λ r. refl; sample = λ r. refl }
+ogg_alone = record { end = refl; rate = λ r. refl; channels = λ r. refl; depth = λ r. refl; frames = λ r. refl; samples = λ r. refl; md5 = λ r. refl; checked = λ r. refl; subset = λ r. refl; id3 = λ r. refl; place = λ r. refl; index = λ r. refl; error = λ r. refl; name = λ r. refl; sample = λ r. refl; streams = λ r. refl; stream = λ r. refl }
 
 stamp_differs : (front : List ℕ) (s : Stamp) (f : Found) → ((rest : List ℕ) → begins front (opening (codes "bytes") ++ rest) ≡ false) → ((rest : List ℕ) → begins front (opening (codes "modified") ++ rest) ≡ false)
     → ((rest : List ℕ) → begins front (opening (codes "nanoseconds") ++ rest) ≡ false) → NoneOf front → begins front (tail_text (stamp_then s (found_members f))) ≡ false

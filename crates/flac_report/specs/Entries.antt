@@ -17,7 +17,9 @@ pub data Container : Type 0 where
 -- hertz, the number of channels, the bits per sample, and the MD5 of the samples, if it is stated. `checked`: the
 -- samples were compared with it. `subset`: whether the stream is in the streamable subset (section 7), if that was
 -- looked for. `id3`: whether a tag of another program stands before or after the stream. A report of an earlier version
--- has neither this nor the container.
+-- has neither this nor the container. `streams`: how many Ogg streams there are one after another (RFC 3533, section 4),
+-- if there is more than one. Then the format is that of the first, no digest is stated, `checked` says that the samples
+-- of each were compared with its own, and `subset` that each is in it.
 pub record GoodFile : Type 0 where
   pub container : Option Container
   pub rate : Option ℕ
@@ -29,16 +31,18 @@ pub record GoodFile : Type 0 where
   pub checked : Bool
   pub subset : Option Bool
   pub id3 : Option Bool
+  pub streams : Option ℕ
 
 -- Where and why a file is refused: the name of the place, the number of the block, frame or page, the number and the
 -- name of the error, and the number of the first sample that was not decoded, which a report of an earlier version does
--- not have.
+-- not have. `stream`: which of several streams it is, counted from 1, if it is not the first; its places are its own.
 pub record BadFile : Type 0 where
   pub place : List ℕ
   pub index : Option ℕ
   pub error : ℕ
   pub name : List ℕ
   pub sample : Option ℕ
+  pub stream : Option ℕ
 
 pub data Found : Type 0 where
   good : GoodFile → Found
@@ -88,10 +92,11 @@ abbrev pub found_members : Found → List (Option Member)
 found_members (good g) =
     counted (codes "rate") g.rate ∷ counted (codes "channels") g.channels ∷ counted (codes "depth") g.depth
     ∷ valued (codes "frames") (number g.frames) ∷ valued (codes "samples") (number g.samples)
-    ∷ digest_member g.digest ∷ valued (codes "md5_checked") (truth g.checked) ∷ subset_member g.subset ∷ id3_member g.id3 ∷ []
+    ∷ digest_member g.digest ∷ valued (codes "md5_checked") (truth g.checked) ∷ subset_member g.subset ∷ id3_member g.id3 ∷ counted (codes "streams") g.streams ∷ []
 found_members (bad b) =
     valued (codes "place") (text b.place) ∷ counted (codes "index") b.index
-    ∷ valued (codes "error") (number b.error) ∷ valued (codes "name") (text b.name) ∷ counted (codes "sample") b.sample ∷ []
+    ∷ valued (codes "error") (number b.error) ∷ valued (codes "name") (text b.name) ∷ counted (codes "sample") b.sample
+    ∷ counted (codes "stream") b.stream ∷ []
 found_members unopened = []
 
 -- the path, what was found and in which container, the size and the time

@@ -489,6 +489,70 @@ fn what_is_missing_is_listed(rt: HostRuntime) -> Result<(), Fail> {
     Ok(())
 }
 
+/// Pages of several Ogg streams. The first has one sample of two channels; the second here states neither its digest nor
+/// its number of samples, and the third the same stream again.
+const THREE: &str =
+    "MAPPING COMMENT FRAME ZEROS_MAPPING ZEROS_0 ZEROS_1 ZEROS_2 ZEROS_3 MAPPING COMMENT FRAME";
+
+// The second stream of two files is outside the subset, one lacks its last page, one begins no page.
+#[test]
+fn streams_are_counted_together(rt: HostRuntime) -> Result<(), Fail> {
+    let alloc = rt.alloc();
+    let two = pages_of(alloc, "MAPPING COMMENT FRAME MAPPING COMMENT FRAME")?;
+    let three = pages_of(alloc, THREE)?;
+    let outside = pages_of(alloc, "MAPPING COMMENT FRAME LAX_MAPPING COMMENT LAX_PAGE")?;
+    let open = pages_of(alloc, "MAPPING COMMENT FRAME MAPPING COMMENT")?;
+    let other = pages_of(alloc, "MAPPING COMMENT FRAME 00")?;
+    let mut damaged = pages_of(alloc, BAD_PAGES)?;
+    damaged.extend_from_slice(&two)?;
+    let files = [
+        file("1.oga", &two),
+        file("2.oga", &three),
+        file("3.oga", &outside),
+        pipe("4.oga", &outside),
+        file("5\n.oga", &open),
+        file("6.oga", &other),
+        file("7.oga", &damaged),
+    ];
+    let out = "ok 1.oga: frames 2 samples 2 streams 2\n\
+        ok 2.oga: frames 6 samples 66 streams 3 no-md5 no-total\n\
+        ok 3.oga: frames 2 samples 17 streams 2 outside-subset\n\
+        ok 4.oga: frames 2 samples 17 streams 2\n\
+        verified 7 ok 4 bad 3\n";
+    let err = "flac: 5\\x0a.oga: stream 2: end: 36 NoEndPage\n\
+        flac: 6.oga: stream 2: page 0: 31 BadPage\n\
+        flac: 7.oga: page 2: 32 PageCheck\n";
+    assert!(rt; is_verified(alloc, &files, PLAIN, (1, out, err)));
+    let err = "flac: 3.oga: stream 2: page 2: 14 NotSubset\n";
+    let out = "ok 1.oga: frames 2 samples 2 streams 2\nverified 2 ok 1 bad 1\n";
+    let files = [file("1.oga", &two), file("3.oga", &outside)];
+    assert!(rt; is_verified(alloc, &files, SUBSET, (1, out, err)));
+    Ok(())
+}
+
+// The format is that of the first stream, and no digest is that of all; a number after the first fault's place.
+#[test]
+fn streams_are_in_the_report(rt: HostRuntime) -> Result<(), Fail> {
+    let alloc = rt.alloc();
+    let two = pages_of(alloc, "MAPPING COMMENT FRAME MAPPING COMMENT FRAME")?;
+    let three = pages_of(alloc, THREE)?;
+    let open = pages_of(alloc, "MAPPING COMMENT FRAME MAPPING COMMENT")?;
+    let files = [
+        pipe("1.oga", &two),
+        file("2.oga", &three),
+        file("3.oga", &open),
+    ];
+    let due =
+        "{\"path\":\"1.oga\",\"status\":\"ok\",\"container\":\"ogg\",\"rate\":44100,\"channels\":2,\"depth\":16,\
+        \"frames\":2,\"samples\":2,\"md5_checked\":true,\"streams\":2}\n\
+        {\"path\":\"2.oga\",\"status\":\"ok\",\"container\":\"ogg\",\"rate\":44100,\"channels\":2,\"depth\":16,\
+        \"frames\":6,\"samples\":66,\"md5_checked\":false,\"subset\":true,\"streams\":3}\n\
+        {\"path\":\"3.oga\",\"status\":\"bad\",\"place\":\"end\",\"error\":36,\"name\":\"NoEndPage\",\
+        \"sample\":1,\"stream\":2}\n";
+    assert!(rt; is_reported(alloc, &files, due));
+    Ok(())
+}
+
 /// These bytes between an ID3v2 tag of 10 bytes and an ID3v1 tag of 128.
 fn tagged(alloc: Global, bytes: &[u8]) -> Result<Vec<u8>, AllocError> {
     let mut all = Vec::new(alloc);

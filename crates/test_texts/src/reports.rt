@@ -15,6 +15,10 @@ const NATIVE: &[u8] =
 const OGG: &[u8] =
     b"{\"path\":\"\xc3\xa4.flac\",\"status\":\"ok\",\"container\":\"ogg\",\"frames\":0,\"samples\":18446744073709551615,\"md5_checked\":false,\"id3\":true}\n";
 
+/// Of several streams.
+const STREAMS: &[u8] =
+    b"{\"path\":\"\xc3\xa4.flac\",\"status\":\"ok\",\"container\":\"ogg\",\"frames\":0,\"samples\":18446744073709551615,\"md5_checked\":true,\"streams\":2}\n";
+
 const SHORT: &[u8] =
     b"{\"path\":\"\xc3\xa4.flac\",\"status\":\"ok\",\"frames\":0,\"samples\":18446744073709551615,\"md5_checked\":false}\n";
 
@@ -23,6 +27,9 @@ const BAD: &[u8] =
 
 const SAMPLED: &[u8] =
     b"{\"path\":\"x\",\"status\":\"bad\",\"bytes\":5,\"modified\":6,\"place\":\"frame\",\"index\":3,\"error\":26,\"name\":\"FrameCheck\",\"sample\":12288}\n";
+
+const NUMBERED: &[u8] =
+    b"{\"path\":\"x\",\"status\":\"bad\",\"bytes\":5,\"modified\":6,\"place\":\"page\",\"index\":3,\"error\":32,\"name\":\"PageCheck\",\"sample\":12288,\"stream\":2}\n";
 
 const UNOPENED: &[u8] = b"{\"path\":\"\",\"status\":\"unopened\"}\n";
 
@@ -104,6 +111,7 @@ fn little_known(rt: HostRuntime) -> Result<(), Fail> {
     };
     assert!(rt; is_read(rt.alloc(), SHORT, "\u{e4}.flac", &past)?);
     assert!(rt; is_read(rt.alloc(), OGG, "\u{e4}.flac", &past)?);
+    assert!(rt; is_read(rt.alloc(), STREAMS, "\u{e4}.flac", &past)?);
     Ok(())
 }
 
@@ -124,6 +132,7 @@ fn not_good(rt: HostRuntime) -> Result<(), Fail> {
     };
     assert!(rt; is_read(rt.alloc(), BAD, "x", &bad)?);
     assert!(rt; is_read(rt.alloc(), SAMPLED, "x", &bad)?);
+    assert!(rt; is_read(rt.alloc(), NUMBERED, "x", &bad)?);
     assert!(rt; is_read(rt.alloc(), UNOPENED, "", &unopened)?);
     assert!(rt; is_read(rt.alloc(), ESCAPED, "a\"b\\c\n\u{1f}\u{7f}.flac", &unopened)?);
     assert!(rt; is_path(rt.alloc(), ESCAPED, "a\"b\\c\n\u{1f}\u{7f}.flac")?);

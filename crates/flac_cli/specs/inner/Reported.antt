@@ -1,16 +1,10 @@
 -- For proofs of the lines of a report.
-use Rattle.std.specs.Prelude.{◌≡◌, ◌≤◌, ◌<◌, ℕ, true, List, ◌++◌, replicate, Option, Some, None, Result, OnOk, OnErr}
+use Rattle.std.specs.Prelude.{◌≡◌, ◌≤◌, ◌<◌, ℕ, true, List, ◌++◌, Result, OnOk, OnErr}
 use Rattle.flac_bits.specs.declared.target.Target as target
-use Rattle.flac_info.specs.Info.{Info}
 use Rattle.flac_report.specs.Entries.{line_of}
 use Rattle.flac_cli.specs.Reported.{entry_of}
 use Rattle.flac_cli.specs.declared.verify.Finding.{Finding}
 use Rattle.flac_cli.specs.declared.verify_report.Entry.{Entry}
-
--- the digest of STREAMINFO, zeros if there is none
-abbrev pub digest_in : Option Info → List ℕ
-digest_in None = replicate 16 0
-digest_in (Some info) = info.digest
 
 -- the line of a file that was found to be this
 abbrev pub entry_text : Entry → Finding → List ℕ

@@ -7,7 +7,6 @@ use Rattle.flac_header.specs.declared.subset.Profile.TheVariants.{Lax}
 use Rattle.flac_shelf.specs.Listed.{Contents, Listed}
 use Rattle.flac_cli.specs.Changes.{is_kept}
 use Rattle.flac_cli.specs.Counted.{printed}
-use Rattle.flac_cli.specs.Outcomes.{Fits, Reads, IsOutOfMemory}
 use Rattle.flac_cli.specs.Reported.{report_lines}
 use Rattle.flac_cli.specs.Missing.{IsMissingIf, AreMissing, told_lines}
 use Rattle.flac_cli.specs.Verified.{IsStreamOf, IsRefusedAs, IsFound, AreFound, ok_lines, last_line, good_count, bad_count, all_kept}
@@ -51,23 +50,22 @@ pub record Stays {S : Type 0} (known : S → Bool) (current : S → Listed) (fil
   pub left : gone new ≡ gone old
   pub room : most new ≡ most old
 
--- The input is refused so, unless memory ran out.
-pub record IsFlaw (profile : Profile) (of : Contents) (flaw : Flaw) : Type 0 where
-  pub fits : Fits IsOutOfMemory (Reads profile of.bytes of.after) (Some (Some flaw.fault.at, flaw.fault.why))
-  pub samples : flaw.fault.why ≢ why.Memory → IsRefusedAs profile of flaw
+-- The bytes are refused so, unless memory ran out.
+abbrev pub IsFlaw : Profile → (bytes : List ℕ) → Flaw → Type 0
+IsFlaw profile bytes flaw = flaw.fault.why ≢ why.Memory → IsRefusedAs profile bytes flaw
 
 -- What a reading in this profile found: a stream, or a fault, which is reported as the input is.
 abbrev pub IsReading : Profile → Option Contents → Finding → Type 0
 IsReading profile None Unopened = Unit {0}
 IsReading profile (Some of) (Good facts) = IsStreamOf profile of facts × (facts.outside ≡ false)
-IsReading profile (Some of) (Bad flaw) = IsFlaw profile of flaw
+IsReading profile (Some of) (Bad flaw) = IsFlaw profile of.bytes flaw
 IsReading profile contents finding = ⊥
 
 -- the same of a file that is not in the streamable subset
 abbrev pub IsReadingOutside : Option Contents → Finding → Type 0
 IsReadingOutside None Unopened = Unit {0}
 IsReadingOutside (Some of) (Good facts) = IsStreamOf Lax of facts × (facts.outside ≡ true)
-IsReadingOutside (Some of) (Bad flaw) = IsFlaw Lax of flaw
+IsReadingOutside (Some of) (Bad flaw) = IsFlaw Lax of.bytes flaw
 IsReadingOutside contents finding = ⊥
 
 -- what a file was found to be that can be read again

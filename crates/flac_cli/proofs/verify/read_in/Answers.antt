@@ -27,7 +27,7 @@ returns-in-Err g c =
           let calm = still opened closed same in
           let o = got.opened known in
           let tells = tells_opened _ o (back.unfailed (got.known known) calm.1) in
-          bad_reading _ _ _ o (c.in-Err.ensures.outcome tells) (c.in-Err.ensures.flaw tells);
+          bad_reading _ _ _ o (c.in-Err.ensures.flaw tells);
       stays = stays_then opened closed;
     }
 

@@ -1,24 +1,28 @@
-use Rattle.std.proofs.Common.{Ok, Err, refl}
-use Rattle.flac_cli.proofs.Reported.{decoded_fits}
-use Rattle.flac_cli.proofs.Verifying.{described}
+use Rattle.std.proofs.Common.{◌≡◌, ℕ, List, [], ◌∷◌, ap, refl}
+use Rattle.flac_chain.proofs.Links.{at_ok, if_err}
+use Rattle.flac_cli.proofs.Verifying.{described, counted_facts}
 use Rattle.flac_cli.proofs.verify_facts.count_facts.Goals as goal
 
+-- the names of a source that is lent are after the one of the loan
+abbrev lent : List ℕ → List ℕ
+lent [] = []
+lent (n ∷ ns) = ns
+
+pub returns-in-Ok-clause-names : goal.returns-in-Ok-clause-names
+returns-in-Ok-clause-names g c = ap lent c.decode_chain-source.ensures.source_names
+
+pub returns-in-Err-clause-names : goal.returns-in-Err-clause-names
+returns-in-Err-clause-names g c = ap lent c.decode_chain-source.ensures.source_names
+
 pub returns-in-Ok-clause-facts : goal.returns-in-Ok-clause-facts
-returns-in-Ok-clause-facts g c tells =
-    let d = (c.in-Ok.ensures.hands tells.0 refl).done (tells.1, tells.2) refl in
-    let all = described _ d.0 _ d.2 c.none-facts.ensures.counts.0 c.none-facts.ensures.counts.1 c.none-facts.ensures.info in
-    (d.0, d.1, record { frames = all.frames; samples = all.samples; info = all.info })
-
-pub returns-in-Ok-clause-outcome : goal.returns-in-Ok-clause-outcome
-returns-in-Ok-clause-outcome g c tells =
-    decoded_fits c.args.profile (g.R.Source.coming c.args.source.now) (g.R.Source.after c.args.source.now) _ _ _ _ _ (Ok tt) (c.in-Ok.ensures.hands tells.0 refl) (c.in-Ok.ensures.decides tells.0 refl tells.1 tells.2 refl) (tells.1, tells.2) refl
-
-pub returns-in-Err-clause-outcome : goal.returns-in-Err-clause-outcome
-returns-in-Err-clause-outcome g c tells =
-    decoded_fits c.args.profile (g.R.Source.coming c.args.source.now) (g.R.Source.after c.args.source.now) _ _ _ _ _ (Err c.in-Err.fault) (c.in-Err.ensures.hands tells.0 refl) (c.in-Err.ensures.decides tells.0 refl tells.1 tells.2 refl) (tells.1, tells.2) refl
+returns-in-Ok-clause-facts g c = λ tells.
+    let read = c.decode_chain-source in
+    let d = at_ok read.result.outcome c.in-Ok.field-0 c.in-Ok.is (read.ensures.takes (λ old x new h. (λ k. refl, refl)) tells refl) in
+    let all = described c.args.profile _ d.0 c.none-facts.result read.new.sink d.1 d.2 c.none-facts.ensures in
+    (d.0, d.1, record { frames = all.frames; samples = all.samples; info = all.info; streams = all.streams; no_digest = all.no_digest; no_total = all.no_total })
 
 pub returns-in-Err-clause-flaw : goal.returns-in-Err-clause-flaw
-returns-in-Err-clause-flaw g c tells = λ calm.
-    let r = (c.in-Err.ensures.hands tells.0 refl).refused (tells.1, tells.2) c.in-Err.fault.at c.in-Err.fault.why refl calm refl in
-    let all = described _ r.0 _ r.2 c.none-facts.ensures.counts.0 c.none-facts.ensures.counts.1 c.none-facts.ensures.info in
-    (r.0, r.1, all.samples)
+returns-in-Err-clause-flaw g c = λ tells calm.
+    let read = c.decode_chain-source in
+    let d = if_err _ read.result.outcome _ c.in-Err.is (read.ensures.refused (λ old x new h. (λ k. refl, refl)) tells refl refl) calm in
+    (d.0, d.1, d.2, d.3, (counted_facts c.none-facts.result _ read.new.sink d.4 c.none-facts.ensures).1)

@@ -2,7 +2,7 @@ use Rattle.std.proofs.Common.{rules, ◌++◌, ℕ, Option, Result, Ok, ap, sym,
 use Rattle.flac_native.specs.declared.fault.Fault.{Fault}
 use Rattle.flac_ogg.specs.Fronts.{front_bytes}
 use Rattle.flac_ogg.proofs.FirstByte.{first_of}
-use Rattle.flac_cli.proofs.Containers.{facts_moved, flaw_moved, outcome_moved, container_by, rose}
+use Rattle.flac_cli.proofs.Containers.{facts_moved, flaw_moved, container_by, rose}
 use Rattle.flac_cli.proofs.verify_facts.read_facts.Goals as goal
 
 abbrev answer : Option ℕ → Result (Option ℕ) Fault
@@ -12,22 +12,15 @@ pub returns-clause-facts : goal.returns-clause-facts
 returns-clause-facts g c = λ tells.
     let R = g.R.Source in
     let told = c.in-Ok.ensures in
-    facts_moved c.args.profile (R.coming c.args.source.now) (front_bytes c.in-Ok.front ++ R.coming c.pull_front.new.source) (R.after c.args.source.now) (R.after c.pull_front.new.source) (told.bytes tells.0) (sym (told.after tells.0 told.counted.0))
-    c.count_facts-found.result (c.count_facts-found.ensures.facts (told.known tells.0, search (rules, tells.1, told.counted.0), search (rules, tells.2, told.counted.1)))
+    facts_moved c.args.profile (R.coming c.args.source.now) (front_bytes c.in-Ok.front ++ R.coming c.pull_front.new.source) (told.bytes tells.0) c.count_facts-found.result
+    (c.count_facts-found.ensures.facts (told.known tells.0, search (rules, tells.1, told.counted.0), search (rules, tells.2, told.counted.1)))
 
 pub returns-clause-flaw : goal.returns-clause-flaw
 returns-clause-flaw g c = λ tells.
     let R = g.R.Source in
     let told = c.in-Ok.ensures in
-    flaw_moved c.args.profile (R.coming c.args.source.now) (front_bytes c.in-Ok.front ++ R.coming c.pull_front.new.source) (R.after c.args.source.now) (R.after c.pull_front.new.source) (told.bytes tells.0) (sym (told.after tells.0 told.counted.0))
-    c.count_facts-found.result (c.count_facts-found.ensures.flaw (told.known tells.0, search (rules, tells.1, told.counted.0), search (rules, tells.2, told.counted.1)))
-
-pub returns-clause-outcome : goal.returns-clause-outcome
-returns-clause-outcome g c = λ tells.
-    let R = g.R.Source in
-    let told = c.in-Ok.ensures in
-    outcome_moved c.args.profile (R.coming c.args.source.now) (front_bytes c.in-Ok.front ++ R.coming c.pull_front.new.source) (R.after c.args.source.now) (R.after c.pull_front.new.source) (told.bytes tells.0) (sym (told.after tells.0 told.counted.0))
-    c.count_facts-found.result (c.count_facts-found.ensures.outcome (told.known tells.0, search (rules, tells.1, told.counted.0), search (rules, tells.2, told.counted.1)))
+    flaw_moved c.args.profile (R.coming c.args.source.now) (front_bytes c.in-Ok.front ++ R.coming c.pull_front.new.source) (told.bytes tells.0) c.count_facts-found.result
+    (c.count_facts-found.ensures.flaw (told.known tells.0, search (rules, tells.1, told.counted.0), search (rules, tells.2, told.counted.1)))
 
 pub returns-clause-container : goal.returns-clause-container
 returns-clause-container g c = λ tells.
@@ -39,6 +32,3 @@ returns-clause-container g c = λ tells.
 
 pub returns-in-Err-clause-flaw : goal.returns-in-Err-clause-flaw
 returns-in-Err-clause-flaw g c = λ tells. rose _ _ (c.in-Err.ensures.rises tells.0) tells.2
-
-pub returns-in-Err-clause-outcome : goal.returns-in-Err-clause-outcome
-returns-in-Err-clause-outcome g c = λ tells. rose _ _ (c.in-Err.ensures.rises tells.0) tells.2

@@ -20,21 +20,27 @@ returns-in_err-put_counted-2 g c =
     let p = err_from_is_err_and c.from_residual-in_err-put_counted-2.result c.from_residual-in_err-put_counted-2.ensures.1 in
     rw p.1 (adds_lost g.O.Target (lost_then g.O.Target c.in_ok-put_path.ensures (lost_then g.O.Target c.in_ok-put_counted.ensures (lost g.O.Target c.in_err-put_counted-2.ensures))))
 
+pub returns-in_err-put_counted_if : goal.returns-in_err-put_counted_if
+returns-in_err-put_counted_if g c =
+    let p = err_from_is_err_and c.from_residual-in_err-put_counted_if.result c.from_residual-in_err-put_counted_if.ensures.1 in
+    rw p.1 (adds_lost g.O.Target (lost_then g.O.Target c.in_ok-put_path.ensures (lost_then g.O.Target c.in_ok-put_counted.ensures (lost_then g.O.Target c.in_ok-put_counted-2.ensures (lost g.O.Target c.in_err-put_counted_if.ensures)))))
+
 pub returns-in_err-put_words : goal.returns-in_err-put_words
 returns-in_err-put_words g c =
     let p = err_from_is_err_and c.from_residual-in_err-put_words.result c.from_residual-in_err-put_words.ensures.1 in
-    rw p.1 (adds_lost g.O.Target (lost_then g.O.Target c.in_ok-put_path.ensures (lost_then g.O.Target c.in_ok-put_counted.ensures (lost_then g.O.Target c.in_ok-put_counted-2.ensures (lost g.O.Target c.in_err-put_words.ensures)))))
+    let later = lost_then g.O.Target c.in_ok-put_counted-2.ensures (lost_then g.O.Target c.in_ok-put_counted_if.ensures (lost g.O.Target c.in_err-put_words.ensures)) in
+    rw p.1 (adds_lost g.O.Target (lost_then g.O.Target c.in_ok-put_path.ensures (lost_then g.O.Target c.in_ok-put_counted.ensures later)))
 
 pub returns-in_err-put : goal.returns-in_err-put
 returns-in_err-put g c =
     let p = err_from_is_err_and c.from_residual-in_err-put.result c.from_residual-in_err-put.ensures.1 in
-    let later = lost_then g.O.Target c.in_ok-put_counted-2.ensures (lost_then g.O.Target c.in_ok-put_words.ensures (lost g.O.Target c.in_err-put.ensures)) in
+    let later = lost_then g.O.Target c.in_ok-put_counted-2.ensures (lost_then g.O.Target c.in_ok-put_counted_if.ensures (lost_then g.O.Target c.in_ok-put_words.ensures (lost g.O.Target c.in_err-put.ensures))) in
     rw p.1 (adds_lost g.O.Target (lost_then g.O.Target c.in_ok-put_path.ensures (lost_then g.O.Target c.in_ok-put_counted.ensures later)))
 
 pub returns : goal.returns
 returns g c =
     let sent = sent_adds g.O.Target _ c.send.result c.send.ensures.names c.send.ensures.kept c.send.ensures.known c.send.ensures.sent c.send.ensures.failed in
-    let d = adds_then g.O.Target _ c.in_ok-put_words.ensures (adds_then g.O.Target _ c.in_ok-put.ensures sent) in
+    let d = adds_then g.O.Target _ c.in_ok-put_counted_if.ensures (adds_then g.O.Target _ c.in_ok-put_words.ensures (adds_then g.O.Target _ c.in_ok-put.ensures sent)) in
     let a = adds_then g.O.Target _ c.in_ok-put_counted.ensures (adds_then g.O.Target _ c.in_ok-put_counted-2.ensures d) in
     let none : take c.args.lines.now.held c.args.lines.now.bytes ≡ [] = ap (λ n. take n c.args.lines.now.bytes) c.requires ∙ none_taken c.args.lines.now.bytes in
     subst (λ held. Adds g.O.Target (ok_line c.args.path.now c.args.change c.args.tagged c.args.facts.now) c.args.lines.now.target c.send.new.self.target held [] c.send.result) none (adds_then g.O.Target _ c.in_ok-put_path.ensures a)

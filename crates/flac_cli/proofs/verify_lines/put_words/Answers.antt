@@ -32,5 +32,5 @@ returns-in_err-put-4 g c =
 pub returns : goal.returns
 returns g c =
     adds_same g.O.Target _ (adds_then g.O.Target _ c.in_ok-put.ensures (adds_then g.O.Target _ c.in_ok-put-2.ensures (adds_then g.O.Target _ c.in_ok-put-3.ensures (adds_then g.O.Target _ c.in_ok-put-4.ensures c.put-5.ensures))))
-    (five_words _ _ _ _ _ _ _ _ _ _ (c.word_if.ensures ∙ ap (λ b. word_if b (codes " no-md5")) c.lacks_digest.ensures) (c.word_if-2.ensures ∙ ap (λ b. word_if b (codes " no-total")) c.lacks_total.ensures) c.word_if-3.ensures
+    (five_words _ _ _ _ _ _ _ _ _ _ c.word_if.ensures c.word_if-2.ensures c.word_if-3.ensures
     (c.word_if-4.ensures ∙ ap (λ b. word_if b (codes " id3")) c.is_tagged.ensures) c.word.ensures)

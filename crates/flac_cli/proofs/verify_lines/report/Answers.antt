@@ -1,6 +1,9 @@
 use Rattle.std.proofs.Common.{◌∙◌, ◌++◌, ap, sym, codes}
 use Rattle.flac_native.specs.Places.{place_text}
+use Rattle.flac_shelf.specs.Shown.{shown}
+use Rattle.flac_cli.specs.Chains.{stream_path}
 use Rattle.flac_cli.specs.Changes.{word_of}
+use Rattle.flac_cli.specs.Reports.{fault_line}
 use Rattle.flac_cli.specs.Verified.{file_line, ok_part, bad_part}
 use Rattle.flac_cli.proofs.Told.{sent_of, none_sent, none_told, told_same, sent_same}
 use Rattle.flac_cli.proofs.verify_lines.report.Goals as goal
@@ -14,8 +17,9 @@ returns-in-Good g c = record {
 
 pub returns-in-Bad : goal.returns-in-Bad
 returns-in-Bad g c =
-    let word = ap (λ w. file_line c.args.path.now ((place_text c.in-Bad.flaw.fault.at ++ (codes ": " ++ c.as_str.result.now)) ++ w)) c.word.ensures in
-    let text = ap (λ t. file_line c.args.path.now ((place_text c.in-Bad.flaw.fault.at ++ (codes ": " ++ t)) ++ word_of c.args.change)) c.as_str.ensures in
+    let path = stream_path (shown c.args.path.now) c.in-Bad.flaw.stream in
+    let word = ap (λ w. fault_line path ((place_text c.in-Bad.flaw.fault.at ++ (codes ": " ++ c.as_str.result.now)) ++ w)) c.word.ensures in
+    let text = ap (λ t. fault_line path ((place_text c.in-Bad.flaw.fault.at ++ (codes ": " ++ t)) ++ word_of c.args.change)) c.as_str.ensures in
     record {
       out = sent_same g.O.Target (none_sent g.O.Target c.args.out.now) (ap (ok_part c.args.path.now c.args.change c.args.tagged) (sym c.in-Bad.is));
       err = told_same g.E.Target c.tell_bad.ensures (word ∙ text ∙ ap (bad_part c.args.path.now c.args.change) (sym c.in-Bad.is));
