@@ -1,6 +1,6 @@
 //! Reading of the command line.
 
-ghost use Rattle.std.specs.Prelude.{◌≤◌, IfErr, IfSome};
+ghost use Rattle.std.specs.Prelude.{◌≤◌, IfErr};
 
 use crate::commands::matches_of;
 use crate::no_request::{NO_FORMAT, NoRequest, fault_of};
