@@ -207,25 +207,44 @@ impl Rule<'_> {
         }
         let mut old = [0; FRONT];
         let count = read_front(&File::open(rt, path)?, &mut old)?;
-        let mut input = [0; FRONT];
         if self.is_recoding() {
-            // (a pipe has no first bytes to compare)
-            let known = front_of_input(self.input, &mut input).unwrap_or(0);
-            return refused_unless(may_replace_recoded(&input[..known], &old[..count]));
+            self.allows_recoded(&old[..count])
+        } else {
+            self.allows_over(&old[..count])
         }
+    }
+
+    /// Whether a stream that is encoded anew may replace a file that begins so.
+    ///
+    /// # Errors
+    /// `InvalidData` if it may not.
+    fn allows_recoded(&self, old: &[u8]) -> io::Result<bool> {
+        let mut input = [0; FRONT];
+        // (a pipe has no first bytes to compare)
+        let known = front_of_input(self.input, &mut input).unwrap_or(0);
+        refused_unless(may_replace_recoded(&input[..known], old))
+    }
+
+    /// Whether a job that encodes no stream anew may replace a file that begins so.
+    ///
+    /// # Errors
+    /// Those of [`Rule::allows`].
+    fn allows_over(&self, old: &[u8]) -> io::Result<bool> {
         let is_retag = matches!(self.job, Job::Retag { .. });
+        let mut input = [0; FRONT];
         let known = if is_retag {
             front_of_input(self.input, &mut input)?
         } else {
             0
         };
-        if may_replace(self.job, &input[..known], &old[..count]) {
-            return Ok(true);
+        let input = &input[..known];
+        if may_replace(self.job, input, old) {
+            Ok(true)
+        } else if is_retag && !begins_native(input) {
+            Ok(false)
+        } else {
+            Err(io::Error::from(ErrorKind::AlreadyExists))
         }
-        if is_retag && !begins_native(&input[..known]) {
-            return Ok(false);
-        }
-        Err(io::Error::from(ErrorKind::AlreadyExists))
     }
 }
 
@@ -303,21 +322,48 @@ pub(crate) fn create(
     } else {
         path
     };
+    refuse_paths(rt, path, input, list)?;
+    if path == STANDARD_OUTPUT {
+        return standard_output(rt, input, list);
+    }
+    match is_vacant(rt, path) {
+        Ok(true) => create_new(rt, path, &rule),
+        Ok(false) => create_over(rt, path, input, list, rule),
+        Err(error) => Err(error),
+    }
+}
+
+/// Refuses a path that leads to a file that the job reads, and the empty one.
+///
+/// # Errors
+/// `AlreadyExists` if it does, `NotFound` if it is empty.
+fn refuse_paths(
+    rt: &HostRuntime,
+    path: &str,
+    input: &Known<'_>,
+    list: Option<&Known<'_>>,
+) -> io::Result<()> {
     if path.is_empty() {
         return Err(io::Error::from(ErrorKind::NotFound));
     }
     input.refuse_path(rt, path)?;
-    if let Some(list) = list {
-        list.refuse_path(rt, path)?;
+    match list {
+        Some(list) => list.refuse_path(rt, path),
+        None => Ok(()),
     }
-    if path == STANDARD_OUTPUT {
-        differ_from_all(&std::fs::metadata(rt, path)?, input, list)?;
-        return Ok((Output::Standard(rt.stdout()), Place::Old));
-    }
-    if is_vacant(rt, path)? {
-        return create_new(rt, path, &rule);
-    }
-    create_over(rt, path, input, list, rule)
+}
+
+/// Standard output as what a job writes to.
+///
+/// # Errors
+/// It is a file that the job reads.
+fn standard_output(
+    rt: &HostRuntime,
+    input: &Known<'_>,
+    list: Option<&Known<'_>>,
+) -> io::Result<(Output, Place)> {
+    differ_from_all(&std::fs::metadata(rt, STANDARD_OUTPUT)?, input, list)?;
+    Ok((Output::Standard(rt.stdout()), Place::Old))
 }
 
 /// Creates what a job writes to, a path that has no file. If what it writes is of use only as a whole, the new file is
@@ -330,18 +376,44 @@ fn create_new(rt: &HostRuntime, path: &str, rule: &Rule<'_>) -> io::Result<(Outp
         let (file, replacement) = create_for(rt, path)?;
         return Ok((Output::File(file), Place::Beside(replacement)));
     }
-    let file = OpenOptions::new()
-        .write(true)
-        .create_new(true)
-        .open(rt, path)?;
-    let found = file.metadata()?;
-    hold(rt, path, &file, &found)?;
+    let file = opened_new(rt, path)?;
     let place = if rule.removes_empty() {
         Place::Made
     } else {
         Place::Old
     };
     Ok((Output::File(file), place))
+}
+
+/// Creates a file at a path that has none, and locks it.
+///
+/// # Errors
+/// The file cannot be created, or another program has locked it.
+fn opened_new(rt: &HostRuntime, path: &str) -> io::Result<File> {
+    let file = OpenOptions::new()
+        .write(true)
+        .create_new(true)
+        .open(rt, path)?;
+    hold_now(rt, path, &file)?;
+    Ok(file)
+}
+
+/// Locks an opened file as [`hold`] does.
+///
+/// # Errors
+/// Those of [`hold`], and that of the system.
+fn hold_now(rt: &HostRuntime, path: &str, file: &File) -> io::Result<()> {
+    hold(rt, path, file, &file.metadata()?)
+}
+
+/// What is at a path that a job writes to, opened.
+enum Old {
+    /// A device or a pipe.
+    Device,
+    /// An empty file, locked.
+    Empty,
+    /// A file that has bytes, locked.
+    Full(Metadata),
 }
 
 /// Opens what a job writes to, a path that has a file already. A file that another job writes to is refused.
@@ -356,17 +428,50 @@ fn create_over(
     rule: Rule<'_>,
 ) -> io::Result<(Output, Place)> {
     let file = OpenOptions::new().write(true).create(true).open(rt, path)?;
+    match old_of(rt, path, &file, input, list) {
+        Ok(Old::Device) => Ok((Output::Device(file), Place::Old)),
+        Ok(Old::Empty) => Ok((Output::File(file), Place::Old)),
+        Ok(Old::Full(found)) => create_to_replace(rt, path, &found, rule),
+        Err(error) => Err(error),
+    }
+}
+
+/// What an opened file is, which the job does not read.
+///
+/// # Errors
+/// Those of [`create`].
+fn old_of(
+    rt: &HostRuntime,
+    path: &str,
+    file: &File,
+    input: &Known<'_>,
+    list: Option<&Known<'_>>,
+) -> io::Result<Old> {
     let found = file.metadata()?;
     differ_from_all(&found, input, list)?;
     if !found.is_file() {
-        return Ok((Output::Device(file), Place::Old));
+        return Ok(Old::Device);
     }
-    hold(rt, path, &file, &found)?;
-    if file.metadata()?.len() == 0 {
-        return Ok((Output::File(file), Place::Old));
-    }
+    hold(rt, path, file, &found)?;
+    Ok(if file.metadata()?.len() == 0 {
+        Old::Empty
+    } else {
+        Old::Full(found)
+    })
+}
+
+/// Creates a new file beside one that has bytes, if the rule lets the job replace it.
+///
+/// # Errors
+/// Those of [`create`].
+fn create_to_replace(
+    rt: &HostRuntime,
+    path: &str,
+    found: &Metadata,
+    rule: Rule<'_>,
+) -> io::Result<(Output, Place)> {
     let before = rule.before_at(rt, path)?;
-    let (file, mut replacement) = create_beside(rt, path, &found)?;
+    let (file, mut replacement) = create_beside(rt, path, found)?;
     replacement.before = before;
     replacement.is_whole = rule.is_whole;
     Ok((Output::File(file), Place::Beside(replacement)))

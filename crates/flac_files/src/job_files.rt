@@ -81,33 +81,47 @@ impl<'a> JobFiles<'a> {
         ensures refused { IfErr result (λ refused. IsFileOf job.now refused.path.now) }
     {
         let standard = StandIns::new(rt);
-        let path = job.input();
-        let Ok(input) = Input::open(rt, path) else {
-            return Err(FileRefused {
-                path,
-                what: "opened",
-            });
-        };
-        let list = List::of(rt, job)?;
+        let (input, list) = read_files(rt, job)?;
         let rule = Rule {
             job: &*job,
             input: &input,
             force,
             is_whole,
         };
-        let (output, place) = created(rt, job, &list, rule)?;
-        let ending = Ending {
-            path: job.output(),
-            place,
-            standard,
-        };
-        Ok(JobFiles {
-            input,
-            list,
-            output,
-            ending,
-        })
+        match created(rt, job, &list, rule) {
+            Ok((output, place)) => Ok(JobFiles {
+                input,
+                list,
+                output,
+                ending: Ending {
+                    path: job.output(),
+                    place,
+                    standard,
+                },
+            }),
+            Err(refused) => Err(refused),
+        }
     }
+}
+
+/// Opens what a job reads, and reads its list of predictors if it has one.
+///
+/// # Errors
+/// A file cannot be opened or read.
+fn read_files<'a>(rt: &HostRuntime, job: &Job<'a>) -> Result<(Input, List<'a>), FileRefused<'a>>
+    ensures few { IfOk result (λ files. length files.1.text.items ≤ 1048576) }
+    ensures none { list_of job.now ≡ None → IfOk result (λ files. files.1.text.items ≡ []) }
+    ensures refused { IfErr result (λ refused. IsFileOf job.now refused.path.now) }
+{
+    let path = job.input();
+    let Ok(input) = Input::open(rt, path) else {
+        return Err(FileRefused {
+            path,
+            what: "opened",
+        });
+    };
+    let list = List::of(rt, job)?;
+    Ok((input, list))
 }
 
 /// Opens what a job writes to.
@@ -178,13 +192,29 @@ impl<'a> Ending<'a> {
             place,
             standard: _standard,
         } = self;
-        let Some(path) = path else {
-            return Ok(());
-        };
-        match place.end(rt, path, output, status) {
-            Err(what) if status == 0 => Err(FileRefused { path, what }),
-            _ => Ok(()),
-        }
+        end_at(rt, path, place, output, status)
+    }
+}
+
+/// Ends a job of this status, which wrote to `output`, with the path that it writes to.
+///
+/// # Errors
+/// Those of [`Ending::end`].
+fn end_at<'a>(
+    rt: &HostRuntime,
+    path: Option<&'a str>,
+    place: Place,
+    output: Output,
+    status: u8,
+) -> Result<(), FileRefused<'a>>
+    ensures { OnErr result (status ≡ 0) }
+{
+    let Some(path) = path else {
+        return Ok(());
+    };
+    match place.end(rt, path, output, status) {
+        Err(what) if status == 0 => Err(FileRefused { path, what }),
+        _ => Ok(()),
     }
 }
 

@@ -5,10 +5,10 @@ ghost use Rattle.flac_jobs.specs.Asks.{list_of};
 
 use crate::files::Known;
 use crate::job_files::FileRefused;
+use crate::pictures::read_all;
 use flac_jobs::Job;
 use std::fs::File;
 use std::io;
-use std::io::{ErrorKind, Read};
 
 /// The most bytes of a list: 1 MiB.
 const MOST: u64 = 1 << 20;
@@ -53,13 +53,8 @@ impl<'a> List<'a> {
         ensures few { IfOk result (λ list. length list.text.items ≤ 1048576) }
     {
         let known = Known::of(path, file.metadata()?);
-        let mut text = Vec::new(rt.alloc());
-        file.take(MOST + 1).read_to_end(&mut text)?;
-        if text.len() as u64 > MOST {
-            return Err(io::Error::from(ErrorKind::FileTooLarge));
-        }
         Ok(List {
-            text,
+            text: read_all(rt, file, MOST)?,
             file: Some(known),
         })
     }

@@ -52,15 +52,23 @@ pub fn read_older<'a>(rt: &HostRuntime, path: &'a str) -> Result<Older, OlderRef
 /// # Errors
 /// That of the system, or memory ran out.
 fn text_of(rt: &HostRuntime, path: &str) -> io::Result<Vec<u8>> {
-    let mut file = File::open(rt, path)?;
     let mut text = Vec::new(rt.alloc());
+    read_text(&mut File::open(rt, path)?, &mut text)?;
+    Ok(text)
+}
+
+/// Adds the text of a file: only its first bytes, if a report does not begin so.
+///
+/// # Errors
+/// That of the system, or memory ran out.
+fn read_text(file: &mut File, text: &mut Vec<u8>) -> io::Result<()> {
     file.by_ref()
         .take(BEGINNING.len() as u64)
-        .read_to_end(&mut text)?;
+        .read_to_end(text)?;
     if is_line(text.as_slice()) {
-        file.read_to_end(&mut text)?;
+        file.read_to_end(text)?;
     }
-    Ok(text)
+    Ok(())
 }
 
 /// The report of this text.

@@ -109,23 +109,35 @@ impl Replacement {
     /// The new file cannot be stored, or cannot get the path: it stays beside it. `AlreadyExists` if it may not get the
     /// path: it is removed. After a job that failed: it cannot be removed.
     pub(crate) fn end(self, rt: &HostRuntime, output: Output, status: u8) -> io::Result<()> {
-        let Replacement {
-            part,
-            path,
-            before,
-            is_whole,
-        } = self;
         if status == 0 {
-            output.store()?;
-            if is_free(rt, path.as_str(), before) {
-                return std::fs::rename(rt, part.as_str(), path.as_str());
-            }
-            // If it cannot be removed, it stays beside the other.
-            let _ = std::fs::remove_file(rt, part.as_str());
-            return Err(io::Error::from(ErrorKind::AlreadyExists));
+            self.take_path(rt, &output)
+        } else {
+            self.end_failed(rt)
         }
-        if is_whole || std::fs::metadata(rt, part.as_str())?.len() == 0 {
-            std::fs::remove_file(rt, part.as_str())?;
+    }
+
+    /// Stores the new file, and gives it the path.
+    ///
+    /// # Errors
+    /// Those of [`Replacement::end`] after a job that is done.
+    fn take_path(&self, rt: &HostRuntime, output: &Output) -> io::Result<()> {
+        output.store()?;
+        if is_free(rt, self.path.as_str(), self.before) {
+            return std::fs::rename(rt, self.part.as_str(), self.path.as_str());
+        }
+        // If it cannot be removed, it stays beside the other.
+        let _ = std::fs::remove_file(rt, self.part.as_str());
+        Err(io::Error::from(ErrorKind::AlreadyExists))
+    }
+
+    /// Removes the new file if it is of no use.
+    ///
+    /// # Errors
+    /// That of the system.
+    fn end_failed(&self, rt: &HostRuntime) -> io::Result<()> {
+        let part = self.part.as_str();
+        if self.is_whole || std::fs::metadata(rt, part)?.len() == 0 {
+            return std::fs::remove_file(rt, part);
         }
         Ok(())
     }

@@ -75,19 +75,26 @@ pub fn end_report<'a>(
     let Some(path) = asked.report.or(asked.resume) else {
         return Ok(());
     };
+    match unended(rt, path, asked.report.is_none(), &output) {
+        Some(what) => Err(FileRefused { path, what }),
+        None => Ok(()),
+    }
+}
+
+/// What cannot be done with a report that lines were written to; `None` if it is ended.
+fn unended(
+    rt: &HostRuntime,
+    path: &str,
+    is_resumed: bool,
+    output: &Output,
+) -> Option<&'static str> {
     if output.store().is_err() {
-        return Err(FileRefused {
-            path,
-            what: "stored",
-        });
+        return Some("stored");
     }
-    if asked.report.is_none() && shorten(rt, path, &output).is_err() {
-        return Err(FileRefused {
-            path,
-            what: "replaced",
-        });
+    if is_resumed && shorten(rt, path, output).is_err() {
+        return Some("replaced");
     }
-    Ok(())
+    None
 }
 
 /// Opens a new report.
@@ -96,15 +103,39 @@ pub fn end_report<'a>(
 /// That of the system; `AlreadyExists` if it is a file that has bytes, which stays as it was.
 fn created(rt: &HostRuntime, path: &str) -> io::Result<ReportFile> {
     let file = OpenOptions::new().write(true).create(true).open(rt, path)?;
-    let found = file.metadata()?;
-    if !found.is_file() {
-        return Ok(ReportFile::over(rt, Output::Device(file)));
+    let output = if is_empty(rt, path, &file)? {
+        Output::File(file)
+    } else {
+        Output::Device(file)
+    };
+    Ok(ReportFile::over(rt, output))
+}
+
+/// Locks a regular file without bytes. False if it is a device.
+///
+/// # Errors
+/// That of the system; `AlreadyExists` if it has bytes.
+fn is_empty(rt: &HostRuntime, path: &str, file: &File) -> io::Result<bool> {
+    if !is_held(rt, path, file)? {
+        return Ok(false);
     }
-    hold(rt, path, &file, &found)?;
     if file.metadata()?.len() > 0 {
         return Err(io::Error::from(ErrorKind::AlreadyExists));
     }
-    Ok(ReportFile::over(rt, Output::File(file)))
+    Ok(true)
+}
+
+/// Locks a regular file. False if it is a device.
+///
+/// # Errors
+/// That of the system.
+fn is_held(rt: &HostRuntime, path: &str, file: &File) -> io::Result<bool> {
+    let found = file.metadata()?;
+    if !found.is_file() {
+        return Ok(false);
+    }
+    hold(rt, path, file, &found)?;
+    Ok(true)
 }
 
 /// Opens a report that may have lines, to add others after them.
@@ -117,20 +148,28 @@ fn resumed(rt: &HostRuntime, path: &str) -> io::Result<ReportFile> {
         .write(true)
         .create(true)
         .open(rt, path)?;
-    let found = file.metadata()?;
-    if !found.is_file() {
+    if !is_held(rt, path, &file)? {
         return Ok(ReportFile::over(rt, Output::Device(file)));
     }
-    hold(rt, path, &file, &found)?;
-    let text = text_of(rt, &file)?;
-    let (good, length) = good_files(rt.alloc(), text.as_slice())?;
-    if length < text.len() {
-        cut(&file, length as u64)?;
-    }
+    let mut good = Record::none(rt.alloc());
+    read_good(rt, &file, &mut good)?;
     Ok(ReportFile {
         output: Output::File(file),
         good,
     })
+}
+
+/// Adds what a report has of files. A last line that was cut off is taken away.
+///
+/// # Errors
+/// Those of [`resumed`].
+fn read_good(rt: &HostRuntime, file: &File, good: &mut Record) -> io::Result<()> {
+    let text = text_of(rt, file)?;
+    let length = add_files(rt.alloc(), good, text.as_slice())?;
+    if length < text.len() {
+        cut(file, length as u64)?;
+    }
+    Ok(())
 }
 
 /// Cuts a report off after this many bytes, so that lines are added there.
@@ -154,23 +193,22 @@ fn text_of(rt: &HostRuntime, mut file: &File) -> io::Result<Vec<u8>> {
     Ok(text)
 }
 
-/// What a report has of files by the last line of each, and how many bytes its whole lines have.
+/// Adds what a report has of files, by the last line of each. Returns how many bytes its whole lines have.
 ///
 /// # Errors
 /// `InvalidData` if there is a line that is none of a report, or memory ran out.
-fn good_files(alloc: Global, text: &[u8]) -> io::Result<(Record, usize)> {
-    let mut good = Record::none(alloc);
+fn add_files(alloc: Global, good: &mut Record, text: &[u8]) -> io::Result<usize> {
     let mut length = 0usize;
     for line in text.split_inclusive(|byte| *byte == b'\n') {
         if !is_line(line) {
             return Err(io::Error::from(ErrorKind::InvalidData));
         }
         if is_whole(line) {
-            add_file(alloc, &mut good, line)?;
+            add_file(alloc, good, line)?;
             length = length.saturating_add(line.len());
         }
     }
-    Ok((good, length))
+    Ok(length)
 }
 
 /// Whether a line was not cut off.
@@ -199,7 +237,15 @@ fn shorten(rt: &HostRuntime, path: &str, output: &Output) -> io::Result<()> {
         return Ok(());
     };
     let text = text_of(rt, file)?;
-    let lines = last_lines(rt.alloc(), text.as_slice())?;
+    shorten_to(rt, path, file, text.as_slice())
+}
+
+/// Leaves the last line of each file in a report of this text.
+///
+/// # Errors
+/// Those of [`shorten`].
+fn shorten_to(rt: &HostRuntime, path: &str, file: &File, text: &[u8]) -> io::Result<()> {
+    let lines = last_lines(rt.alloc(), text)?;
     if lines.len() == text.len() {
         return Ok(());
     }
@@ -228,14 +274,28 @@ fn replace(rt: &HostRuntime, path: &str, found: &Metadata, lines: &[u8]) -> io::
 fn last_lines(alloc: Global, text: &[u8]) -> Result<Vec<u8>, AllocError> {
     let places = last_places(alloc, text)?;
     let mut lines = Vec::new(alloc);
+    add_lines_at(alloc, &places, text, &mut lines)?;
+    Ok(lines)
+}
+
+/// Adds the lines of a report that begin where the last of their files do, and those that name no file.
+///
+/// # Errors
+/// Memory ran out.
+fn add_lines_at(
+    alloc: Global,
+    places: &BTreeMap<String, usize>,
+    text: &[u8],
+    lines: &mut Vec<u8>,
+) -> Result<(), AllocError> {
     let mut place = 0usize;
     for line in text.split_inclusive(|byte| *byte == b'\n') {
-        if is_last(alloc, &places, line, place)? {
+        if is_last(alloc, places, line, place)? {
             lines.extend_from_slice(line)?;
         }
         place = place.saturating_add(line.len());
     }
-    Ok(lines)
+    Ok(())
 }
 
 /// Where the last line of each file begins in a report.

@@ -50,15 +50,11 @@ impl FileShelf {
     /// # Errors
     /// Memory ran out.
     pub fn new(rt: &HostRuntime, paths: &[&str]) -> io::Result<FileShelf> {
+        let own = rt.clone()?;
         let mut pending = Vec::new(rt.alloc());
-        for path in paths.iter().rev() {
-            pending.push(Pending {
-                path: String::from_str(rt.alloc(), path)?,
-                is_named: true,
-            })?;
-        }
+        add_named(rt, paths, &mut pending)?;
         Ok(FileShelf {
-            rt: rt.clone()?,
+            rt: own,
             pending,
             path: String::new(rt.alloc()),
             look: Look::Pass,
@@ -127,6 +123,20 @@ impl FileShelf {
     }
 }
 
+/// Adds paths that the caller named, the last of them first.
+///
+/// # Errors
+/// Memory ran out.
+fn add_named(rt: &HostRuntime, paths: &[&str], pending: &mut Vec<Pending>) -> io::Result<()> {
+    for path in paths.iter().rev() {
+        pending.push(Pending {
+            path: String::from_str(rt.alloc(), path)?,
+            is_named: true,
+        })?;
+    }
+    Ok(())
+}
+
 /// Moves paths, the last of them first.
 ///
 /// # Errors
@@ -150,6 +160,14 @@ fn add_reversed(pending: &mut Vec<Pending>, paths: &mut Vec<String>) -> io::Resu
 fn read_edges(rt: &HostRuntime, path: &str) -> io::Result<Edges> {
     let file = File::open(rt, path)?;
     let size = file.metadata()?.len();
+    edges_of(&file, size)
+}
+
+/// How a file of this size begins and ends.
+///
+/// # Errors
+/// That of the system.
+fn edges_of(file: &File, size: u64) -> io::Result<Edges> {
     let mut first = [0; 10];
     if size >= 10 {
         file.read_exact_at(&mut first, 0)?;

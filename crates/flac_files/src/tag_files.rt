@@ -107,25 +107,10 @@ impl<'a> TagFile<'a> {
                 what: "opened",
             });
         };
-        let Ok(found) = regular(&file) else {
-            return Err(FileRefused {
-                path,
-                what: words.not_regular,
-            });
-        };
-        if !holds_alone(rt, path, &file, &found) {
-            return Err(FileRefused {
-                path,
-                what: words.held,
-            });
+        match held(rt, path, &file, words) {
+            Ok(found) => Ok(TagFile { path, file, found }),
+            Err(what) => Err(FileRefused { path, what }),
         }
-        if file.sync_all().is_err() {
-            return Err(FileRefused {
-                path,
-                what: "stored",
-            });
-        }
-        Ok(TagFile { path, file, found })
     }
 
     /// Whether the file begins as an Ogg stream does: with `OggS` (RFC 3533, section 6). A file that cannot be read
@@ -269,6 +254,28 @@ impl<'a> NewFile<'a> {
             }),
         }
     }
+}
+
+/// Locks an opened file, and stores what was written to it before. Returns what is known of it.
+///
+/// # Errors
+/// In which words it is refused.
+fn held(
+    rt: &HostRuntime,
+    path: &str,
+    file: &File,
+    words: Refusals,
+) -> Result<Metadata, &'static str> {
+    let Ok(found) = regular(file) else {
+        return Err(words.not_regular);
+    };
+    if !holds_alone(rt, path, file, &found) {
+        return Err(words.held);
+    }
+    if file.sync_all().is_err() {
+        return Err("stored");
+    }
+    Ok(found)
 }
 
 /// What is known of a regular file.

@@ -2,7 +2,7 @@
 
 use crate::names::{names_native, names_ogg};
 use flac_shelf::Stamp;
-use std::fs::{File, Metadata};
+use std::fs::{DirEntry, File, Metadata};
 use std::io;
 use std::io::{ErrorKind, Read};
 use std::os::unix::fs::MetadataExt;
@@ -143,17 +143,32 @@ impl Names {
     /// That of the system, or that memory ran out.
     pub(crate) fn of(rt: &HostRuntime, folder: &str) -> io::Result<Names> {
         let mut paths = Vec::new(rt.alloc());
-        let mut lacks_one = false;
-        for entry in std::fs::read_dir(rt, folder)? {
-            match entry {
-                Ok(entry) => paths.push(String::from_str(
-                    rt.alloc(),
-                    entry.path().to_string_lossy(),
-                )?)?,
-                Err(_) => lacks_one = true,
-            }
-        }
+        let lacks_one = add_paths(rt, folder, &mut paths)?;
         paths.sort_unstable();
         Ok(Names { paths, lacks_one })
     }
+}
+
+/// Adds the paths of what is in a folder. Returns whether a name could not be read.
+///
+/// # Errors
+/// That of the system, or that memory ran out.
+fn add_paths(rt: &HostRuntime, folder: &str, paths: &mut Vec<String>) -> io::Result<bool> {
+    let mut lacks_one = false;
+    for entry in std::fs::read_dir(rt, folder)? {
+        match entry {
+            Ok(entry) => add_path(rt, &entry, paths)?,
+            Err(_) => lacks_one = true,
+        }
+    }
+    Ok(lacks_one)
+}
+
+/// Adds the path of what is in a folder.
+///
+/// # Errors
+/// Memory ran out.
+fn add_path(rt: &HostRuntime, entry: &DirEntry, paths: &mut Vec<String>) -> io::Result<()> {
+    paths.push(String::from_str(rt.alloc(), entry.path().to_string_lossy())?)?;
+    Ok(())
 }

@@ -1,6 +1,9 @@
 //! The command line of the program.
 #![tactic(auto)]
 
+mod commands;
+mod no_request;
+mod requests;
 mod usage;
 mod words;
 

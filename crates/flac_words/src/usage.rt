@@ -7,6 +7,7 @@ pub(crate) mod encode;
 pub(crate) mod export;
 pub(crate) mod list;
 pub(crate) mod moments;
+pub(crate) mod named;
 pub(crate) mod recode;
 pub(crate) mod retag;
 pub(crate) mod salvage;
@@ -15,23 +16,11 @@ pub(crate) mod tag;
 pub(crate) mod test;
 pub(crate) mod verify;
 
-use clap::builder::ValueParser;
-use clap::{Arg, ArgAction, ArgMatches, Command};
-use decode::DECODE;
-use edit::EDIT;
-use encode::ENCODE;
-use export::EXPORT;
-use list::LIST;
-use recode::RECODE;
-use retag::RETAG;
-use salvage::SALVAGE;
-use same::SAME;
+use clap::ArgMatches;
+use flac_jobs::{CommandLine, Job, Request};
 use std::alloc::{AllocError, Global};
-use tag::TAG;
-use test::TEST;
-use verify::VERIFY;
 
-const EXAMPLES: &str = "Examples:
+pub(crate) const EXAMPLES: &str = "Examples:
   flac test song.flac             is the stream whole and right?
   flac list song.flac             its metadata
   flac verify Music               are all streams of a folder whole and right?
@@ -48,7 +37,7 @@ where and why:
   flac: song.flac: frame 3: 26 FrameCheck";
 
 /// The version of the program, which `--version` prints after its name.
-const VERSION: &str = "(proved) 1.0.0";
+pub(crate) const VERSION: &str = "(proved) 1.0.0";
 
 /// A command of the program: its arguments, and what its help says before and after them.
 #[derive(Clone, Copy)]
@@ -84,10 +73,8 @@ pub(crate) enum WordKind {
     Text(&'static str),
     /// Such an option, which may be given several times.
     Texts(&'static str),
-    /// An option whose value is a whole number below 2^32.
-    Wanted,
-    /// An option with this default, whose value is such a number.
-    Number(&'static str),
+    /// An option whose value is a whole number below 2^32, with at most one default.
+    Number(&'static [&'static str]),
     /// An option whose value, which help names so, is one of these words.
     OneOf(&'static str, &'static [&'static str]),
 }
@@ -142,97 +129,25 @@ pub(crate) fn asks_lax(given: &ArgMatches<'_>) -> bool {
     given.get_flag("lax") || given.get_flag("any")
 }
 
-/// The comments that are given.
-pub(crate) fn comments_of<'a>(
+/// The paths IN and OUT that are given.
+pub(crate) fn paths_of<'a>(given: &ArgMatches<'a>) -> Option<(&'a str, &'a str)> {
+    given.get_str("IN").zip(given.get_str("OUT"))
+}
+
+/// What is asked for by a job, with the options that commands of jobs share.
+pub(crate) fn request_for<'a>(given: &ArgMatches<'a>, job: Job<'a>) -> Request<'a> {
+    Request::Job(CommandLine {
+        job,
+        force: given.get_flag("force"),
+        any: given.get_flag("any"),
+    })
+}
+
+/// The values that are given of an argument.
+pub(crate) fn values_of<'a>(
     alloc: Global,
     given: &ArgMatches<'a>,
-) -> Result<Vec<&'a str>, clap::Error> {
-    let mut comments = Vec::new(alloc);
-    if let Some(words) = given.get_strs("COMMENT") {
-        comments.extend_from_slice(words)?;
-    }
-    Ok(comments)
-}
-
-/// The command line of the program.
-pub(crate) fn command<'a>(alloc: Global) -> Result<Command<'a>, AllocError> {
-    let commands = commands(alloc)?;
-    Command::new(alloc, "flac")
-        .about("Tests, decodes, lists, encodes, tags and verifies FLAC streams (RFC 9639)")
-        .version(VERSION)
-        .after_help(EXAMPLES)
-        .subcommand_required(true)
-        .subcommands(commands)
-}
-
-/// The commands of the program, in the order in which help lists them.
-fn commands<'a>(alloc: Global) -> Result<Vec<Command<'a>>, AllocError> {
-    let mut commands = Vec::new(alloc);
-    for usage in [
-        &TEST, &DECODE, &LIST, &ENCODE, &RETAG, &TAG, &EDIT, &EXPORT, &VERIFY, &SAME, &RECODE,
-        &SALVAGE,
-    ] {
-        add_command(&mut commands, alloc, usage)?;
-    }
-    Ok(commands)
-}
-
-/// Adds a command.
-fn add_command<'a>(
-    commands: &mut Vec<Command<'a>>,
-    alloc: Global,
-    usage: &Usage,
-) -> Result<(), AllocError> {
-    commands.push(command_of(alloc, usage)?)?;
-    Ok(())
-}
-
-/// One of the commands.
-fn command_of<'a>(alloc: Global, usage: &Usage) -> Result<Command<'a>, AllocError> {
-    let arguments = arguments(alloc, usage.words)?;
-    Command::new(alloc, usage.name)
-        .about(usage.about)
-        .after_help(usage.example)
-        .args(arguments)
-}
-
-/// The arguments of a command.
-fn arguments<'a>(alloc: Global, words: &[Word]) -> Result<Vec<Arg<'a>>, AllocError> {
-    let mut arguments = Vec::new(alloc);
-    for word in words {
-        arguments.push(argument(alloc, word))?;
-    }
-    Ok(arguments)
-}
-
-/// An argument of a command.
-fn argument<'a>(alloc: Global, word: &Word) -> Arg<'a> {
-    let argument = Arg::new(alloc, word.name).help(word.help);
-    match word.kind {
-        WordKind::File => argument.required(true),
-        WordKind::Files => argument.required(true).num_args(1..),
-        WordKind::Comments => argument.num_args(0..),
-        WordKind::Flag => argument.long(word.name).action(ArgAction::SetTrue),
-        WordKind::ShortFlag(letter) => argument
-            .long(word.name)
-            .short(letter)
-            .action(ArgAction::SetTrue),
-        WordKind::Text(value) => option(argument, word.name, value),
-        WordKind::Texts(value) => option(argument, word.name, value).action(ArgAction::Append),
-        WordKind::Wanted => number(argument, word.name),
-        WordKind::Number(default) => number(argument, word.name).default_value(default),
-        WordKind::OneOf(value, words) => {
-            option(argument, word.name, value).value_parser(ValueParser::Names(words))
-        }
-    }
-}
-
-/// Makes an argument an option whose value is a whole number below 2^32.
-fn number<'a>(argument: Arg<'a>, name: &'a str) -> Arg<'a> {
-    option(argument, name, "N").value_parser(ValueParser::unsigned(0, 4294967295))
-}
-
-/// Makes an argument an option whose value has this name in help.
-fn option<'a>(argument: Arg<'a>, name: &'a str, value: &'a str) -> Arg<'a> {
-    argument.long(name).value_name(value).action(ArgAction::Set)
+    name: &str,
+) -> Result<Vec<&'a str>, AllocError> {
+    given.get_strs(name).unwrap_or(&[]).to_vec(alloc)
 }

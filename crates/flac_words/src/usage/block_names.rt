@@ -1,21 +1,18 @@
 //! Names of metadata blocks as words of the command line.
 
+use super::named::{Named, all_named};
 use flac_jobs::BlockName;
 use std::alloc::{AllocError, Global};
 
 /// Which blocks the words name; `None` if one names none.
+///
+/// # Errors
+/// Memory ran out.
 pub(crate) fn block_names(
     alloc: Global,
     words: &[&str],
 ) -> Result<Option<Vec<BlockName>>, AllocError> {
-    let mut names = Vec::with_capacity(alloc, words.len())?;
-    for word in words {
-        match block_name(word) {
-            Some(name) => names.push(name)?,
-            None => return Ok(None),
-        }
-    }
-    Ok(Some(names))
+    all_named(alloc, words)
 }
 
 /// Whether one of the names is that of STREAMINFO.
@@ -28,18 +25,26 @@ pub(crate) fn names_stream_info(names: &[BlockName]) -> bool {
     false
 }
 
-/// Which blocks a word names.
-fn block_name(word: &str) -> Option<BlockName> {
-    if let Some((kind, id)) = word.split_once(':') {
-        if kind.eq_ignore_ascii_case("application") {
-            return Some(BlockName::Application(application_id(id)?));
+impl<'a> Named<'a> for BlockName {
+    /// Which blocks a word names.
+    fn of(word: &'a str) -> Option<BlockName> {
+        if let Some((kind, id)) = word.split_once(':') {
+            return application(kind, id);
         }
-        return None;
+        if let Ok(number) = word.parse::<u32>() {
+            return Some(BlockName::Number(number));
+        }
+        Some(BlockName::Kind(kind_of(word)?))
     }
-    if let Ok(number) = word.parse::<u32>() {
-        return Some(BlockName::Number(number));
+}
+
+/// The application blocks that a word `application:ID` names.
+fn application(kind: &str, id: &str) -> Option<BlockName> {
+    if kind.eq_ignore_ascii_case("application") {
+        Some(BlockName::Application(application_id(id)?))
+    } else {
+        None
     }
-    Some(BlockName::Kind(kind_of(word)?))
 }
 
 /// The names of the types of blocks from 0 on, as `list` has them.

@@ -1,11 +1,10 @@
 //! `flac decode`.
 
-ghost use Rattle.std.specs.Prelude.{◌≤◌, IfSome};
-
 use super::moments::moment_of;
-use super::{ANY, FORCE, LAX, STREAM, Usage, Word, WordKind, asks_lax};
+use super::{ANY, FORCE, LAX, STREAM, Usage, Word, WordKind, asks_lax, paths_of, request_for};
+use crate::no_request::{NO_FORMAT, NoRequest};
 use clap::ArgMatches;
-use flac_jobs::{Excerpt, Job, LineFault, Moment, Request};
+use flac_jobs::{Excerpt, Job, Moment, Request};
 
 const DECODE_EXAMPLE: &str = "Example, a WAV file, the same byte for byte if the stream keeps one:
   $ flac decode song.flac song.wav
@@ -33,12 +32,17 @@ RF64, BW64, FORM or ID3. A WAV file that is written may replace another. Any nam
 if it does not end in .wav, OUT gets raw samples, also as song.flac. With --force any file
 is replaced.";
 
-pub(crate) static DECODE: Usage = Usage {
+static DECODE: Usage = Usage {
     name: "decode",
     about: "Decodes a stream to a WAV file, or to raw samples: interleaved, signed little-endian, whole bytes a sample",
     words: &DECODE_WORDS,
     example: DECODE_EXAMPLE,
 };
+
+/// What `clap` is told of `decode`.
+pub(crate) fn usage() -> &'static Usage {
+    &DECODE
+}
 
 /// The arguments of `decode`.
 const DECODE_WORDS: [Word; 8] = [
@@ -68,15 +72,21 @@ const DECODE_WORDS: [Word; 8] = [
     FORCE,
 ];
 
-/// The job of `decode`.
-pub(crate) fn decode_job<'a>(given: &ArgMatches<'a>) -> Option<Job<'a>> {
-    let input = given.get_str("IN")?;
-    let output = given.get_str("OUT")?;
+/// What `decode` asks for, all samples.
+///
+/// # Errors
+/// A path is missing.
+pub(crate) fn decode_request<'a>(given: &ArgMatches<'a>) -> Result<Request<'a>, NoRequest<'a>> {
+    let Some((input, output)) = paths_of(given) else {
+        return Err(NoRequest::Line(NO_FORMAT));
+    };
     let lax = asks_lax(given);
-    if asks_wave(given, output) {
-        return Some(Job::DecodeWave { input, output, lax });
-    }
-    Some(Job::Decode { input, output, lax })
+    let job = if asks_wave(given, output) {
+        Job::DecodeWave { input, output, lax }
+    } else {
+        Job::Decode { input, output, lax }
+    };
+    Ok(request_for(given, job))
 }
 
 /// Whether a part of the samples is asked for.
@@ -84,39 +94,20 @@ pub(crate) fn asks_excerpt(given: &ArgMatches<'_>) -> bool {
     given.get_str("from").is_some() || given.get_str("to").is_some()
 }
 
-/// The part of the samples that is asked for; `None` if a path is missing.
+/// The part of the samples that is asked for.
 ///
 /// # Errors
-/// A word is no moment: the line that says so.
-pub(crate) fn excerpt_request<'a>(
-    given: &ArgMatches<'a>,
-) -> Result<Option<Request<'a>>, &'static str> {
-    let from = moment_in(given, "from")?;
-    let to = moment_in(given, "to")?;
-    Ok(excerpt_of(given, from.unwrap_or(Moment::Sample(0)), to))
-}
-
-/// The moment that an option gives.
-///
-/// # Errors
-/// Its word is no moment: the line that says so.
-fn moment_in(given: &ArgMatches<'_>, name: &str) -> Result<Option<Moment>, &'static str> {
-    let Some(word) = given.get_str(name) else {
-        return Ok(None);
+/// A path is missing, or a word is no moment.
+pub(crate) fn excerpt_request<'a>(given: &ArgMatches<'a>) -> Result<Request<'a>, NoRequest<'a>> {
+    let Some((input, output)) = paths_of(given) else {
+        return Err(NoRequest::Line(NO_FORMAT));
     };
-    match moment_of(word) {
-        Some(moment) => Ok(Some(moment)),
-        None => Err(
+    let Some((from, to)) = moments_of(given) else {
+        return Err(NoRequest::Line(
             "flac: command: --from and --to take a number of samples, or a time m:ss, m:ss.fraction or h:mm:ss\n",
-        ),
-    }
-}
-
-/// The part of the samples between two moments; `None` if a path is missing.
-fn excerpt_of<'a>(given: &ArgMatches<'a>, from: Moment, to: Option<Moment>) -> Option<Request<'a>> {
-    let input = given.get_str("IN")?;
-    let output = given.get_str("OUT")?;
-    Some(Request::Excerpt(Excerpt {
+        ));
+    };
+    Ok(Request::Excerpt(Excerpt {
         input,
         output,
         from,
@@ -128,15 +119,25 @@ fn excerpt_of<'a>(given: &ArgMatches<'a>, from: Moment, to: Option<Moment>) -> O
     }))
 }
 
-/// Why a part is refused whose words were all read; `None` if it is not.
-pub(crate) fn fault_of_excerpt(excerpt: &Excerpt<'_>) -> Option<LineFault>
-    ensures { IfSome result (λ fault. fault.status ≤ 2) }
-{
-    let to = excerpt.to?;
-    if is_before(to, excerpt.from) {
-        return Some(LineFault::refused("flac: command: --to is before --from\n"));
+/// Where the part begins, and where it ends if that is given; `None` if a word is no moment.
+fn moments_of(given: &ArgMatches<'_>) -> Option<(Moment, Option<Moment>)> {
+    let from = match given.get_str("from") {
+        Some(word) => moment_of(word)?,
+        None => Moment::Sample(0),
+    };
+    match given.get_str("to") {
+        Some(word) => Some((from, Some(moment_of(word)?))),
+        None => Some((from, None)),
     }
-    None
+}
+
+/// Why a part is refused whose words were all read: a line; `None` if it is not.
+pub(crate) fn refusal_of_excerpt(excerpt: &Excerpt<'_>) -> Option<&'static str> {
+    if is_before(excerpt.to?, excerpt.from) {
+        Some("flac: command: --to is before --from\n")
+    } else {
+        None
+    }
 }
 
 /// Whether a moment is before another of the same kind.

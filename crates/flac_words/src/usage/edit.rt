@@ -1,11 +1,11 @@
 //! `flac edit`.
 
-ghost use Rattle.std.specs.Prelude.{◌≤◌, IfSome};
-
 use super::block_names::{block_names, names_stream_info};
-use super::{Usage, Word, WordKind};
+use super::named::{Named, all_named};
+use super::{Usage, Word, WordKind, values_of};
+use crate::no_request::NoRequest;
 use clap::ArgMatches;
-use flac_jobs::{BlockName, Editing, LineFault, PictureForm, PictureWord, Request};
+use flac_jobs::{BlockName, Editing, PictureForm, PictureWord, Request};
 use std::alloc::{AllocError, Global};
 
 const EDIT_EXAMPLE: &str = "Examples:
@@ -41,12 +41,17 @@ a line says why; the exit status is then 1.
 An Ogg stream keeps its serial number, and its comments come first; its frames are verified.
 It has no seek table: with --seek-every other than 0 it is refused.";
 
-pub(crate) static EDIT: Usage = Usage {
+static EDIT: Usage = Usage {
     name: "edit",
     about: "Removes metadata blocks of streams, adds pictures, cue sheets, seek tables, padding",
     words: &EDIT_WORDS,
     example: EDIT_EXAMPLE,
 };
+
+/// What `clap` is told of `edit`.
+pub(crate) fn usage() -> &'static Usage {
+    &EDIT
+}
 
 /// The arguments of `edit`.
 const EDIT_WORDS: [Word; 8] = [
@@ -72,12 +77,12 @@ const EDIT_WORDS: [Word; 8] = [
     },
     Word {
         name: "seek-every",
-        kind: WordKind::Wanted,
+        kind: WordKind::Number(&[]),
         help: "Samples from one seek point to the next, in place of the old; 0: none",
     },
     Word {
         name: "padding",
-        kind: WordKind::Wanted,
+        kind: WordKind::Number(&[]),
         help: "Bytes of padding in place of the old; 0: none",
     },
     Word {
@@ -93,139 +98,141 @@ const EDIT_WORDS: [Word; 8] = [
 ];
 
 /// What `edit` asks for.
+///
+/// # Errors
+/// Memory ran out.
 pub(crate) fn edit_request<'a>(
     alloc: Global,
     given: &ArgMatches<'a>,
-) -> Result<Option<Request<'a>>, clap::Error> {
-    let Some(files) = given.get_strs("FILE") else {
-        return Ok(None);
-    };
-    let mut inputs = Vec::new(alloc);
-    inputs.extend_from_slice(files)?;
-    Ok(Some(Request::Edit(Editing {
-        inputs,
-        removals: removals_of(alloc, given.get_strs("remove-block").unwrap_or(&[]))?,
-        pictures: pictures_of(alloc, given.get_strs("picture").unwrap_or(&[]))?,
+) -> Result<Request<'a>, NoRequest<'a>> {
+    Ok(Request::Edit(editing_of(alloc, given)?))
+}
+
+/// The editing that is asked for.
+///
+/// # Errors
+/// Memory ran out.
+fn editing_of<'a>(alloc: Global, given: &ArgMatches<'a>) -> Result<Editing<'a>, AllocError> {
+    let removals = removals_of(alloc, given.get_strs("remove-block").unwrap_or(&[]))?;
+    let pictures = all_named(alloc, given.get_strs("picture").unwrap_or(&[]))?;
+    Ok(Editing {
+        inputs: values_of(alloc, given, "FILE")?,
+        removals,
+        pictures,
         sheet: given.get_str("cuesheet"),
         seek_every: given.get_one("seek-every"),
         padding: given.get_one("padding"),
         keep_times: given.get_flag("keep-times"),
         verbose: given.get_flag("verbose"),
-    })))
+    })
 }
 
 /// Which blocks are removed by the words; `None` if one names no blocks, or STREAMINFO.
 fn removals_of(alloc: Global, words: &[&str]) -> Result<Option<Vec<BlockName>>, AllocError> {
-    let Some(names) = block_names(alloc, words)? else {
-        return Ok(None);
-    };
-    Ok(if names_stream_info(&names) {
-        None
-    } else {
-        Some(names)
-    })
-}
-
-/// The pictures that the words name; `None` if one is no picture.
-fn pictures_of<'a>(
-    alloc: Global,
-    words: &[&'a str],
-) -> Result<Option<Vec<PictureWord<'a>>>, AllocError> {
-    let mut pictures = Vec::with_capacity(alloc, words.len())?;
-    for word in words {
-        match picture_word(word) {
-            Some(picture) => pictures.push(picture)?,
-            None => return Ok(None),
-        }
+    match block_names(alloc, words)? {
+        Some(names) if !names_stream_info(&names) => Ok(Some(names)),
+        _ => Ok(None),
     }
-    Ok(Some(pictures))
 }
 
-/// The picture that a word names. What is before its first `:` is a type if it is a number, and else belongs to the
-/// path.
-fn picture_word(word: &str) -> Option<PictureWord<'_>> {
-    let cover = PictureWord {
-        kind: 3,
-        form: None,
-        path: word,
-    };
-    let Some((front, rest)) = word.split_once(':') else {
-        return Some(cover);
-    };
-    let Ok(kind) = front.parse::<u32>() else {
-        return Some(cover);
-    };
+impl<'a> Named<'a> for PictureWord<'a> {
+    /// The picture that a word names. What is before its first `:` is a type if it is a number, and else belongs to the
+    /// path.
+    fn of(word: &'a str) -> Option<PictureWord<'a>> {
+        if let Some((front, rest)) = word.split_once(':') {
+            if let Ok(kind) = front.parse::<u32>() {
+                return picture_of(kind, rest);
+            }
+        }
+        Some(PictureWord {
+            kind: 3,
+            form: None,
+            path: word,
+        })
+    }
+}
+
+/// The picture of a type that a text names: a path, or `MEDIA:WIDTHxHEIGHTxDEPTH[/COLOURS]:FILE`. `None` if the type is
+/// above 20, or what is between the first two `:` looks like sizes and is none.
+fn picture_of(kind: u32, text: &str) -> Option<PictureWord<'_>> {
     if kind > 20 {
         return None;
     }
-    match formed(rest) {
-        Some((form, path)) => Some(PictureWord {
-            kind,
-            form: Some(form),
-            path,
-        }),
-        None if is_nearly_formed(rest) => None,
-        None => Some(PictureWord {
-            kind,
-            form: None,
-            path: rest,
-        }),
+    let form = None;
+    let plain = PictureWord {
+        kind,
+        form,
+        path: text,
+    };
+    let Some((media, sizes, path)) = parts_of(text) else {
+        return Some(plain);
+    };
+    let form = form_of(media, sizes);
+    if form.is_some() {
+        return Some(PictureWord { kind, form, path });
+    }
+    if has_form_of_sizes(sizes) {
+        None
+    } else {
+        Some(plain)
     }
 }
 
-/// Whether a text has sizes between its first two `:`, as `MEDIA:WIDTHxHEIGHT:FILE`, so that it is meant as one of
-/// [`formed`].
-fn is_nearly_formed(text: &str) -> bool {
-    let Some((_, rest)) = text.split_once(':') else {
-        return false;
-    };
-    let Some((sizes, _)) = rest.split_once(':') else {
-        return false;
-    };
-    sizes.contains('x')
-        && sizes
-            .bytes()
-            .all(|byte| byte.is_ascii_digit() || b"x/".contains(&byte))
-}
-
-/// The format, the sizes and the path of a text `MEDIA:WIDTHxHEIGHTxDEPTH[/COLOURS]:FILE`.
-fn formed(text: &str) -> Option<(PictureForm<'_>, &str)> {
+/// What is before the first `:` of a text, between it and the second, and after that.
+fn parts_of(text: &str) -> Option<(&str, &str, &str)> {
     let (media, rest) = text.split_once(':')?;
     let (sizes, path) = rest.split_once(':')?;
-    let (sizes, colours) = sizes.split_once('/').unwrap_or((sizes, "0"));
-    let (width, rest) = sizes.split_once('x')?;
-    let (height, depth) = rest.split_once('x')?;
-    let form = PictureForm {
-        media,
-        width: width.parse::<u32>().ok()?,
-        height: height.parse::<u32>().ok()?,
-        depth: depth.parse::<u32>().ok()?,
-        colours: colours.parse::<u32>().ok()?,
-    };
-    Some((form, path))
+    Some((media, sizes, path))
 }
 
-/// Why an editing is refused whose words were all read; `None` if it is not.
-pub(crate) fn fault_of_editing(editing: &Editing<'_>) -> Option<LineFault>
-    ensures { IfSome result (λ fault. fault.status ≤ 2) }
-{
+/// Whether a text is meant as sizes: digits, `/` and at least one `x`.
+fn has_form_of_sizes(text: &str) -> bool {
+    for byte in text.as_bytes() {
+        if !byte.is_ascii_digit() && *byte != b'x' && *byte != b'/' {
+            return false;
+        }
+    }
+    text.contains('x')
+}
+
+/// The format and the sizes of a text `WIDTHxHEIGHTxDEPTH[/COLOURS]`.
+fn form_of<'a>(media: &'a str, text: &str) -> Option<PictureForm<'a>> {
+    let (sizes, colours) = text.split_once('/').unwrap_or((text, "0"));
+    let (width, rest) = sizes.split_once('x')?;
+    let (height, depth) = rest.split_once('x')?;
+    Some(PictureForm {
+        media,
+        width: number_of(width)?,
+        height: number_of(height)?,
+        depth: number_of(depth)?,
+        colours: number_of(colours)?,
+    })
+}
+
+/// The number below 2^32 of a text.
+fn number_of(text: &str) -> Option<u32> {
+    text.parse::<u32>().ok()
+}
+
+/// Why an editing is refused whose words were all read: a line; `None` if it is not.
+pub(crate) fn refusal_of_editing(editing: &Editing<'_>) -> Option<&'static str> {
     let Some(removals) = &editing.removals else {
-        return Some(LineFault::refused(
+        return Some(
             "flac: command: --remove-block takes a number from 1 on, or a type other than STREAMINFO\n",
-        ));
+        );
     };
     let Some(pictures) = &editing.pictures else {
-        return Some(LineFault::refused(
+        return Some(
             "flac: command: --picture takes [TYPE:]FILE or TYPE:MEDIA:WIDTHxHEIGHTxDEPTH:FILE, the type 0 to 20\n",
-        ));
+        );
     };
     let is_idle = editing.padding.is_none()
         && editing.sheet.is_none()
         && editing.seek_every.is_none();
     if removals.is_empty() && pictures.is_empty() && is_idle {
-        return Some(LineFault::refused(
+        return Some(
             "flac: command: edit needs --remove-block, --picture, --cuesheet, --seek-every or --padding\n",
-        ));
+        );
     }
     None
 }

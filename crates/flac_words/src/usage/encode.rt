@@ -1,8 +1,9 @@
 //! `flac encode`.
 
-use super::{COMMENTS, FORCE, STREAM_OUT, Usage, Word, WordKind, comments_of};
+use super::{COMMENTS, FORCE, STREAM_OUT, Usage, Word, WordKind, paths_of, request_for, values_of};
+use crate::no_request::{NO_FORMAT, NoRequest};
 use clap::ArgMatches;
-use flac_jobs::{ContainerKind, Job, RawFormat, SearchEffort};
+use flac_jobs::{ContainerKind, Job, RawFormat, Request, SearchEffort};
 use std::alloc::Global;
 
 const ENCODE_EXAMPLE: &str = "Example, of a WAV file:
@@ -49,12 +50,17 @@ OUT may replace a stream, but no other file of sound: none that begins with RIFF
 BW64, FORM or ID3. With --force any file is replaced. A word such as TITLE=Song is no
 name of OUT: write ./TITLE=Song.";
 
-pub(crate) static ENCODE: Usage = Usage {
+static ENCODE: Usage = Usage {
     name: "encode",
     about: "Encodes a WAV file, or raw samples: interleaved, signed little-endian, whole bytes a sample",
     words: &ENCODE_WORDS,
     example: ENCODE_EXAMPLE,
 };
+
+/// What `clap` is told of `encode`.
+pub(crate) fn usage() -> &'static Usage {
+    &ENCODE
+}
 
 /// The words of `--search`.
 const EFFORTS: [&str; 3] = ["none", "quick", "full"];
@@ -70,27 +76,27 @@ const ENCODE_WORDS: [Word; 17] = [
     COMMENTS,
     Word {
         name: "rate",
-        kind: WordKind::Wanted,
+        kind: WordKind::Number(&[]),
         help: "Samples a second; of raw samples, with --channels and --bits",
     },
     Word {
         name: "channels",
-        kind: WordKind::Wanted,
+        kind: WordKind::Number(&[]),
         help: "Channels, 1 to 8",
     },
     Word {
         name: "bits",
-        kind: WordKind::Wanted,
+        kind: WordKind::Number(&[]),
         help: "Bits of a sample: 8, 12, 16, 20, 24 or 32; with --lax 4 to 32",
     },
     Word {
         name: "block",
-        kind: WordKind::Number("4096"),
+        kind: WordKind::Number(&["4096"]),
         help: "Samples of a block, 16 to 16384; to 4608 at rates up to 48000; with --lax to 65535",
     },
     Word {
         name: "seek-every",
-        kind: WordKind::Number("0"),
+        kind: WordKind::Number(&["0"]),
         help: "Samples from one point of a seek table to the next; 0: no table",
     },
     Word {
@@ -105,7 +111,7 @@ const ENCODE_WORDS: [Word; 17] = [
     },
     Word {
         name: "serial",
-        kind: WordKind::Number("1"),
+        kind: WordKind::Number(&["1"]),
         help: "The number of the Ogg stream",
     },
     Word {
@@ -136,63 +142,91 @@ const ENCODE_WORDS: [Word; 17] = [
     FORCE,
 ];
 
-/// The job of `encode`.
-pub(crate) fn encode_job<'a>(
+/// What `encode` asks for.
+///
+/// # Errors
+/// A path is missing, or an option of raw samples if others are given; or memory ran out.
+pub(crate) fn encode_request<'a>(
     alloc: Global,
     given: &ArgMatches<'a>,
-) -> Result<Option<Job<'a>>, clap::Error> {
-    let (Some(input), Some(output)) = (given.get_str("IN"), given.get_str("OUT")) else {
-        return Ok(None);
+) -> Result<Request<'a>, NoRequest<'a>> {
+    let format = format_of(given);
+    if format.is_none() && asks_raw(given) {
+        return Err(NoRequest::Line(NO_FORMAT));
+    }
+    let Some(paths) = paths_of(given) else {
+        return Err(NoRequest::Line(NO_FORMAT));
     };
-    let (Some(block), Some(seek_every), Some(container)) = (
-        given.get_one("block"),
-        given.get_one("seek-every"),
-        container_of(given),
-    ) else {
-        return Ok(None);
+    let comments = values_of(alloc, given, "COMMENT")?;
+    let job = match format {
+        Some(format) => raw_job(given, paths, format, comments),
+        None => wave_job(given, paths, comments),
     };
-    let comments = comments_of(alloc, given)?;
-    let raw = given.get_flag("raw");
-    let Some(format) = format_of(given) else {
-        if raw || has_part_of_format(given) {
-            return Ok(None);
-        }
-        return Ok(Some(Job::EncodeWave {
-            input,
-            output,
-            block,
-            seek_every,
-            container,
-            comments,
-            lax: given.get_flag("lax"),
-            predictors: given.get_str("predictors"),
-            effort: effort_of(given, SearchEffort::Quick),
-            keep: !given.get_flag("no-keep"),
-            to_end: given.get_flag("to-end"),
-        }));
-    };
-    Ok(Some(Job::Encode {
+    Ok(request_for(given, job))
+}
+
+/// The encoding of raw samples of a format.
+fn raw_job<'a>(
+    given: &ArgMatches<'a>,
+    (input, output): (&'a str, &'a str),
+    format: RawFormat,
+    comments: Vec<&'a str>,
+) -> Job<'a> {
+    Job::Encode {
         input,
         output,
         format,
-        container,
+        container: container_of(given),
         comments,
         lax: given.get_flag("lax"),
         predictors: given.get_str("predictors"),
         effort: effort_of(given, SearchEffort::None),
-        raw,
-    }))
+        raw: given.get_flag("raw"),
+    }
+}
+
+/// The encoding of a WAV file.
+fn wave_job<'a>(
+    given: &ArgMatches<'a>,
+    (input, output): (&'a str, &'a str),
+    comments: Vec<&'a str>,
+) -> Job<'a> {
+    Job::EncodeWave {
+        input,
+        output,
+        block: given.get_one("block").unwrap_or(4096),
+        seek_every: given.get_one("seek-every").unwrap_or(0),
+        container: container_of(given),
+        comments,
+        lax: given.get_flag("lax"),
+        predictors: given.get_str("predictors"),
+        effort: effort_of(given, SearchEffort::Quick),
+        keep: !given.get_flag("no-keep"),
+        to_end: given.get_flag("to-end"),
+    }
 }
 
 /// The format of raw samples that the options give.
 fn format_of(given: &ArgMatches<'_>) -> Option<RawFormat> {
+    let rate: Option<u32> = given.get_one("rate");
+    let ((rate, channels), bits) = rate
+        .zip(given.get_one("channels"))
+        .zip(given.get_one("bits"))?;
     Some(RawFormat {
-        rate: given.get_one("rate")?,
-        channels: given.get_one("channels")?,
-        bits: given.get_one("bits")?,
-        block: given.get_one("block")?,
-        seek_every: given.get_one("seek-every")?,
+        rate,
+        channels,
+        bits,
+        block: given.get_one("block").unwrap_or(4096),
+        seek_every: given.get_one("seek-every").unwrap_or(0),
     })
+}
+
+/// Whether raw samples are asked for, by `--raw` or one of the options of a format.
+fn asks_raw(given: &ArgMatches<'_>) -> bool {
+    given.get_flag("raw")
+        || given.get_one::<u32>("rate").is_some()
+        || given.get_one::<u32>("channels").is_some()
+        || given.get_one::<u32>("bits").is_some()
 }
 
 /// How far linear predictors are sought: as far as `--search` says, else as far as is usual for the input.
@@ -209,21 +243,13 @@ pub(crate) fn effort_of(given: &ArgMatches<'_>, usual: SearchEffort) -> SearchEf
     }
 }
 
-/// Whether one of the options of a format is given.
-fn has_part_of_format(given: &ArgMatches<'_>) -> bool {
-    let one: [Option<u32>; 3] = [
-        given.get_one("rate"),
-        given.get_one("channels"),
-        given.get_one("bits"),
-    ];
-    one[0].is_some() || one[1].is_some() || one[2].is_some()
-}
-
 /// The container that the options give.
-pub(crate) fn container_of(given: &ArgMatches<'_>) -> Option<ContainerKind> {
-    if !given.get_flag("ogg") {
-        return Some(ContainerKind::Native);
+pub(crate) fn container_of(given: &ArgMatches<'_>) -> ContainerKind {
+    if given.get_flag("ogg") {
+        ContainerKind::Ogg {
+            serial: given.get_one("serial").unwrap_or(1),
+        }
+    } else {
+        ContainerKind::Native
     }
-    let serial = given.get_one("serial")?;
-    Some(ContainerKind::Ogg { serial })
 }

@@ -1,11 +1,9 @@
 //! `flac export`.
 
-ghost use Rattle.std.specs.Prelude.{◌≤◌, IfSome};
-
-use super::{FORCE, Usage, Word, WordKind};
+use super::{FORCE, Usage, Word, WordKind, paths_of};
+use crate::no_request::{NO_FORMAT, NoRequest};
 use clap::ArgMatches;
-use flac_jobs::{ExportPart, Exporting, LineFault, Request};
-use std::alloc::Global;
+use flac_jobs::{ExportPart, Exporting, Request};
 
 const EXPORT_EXAMPLE: &str = "Examples:
   $ flac export song.flac picture cover.jpg
@@ -21,12 +19,17 @@ of padding is zeros. No frame is read.
 A file OUT that is a stream or another file of sound (RIFF, RF64, BW64, FORM, ID3) is not
 replaced without --force; any other that has bytes is replaced once the new one is whole.";
 
-pub(crate) static EXPORT: Usage = Usage {
+static EXPORT: Usage = Usage {
     name: "export",
     about: "Writes tags, a picture, a cue sheet or the content of a block to a file",
     words: &EXPORT_WORDS,
     example: EXPORT_EXAMPLE,
 };
+
+/// What `clap` is told of `export`.
+pub(crate) fn usage() -> &'static Usage {
+    &EXPORT
+}
 
 /// The arguments of `export`.
 const EXPORT_WORDS: [Word; 4] = [
@@ -49,15 +52,19 @@ const EXPORT_WORDS: [Word; 4] = [
 ];
 
 /// What `export` asks for.
-pub(crate) fn export_request<'a>(given: &ArgMatches<'a>) -> Option<Request<'a>> {
-    let input = given.get_str("IN")?;
-    let output = given.get_str("OUT")?;
-    Some(Request::Export(Exporting {
-        input,
-        part: part_of(given.get_str("PART")?),
-        output,
-        force: given.get_flag("force"),
-    }))
+///
+/// # Errors
+/// A path or the part is missing.
+pub(crate) fn export_request<'a>(given: &ArgMatches<'a>) -> Result<Request<'a>, NoRequest<'a>> {
+    match paths_of(given).zip(given.get_str("PART")) {
+        Some(((input, output), part)) => Ok(Request::Export(Exporting {
+            input,
+            part: part_of(part),
+            output,
+            force: given.get_flag("force"),
+        })),
+        None => Err(NoRequest::Line(NO_FORMAT)),
+    }
 }
 
 /// Which part a word names.
@@ -70,14 +77,12 @@ fn part_of(word: &str) -> Option<ExportPart> {
     }
 }
 
-/// Why an exporting is refused whose words were all read; `None` if it is not.
-pub(crate) fn fault_of_exporting(exporting: &Exporting<'_>) -> Option<LineFault>
-    ensures { IfSome result (λ fault. fault.status ≤ 2) }
-{
+/// Why an exporting is refused whose words were all read: a line; `None` if it is not.
+pub(crate) fn refusal_of_exporting(exporting: &Exporting<'_>) -> Option<&'static str> {
     if exporting.part.is_none() {
-        return Some(LineFault::refused(
+        return Some(
             "flac: command: export takes tags, picture, cuesheet or the number of a block\n",
-        ));
+        );
     }
     None
 }

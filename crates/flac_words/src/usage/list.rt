@@ -1,12 +1,11 @@
 //! `flac list`.
 
-ghost use Rattle.std.specs.Prelude.{◌≤◌, IfSome};
-
 use super::block_names::block_names;
-use super::{ANY, LAX, STREAMS, Usage, Word, WordKind, asks_lax};
+use super::{ANY, LAX, STREAMS, Usage, Word, WordKind, asks_lax, request_for, values_of};
+use crate::no_request::NoRequest;
 use clap::ArgMatches;
-use flac_jobs::{CommandLine, Job, LineFault, Listing, Request};
-use std::alloc::Global;
+use flac_jobs::{Job, Listing, Request};
+use std::alloc::{AllocError, Global};
 
 const LIST_EXAMPLE: &str = "Example:
   $ flac list song.flac
@@ -34,12 +33,17 @@ picture, or type_7 to type_126. ID is four characters, or 0x and eight hexadecim
 Bytes of a text outside 20 to 7E (hexadecimal), and the backslash, are shown as \\x and
 two digits.";
 
-pub(crate) static LIST: Usage = Usage {
+static LIST: Usage = Usage {
     name: "list",
     about: "Decodes a stream, and lists its metadata blocks",
     words: &LIST_WORDS,
     example: LIST_EXAMPLE,
 };
+
+/// What `clap` is told of `list`.
+pub(crate) fn usage() -> &'static Usage {
+    &LIST
+}
 
 /// The arguments of `list`.
 const LIST_WORDS: [Word; 6] = [
@@ -64,48 +68,53 @@ const LIST_WORDS: [Word; 6] = [
 ];
 
 /// What `list` asks for: a job for one stream of which all is listed as text, else a listing.
+///
+/// # Errors
+/// Memory ran out.
 pub(crate) fn list_request<'a>(
     alloc: Global,
     given: &ArgMatches<'a>,
-) -> Result<Option<Request<'a>>, clap::Error> {
-    let Some(inputs) = given.get_strs("IN") else {
-        return Ok(None);
-    };
-    let lax = asks_lax(given);
-    let any = given.get_flag("any");
-    let head = given.get_flag("head");
-    let json = given.get_flag("json");
-    let words = given.get_strs("block").unwrap_or(&[]);
-    if let [input] = inputs {
-        if !head && !json && words.is_empty() {
-            let job = Job::List { input, lax };
-            return Ok(Some(Request::Job(CommandLine {
-                job,
-                force: false,
-                any,
-            })));
-        }
+) -> Result<Request<'a>, NoRequest<'a>> {
+    if let Some(input) = listed_whole(given) {
+        let lax = asks_lax(given);
+        return Ok(request_for(given, Job::List { input, lax }));
     }
-    let mut paths = Vec::new(alloc);
-    paths.extend_from_slice(inputs)?;
-    Ok(Some(Request::ListFiles(Listing {
-        inputs: paths,
-        lax,
-        any,
-        head,
-        json,
-        blocks: block_names(alloc, words)?,
-    })))
+    Ok(Request::ListFiles(listing_of(alloc, given)?))
 }
 
-/// Why a listing is refused whose words were all read; `None` if it is not.
-pub(crate) fn fault_of_listing(listing: &Listing<'_>) -> Option<LineFault>
-    ensures { IfSome result (λ fault. fault.status ≤ 2) }
-{
+/// The listing that is asked for.
+///
+/// # Errors
+/// Memory ran out.
+fn listing_of<'a>(alloc: Global, given: &ArgMatches<'a>) -> Result<Listing<'a>, AllocError> {
+    let blocks = block_names(alloc, given.get_strs("block").unwrap_or(&[]))?;
+    Ok(Listing {
+        inputs: values_of(alloc, given, "IN")?,
+        lax: asks_lax(given),
+        any: given.get_flag("any"),
+        head: given.get_flag("head"),
+        json: given.get_flag("json"),
+        blocks,
+    })
+}
+
+/// The one stream of which all is listed as text; `None` if more or less is asked for.
+fn listed_whole<'a>(given: &ArgMatches<'a>) -> Option<&'a str> {
+    match given.get_strs("IN") {
+        Some([input]) if !asks_part(given) => Some(input),
+        _ => None,
+    }
+}
+
+/// Whether a part of the metadata is asked for, or JSON.
+fn asks_part(given: &ArgMatches<'_>) -> bool {
+    given.get_flag("head") || given.get_flag("json") || given.get_str("block").is_some()
+}
+
+/// Why a listing is refused whose words were all read: a line; `None` if it is not.
+pub(crate) fn refusal_of_listing(listing: &Listing<'_>) -> Option<&'static str> {
     if listing.blocks.is_none() {
-        return Some(LineFault::refused(
-            "flac: command: --block takes the number of a block, or a type\n",
-        ));
+        return Some("flac: command: --block takes the number of a block, or a type\n");
     }
     None
 }

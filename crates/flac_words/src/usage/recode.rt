@@ -1,11 +1,10 @@
 //! `flac recode`.
 
-ghost use Rattle.std.specs.Prelude.{◌≤◌, IfSome};
-
 use super::encode::{container_of, effort_of};
-use super::{FORCE, STREAM, STREAM_OUT, Usage, Word, WordKind};
+use super::{FORCE, STREAM, STREAM_OUT, Usage, Word, WordKind, paths_of};
+use crate::no_request::{NO_FORMAT, NoRequest};
 use clap::ArgMatches;
-use flac_jobs::{ContainerKind, LineFault, Recoding, Request, SearchEffort, StreamCopy};
+use flac_jobs::{ContainerKind, Recoding, Request, SearchEffort, StreamCopy};
 
 const RECODE_EXAMPLE: &str = "Example, smaller, and as an Ogg stream:
   $ flac recode song.flac smaller.flac --search full
@@ -36,12 +35,17 @@ stream that has the samples of IN by its STREAMINFO, but no other file of sound:
 stream, and none that begins with RIFF, RF64, BW64, FORM or ID3. A name that ends in .wav is
 refused. With --force any file is replaced, and any name taken.";
 
-pub(crate) static RECODE: Usage = Usage {
+static RECODE: Usage = Usage {
     name: "recode",
     about: "Encodes a stream anew: the same samples and metadata, native or Ogg",
     words: &RECODE_WORDS,
     example: RECODE_EXAMPLE,
 };
+
+/// What `clap` is told of `recode`.
+pub(crate) fn usage() -> &'static Usage {
+    &RECODE
+}
 
 /// The words of `--search`.
 const EFFORTS: [&str; 3] = ["none", "quick", "full"];
@@ -57,12 +61,12 @@ const RECODE_WORDS: [Word; 11] = [
     },
     Word {
         name: "block",
-        kind: WordKind::Wanted,
+        kind: WordKind::Number(&[]),
         help: "Samples of a block, 16 to 16384; to 4608 at rates up to 48000; with --lax to 65535; if not given, 4096",
     },
     Word {
         name: "seek-every",
-        kind: WordKind::Wanted,
+        kind: WordKind::Number(&[]),
         help: "Samples from one point of a seek table to the next; 0, or not given: no table",
     },
     Word {
@@ -77,7 +81,7 @@ const RECODE_WORDS: [Word; 11] = [
     },
     Word {
         name: "serial",
-        kind: WordKind::Number("1"),
+        kind: WordKind::Number(&["1"]),
         help: "The number of the Ogg stream",
     },
     Word {
@@ -93,14 +97,20 @@ const RECODE_WORDS: [Word; 11] = [
     FORCE,
 ];
 
-/// What `recode` asks for; `None` if a path is missing.
-pub(crate) fn recode_request<'a>(given: &ArgMatches<'a>) -> Option<Request<'a>> {
-    Some(Request::Recode(Recoding {
-        input: given.get_str("IN")?,
-        output: given.get_str("OUT")?,
+/// What `recode` asks for.
+///
+/// # Errors
+/// A path is missing.
+pub(crate) fn recode_request<'a>(given: &ArgMatches<'a>) -> Result<Request<'a>, NoRequest<'a>> {
+    let Some((input, output)) = paths_of(given) else {
+        return Err(NoRequest::Line(NO_FORMAT));
+    };
+    Ok(Request::Recode(Recoding {
+        input,
+        output,
         block: given.get_one("block").unwrap_or(4096),
         seek_every: given.get_one("seek-every").unwrap_or(0),
-        container: container_of(given)?,
+        container: container_of(given),
         lax: given.get_flag("lax"),
         predictors: given.get_str("predictors"),
         effort: effort_of(given, SearchEffort::Quick),
@@ -120,35 +130,29 @@ fn says_how(given: &ArgMatches<'_>) -> bool {
         || given.get_str("predictors").is_some()
 }
 
-/// What `recode --copy` asks for; `None` if a path is missing.
+/// What `recode --copy` asks for.
 ///
 /// # Errors
-/// A line, if the words also say how samples are encoded.
-pub(crate) fn copy_request<'a>(
-    given: &ArgMatches<'a>,
-) -> Result<Option<Request<'a>>, &'static str> {
+/// A path is missing, or the words also say how samples are encoded.
+pub(crate) fn copy_request<'a>(given: &ArgMatches<'a>) -> Result<Request<'a>, NoRequest<'a>> {
     if says_how(given) {
-        return Err(COPY_ENCODES);
+        return Err(NoRequest::Line(COPY_ENCODES));
     }
-    Ok(copy_of(given))
-}
-
-/// The copy that the words ask for; `None` if a path is missing.
-fn copy_of<'a>(given: &ArgMatches<'a>) -> Option<Request<'a>> {
-    Some(Request::Copy(StreamCopy {
-        input: given.get_str("IN")?,
-        output: given.get_str("OUT")?,
-        container: container_of(given)?,
+    let Some((input, output)) = paths_of(given) else {
+        return Err(NoRequest::Line(NO_FORMAT));
+    };
+    Ok(Request::Copy(StreamCopy {
+        input,
+        output,
+        container: container_of(given),
         force: given.get_flag("force"),
     }))
 }
 
-/// Why a recoding is refused; `None` if it is not.
-pub(crate) fn fault_of_recoding(recoding: &Recoding<'_>) -> Option<LineFault>
-    ensures { IfSome result (λ fault. fault.status ≤ 2) }
-{
+/// Why a recoding is refused: a line; `None` if it is not.
+pub(crate) fn refusal_of_recoding(recoding: &Recoding<'_>) -> Option<&'static str> {
     if recoding.seek_every != 0 && recoding.container != ContainerKind::Native {
-        return Some(LineFault::refused("flac: command: --ogg with --seek-every\n"));
+        return Some("flac: command: --ogg with --seek-every\n");
     }
     None
 }

@@ -1,8 +1,9 @@
 //! `flac retag`.
 
-use super::{COMMENTS, FORCE, STREAM, STREAM_OUT, Usage, Word, comments_of};
+use super::{COMMENTS, FORCE, STREAM, STREAM_OUT, Usage, Word, paths_of, request_for, values_of};
+use crate::no_request::{NO_FORMAT, NoRequest};
 use clap::ArgMatches;
-use flac_jobs::Job;
+use flac_jobs::{Job, Request};
 use std::alloc::Global;
 
 const RETAG_EXAMPLE: &str = "Example:
@@ -25,28 +26,39 @@ A file with bytes is replaced only if it is a native stream with the STREAMINFO 
 and not if IN is a pipe. With --force any file is replaced. A word such as TITLE=Song is
 no name of OUT: write ./TITLE=Song.";
 
-pub(crate) static RETAG: Usage = Usage {
+static RETAG: Usage = Usage {
     name: "retag",
     about: "Writes a stream with other comments",
     words: &RETAG_WORDS,
     example: RETAG_EXAMPLE,
 };
 
+/// What `clap` is told of `retag`.
+pub(crate) fn usage() -> &'static Usage {
+    &RETAG
+}
+
 /// The arguments of `retag`.
 const RETAG_WORDS: [Word; 4] = [STREAM, STREAM_OUT, COMMENTS, FORCE];
 
-/// The job of `retag`.
-pub(crate) fn retag_job<'a>(
+/// What `retag` asks for.
+///
+/// # Errors
+/// A path is missing, or memory ran out.
+pub(crate) fn retag_request<'a>(
     alloc: Global,
     given: &ArgMatches<'a>,
-) -> Result<Option<Job<'a>>, clap::Error> {
-    let (Some(input), Some(output)) = (given.get_str("IN"), given.get_str("OUT")) else {
-        return Ok(None);
+) -> Result<Request<'a>, NoRequest<'a>> {
+    let Some((input, output)) = paths_of(given) else {
+        return Err(NoRequest::Line(NO_FORMAT));
     };
-    let comments = comments_of(alloc, given)?;
-    Ok(Some(Job::Retag {
-        input,
-        output,
-        comments,
-    }))
+    let comments = values_of(alloc, given, "COMMENT")?;
+    Ok(request_for(
+        given,
+        Job::Retag {
+            input,
+            output,
+            comments,
+        },
+    ))
 }

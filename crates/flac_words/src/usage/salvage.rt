@@ -1,6 +1,7 @@
 //! `flac salvage`.
 
-use super::{FORCE, STREAM_OUT, Usage, Word, WordKind};
+use super::{FORCE, STREAM_OUT, Usage, Word, WordKind, paths_of};
+use crate::no_request::{NO_FORMAT, NoRequest};
 use clap::ArgMatches;
 use flac_jobs::{Filling, Request, Salvage};
 
@@ -19,12 +20,17 @@ the samples of IN by its STREAMINFO, but no other file of sound: no other stream
 that begins with RIFF, RF64, BW64, FORM or ID3. A name that ends in .wav is refused. With
 --force any file is replaced, and any name taken.";
 
-pub(crate) static SALVAGE: Usage = Usage {
+static SALVAGE: Usage = Usage {
     name: "salvage",
     about: "Encodes the whole frames of a damaged stream anew, with silence for what is lost",
     words: &SALVAGE_WORDS,
     example: SALVAGE_EXAMPLE,
 };
+
+/// What `clap` is told of `salvage`.
+pub(crate) fn usage() -> &'static Usage {
+    &SALVAGE
+}
 
 /// The arguments of `salvage`.
 const SALVAGE_WORDS: [Word; 6] = [
@@ -52,31 +58,26 @@ const SALVAGE_WORDS: [Word; 6] = [
     FORCE,
 ];
 
-/// What `salvage` asks for; `None` if a path is missing.
+/// What `salvage` asks for.
 ///
 /// # Errors
-/// Both fillings are asked for: the line that says so.
-pub(crate) fn salvage_request<'a>(
-    given: &ArgMatches<'a>,
-) -> Result<Option<Request<'a>>, &'static str> {
+/// A path is missing, or both fillings are asked for.
+pub(crate) fn salvage_request<'a>(given: &ArgMatches<'a>) -> Result<Request<'a>, NoRequest<'a>> {
     let gap = given.get_flag("gap");
     if gap && given.get_flag("silence") {
-        return Err("flac: command: --silence with --gap\n");
+        return Err(NoRequest::Line("flac: command: --silence with --gap\n"));
     }
-    let filling = if gap {
-        Filling::Nothing
-    } else {
-        Filling::Silence
+    let Some((input, output)) = paths_of(given) else {
+        return Err(NoRequest::Line(NO_FORMAT));
     };
-    Ok(salvage_of(given, filling))
-}
-
-/// A salvage with this filling; `None` if a path is missing.
-fn salvage_of<'a>(given: &ArgMatches<'a>, filling: Filling) -> Option<Request<'a>> {
-    Some(Request::Salvage(Salvage {
-        input: given.get_str("IN")?,
-        output: given.get_str("OUT")?,
-        filling,
+    Ok(Request::Salvage(Salvage {
+        input,
+        output,
+        filling: if gap {
+            Filling::Nothing
+        } else {
+            Filling::Silence
+        },
         lax: given.get_flag("lax"),
         force: given.get_flag("force"),
     }))

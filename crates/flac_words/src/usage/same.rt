@@ -1,10 +1,9 @@
 //! `flac same`.
 
-ghost use Rattle.std.specs.Prelude.{◌≤◌, IfSome};
-
 use super::{Usage, Word, WordKind};
+use crate::no_request::{NO_FORMAT, NoRequest};
 use clap::ArgMatches;
-use flac_jobs::{Comparison, LineFault, Request};
+use flac_jobs::{Comparison, Request};
 
 const SAME_EXAMPLE: &str = "Example:
   $ flac same song.flac other.oga
@@ -16,12 +15,17 @@ per sample, whatever their containers, tags and block sizes. It is 1 if they dif
 line says in what: rate, channels, bits, the first sample, or the number of samples; and if
 one of them is refused.";
 
-pub(crate) static SAME: Usage = Usage {
+static SAME: Usage = Usage {
     name: "same",
     about: "Compares the samples of two streams, and prints the first difference",
     words: &SAME_WORDS,
     example: SAME_EXAMPLE,
 };
+
+/// What `clap` is told of `same`.
+pub(crate) fn usage() -> &'static Usage {
+    &SAME
+}
 
 /// The arguments of `same`.
 const SAME_WORDS: [Word; 2] = [
@@ -37,20 +41,21 @@ const SAME_WORDS: [Word; 2] = [
     },
 ];
 
-/// What `same` asks for; `None` if a path is missing.
-pub(crate) fn same_request<'a>(given: &ArgMatches<'a>) -> Option<Request<'a>> {
-    Some(Request::Same(Comparison {
-        first: given.get_str("FIRST")?,
-        second: given.get_str("SECOND")?,
-    }))
+/// What `same` asks for.
+///
+/// # Errors
+/// A path is missing.
+pub(crate) fn same_request<'a>(given: &ArgMatches<'a>) -> Result<Request<'a>, NoRequest<'a>> {
+    match given.get_str("FIRST").zip(given.get_str("SECOND")) {
+        Some((first, second)) => Ok(Request::Same(Comparison { first, second })),
+        None => Err(NoRequest::Line(NO_FORMAT)),
+    }
 }
 
-/// Why a comparison is refused; `None` if it is not.
-pub(crate) fn fault_of_comparison(comparison: &Comparison<'_>) -> Option<LineFault>
-    ensures { IfSome result (λ fault. fault.status ≤ 2) }
-{
+/// Why a comparison is refused: a line; `None` if it is not.
+pub(crate) fn refusal_of_comparison(comparison: &Comparison<'_>) -> Option<&'static str> {
     if comparison.first == "-" && comparison.second == "-" {
-        return Some(LineFault::refused("flac: command: same reads standard input only once\n"));
+        return Some("flac: command: same reads standard input only once\n");
     }
     None
 }

@@ -1,11 +1,10 @@
 //! `flac tag`.
 
-ghost use Rattle.std.specs.Prelude.{◌≤◌, IfSome};
-
-use super::{Usage, Word, WordKind};
-use crate::words::is_comment;
+use super::{Usage, Word, WordKind, values_of};
+use crate::no_request::NoRequest;
+use crate::requests::is_comment;
 use clap::ArgMatches;
-use flac_jobs::{LineFault, Request, TagEdit, TagMode, Tagging};
+use flac_jobs::{Request, TagEdit, TagMode, Tagging};
 use std::alloc::{AllocError, Global};
 
 const TAG_EXAMPLE: &str = "Examples:
@@ -39,12 +38,17 @@ says why; the exit status is then 1. The frames of native streams are not verifi
 /// The bytes of padding of a new file if their number is not given.
 const USUAL_PADDING: u32 = 8192;
 
-pub(crate) static TAG: Usage = Usage {
+static TAG: Usage = Usage {
     name: "tag",
     about: "Edits the comments of streams, in place if there is room",
     words: &TAG_WORDS,
     example: TAG_EXAMPLE,
 };
+
+/// What `clap` is told of `tag`.
+pub(crate) fn usage() -> &'static Usage {
+    &TAG
+}
 
 /// The arguments of `tag`.
 const TAG_WORDS: [Word; 13] = [
@@ -100,7 +104,7 @@ const TAG_WORDS: [Word; 13] = [
     },
     Word {
         name: "padding",
-        kind: WordKind::Number("8192"),
+        kind: WordKind::Number(&["8192"]),
         help: "Bytes of padding of a new file, as --rewrite always writes one; 0: none",
     },
     Word {
@@ -116,25 +120,32 @@ const TAG_WORDS: [Word; 13] = [
 ];
 
 /// What `tag` asks for.
+///
+/// # Errors
+/// Memory ran out.
 pub(crate) fn tag_request<'a>(
     alloc: Global,
     given: &ArgMatches<'a>,
-) -> Result<Option<Request<'a>>, clap::Error> {
-    let (Some(files), Some(padding)) = (given.get_strs("FILE"), given.get_one("padding")) else {
-        return Ok(None);
-    };
-    let mut inputs = Vec::new(alloc);
-    inputs.extend_from_slice(files)?;
-    Ok(Some(Request::Tag(Tagging {
-        inputs,
-        edits: edits_of(alloc, given)?,
+) -> Result<Request<'a>, NoRequest<'a>> {
+    Ok(Request::Tag(tagging_of(alloc, given)?))
+}
+
+/// The tagging that is asked for.
+///
+/// # Errors
+/// Memory ran out.
+fn tagging_of<'a>(alloc: Global, given: &ArgMatches<'a>) -> Result<Tagging<'a>, AllocError> {
+    let edits = edits_of(alloc, given)?;
+    Ok(Tagging {
+        inputs: values_of(alloc, given, "FILE")?,
+        edits,
         lines: given.get_str("from"),
         output: given.get_str("out"),
         mode: mode_of(given.get_flag("in-place"), given.get_flag("rewrite")),
-        padding,
+        padding: given.get_one("padding").unwrap_or(USUAL_PADDING),
         keep_times: given.get_flag("keep-times"),
         verbose: given.get_flag("verbose"),
-    })))
+    })
 }
 
 /// How files may be edited.
@@ -148,74 +159,58 @@ fn mode_of(in_place: bool, rewrite: bool) -> Option<TagMode> {
 }
 
 /// The edits, in the order in which they are made.
+///
+/// # Errors
+/// Memory ran out.
 fn edits_of<'a>(alloc: Global, given: &ArgMatches<'a>) -> Result<Vec<TagEdit<'a>>, AllocError> {
     let mut edits = Vec::new(alloc);
+    add_edits(&mut edits, given)?;
+    Ok(edits)
+}
+
+/// Adds the edits, in that order.
+///
+/// # Errors
+/// Memory ran out.
+fn add_edits<'a>(edits: &mut Vec<TagEdit<'a>>, given: &ArgMatches<'a>) -> Result<(), AllocError> {
     if given.get_flag("clear") {
         edits.push(TagEdit::Clear)?;
     }
     if given.get_str("from").is_some() {
         edits.push(TagEdit::Lines)?;
     }
-    if let Some(names) = given.get_strs("remove") {
-        add_removals(&mut edits, names)?;
-    }
-    if let Some(comments) = given.get_strs("set") {
-        add_settings(&mut edits, comments)?;
-    }
-    if let Some(words) = given.get_strs("set-file") {
-        add_files(&mut edits, words)?;
-    }
-    if let Some(comments) = given.get_strs("add") {
-        add_additions(&mut edits, comments)?;
-    }
-    Ok(edits)
+    add_option(edits, given, "remove")?;
+    add_option(edits, given, "set")?;
+    add_option(edits, given, "set-file")?;
+    add_option(edits, given, "add")
 }
 
-/// Adds an edit for each `--remove`.
-fn add_removals<'a>(edits: &mut Vec<TagEdit<'a>>, names: &[&'a str]) -> Result<(), AllocError> {
-    for name in names {
-        let edit = if name.contains('=') {
-            TagEdit::RemovePair(name)
-        } else {
-            TagEdit::Remove(name)
-        };
+/// Adds an edit for each word of an option.
+///
+/// # Errors
+/// Memory ran out.
+fn add_option<'a>(
+    edits: &mut Vec<TagEdit<'a>>,
+    given: &ArgMatches<'a>,
+    option: &str,
+) -> Result<(), AllocError> {
+    for word in given.get_strs(option).unwrap_or(&[]) {
+        let edit = edit_of(edits, option, word);
         edits.push(edit)?;
     }
     Ok(())
 }
 
-/// Adds an edit for each `--set`. The second of a name adds its comment, so that all of them stand there.
-fn add_settings<'a>(edits: &mut Vec<TagEdit<'a>>, comments: &[&'a str]) -> Result<(), AllocError> {
-    for comment in comments {
-        let edit = if has_setting(edits, comment) {
-            TagEdit::Add(comment)
-        } else {
-            TagEdit::Set(comment)
-        };
-        edits.push(edit)?;
+/// The edit for a word of an option. The second of a name that sets a comment adds it, so that all of them stand there.
+fn edit_of<'a>(edits: &[TagEdit<'a>], option: &str, word: &'a str) -> TagEdit<'a> {
+    match option {
+        "remove" if word.contains('=') => TagEdit::RemovePair(word),
+        "remove" => TagEdit::Remove(word),
+        "set" if !has_setting(edits, word) => TagEdit::Set(word),
+        "set-file" if has_setting(edits, word) => TagEdit::AddFile(word),
+        "set-file" => TagEdit::SetFile(word),
+        _ => TagEdit::Add(word),
     }
-    Ok(())
-}
-
-/// Adds an edit for each `--set-file`, as [`add_settings`] does.
-fn add_files<'a>(edits: &mut Vec<TagEdit<'a>>, words: &[&'a str]) -> Result<(), AllocError> {
-    for word in words {
-        let edit = if has_setting(edits, word) {
-            TagEdit::AddFile(word)
-        } else {
-            TagEdit::SetFile(word)
-        };
-        edits.push(edit)?;
-    }
-    Ok(())
-}
-
-/// Adds an edit for each `--add`.
-fn add_additions<'a>(edits: &mut Vec<TagEdit<'a>>, comments: &[&'a str]) -> Result<(), AllocError> {
-    for comment in comments {
-        edits.push(TagEdit::Add(comment))?;
-    }
-    Ok(())
 }
 
 /// Whether one of the edits sets a comment of the name of this one.
@@ -238,26 +233,30 @@ fn name_of(comment: &str) -> &str {
     }
 }
 
-/// Why a tagging is refused whose words were all read; `None` if it is not.
-pub(crate) fn fault_of_tagging(tagging: &Tagging<'_>) -> Option<LineFault>
-    ensures { IfSome result (λ fault. fault.status ≤ 2) }
-{
+/// Why a tagging is refused whose words were all read: a line; `None` if it is not.
+pub(crate) fn refusal_of_tagging(tagging: &Tagging<'_>) -> Option<&'static str> {
     if tagging.mode.is_none() {
-        return Some(LineFault::refused("flac: command: --in-place with --rewrite\n"));
+        return Some("flac: command: --in-place with --rewrite\n");
     }
-    if let Some(line) = line_of_output(tagging) {
-        return Some(LineFault::refused(line));
+    let line = line_of_output(tagging);
+    if line.is_some() {
+        return line;
     }
     let writes = tagging.mode == Some(TagMode::Rewrite) || tagging.output.is_some();
     if tagging.edits.is_empty() && !writes {
-        return Some(LineFault::refused(line_of_none(tagging)));
+        return Some(line_of_none(tagging));
     }
-    for edit in &tagging.edits {
+    line_of_edits(&tagging.edits)
+}
+
+/// What to print of edits, if the comment of one is none.
+fn line_of_edits(edits: &[TagEdit<'_>]) -> Option<&'static str> {
+    for edit in edits {
         if lacks_equals(edit) {
-            return Some(LineFault::refused("flac: command: comment without =\n"));
+            return Some("flac: command: comment without =\n");
         }
         if has_bad_name(edit) {
-            return Some(LineFault::refused("flac: command: 55 FieldName\n"));
+            return Some("flac: command: 55 FieldName\n");
         }
     }
     None

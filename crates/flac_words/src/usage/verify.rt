@@ -1,10 +1,9 @@
 //! `flac verify`.
 
-ghost use Rattle.std.specs.Prelude.{◌≤◌, IfSome};
-
-use super::{Usage, Word, WordKind};
+use super::{Usage, Word, WordKind, values_of};
+use crate::no_request::NoRequest;
 use clap::ArgMatches;
-use flac_jobs::{LineFault, Request, Verification};
+use flac_jobs::{Request, Verification};
 use std::alloc::Global;
 
 const VERIFY_EXAMPLE: &str = "Example:
@@ -39,12 +38,17 @@ In a folder, and in the folders in it, files are read whose names end in .flac, 
 or .ogg, but not Ogg files of Vorbis, Opus and other codecs. Links to folders are not
 followed, unless they are named. The exit status is 0 if all files are good.";
 
-pub(crate) static VERIFY: Usage = Usage {
+static VERIFY: Usage = Usage {
     name: "verify",
     about: "Decodes many files, also those of folders, and prints a line for each",
     words: &VERIFY_WORDS,
     example: VERIFY_EXAMPLE,
 };
+
+/// What `clap` is told of `verify`.
+pub(crate) fn usage() -> &'static Usage {
+    &VERIFY
+}
 
 /// The arguments of `verify`.
 const VERIFY_WORDS: [Word; 6] = [
@@ -81,33 +85,30 @@ const VERIFY_WORDS: [Word; 6] = [
 ];
 
 /// What `verify` asks for.
+///
+/// # Errors
+/// Memory ran out.
 pub(crate) fn verify_request<'a>(
     alloc: Global,
     given: &ArgMatches<'a>,
-) -> Result<Option<Request<'a>>, clap::Error> {
-    let mut paths = Vec::new(alloc);
-    if let Some(given) = given.get_strs("PATH") {
-        paths.extend_from_slice(given)?;
-    }
-    Ok(Some(Request::Verify(Verification {
-        paths,
+) -> Result<Request<'a>, NoRequest<'a>> {
+    Ok(Request::Verify(Verification {
+        paths: values_of(alloc, given, "PATH")?,
         subset: given.get_flag("subset"),
         report: given.get_str("report"),
         resume: given.get_str("resume"),
         against: given.get_str("against"),
         all: given.get_flag("all"),
-    })))
+    }))
 }
 
-/// Why a verification is refused whose words were all read; `None` if it is not.
-pub(crate) fn fault_of_verification(verification: &Verification<'_>) -> Option<LineFault>
-    ensures { IfSome result (λ fault. fault.status ≤ 2) }
-{
+/// Why a verification is refused whose words were all read: a line; `None` if it is not.
+pub(crate) fn refusal_of_verification(verification: &Verification<'_>) -> Option<&'static str> {
     if verification.report.is_some() && verification.resume.is_some() {
-        return Some(LineFault::refused("flac: command: --report with --resume\n"));
+        return Some("flac: command: --report with --resume\n");
     }
     if verification.against.is_some() && verification.resume.is_some() {
-        return Some(LineFault::refused("flac: command: --against with --resume\n"));
+        return Some("flac: command: --against with --resume\n");
     }
     None
 }
