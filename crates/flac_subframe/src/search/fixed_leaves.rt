@@ -24,6 +24,18 @@ pub(crate) struct Leaf {
     pub(crate) bound: u64,
 }
 
+/// A fixed predictor of an order, and narrow samples, of which there are sixteen for each of the finest partitions.
+#[derive(Drop)]
+pub(crate) struct FixedView<'a> {
+    pub(crate) samples: &'a [i32],
+    pub(crate) order: usize,
+    pub(crate) partition_order: u8,
+    ghost few: { order ≤ 4 },
+    ghost fits: { All (FitsBits 27) samples.now },
+    ghost coarse: { partition_order ≤ 8 },
+    ghost sixteens: { length samples.now ≡ 16 * 2 ^ partition_order },
+}
+
 /// What the fixed predictor of an order leaves of samples, measured. The arrays are working arrays for it.
 #[inline(always)]
 fn leaf_of(order: usize, samples: &[i32], values: &mut [i32], folds: &mut [u32]) -> Leaf

@@ -96,6 +96,9 @@ halves_of_sixteen order p rs few is = record {
   room = rw (sixteen_each p (length rs + order) is) (omega arith);
 }
 
+pub halves_as_long : (order p : ℕ) (xs ys : List ℤ) → length xs ≡ length ys → Halves order xs p → Halves order ys p
+halves_as_long order p xs ys e so = record { even = rw (← e) so.even; room = rw (← e) so.room }
+
 -- ---- values by their folded numbers
 
 pub whole_cost : (k : ℕ) (rs : List ℤ) (ns : List ℕ) → ns ≡ map folded rs → sum_by (folded_cost k) ns ≡ sum_by (value_cost k) rs

@@ -3,8 +3,10 @@ use Rattle.std.specs.Prelude.{ℕ, ℤ, ◌≡◌, ◌+◌, ◌*◌, ◌^◌, �
 use Rattle.std.specs.List.{sum_by}
 use Rattle.flac_subframe.specs.declared.format.residual_form.ResidualForm.{ResidualForm}
 use Rattle.flac_subframe.specs.declared.search.fixed_leaves.Leaf.{Leaf}
+use Rattle.flac_subframe.specs.format.Bodies.{differences}
 use Rattle.flac_subframe.specs.format.Cost.{Codings, MayWrite, codings_in}
 use Rattle.flac_subframe.specs.format.Least.{IsLeast}
+use Rattle.flac_subframe.specs.format.Prediction.{fixed_coefficients}
 use Rattle.flac_subframe.specs.format.Spelling.{FitsWidth}
 use Rattle.flac_subframe.specs.format.inner.Cost.{residual_cost, value_cost}
 use Rattle.flac_subframe.specs.search.inner.Halves.{IsWidth}
@@ -28,3 +30,7 @@ HasLeastCodings most order rs f bytes = IsLeast (MayWrite most order rs) (residu
 
 abbrev pub CostsAtLeast : ℕ → ℕ → List ℤ → ℕ → Type 0
 CostsAtLeast most order rs n = (f : Codings) → MayWrite most order rs f → n ≤ residual_cost order rs f
+
+-- what a fixed predictor leaves of the samples
+abbrev pub left_by_fixed : ℕ → List ℤ → List ℤ
+left_by_fixed order s = differences (fixed_coefficients order) 0 s

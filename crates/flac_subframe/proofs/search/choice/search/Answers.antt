@@ -26,11 +26,11 @@ loop-index-init c =
 pub improve-requires-clause-small : goal.improve-requires-clause-small
 improve-requires-clause-small c = c.loop-index.invariant.best.small
 
-pub improve-requires-2-clause-small : goal.improve-requires-2-clause-small
-improve-requires-2-clause-small c = c.loop-index.invariant.best.small
+pub improve_by_fixed-requires-clause-small : goal.improve_by_fixed-requires-clause-small
+improve_by_fixed-requires-clause-small c = c.loop-index.invariant.best.small
 
-pub improve-requires-then-order-first-clause-small : goal.improve-requires-then-order-first-clause-small
-improve-requires-then-order-first-clause-small c = c.loop-order.invariant.best.small
+pub improve_by_fixed-requires-then-order-first-clause-small : goal.improve_by_fixed-requires-then-order-first-clause-small
+improve_by_fixed-requires-then-order-first-clause-small c = c.loop-order.invariant.best.small
 
 pub loop-index-preserved : goal.loop-index-preserved
 loop-index-preserved c =
@@ -54,11 +54,11 @@ loop-order-init c =
     let hs = c.args.subject.now.predictors.now in let most = c.args.subject.now.most in let bits = c.args.subject.now.bits in let s = c.args.subject.now.samples.now in
     let i = c.loop-index.index in
     let so = c.loop-index.invariant in
-    let new = c.improve-2.ensures in
+    let new = c.improve_by_fixed.ensures in
     let all : i ≡ length hs = omega arith in
     let whole : take i hs ≡ hs = take_all i hs (omega (arith, c.loop-index-test.false)) in
     let best = subst (λ (l : List LinearPredictor). IsBest hs most bits s (map predictor_of l) (way_of c.loop-index.best c.loop-index.tables.codings.now)) whole so.best in
-    let old = c.args.tables.now.priced in let mid = c.loop-index.tables.priced in let now = c.improve-2.new.tables.priced in
+    let old = c.args.tables.now.priced in let mid = c.loop-index.tables.priced in let now = c.improve_by_fixed.new.tables.priced in
     record {
       best = new.best (map predictor_of hs) best;
       within = new.within so.within;
@@ -78,15 +78,15 @@ loop-order-preserved c =
     let old = c.args.tables.now.priced in
     elim c.if-order-first.branch [
       | then-order-first w ↦
-          let new = w.improve-then-order-first.ensures in
+          let new = w.improve_by_fixed-then-order-first.ensures in
           record {
             best = rw (w.best-is, w.tables-is) (next_tried hs most bits s ls _ first order (new.best (ls ++ fixed first ∷ fixed_below order) so.best));
             within = rw w.best-is (new.within so.within);
             arrays = rw w.arrays-is new.arrays;
             tables = rw w.tables-is new.tables;
             same = rw w.tables-is (new.same ∙ so.same);
-            coarse = λ few. rw w.tables-is (counted_more first order (32 * length s) (old + length hs * (32 * length s)) c.loop-order.tables.priced w.improve-then-order-first.new.tables.priced w.if-order-first.true (so.coarse few) (new.coarse few));
-            priced = rw w.tables-is (counted_more first order (93 * length s) (old + length hs * (93 * length s)) c.loop-order.tables.priced w.improve-then-order-first.new.tables.priced w.if-order-first.true so.priced new.priced);
+            coarse = λ few. rw w.tables-is (counted_more first order (32 * length s) (old + length hs * (32 * length s)) c.loop-order.tables.priced w.improve_by_fixed-then-order-first.new.tables.priced w.if-order-first.true (so.coarse few) (new.coarse few));
+            priced = rw w.tables-is (counted_more first order (93 * length s) (old + length hs * (93 * length s)) c.loop-order.tables.priced w.improve_by_fixed-then-order-first.new.tables.priced w.if-order-first.true so.priced new.priced);
           }
       | else-order-first w ↦
           let e : order ≡ first = omega arith in
