@@ -120,6 +120,17 @@ fn likely_order(samples: &[i32]) -> usize
     likely
 }
 
+/// The order of the fixed predictor that is tried first. After linear ones, which mostly take fewer bits, it is the one
+/// that mostly comes next.
+fn first_order(subject: &SampleView<'_>) -> usize
+    ensures { result ≤ 4 }
+{
+    if subject.predictors.is_empty() {
+        return likely_order(subject.narrowed);
+    }
+    2
+}
+
 /// What the fixed predictor of an order leaves of the samples, and the same as unsigned numbers, if a residual may have
 /// it all.
 fn take_fixed_residual(
@@ -494,7 +505,7 @@ fn search(subject: &SampleView<'_>, arrays: &mut SearchArrays<'_>, tables: &mut 
             &mut best,
         );
     }
-    let first = likely_order(subject.narrowed);
+    let first = first_order(subject);
     improve_by_fixed(subject, first, arrays, tables, &mut best);
     for order in 0..5 {
         if order != first {

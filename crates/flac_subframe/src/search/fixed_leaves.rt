@@ -90,8 +90,7 @@ fn leaf_at(order: usize, samples: &[i32], index: usize) -> Leaf
     requires order { order ≤ 4 }
     requires fits { All (FitsBits 27) samples.now }
     requires within { index * 16 + 16 ≤ length samples.now }
-    ensures {
-        let left = differences (fixed_coefficients order) 0 samples.now in
+    ensures { let left = differences (fixed_coefficients order) 0 samples.now in
         IsLeaf (segment (index * 16 - order) ((index + 1) * 16 - order) left) result }
 {
     if index == 0 {
@@ -117,8 +116,7 @@ fn leaves_of_order(
     requires sixteens { length samples.now ≡ 16 * 2 ^ partition_order }
     requires widths { length widths.old ≡ 2 ^ partition_order }
     requires sums { length sums.old ≡ 2 ^ partition_order }
-    ensures bound {
-        CostsAtLeastBeside partition_order order (differences (fixed_coefficients order) 0 samples.now) result }
+    ensures bound { CostsAtLeastBeside partition_order order (differences (fixed_coefficients order) 0 samples.now) result }
     ensures widths { result < below → (j : ℕ) → j < 2 ^ partition_order → IsWidth
         (part order (differences (fixed_coefficients order) 0 samples.now) partition_order j) (slice_index widths.new j) }
     // proof only
@@ -157,8 +155,7 @@ fn leaves_by_fixed(
     requires sixteens { length samples.now ≡ 16 * 2 ^ partition_order }
     requires widths { length widths.old ≡ 2 ^ partition_order }
     requires sums { length sums.old ≡ 2 ^ partition_order }
-    ensures bound {
-        CostsAtLeastBeside partition_order order (differences (fixed_coefficients order) 0 samples.now) result }
+    ensures bound { CostsAtLeastBeside partition_order order (differences (fixed_coefficients order) 0 samples.now) result }
     ensures widths { result < below → (j : ℕ) → j < 2 ^ partition_order → IsWidth
         (part order (differences (fixed_coefficients order) 0 samples.now) partition_order j) (slice_index widths.new j) }
     // proof only
@@ -192,8 +189,7 @@ pub(crate) fn lowest_by_fixed(
     requires sixteens { length samples.now ≡ 16 * 2 ^ partition_order }
     requires widths { 2 * 2 ^ partition_order ≤ length widths.old }
     requires sums { 2 ^ partition_order ≤ length sums.old }
-    ensures bound {
-        CostsAtLeastBeside partition_order order (differences (fixed_coefficients order) 0 samples.now) result }
+    ensures bound { CostsAtLeastBeside partition_order order (differences (fixed_coefficients order) 0 samples.now) result }
     ensures widths { result < below → HasWidths
         order (differences (fixed_coefficients order) 0 samples.now) partition_order partition_order widths.new }
     ensures costs { result < below → (j : ℕ) → j < 2 ^ partition_order → slice_index sums.new j ≡ sum_by (value_cost 0)

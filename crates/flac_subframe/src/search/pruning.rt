@@ -228,8 +228,8 @@ fn bound_parts(residual: &ResidualView<'_>, sums: &[u64], widths: &[u8], below: 
 }
 
 /// Whether the closer bound shows that the residual takes `below` bits or more. It is computed only if the rougher
-/// bound is at least half of that, and only if the residual's width leaves out so many parameters that, with these two,
-/// a value is priced at most 32 times.
+/// bound, which is less by about half a bit for each value, comes so near, and only if the residual's width leaves out
+/// so many parameters that, with these two, a value is priced at most 32 times.
 fn reaches(
     residual: &ResidualView<'_>,
     sums: &[u64],
@@ -245,7 +245,8 @@ fn reaches(
     ensures few { result.priced ≤ 2 * length residual.now.values.now }
     ensures none { 28 < slice_index widths.now 1 → result.priced ≡ 0 }
 {
-    if widths[1] > 28 || bound < below / 2 {
+    let near = below.saturating_sub(residual.values.len() as u64 / 2);
+    if widths[1] > 28 || bound < near {
         return Verdict {
             dear: false,
             priced: 0,

@@ -158,7 +158,7 @@ module _ (order p : ℕ) (rs : List ℤ) (count : ℕ) where
     here = rw (part_of_sixteen order p i rs sixteens) is
 
     next_bound : (w : ℕ) → BoundTo w ((length rs + order) / 2 ^ p - order) ((length rs + order) / 2 ^ p) count rs (bound + leaf.bound)
-      (start order (length rs + order) p (i + 1 + 1) - start order (length rs + order) p (i + 1)) (count - (i + 1)) (drop (start order (length rs + order) p (i + 1)) rs)
+        (start order (length rs + order) p (i + 1 + 1) - start order (length rs + order) p (i + 1)) (count - (i + 1)) (drop (start order (length rs + order) p (i + 1)) rs)
     unfolding part
     next_bound w =
         let n : ℕ = length rs + order in

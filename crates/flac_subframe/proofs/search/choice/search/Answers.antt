@@ -65,15 +65,15 @@ loop-order-init c =
       arrays = new.arrays;
       tables = new.tables;
       same = new.same ∙ so.same;
-      coarse = λ few. counted_first c.likely_order-first.result (32 * length s) (old + length hs * (32 * length s)) now (next_after old (length hs) (32 * length s) i mid now all (so.coarse few) (new.coarse few));
-      priced = counted_first c.likely_order-first.result (93 * length s) (old + length hs * (93 * length s)) now (next_after old (length hs) (93 * length s) i mid now all so.priced new.priced);
+      coarse = λ few. counted_first c.first_order-first.result (32 * length s) (old + length hs * (32 * length s)) now (next_after old (length hs) (32 * length s) i mid now all (so.coarse few) (new.coarse few));
+      priced = counted_first c.first_order-first.result (93 * length s) (old + length hs * (93 * length s)) now (next_after old (length hs) (93 * length s) i mid now all so.priced new.priced);
     }
 
 pub loop-order-preserved : goal.loop-order-preserved
 loop-order-preserved c =
     let hs = c.args.subject.now.predictors.now in let most = c.args.subject.now.most in let bits = c.args.subject.now.bits in let s = c.args.subject.now.samples.now in
     let ls = map predictor_of hs in
-    let first = c.likely_order-first.result in let order = c.loop-order.order in
+    let first = c.first_order-first.result in let order = c.loop-order.order in
     let so = c.loop-order.invariant in
     let old = c.args.tables.now.priced in
     elim c.if-order-first.branch [
@@ -104,22 +104,22 @@ loop-order-preserved c =
 
 pub returns-clause-best : goal.returns-clause-best
 returns-clause-best c =
-    let hs = c.args.subject.now.predictors.now in let most = c.args.subject.now.most in let bits = c.args.subject.now.bits in let s = c.args.subject.now.samples.now in let first = c.likely_order-first.result in
+    let hs = c.args.subject.now.predictors.now in let most = c.args.subject.now.most in let bits = c.args.subject.now.bits in let s = c.args.subject.now.samples.now in let first = c.first_order-first.result in
     let way = way_of c.loop-order.best c.loop-order.tables.codings.now in
     let five : c.loop-order.order ≡ 5 = omega arith in
     let so : IsBest hs most bits s (map predictor_of hs ++ fixed first ∷ fixed_below 5) way = rw five at c.loop-order.invariant.best in
-    all_tried hs most bits s (map predictor_of hs) way first (among first [] c.likely_order-first.ensures) so
+    all_tried hs most bits s (map predictor_of hs) way first (among first [] c.first_order-first.ensures) so
 
 pub returns-clause-coarse : goal.returns-clause-coarse
 returns-clause-coarse c = λ few.
     let five : c.loop-order.order ≡ 5 = omega arith in
     let n = length c.args.subject.now.predictors.now in let b = 32 * length c.args.subject.now.samples.now in
-    let so : Counted c.likely_order-first.result 5 b (c.args.tables.now.priced + n * b) c.loop-order.tables.priced = rw five at (c.loop-order.invariant.coarse few) in
-    counted_all n b c.args.tables.now.priced c.loop-order.tables.priced (so.after (omega (arith, c.likely_order-first.ensures)))
+    let so : Counted c.first_order-first.result 5 b (c.args.tables.now.priced + n * b) c.loop-order.tables.priced = rw five at (c.loop-order.invariant.coarse few) in
+    counted_all n b c.args.tables.now.priced c.loop-order.tables.priced (so.after (omega (arith, c.first_order-first.ensures)))
 
 pub returns-clause-priced : goal.returns-clause-priced
 returns-clause-priced c =
     let five : c.loop-order.order ≡ 5 = omega arith in
     let n = length c.args.subject.now.predictors.now in let b = 93 * length c.args.subject.now.samples.now in
-    let so : Counted c.likely_order-first.result 5 b (c.args.tables.now.priced + n * b) c.loop-order.tables.priced = rw five at c.loop-order.invariant.priced in
-    counted_all n b c.args.tables.now.priced c.loop-order.tables.priced (so.after (omega (arith, c.likely_order-first.ensures)))
+    let so : Counted c.first_order-first.result 5 b (c.args.tables.now.priced + n * b) c.loop-order.tables.priced = rw five at c.loop-order.invariant.priced in
+    counted_all n b c.args.tables.now.priced c.loop-order.tables.priced (so.after (omega (arith, c.first_order-first.ensures)))
