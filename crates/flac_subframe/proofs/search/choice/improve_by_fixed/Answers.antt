@@ -1,4 +1,4 @@
-use Rattle.std.proofs.Common.{◌≡◌, ◌∙◌, ◌-◌, sym, ap, ℕ, ℤ, List, length, take, drop}
+use Rattle.std.proofs.Common.{◌≡◌, ◌∙◌, ◌-◌, sym, ap, ℤ, List, length, take, drop}
 use Rattle.std.proofs.lemmas.List.{length-drop, take_rest}
 use Rattle.flac_subframe.specs.search.inner.Leaves.{left_by_fixed}
 use Rattle.flac_subframe.proofs.lemmas.search.Pieces.{halves_as_long, length-left}

@@ -1,4 +1,4 @@
-use Rattle.std.proofs.Common.{arith, ◌≡◌, ◌+◌, ◌-◌, ◌*◌, ◌<◌, ◌≤◌, subst, ℕ, ℤ, List, length, take, drop}
+use Rattle.std.proofs.Common.{arith, ◌≡◌, ◌+◌, ◌-◌, ◌*◌, ◌≤◌, subst, ℕ, ℤ, List, length, take, drop}
 use Rattle.std.proofs.lemmas.List.{length-drop, length-take-le}
 use Rattle.std.proofs.lemmas.List.Elements.{All-take, All-drop}
 use Rattle.flac_bits.specs.Signed.{FitsBits}

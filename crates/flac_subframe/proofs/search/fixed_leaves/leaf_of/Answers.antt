@@ -1,5 +1,4 @@
-use Rattle.std.proofs.Common.{arith, ◌≡◌, ◌∙◌, ◌+◌, ◌*◌, ◌^◌, ◌<◌, ◌≤◌, sym, ap, ℕ, length, map, All}
-use Rattle.flac_bits.specs.Rice.{folded}
+use Rattle.std.proofs.Common.{arith, ◌≡◌, ◌∙◌, ◌≤◌, ℕ}
 use Rattle.flac_subframe.specs.format.Bodies.{differences}
 use Rattle.flac_subframe.specs.format.Prediction.{fixed_coefficients}
 use Rattle.flac_subframe.proofs.lemmas.format.Narrow.{narrow_differences}

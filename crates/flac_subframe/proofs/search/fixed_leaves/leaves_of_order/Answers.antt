@@ -1,4 +1,4 @@
-use Rattle.std.proofs.Common.{arith, ◌≡◌, ◌∙◌, ◌+◌, ◌-◌, ◌*◌, ◌^◌, ◌<◌, ◌≤◌, ℕ, ℤ, List, length, Fits, w64}
+use Rattle.std.proofs.Common.{arith, ◌≡◌, ◌∙◌, ◌+◌, ◌*◌, ◌^◌, ◌<◌, ◌≤◌, ℕ, ℤ, List, length, Fits, w64}
 use Rattle.std.proofs.lemmas.Nat.{pow_pos}
 use Rattle.flac_subframe.specs.format.Bodies.{differences}
 use Rattle.flac_subframe.specs.format.Prediction.{fixed_coefficients}

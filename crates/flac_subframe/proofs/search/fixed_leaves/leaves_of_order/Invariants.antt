@@ -1,9 +1,5 @@
-use Rattle.std.proofs.Common.{◌≡◌, ◌+◌, ◌-◌, ◌*◌, ◌/◌, ◌^◌, ◌<◌, ◌≤◌, ℕ, ℤ, List, get_or, length, drop}
-use Rattle.std.specs.List.{sum_by}
 use Rattle.flac_subframe.specs.format.Bodies.{differences}
 use Rattle.flac_subframe.specs.format.Prediction.{fixed_coefficients}
-use Rattle.flac_subframe.specs.format.inner.Cost.{value_cost}
-use Rattle.flac_subframe.specs.search.inner.Halves.{part, IsWidth}
 use Rattle.flac_subframe.proofs.lemmas.search.Pieces.{LeavesTo}
 use Rattle.flac_subframe.proofs.search.fixed_leaves.leaves_of_order.Given as goal
 

@@ -1,4 +1,4 @@
-use Rattle.std.proofs.Common.{arith, ◌≡◌, ◌∙◌, ◌+◌, ◌-◌, ◌*◌, ◌^◌, ◌≤◌, ◌<◌, min, refl, ℕ, length, Fits, w64, Option, Some, None, IfNone}
+use Rattle.std.proofs.Common.{arith, ◌≡◌, ◌+◌, ◌-◌, ◌*◌, ◌^◌, ◌≤◌, ◌<◌, min, refl, ℕ, length, Fits, w64, Option, Some, None, IfNone}
 use Rattle.std.proofs.lemmas.Option.{IfSome_then}
 use Rattle.flac_subframe.specs.format.Cost.{Codings, MayWrite}
 use Rattle.flac_subframe.specs.format.inner.Cost.{residual_cost}
