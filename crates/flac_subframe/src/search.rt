@@ -9,6 +9,7 @@ pub(crate) mod wide_choice;
 // the bits of codings, and lower bounds on them
 pub(crate) mod cost;
 pub(crate) mod entry;
+pub(crate) mod fixed_leaves;
 pub(crate) mod halves;
 pub(crate) mod pruning;
 pub(crate) mod widths;

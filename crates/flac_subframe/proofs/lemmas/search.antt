@@ -27,6 +27,7 @@ pub mod LowerBounds
 pub mod Close
 -- Values by their folded numbers, and what they leave
 pub mod Folds
+pub mod Pieces
 pub mod Residues
 pub mod Reductions
 -- The least body and the least subframe

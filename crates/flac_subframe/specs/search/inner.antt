@@ -6,3 +6,4 @@ pub mod Entry
 pub mod Halves
 -- What is said of the residual that is searched, and of the samples
 pub mod Views
+pub mod Leaves

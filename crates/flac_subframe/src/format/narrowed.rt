@@ -89,7 +89,12 @@ fn predict_narrow(order: usize, first: i32, second: i32, third: i32, fourth: i32
 
 /// What the fixed predictor of an order leaves of narrow samples, and the same as unsigned numbers.
 #[inline(always)]
-fn take_narrow_order(order: usize, samples: &[i32], values: &mut [i32], folds: &mut [u32])
+pub(crate) fn take_narrow_order(
+    order: usize,
+    samples: &[i32],
+    values: &mut [i32],
+    folds: &mut [u32],
+)
     requires order { order ≤ 4 }
     requires fits { All (FitsBits 27) samples.now }
     requires places { length values.old + order ≡ length samples.now }

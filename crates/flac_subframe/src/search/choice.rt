@@ -9,7 +9,10 @@ ghost use Rattle.flac_subframe.specs.format.Bodies.{coefficients_of, differences
 ghost use Rattle.flac_subframe.specs.format.Chosen.{IsNamed, fixed_below, offered};
 ghost use Rattle.flac_subframe.specs.format.Spelling.{subframe_spelling};
 ghost use Rattle.flac_subframe.specs.search.inner.Chosen.{IsBestOfNone};
-ghost use Rattle.flac_subframe.specs.search.inner.Halves.{HasPlaces, HasResidual, HasRoom};
+ghost use Rattle.flac_subframe.specs.format.Cost.{codings_in};
+ghost use Rattle.flac_subframe.specs.format.inner.Cost.{residual_cost};
+ghost use Rattle.flac_subframe.specs.search.inner.Halves.{HasPlaces, HasResidual, HasRoom, Halves};
+ghost use Rattle.flac_subframe.specs.search.inner.Leaves.{CostsAtLeast, HasLeastCodings, left_by_fixed};
 ghost use Rattle.flac_subframe.specs.declared.format.linear.LinearPredictor.{LinearPredictor};
 ghost use Rattle.flac_subframe.specs.search.inner.Views.{GoesOnWith, IsBestOf, IsLeastForm, IsMadeFor, IsShortestFor, NoneIsBelow, StaysWithin, bits_in_form, for_samples, form_found, left_by, left_of, named, for_each_of};
 ghost use Rattle.flac_subframe.specs.search.Choices.{for_each};
@@ -24,7 +27,9 @@ use crate::format::products::take_products;
 use crate::format::residual_form::ResidualForm;
 use crate::format::wasted::without_wasted;
 use crate::search::entry::Entry;
-use crate::search::least_coding::{greatest_partition_order, least_residual};
+use crate::search::fixed_leaves::{FixedView, lowest_by_fixed};
+use crate::search::least_coding::{greatest_partition_order, least_residual, least_weighed};
+use crate::search::pruning::COARSE;
 use crate::search::tables::{SearchArrays, Tables};
 use crate::search::view::{ResidualView, SampleView, Task};
 use crate::search::wide_products::take_wide_products;
@@ -113,6 +118,17 @@ fn likely_order(samples: &[i32]) -> usize
         }
     }
     likely
+}
+
+/// The order of the fixed predictor that is tried first. After linear ones, which mostly take fewer bits, it is the one
+/// that mostly comes next.
+fn first_order(subject: &SampleView<'_>) -> usize
+    ensures { result ≤ 4 }
+{
+    if subject.predictors.is_empty() {
+        return likely_order(subject.narrowed);
+    }
+    2
 }
 
 /// What the fixed predictor of an order leaves of the samples, and the same as unsigned numbers, if a residual may have
@@ -309,6 +325,138 @@ fn improve(
     }
 }
 
+/// The form of the fewest bits for what a fixed predictor leaves, if it takes fewer than `below`. It is measured before
+/// any of it is kept.
+fn least_of_fixed(
+    fixed: &FixedView<'_>,
+    values: &mut [i32],
+    folds: &mut [u32],
+    tables: &mut Tables<'_>,
+    below: u64,
+) -> Option<ResidualForm>
+    requires values { length fixed.now.samples.now ≤ length values.old }
+    requires folds { length fixed.now.samples.now ≤ length folds.old }
+    requires tables { HasPlaces fixed.now.partition_order tables.old }
+    ensures least { let left = left_by_fixed fixed.now.order fixed.now.samples.now in IfSome result
+        (λ f. HasLeastCodings fixed.now.partition_order fixed.now.order left f tables.new.codings.now) }
+    ensures bits { let left = left_by_fixed fixed.now.order fixed.now.samples.now in IfSome result
+        (λ f. f.bits ≡ residual_cost fixed.now.order left (codings_in f tables.new.codings.now)) }
+    ensures within { IfSome result (λ f. f.partition_order ≤ fixed.now.partition_order) }
+    ensures less { IfSome result (λ f. f.bits < below) }
+    // proof only
+    ensures small { IfSome result (λ f. f.bits ≤ 2 ^ 49) }
+    ensures kept { IfNone result (tables.new.codings.now ≡ tables.old.codings.now) }
+    ensures none { let left = left_by_fixed fixed.now.order fixed.now.samples.now in IfNone result
+        (CostsAtLeast fixed.now.partition_order fixed.now.order left below) }
+    // proof only
+    ensures places { (most : ℕ) → HasPlaces most tables.old → HasPlaces most tables.new }
+    ensures same { tables.new.codings.ghost_name ≡ tables.old.codings.ghost_name }
+    ensures priced { tables.new.priced ≤ tables.old.priced + 32 * length fixed.now.samples.now }
+{
+    let samples = fixed.samples;
+    let order = fixed.order;
+    let partition_order = fixed.partition_order;
+    let leaves = &mut *tables.leaves;
+    let widths = &mut *tables.widths;
+    let rough = lowest_by_fixed(order, samples, partition_order, below, widths, leaves);
+    let count = samples.len() - order;
+    if rough >= below {
+        tables.priced = tables.priced.saturating_add(2 * count as u64);
+        return None;
+    }
+    let values = &mut values[..count];
+    let folds = &mut folds[..count];
+    take_narrow(order, samples, values, folds);
+    let residual = ResidualView {
+        values,
+        folds,
+        order,
+        partition_order,
+    };
+    least_weighed(&residual, tables, rough, below)
+}
+
+/// [`improve`] by a fixed predictor, for narrow samples of which there are sixteen for each of the finest partitions.
+fn improve_by_sixteens(
+    subject: &SampleView<'_>,
+    fixed: &FixedView<'_>,
+    arrays: &mut SearchArrays<'_>,
+    tables: &mut Tables<'_>,
+    best: &mut Best,
+)
+    requires samples { fixed.now.samples.now ≡ subject.now.samples.now }
+    requires within { fixed.now.partition_order ≤ subject.now.most }
+    requires greatest { (p : ℕ) → p ≤ subject.now.most → Halves
+        fixed.now.order (left_by_fixed fixed.now.order subject.now.samples.now) p → p ≤ fixed.now.partition_order }
+    requires arrays { HasRoom (length subject.now.samples.now) arrays.old }
+    requires tables { HasPlaces subject.now.most tables.old }
+    requires small { best.old.bits ≤ 2 ^ 60 }
+    ensures best { GoesOnWith subject.now (PredictorKind.Fixed fixed.now.order) best.old tables.old best.new tables.new }
+    ensures less { best.new.bits ≤ best.old.bits }
+    ensures within { StaysWithin subject.now.most best.old best.new }
+    ensures arrays { HasRoom (length subject.now.samples.now) arrays.new }
+    ensures tables { HasPlaces subject.now.most tables.new }
+    ensures same { tables.new.codings.ghost_name ≡ tables.old.codings.ghost_name }
+    ensures priced { tables.new.priced ≤ tables.old.priced + for_samples 32 subject.now }
+{
+    let kind = PredictorKind::Fixed(fixed.order);
+    let before = u64::from(subject.bits) * fixed.order as u64;
+    let limit = limit(best, kind);
+    if limit <= before {
+        return;
+    }
+    let values = &mut *arrays.values;
+    let folds = &mut *arrays.folds;
+    if let Some(residual) = least_of_fixed(fixed, values, folds, tables, limit - before) {
+        *best = Best {
+            content: ContentKind::Predicted(kind),
+            residual,
+            bits: before + residual.bits,
+        };
+    }
+}
+
+/// Replaces the best so far by a fixed predictor, if that takes fewer bits.
+fn improve_by_fixed(
+    subject: &SampleView<'_>,
+    order: usize,
+    arrays: &mut SearchArrays<'_>,
+    tables: &mut Tables<'_>,
+    best: &mut Best,
+)
+    requires order { order ≤ 4 }
+    requires arrays { HasRoom (length subject.now.samples.now) arrays.old }
+    requires tables { HasPlaces subject.now.most tables.old }
+    requires small { best.old.bits ≤ 2 ^ 60 }
+    ensures best { GoesOnWith subject.now (PredictorKind.Fixed order) best.old tables.old best.new tables.new }
+    ensures less { best.new.bits ≤ best.old.bits }
+    ensures within { StaysWithin subject.now.most best.old best.new }
+    ensures arrays { HasRoom (length subject.now.samples.now) arrays.new }
+    ensures tables { HasPlaces subject.now.most tables.new }
+    ensures same { tables.new.codings.ghost_name ≡ tables.old.codings.ghost_name }
+    ensures coarse { subject.now.most ≤ 8 → tables.new.priced ≤ tables.old.priced + for_samples 32 subject.now }
+    ensures priced { tables.new.priced ≤ tables.old.priced + for_samples 93 subject.now }
+{
+    let kind = PredictorKind::Fixed(order);
+    let size = subject.samples.len();
+    if !subject.narrow || size < 16 {
+        improve(subject, kind, arrays, tables, best);
+        return;
+    }
+    let left = &subject.narrowed[order..];
+    let partition_order = greatest_partition_order(left, order, subject.most);
+    if partition_order > COARSE || size != 16 * power(partition_order) {
+        improve(subject, kind, arrays, tables, best);
+        return;
+    }
+    let fixed = FixedView {
+        samples: subject.narrowed,
+        order,
+        partition_order,
+    };
+    improve_by_sixteens(subject, &fixed, arrays, tables, best);
+}
+
 /// The first choice to compare with.
 fn begin(samples: &[i64], bits: u32) -> Best
     requires some { 0 < length samples.now }
@@ -357,23 +505,11 @@ fn search(subject: &SampleView<'_>, arrays: &mut SearchArrays<'_>, tables: &mut 
             &mut best,
         );
     }
-    let first = likely_order(subject.narrowed);
-    improve(
-        subject,
-        PredictorKind::Fixed(first),
-        arrays,
-        tables,
-        &mut best,
-    );
+    let first = first_order(subject);
+    improve_by_fixed(subject, first, arrays, tables, &mut best);
     for order in 0..5 {
         if order != first {
-            improve(
-                subject,
-                PredictorKind::Fixed(order),
-                arrays,
-                tables,
-                &mut best,
-            );
+            improve_by_fixed(subject, order, arrays, tables, &mut best);
         }
     }
     best

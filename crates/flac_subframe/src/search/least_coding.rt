@@ -10,7 +10,7 @@ ghost use Rattle.flac_subframe.specs.search.inner.Least.{IsLeastCoding, IsLeastC
 ghost use Rattle.flac_subframe.specs.format.Cost.{MayCode, codings_in, parameter_bits_of};
 ghost use Rattle.flac_subframe.specs.format.inner.Cost.{coding_cost};
 ghost use Rattle.flac_subframe.specs.search.inner.Halves.{Halves, HasPlaces, LeastBelow, IsWidth};
-ghost use Rattle.flac_subframe.specs.search.inner.Views.{AreLeastParts, ArePriced, HasEntriesOf, HasWidthsOf, IsShortestAt, IsShortestIn, IsShortestTo, MayHave, MayHaveBy, TakesAtLeast, TakesAtLeastAbove, bits_under, TakesAtLeastTo, IsLeastPartsCost, IsLeastCostAt, parts_bits, priced_after};
+ghost use Rattle.flac_subframe.specs.search.inner.Views.{AreLeastParts, ArePriced, HasEntriesOf, HasWidthsOf, IsShortestAt, IsShortestIn, IsShortestTo, MayHave, MayHaveBy, TakesAtLeast, TakesAtLeastAbove, bits_under, TakesAtLeastBeside, TakesAtLeastTo, IsLeastPartsCost, IsLeastCostAt, parts_bits, priced_after};
 
 use crate::format::coding::Coding;
 use crate::format::coding_method::CodingMethod;
@@ -22,6 +22,7 @@ use crate::search::halves::{Tried, coarsen, compare, compare_down};
 use crate::search::pruning::{COARSE, finest_beside, finest_in_doubt, is_too_dear};
 use crate::search::tables::Tables;
 use crate::search::view::ResidualView;
+use crate::search::widths::lowest;
 
 /// The largest partition order that fits the block, at most `most`.
 pub(crate) fn greatest_partition_order(values: &[i32], order: usize, most: u8) -> u8
@@ -371,7 +372,45 @@ fn least_measured(
 
 /// The residual form of the fewest bits, if it takes fewer bits than `below`, with its codings in their array. Cheap
 /// lower bounds come first, so that most predictors are refused before their parameters are tried, and of others the
-/// finest partition orders.
+/// finest partition orders. `rough` is one on the bits of the values; the tables have what is known of the finest
+/// partitions.
+pub(crate) fn least_weighed(
+    residual: &ResidualView<'_>,
+    tables: &mut Tables<'_>,
+    rough: u64,
+    below: u64,
+) -> Option<ResidualForm>
+    requires places { HasPlaces residual.now.partition_order tables.old }
+    requires known { ArePriced residual.now 0 tables.old.leaves.now }
+    requires widths { HasWidthsOf residual.now residual.now.partition_order tables.old.widths.now }
+    requires beside { TakesAtLeastBeside residual.now rough }
+    ensures least { IfSome result (λ f. IsShortestIn residual.now f tables.new) }
+    ensures bits { IfSome result (λ f. f.bits ≡ bits_under residual.now (codings_in f tables.new.codings.now)) }
+    ensures within { IfSome result (λ f. f.partition_order ≤ residual.now.partition_order) }
+    ensures less { IfSome result (λ f. f.bits < below) }
+    // proof only
+    ensures small { IfSome result (λ f. f.bits ≤ 2 ^ 49) }
+    ensures kept { IfNone result (tables.new.codings.now ≡ tables.old.codings.now) }
+    ensures none { IfNone result (TakesAtLeast residual.now below) }
+    // proof only
+    ensures places { (most : ℕ) → HasPlaces most tables.old → HasPlaces most tables.new }
+    ensures same { tables.new.codings.ghost_name ≡ tables.old.codings.ghost_name }
+    ensures priced { tables.new.priced ≤ tables.old.priced + 32 * length residual.now.values.now }
+{
+    let leaves = &mut *tables.leaves;
+    let widths = &mut *tables.widths;
+    let count = residual.values.len() as u64;
+    let verdict = is_too_dear(residual, leaves, widths, rough, below);
+    tables.priced = tables.priced.saturating_add(2 * count + verdict.priced);
+    if verdict.dear {
+        return None;
+    }
+    let finest = finest_beside(residual.partition_order, rough, below);
+    coarsen(residual, finest, leaves);
+    least_measured(&residual.at(finest), tables, below)
+}
+
+/// The same of a residual of which nothing is known yet.
 fn least_at_once(
     residual: &ResidualView<'_>,
     tables: &mut Tables<'_>,
@@ -393,15 +432,8 @@ fn least_at_once(
 {
     let leaves = &mut *tables.leaves;
     let widths = &mut *tables.widths;
-    let count = residual.values.len() as u64;
-    let (verdict, bound) = is_too_dear(residual, leaves, widths, below);
-    tables.priced = tables.priced.saturating_add(2 * count + verdict.priced);
-    if verdict.dear {
-        return None;
-    }
-    let finest = finest_beside(residual.partition_order, bound, below);
-    coarsen(residual, finest, leaves);
-    least_measured(&residual.at(finest), tables, below)
+    let rough = lowest(residual, widths, leaves);
+    least_weighed(residual, tables, rough, below)
 }
 
 /// The same with partition orders up to `partition_order` alone.

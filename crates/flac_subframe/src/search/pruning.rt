@@ -12,7 +12,7 @@ ghost use Rattle.flac_subframe.specs.search.inner.Views.{ArePriced, HasWidthsOf,
 use crate::format::numbers::power;
 use crate::search::cost::quotients;
 use crate::search::view::ResidualView;
-use crate::search::widths::{lowest, measure};
+use crate::search::widths::{lowest, widen};
 
 /// The greatest partition order whose tables are made at once. Above it a partition is often so short that its
 /// parameter takes more than it saves, so finer partitions are tried only if no bound rules them out.
@@ -228,8 +228,8 @@ fn bound_parts(residual: &ResidualView<'_>, sums: &[u64], widths: &[u8], below: 
 }
 
 /// Whether the closer bound shows that the residual takes `below` bits or more. It is computed only if the rougher
-/// bound is at least half of that, and only if the residual's width leaves out so many parameters that, with these two,
-/// a value is priced at most 32 times.
+/// bound, which is less by about half a bit for each value, comes so near, and only if the residual's width leaves out
+/// so many parameters that, with these two, a value is priced at most 32 times.
 fn reaches(
     residual: &ResidualView<'_>,
     sums: &[u64],
@@ -245,7 +245,8 @@ fn reaches(
     ensures few { result.priced ≤ 2 * length residual.now.values.now }
     ensures none { 28 < slice_index widths.now 1 → result.priced ≡ 0 }
 {
-    if widths[1] > 28 || bound < below / 2 {
+    let near = below.saturating_sub(residual.values.len() as u64 / 2);
+    if widths[1] > 28 || bound < near {
         return Verdict {
             dear: false,
             priced: 0,
@@ -258,36 +259,36 @@ fn reaches(
     }
 }
 
-/// Whether lower bounds show that the residual takes `below` bits or more in any form. `sums` then has what the finest
-/// partitions take under parameter 0. If the bounds do not show it, `widths` has the width of each partition at each
-/// partition order. Beside the verdict it returns a lower bound on the bits of the values, without the header and the
-/// parameters.
+/// Whether lower bounds show that the residual takes `below` bits or more in any form. `rough` is one on the bits of the
+/// values, without the header and the parameters; `sums` and `widths` have what is known of the finest partitions. If
+/// the bounds do not show it, `widths` then has the width of each partition at each partition order.
 pub(crate) fn is_too_dear(
     residual: &ResidualView<'_>,
-    sums: &mut [u64],
+    sums: &[u64],
     widths: &mut [u8],
+    rough: u64,
     below: u64,
-) -> (Verdict, u64)
-    requires sums { 2 ^ residual.now.partition_order ≤ length sums.old }
+) -> Verdict
+    requires sums { 2 ^ residual.now.partition_order ≤ length sums.now }
     requires places { 2 * 2 ^ residual.now.partition_order ≤ length widths.old }
-    ensures dear { IsTrue result.0.dear → TakesAtLeast residual.now below }
-    ensures beside { TakesAtLeastBeside residual.now result.1 }
-    ensures costs { ArePriced residual.now 0 sums.new }
-    ensures widths { result.0.dear ≡ false → HasWidthsOf residual.now 0 widths.new }
+    requires costs { ArePriced residual.now 0 sums.now }
+    requires finest { HasWidthsOf residual.now residual.now.partition_order widths.old }
+    requires beside { TakesAtLeastBeside residual.now rough }
+    ensures dear { IsTrue result.dear → TakesAtLeast residual.now below }
+    ensures widths { result.dear ≡ false → HasWidthsOf residual.now 0 widths.new }
     // proof only
     ensures long { length widths.new ≡ length widths.old }
-    ensures few { result.0.priced ≤ 2 * length residual.now.values.now }
-    ensures none { 28 < slice_index widths.new 1 → result.0.priced ≡ 0 }
+    ensures few { result.priced ≤ 2 * length residual.now.values.now }
+    ensures none { 28 < slice_index widths.new 1 → result.priced ≡ 0 }
 {
-    let rough = measure(residual, widths, sums, below);
     if rough >= below {
-        let verdict = Verdict {
+        return Verdict {
             dear: true,
             priced: 0,
         };
-        return (verdict, rough);
     }
-    (reaches(residual, sums, widths, rough, below), rough)
+    widen(residual, widths);
+    reaches(residual, sums, widths, rough, below)
 }
 
 /// The greatest partition order, up to one, whose header and parameters, beside a lower bound on the bits of the values,

@@ -72,31 +72,17 @@ pub(crate) fn lowest(residual: &ResidualView<'_>, widths: &mut [u8], sums: &mut 
     leaves(residual, &mut widths[first..2 * first], row)
 }
 
-/// The bits of each of the finest partitions under parameter 0, and a lower bound on the bits of the values in any form,
-/// without the header and the parameters. If the bound is less than `below`, also the width of each partition at each partition order, the larger of its
-/// two halves'.
-pub(crate) fn measure(
-    residual: &ResidualView<'_>,
-    widths: &mut [u8],
-    sums: &mut [u64],
-    below: u64,
-) -> u64
+/// The width of each partition at each partition order, the larger of its two halves', from those of the finest.
+pub(crate) fn widen(residual: &ResidualView<'_>, widths: &mut [u8])
     requires places { 2 * 2 ^ residual.now.partition_order ≤ length widths.old }
-    requires sums { 2 ^ residual.now.partition_order ≤ length sums.old }
-    ensures widths { result < below → HasWidthsOf residual.now 0 widths.new }
+    requires finest { HasWidthsOf residual.now residual.now.partition_order widths.old }
+    ensures widths { HasWidthsOf residual.now 0 widths.new }
     // proof only
     ensures long { length widths.new ≡ length widths.old }
-    ensures costs { ArePriced residual.now 0 sums.new }
-    ensures bound { TakesAtLeastBeside residual.now result }
 {
-    let bound = lowest(residual, widths, sums);
-    if bound >= below {
-        return bound;
-    }
     let mut at = power(residual.partition_order);
     while at > 1 {
         at -= 1;
         widths[at] = widths[2 * at].max(widths[2 * at + 1]);
     }
-    bound
 }

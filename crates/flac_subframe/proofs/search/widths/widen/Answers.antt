@@ -1,13 +1,13 @@
 use Rattle.std.proofs.Common.{arith, ◌≡◌, ◌+◌, ◌-◌, ◌≤◌, ◌^◌, ℕ, subst}
 use Rattle.std.proofs.lemmas.Nat.{pow_pos}
 use Rattle.flac_subframe.proofs.lemmas.search.Greater.{WidthsFrom, widths_lowest, widths_more}
-use Rattle.flac_subframe.proofs.search.widths.measure.Goals as goal
+use Rattle.flac_subframe.proofs.search.widths.widen.Goals as goal
 
 pub loop-at-init : goal.loop-at-init
 loop-at-init c = record {
   within = omega arith;
   some = omega (arith, pow_pos c.args.residual.now.partition_order);
-  widths = rw c.power-at.ensures (widths_lowest c.args.residual.now.order c.args.residual.now.values.now c.args.residual.now.partition_order c.lowest-bound.new.widths c.lowest-bound.ensures.widths);
+  widths = rw c.power-at.ensures (widths_lowest c.args.residual.now.order c.args.residual.now.values.now c.args.residual.now.partition_order c.args.widths.now c.requires.finest);
 }
 
 pub loop-at-preserved : goal.loop-at-preserved
@@ -22,7 +22,7 @@ loop-at-preserved c =
     }
 
 pub returns-clause-widths : goal.returns-clause-widths
-returns-clause-widths c = λ _ p j low high b.
+returns-clause-widths c = λ p j low high b.
     let e : c.loop-at.at ≡ 1 = omega arith in
     let h : c.loop-at.at ≤ 2 ^ p + j = omega (arith, pow_pos p) in
     (c.loop-at.invariant.widths.done p j high b h, c.loop-at.invariant.widths.small p j high b h)

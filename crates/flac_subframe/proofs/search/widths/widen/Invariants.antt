@@ -1,6 +1,6 @@
 use Rattle.std.proofs.Common.{◌^◌, ◌≤◌}
 use Rattle.flac_subframe.proofs.lemmas.search.Greater.{WidthsFrom}
-use Rattle.flac_subframe.proofs.search.widths.measure.Given as goal
+use Rattle.flac_subframe.proofs.search.widths.widen.Given as goal
 
 abbrev pub invariant-loop-at : goal.invariant-loop-at
 invariant-loop-at l = record {
