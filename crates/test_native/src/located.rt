@@ -43,7 +43,12 @@ fn each_part_of_a_stream(rt: HostRuntime) -> Result<(), Fail> {
 #[test]
 fn fronts_and_a_whole_stream(rt: HostRuntime) -> Result<(), Fail> {
     let stream = hex::decode(rt.alloc(), PAIRS_24)?;
-    let cut = is_located(rt.alloc(), &stream[..stream.len().min(160)], Place::Frame(1), 149);
+    let cut = is_located(
+        rt.alloc(),
+        &stream[..stream.len().min(160)],
+        Place::Frame(1),
+        149,
+    );
     assert!(rt; cut);
     let whole = locate_fault(rt.alloc(), &mut Memory::new(&stream), Profile::Subset);
     assert!(rt; whole.is_none());
