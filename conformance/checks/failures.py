@@ -143,6 +143,7 @@ def other_jobs():
     lost[len(lost) // 2] ^= 1
     for name, form in (("", (2, 2, 41)), (", long", (2, 2, 9000)), (" of 8 bits", (1, 1, 9001)), (" of 24 bits", (3, 2, 3000))):
         yield Other(f"encode a WAV file{name}", ["encode", "IN", "OUT", "TITLE=y"], wave_of(*form))
+        yield Other(f"encode a WAV file in Ogg{name}", ["encode", "IN", "OUT", "--ogg", "TITLE=y"], wave_of(*form))
     for name, source in (("", native), (", long", damaged.data)):
         yield Other(f"decode to a WAV file{name}", ["decode", "--wav", "IN", "OUT"], source)
         yield Other(f"decode a part{name}", ["decode", "--from", "1", "--to", "17", "IN", "OUT"], source)
@@ -258,7 +259,7 @@ def place_of(job, call, taken):
 
 def in_passes(job):
     """Whether it is an encoding in two passes, whose first bytes are written last: what it wrote is no stream, and is not kept."""
-    return job.kind == "encode" and ("--rate" in job.words or "--ogg" not in job.words)
+    return job.kind == "encode"
 
 
 def files_are_right(job, ran, due, line):

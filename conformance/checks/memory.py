@@ -162,23 +162,25 @@ def large_streams():
 
 
 def wave_cases(quick):
-    """WAV files: name, format and seconds, a chunk after the samples, and whether it comes by standard input. A format has the bits of a sample
-    in the file, and how many of them count."""
+    """WAV files: name, format and seconds, a chunk after the samples, and a word: - if it comes by standard input, --ogg if the stream is in Ogg.
+    A format has the bits of a sample in the file, and how many of them count."""
     stereo = dict(rate=44100, channels=2, bits=16, valid=16)
-    yield "WAV, 16 bits, 30 s", stereo, 30, b"", False
-    yield "WAV, 16 bits, 30 s, by -", stereo, 30, b"", True
-    yield "WAV, 24 bits, 6 channels, 10 s", dict(rate=48000, channels=6, bits=24, valid=24), 10, b"", False
-    yield "WAV, 8 bits, 30 s", dict(stereo, bits=8, valid=8), 30, b"", False
-    yield "WAV, 12 in 16 bits, 30 s", dict(stereo, valid=12), 30, b"", False
-    yield "WAV, 20 in 24 bits, 6 channels, 10 s, by -", dict(rate=48000, channels=6, bits=24, valid=20), 10, b"", True
+    yield "WAV, 16 bits, 30 s", stereo, 30, b"", ""
+    yield "WAV, 16 bits, 30 s, by -", stereo, 30, b"", "-"
+    yield "WAV, 16 bits, 30 s, --ogg", stereo, 30, b"", "--ogg"
+    yield "WAV, 24 bits, 6 channels, 10 s", dict(rate=48000, channels=6, bits=24, valid=24), 10, b"", ""
+    yield "WAV, 8 bits, 30 s", dict(stereo, bits=8, valid=8), 30, b"", ""
+    yield "WAV, 12 in 16 bits, 30 s", dict(stereo, valid=12), 30, b"", ""
+    yield "WAV, 20 in 24 bits, 6 channels, 10 s, by -", dict(rate=48000, channels=6, bits=24, valid=20), 10, b"", "-"
     # (what holds samples doubles from one that a piece of the file fills: here the raw job's is not the smaller one)
-    yield "WAV, 24 in 32 bits, 40 s", dict(stereo, bits=32, valid=24), 40, b"", False
-    yield "WAV, 16 bits, 30 s, a chunk of 1 MiB after them", stereo, 30, bytes(1 << 20), False
+    yield "WAV, 24 in 32 bits, 40 s", dict(stereo, bits=32, valid=24), 40, b"", ""
+    yield "WAV, 16 bits, 30 s, a chunk of 1 MiB after them", stereo, 30, bytes(1 << 20), ""
     if not quick:
-        yield "WAV, 16 bits, 10 minutes", stereo, 600, b"", False
-        yield "WAV, 8 bits, 10 minutes", dict(stereo, bits=8, valid=8), 600, b"", False
-        yield "WAV, 24 in 32 bits, 10 minutes", dict(stereo, bits=32, valid=24), 600, b"", False
-        yield "WAV, 16 bits, 10 minutes, by -", stereo, 600, b"", True
+        yield "WAV, 16 bits, 10 minutes", stereo, 600, b"", ""
+        yield "WAV, 8 bits, 10 minutes", dict(stereo, bits=8, valid=8), 600, b"", ""
+        yield "WAV, 24 in 32 bits, 10 minutes", dict(stereo, bits=32, valid=24), 600, b"", ""
+        yield "WAV, 24 in 32 bits, 10 minutes, --ogg", dict(stereo, bits=32, valid=24), 600, b"", "--ogg"
+        yield "WAV, 16 bits, 10 minutes, by -", stereo, 600, b"", "-"
 
 
 def second_of(rate, channels, bits, valid):
@@ -230,7 +232,7 @@ class Meter:
             os.remove(path)
         return done.returncode, int(lines["exit"]["peak"])
 
-    def wave(self, folder, form, seconds, chunk, piped):
+    def wave(self, folder, form, seconds, chunk, word):
         """The status of encoding a WAV file and the raw samples through a pipe, both peaks, and how many bytes the samples have in the file."""
         (plain, one), raw, file = second_of(**form), os.path.join(folder, "x.raw"), os.path.join(folder, "x.wav")
         piece = b"JUNK" + struct.pack("<I", len(chunk)) + chunk if chunk else b""
@@ -242,7 +244,7 @@ class Meter:
             to_wave.write(piece)
         words = ["--rate", str(form["rate"]), "--channels", str(form["channels"]), "--bits", str(form["valid"])]
         raw_status, least = self.encoding(raw, [*words, "--search", "quick"], True)
-        status, most = self.encoding(file, [], piped)
+        status, most = self.encoding(file, [word] if word == "--ogg" else [], word == "-")
         return raw_status or status, least, most, len(one) * seconds
 
 
@@ -262,8 +264,8 @@ def main():
                 good, cases = answer == due and taken <= most + SLACK, cases + 1
                 failed += not good
                 print(f"{name:54}  {len(stream):9}  {taken:9}  {most:9}  {whole - least:9}" + ("" if good else f"  FAILED, answers '{answer}'"))
-        for name, form, seconds, chunk, piped in wave_cases(words.quick):
-            status, least, taken, size = meter.wave(folder, form, seconds, chunk, piped)
+        for name, form, seconds, chunk, word in wave_cases(words.quick):
+            status, least, taken, size = meter.wave(folder, form, seconds, chunk, word)
             most = least + 3 * len(chunk)
             good, cases = status == 0 and taken <= most + KEPT, cases + 1
             failed += not good

@@ -113,7 +113,8 @@ def one_wave(rng, folder):
     wave = wave_of(channels, bits, valid, rate, data, tail, rng.choice([None, None, None, 0, len(data) + 10, 0xFFFFFFFF]))
     if rng.random() < 0.1:
         wave = wave[:rng.randrange(len(wave))]
-    words = rng.choice([[], ["--block", "16"], ["--block", "4608"]]) + rng.choice([[], ["--seek-every", "1000"]])
+    words = rng.choice([[], ["--block", "16"], ["--block", "4608"]])
+    words += rng.choice([[], ["--seek-every", "1000"], ["--ogg", "--serial", str(rng.randrange(1 << 32))]])
     words += rng.choice([[], ["--search", "none"], ["--search", "quick"]]) + rng.choice([[], ["--lax"]]) + rng.choice([[], ["--no-keep"]])
     words += rng.choice([[], ["--to-end"]]) + rng.choice([[], ["TITLE=a", "ARTIST=b"]])
     path = put(os.path.join(folder, "a.wav"), wave)
@@ -136,10 +137,10 @@ def one_wave(rng, folder):
 def wave_changed(rng, folder, count):
     """Bytes of a WAV file are taken away, or others come, while it is encoded."""
     path, out = os.path.join(folder, "large.wav"), os.path.join(folder, "j.flac")
-    for change in ("added", "taken", "other"):
+    for change, more in (("added", []), ("taken", []), ("other", []), ("taken", ["--ogg"])):
         large_wave(rng, path, count)
         gone(out)
-        child = subprocess.Popen([BINARY, "encode", path, out, "--search", "quick"], stdout=subprocess.PIPE, stderr=subprocess.PIPE)
+        child = subprocess.Popen([BINARY, "encode", path, out, "--search", "quick", *more], stdout=subprocess.PIPE, stderr=subprocess.PIPE)
         time.sleep(0.5)
         if child.poll() is not None:
             raise Wrong("the file is too short to be changed in time")
@@ -281,7 +282,7 @@ def main():
         changed(rng, folder, 1000 if given.quick else 2000)
         wave_changed(rng, folder, 1000 if given.quick else 2000)
         count = 1000 if given.quick else 10000
-        most = max(memory(rng, folder, count, False), memory(rng, folder, count, True), memory(rng, folder, count, False, "--ogg"))
+        most = max(memory(rng, folder, count, is_wave, *more) for is_wave in (False, True) for more in ((), ("--ogg",)))
     print(f"two_passes: {made} streams of equal bytes and {waves} of WAV files, {most} KiB at most, {time.time() - started:.0f} s: all as is due")
 
 

@@ -40,7 +40,7 @@ use Rattle.flac_cli.specs.Encoded.{comment_list, cut_as, cut_found, AreFound, En
 use Rattle.flac_cli.specs.Predictors.{AreListed}
 use Rattle.flac_raw.specs.Raw.{raw_sound, IsRaw}
 use Rattle.flac_cli.specs.Refusals.{refusal_as, raw_fault, input_fault, stream_fault, refusal, IsOutside}
-use Rattle.flac_cli.specs.Twice.{is_native, is_twice, IsTwiceReason}
+use Rattle.flac_cli.specs.Twice.{is_twice, IsTwiceReason}
 use Rattle.flac_cli.specs.declared.encode.Refusal.{Refusal}
 use Rattle.flac_cli.specs.declared.encode.Refusal.TheVariants.{Setup, Output}
 use Rattle.flac_cli.specs.inner.Searching.{search_of}
@@ -169,25 +169,26 @@ found_in_ogg efforts.None serial p ps list a before after e = ([], record { none
 found_in_ogg efforts.Quick serial p ps list a before after e = (e.0, record { none = λ none. absurd cc; begins = e.1 }, e.2)
 found_in_ogg efforts.Full serial p ps list a before after e = (e.0, record { none = λ none. absurd cc; begins = e.1 }, e.2)
 
-module _ (asked : Asked) (ps : List LinearPredictor) (bytes : List ℕ) (total : ℕ) (listed : AreListed asked.list ps) where
-  -- what flac_raw says of it
-  abbrev Wrote : ContainerKind → (a : Sound) → (before after : List Bool) → Type 0
-  Wrote c a before after = (found : List (List (List LinearPredictor))) × AreFound asked.effort ps found × EncodesIn c (cut_found asked a ps found) (comment_list asked.words) a before after
+-- what flac_raw says of it, with these blocks
+module _ (asked : Asked) (ps : List LinearPredictor) (list : List Block) (bytes : List ℕ) (total : ℕ) where
+  abbrev pub Wrote : ContainerKind → (a : Sound) → (before after : List Bool) → Type 0
+  Wrote c a before after = (found : List (List (List LinearPredictor))) × AreFound asked.effort ps found × EncodesIn c (cut_found asked a ps found) list a before after
 
-  wrote_in : (c : ContainerKind) (before after : List Bool) → EncodesByIn c (planned asked.profile asked.format total ps (search_of asked.effort)) (comment_list asked.words) bytes before after
+  pub wrote_in : (c : ContainerKind) (before after : List Bool) → EncodesByIn c (planned asked.profile asked.format total ps (search_of asked.effort)) list bytes before after
       → IsRaw asked.profile asked.format bytes (raw_sound asked.profile asked.format bytes) × Wrote c (raw_sound asked.profile asked.format bytes) before after
   wrote_in container.Native before after e =
       let a = raw_sound asked.profile asked.format bytes in
-      (e.raw, found_of asked.effort (cut_of asked.format.block a asked.format.seek_every) ps (comment_list asked.words) a before after e.encodes)
+      (e.raw, found_of asked.effort (cut_of asked.format.block a asked.format.seek_every) ps list a before after e.encodes)
   wrote_in (container.Ogg serial) before after e =
       let a = raw_sound asked.profile asked.format bytes in
-      (e.raw, found_in_ogg asked.effort serial (cut_of asked.format.block a asked.format.seek_every) ps (comment_list asked.words) a before after e.encodes)
+      (e.raw, found_in_ogg asked.effort serial (cut_of asked.format.block a asked.format.seek_every) ps list a before after e.encodes)
 
+module _ (asked : Asked) (ps : List LinearPredictor) (bytes : List ℕ) (total : ℕ) (listed : AreListed asked.list ps) where
   their_wrote : AreSamples asked.profile asked.format bytes total → plan_fault (raw_cut asked.profile asked.format total ps) ≡ None → (before after : List Bool)
       → EncodesByIn asked.container (planned asked.profile asked.format total ps (search_of asked.effort)) (comment_list asked.words) bytes before after → EncodesRaw asked bytes before after
   their_wrote are good before after e =
       let a = raw_sound asked.profile asked.format bytes in
-      let w = wrote_in asked.container before after e in
+      let w = wrote_in asked ps (comment_list asked.words) bytes total asked.container before after e in
       let f = w.1 in
       record {
         audio = a;
@@ -206,9 +207,3 @@ module _ (asked : Asked) (ps : List LinearPredictor) (bytes : List ℕ) (total :
   second_wrote p list is same are good before after e =
       their_wrote (subst (λ (q : Planned). AreSamples q.profile q.format bytes q.total) is are) good before after
       (subst (λ l. EncodesByIn asked.container (planned asked.profile asked.format total ps (search_of asked.effort)) l bytes before after) same (subst (λ q. EncodesByIn asked.container q list bytes before after) is e))
-
--- ---- jobs
-
-pub native_is : (c : ContainerKind) → is_native c ≡ true → c ≡ container.Native
-native_is container.Native h = refl
-native_is (container.Ogg serial) h = absurd cc

@@ -1,61 +1,50 @@
 -- WAV files that are read twice.
-use Rattle.std.proofs.Common.{◌≡◌, ◌≢◌, ◌⊎◌, ◌≤◌, ◌<◌, ◌*◌, ◌-◌, ◌/◌, ◌%◌, ◌^◌, ◌++◌, ◌∷◌, [], ℕ, Bool, true, false, cond, List, Vec, Global, Option, Some, None, Result, Ok, Err, IfOk, IfErr, length, map, refl, sym, ap, ◌∙◌, subst, arith, inl, inr}
-use Rattle.std.specs.Prelude.{option_map, nat_lt, nat_eq, ◌&&◌, ◌||◌}
-use denote.Bor.{Bor}
-use Rattle.std.proofs.lemmas.Bool.{eq-eqb, ne_eqb, le-ltb}
+use Rattle.std.proofs.Common.{◌≡◌, ◌⊎◌, ◌<◌, ◌*◌, ◌-◌, ◌^◌, ◌++◌, ℕ, Bool, true, cond, List, Option, Some, None, refl, sym, ap, ◌∙◌, subst, arith, inl, inr}
+use Rattle.std.specs.Prelude.{option_map}
+use Rattle.std.proofs.lemmas.Bool.{eq-eqb, ne_eqb}
 use Rattle.std.proofs.lemmas.List.{append_cancel_left}
 use Rattle.flac_bits.specs.declared.target.Target as target
 use Rattle.flac_bits.specs.declared.why.Why.{Why}
 use Rattle.flac_bits.specs.declared.why.Why.TheVariants as why
-use Rattle.flac_header.specs.declared.subset.Profile.{Profile}
 use Rattle.flac_meta.specs.Listed.{list_fault, info_seen}
 use Rattle.flac_meta.specs.declared.block.Block.{Block}
 use Rattle.flac_frame.specs.Audio.{Sound}
 use Rattle.flac_frame.specs.declared.setup.SetupFault.{SetupFault}
 use Rattle.flac_frame.specs.declared.setup.SetupFault.TheVariants.{TooLong}
 use Rattle.flac_subframe.specs.declared.format.linear.LinearPredictor.{LinearPredictor}
-use Rattle.flac_native.specs.Given.{Cut, cut_of, plan_fault}
+use Rattle.flac_native.specs.Given.{plan_fault}
 use Rattle.flac_native.specs.Message.{sample_width}
-use Rattle.flac_native.specs.Seeking.{has_table, repeats_table}
 use Rattle.flac_native.specs.declared.fault.EncodeFault.{EncodeFault}
 use Rattle.flac_native.specs.declared.fault.EncodeFault.TheVariants as encode
 use Rattle.flac_native.proofs.Planned.{still_found}
 use Rattle.flac_encoder.specs.Pushing.{Fails}
-use Rattle.flac_draft.specs.Draft.{EncodesFound}
 use Rattle.flac_raw.specs.Faults.{format_fault, raw_fault as their_fault, AreSamples}
-use Rattle.flac_raw.specs.Planned.{Planned, planned, raw_cut, table_fault}
-use Rattle.flac_raw.specs.Encoded.{EncodesRaw as TheirEncodes, EncodesBy, IsOutside as TheirIsOutside, ArePlanned, StopsBy, FailsLeft}
+use Rattle.flac_raw.specs.Planned.{Planned, planned, raw_cut}
+use Rattle.flac_raw.specs.Encoded.{EncodesByIn, ArePlanned, container_fault, FailsLeft}
+use Rattle.flac_raw.specs.Raw.{raw_sound, IsRaw}
 use Rattle.flac_raw.specs.inner.Surveyed.{IsSurvey}
-use Rattle.flac_raw.specs.declared.raw_fault.RawFault.{RawFault}
 use Rattle.flac_raw.specs.declared.raw_fault.RawFault.TheVariants as raw
 use Rattle.flac_raw.specs.declared.raw_fault.RawEncodeFault.{RawEncodeFault}
 use Rattle.flac_raw.specs.declared.raw_fault.RawEncodeFault.TheVariants as fault
 use Rattle.flac_raw.proofs.Judged.{survey_long, survey_good}
 use Rattle.flac_raw.proofs.Refused.{bad_format}
 use Rattle.flac_wave.specs.Format.{IsInRange}
-use Rattle.flac_wave.specs.Parts.{given, beyond}
-use Rattle.flac_wave.specs.Plain.{other_mask}
-use Rattle.flac_wave.specs.Shift.{wave_width_of, AreBytes}
-use Rattle.flac_wave.specs.Wave.{Parts, IsWave, ArePiecesAfter, all_of}
+use Rattle.flac_wave.specs.Parts.{given}
+use Rattle.flac_wave.specs.Shift.{wave_width_of}
+use Rattle.flac_wave.specs.Wave.{Parts, all_of}
 use Rattle.flac_wave.specs.declared.format.WaveFormat.{WaveFormat}
 use Rattle.flac_cli.specs.Asked.{Asked, asked_of}
-use Rattle.flac_cli.specs.Encoded.{cut_as, cut_found, AreFound, EncodesIn}
-use Rattle.flac_native.specs.Given.{with_predictors, with_found}
-use Rattle.flac_native.specs.Writing.{Encodes}
+use Rattle.flac_cli.specs.Encoded.{cut_as, cut_found}
 use Rattle.flac_cli.specs.Predictors.{AreListed}
-use Rattle.flac_raw.specs.Raw.{raw_sound, IsRaw}
 use Rattle.flac_cli.specs.Refusals.{raw_fault, stream_fault, IsOutside as IsOutsideOf}
-use Rattle.flac_cli.specs.Speakers.{words_with}
-use Rattle.flac_cli.specs.Twice.{is_native}
-use Rattle.flac_cli.specs.WaveRefusals.{samples_refusal, file_refusal, IsFileReason, IsOutside}
-use Rattle.flac_cli.specs.WaveTwice.{is_wave_twice, IsWaveTwiceReason}
-use Rattle.flac_cli.specs.Waves.{wave_samples, stream_samples, samples_for, depth_for, format_with, format_as, blocks_for, contents, riff_block, kept_list, kept_pieces, Keeps, EncodesWave}
-use Rattle.flac_cli.specs.inner.Preparing.{blocks_with}
+use Rattle.flac_cli.specs.WaveRefusals.{samples_refusal, file_refusal, IsFileReason, IsWaveReason, IsOutside}
+use Rattle.flac_cli.specs.WaveTwice.{IsWaveTwiceReason}
+use Rattle.flac_cli.specs.Waves.{wave_samples, stream_samples, samples_for, depth_for, format_with, format_as, blocks_for, contents, Keeps, EncodesWave}
 use Rattle.flac_cli.specs.inner.Searching.{search_of}
 use Rattle.flac_cli.specs.inner.Twice.{reason_as}
 use Rattle.flac_cli.specs.inner.WaveRaw.{Lowers, low_of}
 use Rattle.flac_cli.specs.inner.WaveSurvey.{HasDepth, IsSurveyed, surveyed_parts}
-use Rattle.flac_cli.specs.inner.WaveTwice.{wave_reason_as, IsForm, CanBeCut, StopsCut, IsPlanned, samples_by, StopsPlan}
+use Rattle.flac_cli.specs.inner.WaveTwice.{wave_reason_as, stream_fault_by, EncodesStream, StopsStream, IsForm, StopsCut, IsPlanned, samples_by, StopsPlan}
 use Rattle.flac_cli.specs.declared.encode.Encoding.{Encoding}
 use Rattle.flac_cli.specs.declared.encode.Refusal.{Refusal}
 use Rattle.flac_cli.specs.declared.encode.Refusal.TheVariants.{Input, Setup, Output}
@@ -63,36 +52,13 @@ use Rattle.flac_cli.specs.declared.encode_wave.WaveRefusal.{WaveRefusal}
 use Rattle.flac_cli.specs.declared.encode_wave.WaveRefusal.TheVariants.{Refused}
 use Rattle.flac_cli.specs.declared.encode_wave_twice.WavePlan.{WavePlan}
 use Rattle.flac_cli.specs.declared.encode_wave_twice.WaveTwiceFault.{WaveTwiceFault}
-use Rattle.flac_cli.specs.declared.wave_raw.Lowering.{Lowering}
 use Rattle.flac_cli.specs.declared.wave_survey.WaveSurvey.{WaveSurvey}
 use Rattle.flac_cli.proofs.HeldWaves.{same_wide}
 use Rattle.flac_cli.proofs.Kept.{kept_back}
 use Rattle.flac_cli.proofs.StreamSurveys.{stream_survey}
-use Rattle.flac_cli.proofs.Twice.{fault_none, fault_some, cut_of_total, plan_good, found_of, fails_as, native_is}
+use Rattle.flac_cli.proofs.Twice.{fault_none, fault_some, cut_of_total, plan_good, fails_as, same_some, same_stream, Wrote, wrote_in}
 use Rattle.flac_cli.proofs.WaveRefused.{refused_samples, refused_plan, refused_blocks, container_only, as_reason, only_container, keeps_all, same_refused}
-use Rattle.flac_jobs.specs.declared.formats.ContainerKind.{ContainerKind}
-use Rattle.flac_jobs.specs.declared.formats.ContainerKind.TheVariants as container
 use Rattle.flac_jobs.specs.declared.formats.RawFormat.{RawFormat}
-use Rattle.flac_jobs.specs.declared.jobs.Job.{Job}
-use Rattle.flac_jobs.specs.declared.jobs.Job.TheVariants as job
-use Rattle.flac_jobs.specs.declared.search_effort.SearchEffort.{SearchEffort}
-
--- ---- blocks that keep a file
-
-no_table : (pieces : List (List ℕ)) → has_table (map riff_block pieces) ≡ false
-no_table [] = refl
-no_table (p ∷ ps) = no_table ps
-
-no_more : (b c : Bool) → c ≡ false → (b && c) ≡ false
-no_more true c none = none
-no_more false c none = refl
-
--- they are no seek table
-pub kept_fit : (p : Cut) (words pieces : List (List ℕ)) → repeats_table p (kept_list words pieces) ≡ false
-kept_fit p words pieces = no_more (nat_lt 0 p.seek_every) (has_table (map riff_block pieces)) (no_table pieces)
-
-pub table_fit : (p : Planned) (list : List Block) (words pieces : List (List ℕ)) → list ≡ kept_list words pieces → table_fault p list ≡ None
-table_fit p list words pieces is = ap (table_fault p) is ∙ ap (λ b. cond b (Some encode.RepeatedBlock) None) (kept_fit (raw_cut p.profile p.format p.total p.predictors) words pieces)
 
 -- ---- the plan of a file that was surveyed
 
@@ -160,17 +126,21 @@ module _ (encoding : Encoding) (ps : List LinearPredictor) (file : WaveSurvey) (
       pub list_refused : (e : Why) → (e ≡ why.Memory) ⊎ (list_fault info_seen blocks ≡ Some e) → IsOutside (Refused (Input e)) ⊎ IsFileReason asked ps bytes (Some (Refused (Input e)))
       list_refused e h = reasoned (Input e) (refused_blocks own ps blocks stream sound fine refl (cut_as own sound ps) refl (ap plan_fault cut_is ∙ cuts) e h)
 
-      pub plan_accepted : asked.container ≡ container.Native → list_fault info_seen blocks ≡ None → IsFileReason asked ps bytes None
-      plan_accepted native fit =
+      -- only the container can be a reason
+      container_left : (plan : Planned) (list : List Block) → plan ≡ planned asked.profile format total ps (search_of asked.effort) → list ≡ blocks → list_fault info_seen blocks ≡ None
+          → file_refusal asked ps parts after ≡ option_map Output (container_fault asked.container plan list)
+      container_left plan list made listed fit =
           let p = cut_as own sound ps in
           let only = container_only own ps blocks stream sound fine refl p refl (ap plan_fault cut_is ∙ cuts) fit in
-          let none : stream_fault asked.container p blocks ≡ None = subst (λ c. stream_fault c p blocks ≡ None) (sym native) (ap (λ b. cond b (Some encode.RepeatedBlock) None) (kept_fit p (words_with asked.words (other_mask file.format)) (kept_pieces asked.keep (parts.pieces ++ after)))) in
-          let all : file_refusal asked ps parts after ≡ None = only_container asked ps bytes parts after s.wave s.cut format form blocks p refl only ∙ ap (option_map Output) none in
-          inr (parts, after, s.wave, s.cut, sym (ap (option_map Refused) all))
+          only_container asked ps bytes parts after s.wave s.cut format form blocks p refl only
+          ∙ (ap (λ k. option_map Output (stream_fault asked.container k blocks)) cut_is
+          ∙ (ap (option_map Output) (sym (same_stream asked.container (planned asked.profile format total ps (search_of asked.effort)) blocks))
+          ∙ (ap (λ q. option_map Output (container_fault asked.container q blocks)) (sym made)
+          ∙ ap (λ l. option_map Output (container_fault asked.container plan l)) (sym listed))))
 
-      pub plan_is : (plan : Planned) (list : List Block) (wide_is : ℕ) → plan ≡ planned asked.profile format total ps (search_of asked.effort) → list ≡ blocks → wide_is ≡ wide
-          → IsPlanned asked ps bytes (record { plan = plan; list = list; pieces = file.pieces; size = file.size; wide = wide_is; depth = file.samples.depth })
-      plan_is plan list wide_is made listed thick =
+      pub plan_is : (plan : Planned) (list : List Block) (wide_is : ℕ) → plan ≡ planned asked.profile format total ps (search_of asked.effort) → list ≡ blocks → wide_is ≡ wide → list_fault info_seen blocks ≡ None
+          → IsPlanned asked ps bytes (record { stream = record { container = asked.container; plan = plan; list = list }; pieces = file.pieces; size = file.size; wide = wide_is; depth = file.samples.depth })
+      plan_is plan list wide_is made listed thick fit =
           let found = s.are in
           record {
             file = parts;
@@ -184,10 +154,12 @@ module _ (encoding : Encoding) (ps : List LinearPredictor) (file : WaveSurvey) (
             wide = thick;
             depth = found.deep;
             total = total;
+            container = refl;
             made = subst (λ f. plan ≡ planned asked.profile f total ps (search_of asked.effort)) form made;
             are = subst (λ (f : RawFormat). AreSamples asked.profile f (stream_samples wide f.bits samples) total) form are_samples;
             good = subst (λ f. plan_fault (raw_cut asked.profile f total ps) ≡ None) form cuts;
             list = listed;
+            refusal = container_left plan list made listed fit;
           }
 
   -- why there is none
@@ -231,18 +203,22 @@ lowers_of wide depth form less =
 
 -- ---- why the second pass stops
 
-no_same : {X : Type 0} (list : List Block) (p : Planned) (e : RawEncodeFault) → table_fault p list ≡ None → option_map fault.Encode (table_fault p list) ≡ Some e → X
-no_same list p e none bad = let h : option_map fault.Encode None ≡ Some e = ap (option_map fault.Encode) (sym none) ∙ bad in absurd cc
+-- the container
+stream_stopped : (p : WavePlan) (others : List ℕ) (o : Option EncodeFault) (e : RawEncodeFault) → stream_fault_by p.stream ≡ o → option_map fault.Encode o ≡ Some e → StopsPlan p (wave_reason_as e) others
+stream_stopped p others None e is bad = absurd cc
+stream_stopped p others (Some f) e is bad =
+    let same : fault.Encode f ≡ e = same_some (fault.Encode f) e bad in
+    subst (λ x. StopsPlan p (wave_reason_as x) others) same (inr (inl (f, is, refl)))
 
 -- what comes after the pieces
-pub plan_stopped : (p : WavePlan) (others mid : List ℕ) (e : RawEncodeFault) → table_fault p.plan p.list ≡ None → others ≡ all_of (contents p.pieces.items) ++ mid → StopsBy p.plan p.list e (samples_by p mid) → StopsPlan p (wave_reason_as e) others
-plan_stopped p others mid e none read (inl (inl memory)) = subst (λ x. StopsPlan p (wave_reason_as x) others) (sym memory) (inl (Refused (Input why.Memory), refl, (Input why.Memory, refl, inl refl)))
-plan_stopped p others mid e none read (inl (inr (inl memory))) = subst (λ x. StopsPlan p (wave_reason_as x) others) (sym memory) (inl (Refused (Output encode.Memory), refl, (Output encode.Memory, refl, inr (inl refl))))
-plan_stopped p others mid e none read (inl (inr (inr write))) = subst (λ x. StopsPlan p (wave_reason_as x) others) (sym write) (inl (Refused (Output encode.Write), refl, (Output encode.Write, refl, inr (inr refl))))
-plan_stopped p others mid e none read (inr (inl repeats)) = no_same p.list p.plan e none repeats
-plan_stopped p others mid e none read (inr (inr (changed, unlike))) =
+pub plan_stopped : (p : WavePlan) (others mid : List ℕ) (e : RawEncodeFault) → others ≡ all_of (contents p.pieces.items) ++ mid → StopsStream p.stream e (samples_by p mid) → StopsPlan p (wave_reason_as e) others
+plan_stopped p others mid e read (inl (inl memory)) = subst (λ x. StopsPlan p (wave_reason_as x) others) (sym memory) (inl (Refused (Input why.Memory), refl, (Input why.Memory, refl, inl refl)))
+plan_stopped p others mid e read (inl (inr (inl memory))) = subst (λ x. StopsPlan p (wave_reason_as x) others) (sym memory) (inl (Refused (Output encode.Memory), refl, (Output encode.Memory, refl, inr (inl refl))))
+plan_stopped p others mid e read (inl (inr (inr write))) = subst (λ x. StopsPlan p (wave_reason_as x) others) (sym write) (inl (Refused (Output encode.Write), refl, (Output encode.Write, refl, inr (inr refl))))
+plan_stopped p others mid e read (inr (inl unfit)) = stream_stopped p others (stream_fault_by p.stream) e refl unfit
+plan_stopped p others mid e read (inr (inr (changed, unlike))) =
     subst (λ x. StopsPlan p (wave_reason_as x) others) (sym changed)
-    (inr (refl, λ rest is planned. unlike (subst (λ l. ArePlanned p.plan (samples_by p l)) (append_cancel_left (all_of (contents p.pieces.items)) rest mid (sym is ∙ read)) planned)))
+    (inr (inr (refl, λ rest is planned. unlike (subst (λ l. ArePlanned p.stream.plan (samples_by p l)) (append_cancel_left (all_of (contents p.pieces.items)) rest mid (sym is ∙ read)) planned))))
 
 pub some_wave : (a b : WaveRefusal) → Some a ≡ Some b → a ≡ b
 some_wave a b h = cc
@@ -269,52 +245,52 @@ module _ (asked : Asked) (ps : List LinearPredictor) (bytes : List ℕ) (p : Wav
   here = ap (λ w. stream_samples w p.depth (given p.size is.rest)) is.wide ∙ (ap (λ d. stream_samples (wave_width_of is.file.format) d (given p.size is.rest)) is.depth
       ∙ ap (stream_samples (wave_width_of is.file.format) (depth_for is.file)) (sym is.samples))
 
-  planned_here : ArePlanned p.plan (samples_by p is.rest)
-  planned_here = subst (λ l. ArePlanned p.plan l) (sym here) (subst (λ (q : Planned). AreSamples q.profile q.format raw_here q.total) (sym is.made) is.are)
+  planned_here : ArePlanned p.stream.plan (samples_by p is.rest)
+  planned_here = subst (λ l. ArePlanned p.stream.plan l) (sym here) (subst (λ (q : Planned). AreSamples q.profile q.format raw_here q.total) (sym is.made) is.are)
 
-  pub both_stop : (fault : WaveTwiceFault) (others : List ℕ) → StopsPlan p fault others → IsWaveTwiceReason asked bytes others fault.reason
-  both_stop fault others (inl (r, reason, out)) = subst (λ o. IsWaveTwiceReason asked bytes others o) (sym reason) (inl out)
-  both_stop fault others (inr (none, unlike)) = subst (λ o. IsWaveTwiceReason asked bytes others o) (sym none) (λ same. unlike is.rest (same ∙ is.joined) planned_here)
+  -- the reason is that of the container, if there is one
+  stream_reason : AreListed asked.list ps → (o : Option EncodeFault) → stream_fault_by p.stream ≡ o → IsWaveReason asked bytes (option_map Refused (option_map Output o))
+  stream_reason listed o e = inr (ps, listed, inr (is.file, is.pieces, is.wave, is.cut, sym (ap (option_map Refused) (is.refusal ∙ ap (option_map Output) e))))
 
-  module _ (native : asked.container ≡ container.Native) (listed : AreListed asked.list ps) (before after : List Bool) (wrote : EncodesBy p.plan p.list (samples_by p is.rest) before after) where
+  pub both_stop : AreListed asked.list ps → (fault : WaveTwiceFault) (others : List ℕ) → StopsPlan p fault others → IsWaveTwiceReason asked bytes others fault.reason
+  both_stop listed fault others (inl (r, reason, out)) = subst (λ o. IsWaveTwiceReason asked bytes others o) (sym reason) (inl out)
+  both_stop listed fault others (inr (inl (e, unfit, reason))) = subst (λ o. IsWaveTwiceReason asked bytes others o) (sym reason) (inr (stream_reason listed (Some e) unfit))
+  both_stop listed fault others (inr (inr (none, unlike))) = subst (λ o. IsWaveTwiceReason asked bytes others o) (sym none) (λ same. unlike is.rest (same ∙ is.joined) planned_here)
+
+  pub both_accepted : AreListed asked.list ps → stream_fault_by p.stream ≡ None → IsWaveReason asked bytes None
+  both_accepted listed fits = stream_reason listed None fits
+
+  module _ (listed : AreListed asked.list ps) (before after : List Bool) (wrote : EncodesStream p.stream (samples_by p is.rest) before after) where
     abbrev own_here : Asked
     own_here = record asked { format = form_here }
 
     abbrev sound_here : Sound
     sound_here = raw_sound asked.profile form_here raw_here
 
-    theirs : TheirEncodes asked.profile form_here (search_of asked.effort) ps p.list raw_here before after
-    theirs = subst (λ (q : Planned). TheirEncodes q.profile q.format q.search q.predictors p.list raw_here before after) is.made (subst (λ l. EncodesBy p.plan p.list l before after) here wrote)
+    theirs : EncodesByIn asked.container (planned asked.profile form_here is.total ps (search_of asked.effort)) p.stream.list raw_here before after
+    theirs =
+        subst (λ q. EncodesByIn asked.container q p.stream.list raw_here before after) is.made
+        (subst (λ c. EncodesByIn c p.stream.plan p.stream.list raw_here before after) is.container (subst (λ l. EncodesStream p.stream l before after) here wrote))
 
-    raw_is : IsRaw asked.profile form_here raw_here sound_here
-    raw_is = theirs.raw
+    said : IsRaw asked.profile form_here raw_here sound_here × Wrote own_here ps p.stream.list raw_here is.total asked.container sound_here before after
+    said = wrote_in own_here ps p.stream.list raw_here is.total asked.container before after theirs
 
-    found_here : (found : List (List (List LinearPredictor))) × AreFound asked.effort ps found × Encodes (with_found (with_predictors (cut_of form_here.block sound_here form_here.seek_every) ps) found) p.list sound_here before after
-    found_here = found_of asked.effort (cut_of form_here.block sound_here form_here.seek_every) ps p.list sound_here before after theirs.encodes
-
-    keeps_here : Keeps asked bytes form_here sound_here p.list
-    keeps_here = keeps_all asked ps bytes is.file is.pieces is.wave is.cut form_here refl sound_here p.list is.small raw_is is.list
+    keeps_here : Keeps asked bytes form_here sound_here p.stream.list
+    keeps_here = keeps_all asked ps bytes is.file is.pieces is.wave is.cut form_here refl sound_here p.stream.list is.small said.0 is.list
 
     pub both_wrote : EncodesWave asked bytes before after
     both_wrote =
-        let found = found_here.0 in
-        let c = cut_found own_here sound_here ps found in
-        let encodes : EncodesIn asked.container c p.list sound_here before after = subst (λ k. EncodesIn k c p.list sound_here before after) (sym native) found_here.2 in
+        let w = said.1 in
+        let c = cut_found own_here sound_here ps w.0 in
         record {
           format = form_here;
           audio = sound_here;
-          list = p.list;
+          list = p.stream.list;
           predictors = ps;
           keeps = keeps_here;
           listed = listed;
-          found = found;
-          sought = found_here.1;
-          encodes = encodes;
-          back = λ keep. kept_back asked bytes form_here sound_here p.list c before after keeps_here encodes keep (still_found (cut_as own_here sound_here ps) found (plan_good own_here ps raw_here is.total is.are is.good));
+          found = w.0;
+          sought = w.1;
+          encodes = w.2;
+          back = λ keep. kept_back asked bytes form_here sound_here p.stream.list c before after keeps_here w.2 keep (still_found (cut_as own_here sound_here ps) w.0 (plan_good own_here ps raw_here is.total is.are is.good));
         }
-
--- ---- jobs
-
-pub wave_native_of : (j : Job) {input output : Bor (List ℕ)} {block seek_every : ℕ} {c : ContainerKind} {comments : Vec (Bor (List ℕ)) Global} {lax : Bool} {predictors : Option (Bor (List ℕ))} {effort : SearchEffort} {keep to_end : Bool}
-    → is_wave_twice j ≡ true → j ≡ job.EncodeWave input output block seek_every c comments lax predictors effort keep to_end → c ≡ container.Native
-wave_native_of j {c = c} twice is = native_is c (sym (ap is_wave_twice is) ∙ twice)

@@ -13,16 +13,10 @@ use Rattle.flac_cli.specs.declared.dispatch.Task.{Task}
 use Rattle.flac_cli.specs.declared.encode.Refusal.{Refusal}
 use Rattle.flac_cli.specs.declared.encode.Refusal.TheVariants.{Output}
 use Rattle.flac_cli.specs.declared.encode_twice.TwiceFault.{TwiceFault}
-use Rattle.flac_jobs.specs.declared.formats.ContainerKind.{ContainerKind}
-use Rattle.flac_jobs.specs.declared.formats.ContainerKind.TheVariants as container
 use Rattle.flac_jobs.specs.declared.jobs.Job.{Job}
 use Rattle.flac_jobs.specs.declared.jobs.Job.TheVariants as job
 
 -- ---- which jobs
-
-abbrev pub is_native : ContainerKind → Bool
-is_native container.Native = true
-is_native (container.Ogg serial) = false
 
 -- the job encodes raw samples
 abbrev pub is_twice : Job → Bool

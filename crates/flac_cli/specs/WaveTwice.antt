@@ -8,7 +8,6 @@ use Rattle.flac_encoder.specs.Pushing.{Fails}
 use Rattle.flac_cli.specs.Asked.{Asked}
 use Rattle.flac_cli.specs.Calls.{IfRead}
 use Rattle.flac_cli.specs.Reports.{Files, files_of, AddsLine}
-use Rattle.flac_cli.specs.Twice.{is_native}
 use Rattle.flac_cli.specs.WaveRefusals.{IsWaveReason, IsOutside, wave_path, wave_text}
 use Rattle.flac_cli.specs.Waves.{wave_asked_by, HasEncodedWave}
 use Rattle.flac_cli.specs.declared.dispatch.Task.{Task}
@@ -21,9 +20,9 @@ use Rattle.flac_jobs.specs.declared.jobs.Job.TheVariants as job
 
 -- ---- which jobs
 
--- the job encodes a WAV file to a native stream
+-- the job encodes a WAV file
 abbrev pub is_wave_twice : Job → Bool
-is_wave_twice (job.EncodeWave input output size seek_every c comments lax predictors effort keep to_end) = is_native c
+is_wave_twice (job.EncodeWave input output size seek_every c comments lax predictors effort keep to_end) = true
 is_wave_twice other = false
 
 -- ---- what is written

@@ -1,16 +1,13 @@
 //! `flac encode` of WAV files that can be read twice, as regular files: it holds one block of their samples.
 
 ghost use Rattle.std.specs.Prelude.{◌≡◌, ◌≢◌, ◌≤◌, ◌++◌, ◌*◌, true, false, List, ℕ, None, Some, IfOk, IfErr, OnOk, OnErr};
-ghost use Rattle.flac_jobs.specs.declared.formats.ContainerKind.TheVariants as container;
 ghost use Rattle.flac_native.specs.declared.fault.EncodeFault.TheVariants as encode;
-ghost use Rattle.flac_raw.specs.Encoded.{EncodesBy, HasSent, StopsBy, FailsLeft};
-ghost use Rattle.flac_raw.specs.Planned.{table_fault};
+ghost use Rattle.flac_raw.specs.Encoded.{HasSent, FailsLeft};
 ghost use Rattle.flac_wave.specs.Format.{IsInRange};
 ghost use Rattle.flac_wave.specs.Wave.{all_of};
-ghost use Rattle.flac_cli.specs.Asked.{asked_of};
 ghost use Rattle.flac_cli.specs.Calls.{IfServed, IfKnown, IfRead};
 ghost use Rattle.flac_cli.specs.Refusals.{refusal_of};
-ghost use Rattle.flac_cli.specs.WaveRefusals.{CanBeKept, IsFileReason};
+ghost use Rattle.flac_cli.specs.WaveRefusals.{CanBeKept};
 ghost use Rattle.flac_cli.specs.Waves.{contents, wave_asked_by, wave_samples, stream_samples};
 ghost use Rattle.flac_cli.specs.inner.WaveRaw.{Lowers, low_of};
 ghost use Rattle.flac_cli.specs.WaveTwice.{is_wave_twice, WritesWaveTwice, AddsWaveTwiceLine, FailsWaveTwice, StopsWaveTwice};
@@ -18,9 +15,9 @@ ghost use Rattle.flac_cli.specs.declared.encode.Refusal.TheVariants.{Input, Outp
 ghost use Rattle.flac_cli.specs.declared.encode_wave.WaveRefusal.TheVariants.{Refused};
 ghost use Rattle.flac_cli.specs.inner.Preparing.{CanBeEncodedAs, RefusesFile};
 ghost use Rattle.flac_cli.specs.inner.WaveSurvey.{HasDepth};
-ghost use Rattle.flac_cli.specs.inner.WaveTwice.{as_wave_twice, wave_reason_as, IsForm, IsPlannedOf, IsPlannedFor, CanBePlanned};
+ghost use Rattle.flac_cli.specs.inner.WaveTwice.{as_wave_twice, wave_reason_as, IsForm, IsPlannedOf, IsPlannedFor};
+ghost use Rattle.flac_cli.specs.inner.WaveTwice.{stream_fault_by, EncodesStream, StopsStream, CanBeCut, StopsCut};
 ghost use Rattle.flac_cli.specs.inner.WaveTwice.{IsPlanRefusal, SendsPlan, StopsPlan, StopsWaveFor, WritesWaveFor};
-ghost use Rattle.flac_cli.specs.inner.WaveTwice.{CanBeCut, StopsCut};
 
 use crate::dispatch::Task;
 use crate::encode::{Encoding, Refusal, refuse_encoding};
@@ -38,7 +35,7 @@ use flac_frame::{SetupFault, format_fault};
 use flac_jobs::{ContainerKind, Job, RawFormat};
 use flac_meta::BlockList;
 use flac_native::{EncodeFault, sample_width};
-use flac_raw::{PIECE, RawEncodeFault, RawPlan, encode_judged};
+use flac_raw::{PIECE, RawEncodeFault, RawPlan, encode_judged_in};
 use flac_subframe::LinearPredictor;
 use flac_wave::{Limited, fill};
 use std::alloc::Global;
@@ -93,13 +90,21 @@ impl From<RawEncodeFault> for WaveTwiceFault {
     }
 }
 
-/// What is to be encoded of a WAV file, after the first pass.
+/// The stream that is to be written of samples.
 #[derive(Drop)]
-struct WavePlan {
-    /// How its samples are encoded.
+struct StreamPlan {
+    container: ContainerKind,
+    /// How the samples are encoded.
     plan: RawPlan,
     /// The blocks after STREAMINFO.
     list: BlockList,
+}
+
+/// What is to be encoded of a WAV file, after the first pass.
+#[derive(Drop)]
+struct WavePlan {
+    /// The stream of its samples.
+    stream: StreamPlan,
     /// What comes before the samples.
     pieces: Vec<Vec<u8>>,
     /// How many bytes of what comes after that are the samples, at most; `None` if all are.
@@ -135,7 +140,8 @@ fn raw_plan_of(
     RawPlan::new(encoding.profile, format, total, predictors, search)
 }
 
-/// What is to be encoded of a WAV file of which this was found, with these predictors.
+/// What is to be encoded of a WAV file of which this was found, with these predictors. Only the container can be a
+/// reason to refuse it then.
 ///
 /// # Errors
 /// The first reason for which it cannot be: its samples, the block size and the seek points, the predictors, the
@@ -146,13 +152,10 @@ fn planned_of(
     predictors: Vec<LinearPredictor>,
     file: WaveSurvey,
 ) -> Result<WavePlan, Refusal>
-    requires native { encoding.now.container ≡ container.Native }
     requires range { IsInRange file.format }
     requires room { HasDepth file.format file.samples.depth }
     ensures planned { IfOk result (λ p. IsPlannedOf encoding.now predictors.items file p) }
     ensures form { IfOk result (λ p. IsForm p.wide p.depth) }
-    ensures table { IfOk result (λ p. table_fault p.plan p.list ≡ None) }
-    ensures accepted { OnOk result (CanBePlanned encoding.now predictors.items file) }
     ensures refused { IfErr result (λ e. IsPlanRefusal encoding.now predictors.items file e) }
     ensures unwritten { IfErr result (λ e. e ≢ Output EncodeFault.Write) }
 {
@@ -167,8 +170,11 @@ fn planned_of(
     let plan = raw_plan_of(encoding, format, samples.total, predictors)?;
     let list = blocks_of(alloc, encoding, &wave, pieces.as_slice(), after.as_slice())?;
     Ok(WavePlan {
-        plan,
-        list,
+        stream: StreamPlan {
+            container: encoding.container,
+            plan,
+            list,
+        },
         pieces,
         size,
         wide: sample_width(wave.bits),
@@ -187,12 +193,8 @@ fn first_pass<A: Source>(
     predictors: Vec<LinearPredictor>,
     first: &mut A,
 ) -> Result<WavePlan, WaveRefusal>
-    requires native { encoding.now.container ≡ container.Native }
     ensures planned { IfOk result (λ p. IfKnown A.Source first.old (IsPlannedFor encoding.now predictors.items p)) }
     ensures form { IfOk result (λ p. IsForm p.wide p.depth) }
-    ensures table { IfOk result (λ p. table_fault p.plan p.list ≡ None) }
-    ensures accepted { OnOk result (IfKnown A.Source first.old (λ bytes.
-        IsFileReason (asked_of encoding.now) predictors.items bytes None)) }
     ensures refused { RefusesFile A.Source encoding.now predictors.items first.old first.new result }
     ensures unwritten { IfErr result (λ e. e ≢ Refused (Output EncodeFault.Write)) }
 {
@@ -253,25 +255,30 @@ fn begins_with_all<R: Source>(source: &mut R, pieces: &[Vec<u8>]) -> Result<bool
 /// Encodes the samples of a WAV file, of `wide` bytes each, of which all bits count.
 fn encode_turned<S: Source, W: Rewritable + Drop>(
     alloc: Global,
-    plan: RawPlan,
-    list: BlockList,
+    stream: StreamPlan,
     wide: usize,
     samples: &mut S,
     target: W,
 ) -> Result<W, RawEncodeFault>
     requires { wide ≤ 4 }
     ensures written { IfOk result (λ out. S.known samples.old ≡ true →
-        HasSent W.Target target out (EncodesBy plan list (wave_samples (8 * wide) (S.coming samples.old)))) }
+        HasSent W.Target target out (EncodesStream stream (wave_samples (8 * wide) (S.coming samples.old)))) }
+    ensures fits { OnOk result (stream_fault_by stream ≡ None) }
     ensures known { IfOk result (λ out. W.known target ≡ true → W.known out ≡ true) }
     ensures counted { IfOk result (λ out. W.errors out ≡ W.errors target) }
     ensures names { IfOk result (λ out. W.names out ≡ W.names target) }
     ensures refused { IfErr result (λ e. IfRead S.Source samples.old samples.new
-        (λ bytes. StopsBy plan list e (wave_samples (8 * wide) bytes))) }
+        (λ bytes. StopsStream stream e (wave_samples (8 * wide) bytes))) }
     ensures failed { IfErr result (λ e. FailsLeft W.Target target e) }
     ensures through { S.names samples.new ≡ S.names samples.old }
 {
+    let StreamPlan {
+        container,
+        plan,
+        list,
+    } = stream;
     let mut turned = Turned::new(samples, wide);
-    let made = encode_judged(alloc, plan, list, &mut turned, target);
+    let made = encode_judged_in(alloc, container, plan, list, &mut turned, target);
     let _samples = turned.into_source(); // for its clauses alone
     match made {
         Ok(out) => Ok(out),
@@ -282,26 +289,31 @@ fn encode_turned<S: Source, W: Rewritable + Drop>(
 /// Encodes the samples of a WAV file, of which only the highest bits count.
 fn encode_lowered<S: Source, W: Rewritable + Drop>(
     alloc: Global,
-    plan: RawPlan,
-    list: BlockList,
+    stream: StreamPlan,
     form: Lowering,
     samples: &mut S,
     target: W,
 ) -> Result<W, RawEncodeFault>
     requires { Lowers form }
     ensures written { IfOk result (λ out. S.known samples.old ≡ true →
-        HasSent W.Target target out (EncodesBy plan list (low_of form (S.coming samples.old)))) }
+        HasSent W.Target target out (EncodesStream stream (low_of form (S.coming samples.old)))) }
+    ensures fits { OnOk result (stream_fault_by stream ≡ None) }
     ensures known { IfOk result (λ out. W.known target ≡ true → W.known out ≡ true) }
     ensures counted { IfOk result (λ out. W.errors out ≡ W.errors target) }
     ensures names { IfOk result (λ out. W.names out ≡ W.names target) }
     ensures refused { IfErr result (λ e. IfRead S.Source samples.old samples.new
-        (λ bytes. StopsBy plan list e (low_of form bytes))) }
+        (λ bytes. StopsStream stream e (low_of form bytes))) }
     ensures failed { IfErr result (λ e. FailsLeft W.Target target e) }
     ensures through { S.names samples.new ≡ S.names samples.old }
 {
     let low = low_places(alloc)?;
+    let StreamPlan {
+        container,
+        plan,
+        list,
+    } = stream;
     let mut lowered = Lowered::new(samples, form, low);
-    let made = encode_judged(alloc, plan, list, &mut lowered, target);
+    let made = encode_judged_in(alloc, container, plan, list, &mut lowered, target);
     let _samples = lowered.into_source(); // for its clauses alone
     match made {
         Ok(out) => Ok(out),
@@ -312,47 +324,47 @@ fn encode_lowered<S: Source, W: Rewritable + Drop>(
 /// Encodes the samples of a WAV file, of `wide` bytes each, of which a stream has the highest `depth` bits.
 fn encode_samples<S: Source, W: Rewritable + Drop>(
     alloc: Global,
-    plan: RawPlan,
-    list: BlockList,
+    stream: StreamPlan,
     form: (usize, u32),
     samples: &mut S,
     target: W,
 ) -> Result<W, RawEncodeFault>
     requires { IsForm form.0 form.1 }
     ensures written { IfOk result (λ out. S.known samples.old ≡ true →
-        HasSent W.Target target out (EncodesBy plan list (stream_samples form.0 form.1 (S.coming samples.old)))) }
+        HasSent W.Target target out (EncodesStream stream (stream_samples form.0 form.1 (S.coming samples.old)))) }
+    ensures fits { OnOk result (stream_fault_by stream ≡ None) }
     ensures known { IfOk result (λ out. W.known target ≡ true → W.known out ≡ true) }
     ensures counted { IfOk result (λ out. W.errors out ≡ W.errors target) }
     ensures names { IfOk result (λ out. W.names out ≡ W.names target) }
     ensures refused { IfErr result (λ e. IfRead S.Source samples.old samples.new
-        (λ bytes. StopsBy plan list e (stream_samples form.0 form.1 bytes))) }
+        (λ bytes. StopsStream stream e (stream_samples form.0 form.1 bytes))) }
     ensures failed { IfErr result (λ e. FailsLeft W.Target target e) }
     ensures through { S.names samples.new ≡ S.names samples.old }
 {
     let (wide, depth) = form;
     let shift = 8 * wide as u32 - depth;
     if shift == 0 {
-        return encode_turned(alloc, plan, list, wide, samples, target);
+        return encode_turned(alloc, stream, wide, samples, target);
     }
     let width = sample_width(depth);
     let form = Lowering { wide, width, shift };
-    encode_lowered(alloc, plan, list, form, samples, target)
+    encode_lowered(alloc, stream, form, samples, target)
 }
 
 /// Encodes the samples of a source that has the same bytes as the one of which the plan was made.
 ///
 /// # Errors
-/// The source does not begin with the same pieces, or has no such samples after them. An error of the source or of the
-/// target, or out of memory.
+/// The source does not begin with the same pieces, or has no such samples after them. The container, before anything is
+/// sent. An error of the source or of the target, or out of memory.
 fn second_pass<R: Source, W: Rewritable + Drop>(
     alloc: Global,
     plan: WavePlan,
     second: &mut R,
     target: W,
 ) -> Result<W, WaveTwiceFault>
-    requires form { IsForm plan.wide plan.depth }
-    requires table { table_fault plan.plan plan.list ≡ None }
+    requires { IsForm plan.wide plan.depth }
     ensures written { IfOk result (λ out. SendsPlan R.Source W.Target plan second.old target out) }
+    ensures fits { OnOk result (stream_fault_by plan.stream ≡ None) }
     ensures refused { IfErr result (λ e. IfRead R.Source second.old second.new (StopsPlan plan e)) }
     ensures failed { IfErr result (λ e. FailsWaveTwice W.Target target e) }
     ensures known { IfOk result (λ out. W.known target ≡ true → W.known out ≡ true) }
@@ -360,8 +372,7 @@ fn second_pass<R: Source, W: Rewritable + Drop>(
     ensures names { IfOk result (λ out. W.names out ≡ W.names target) }
 {
     let WavePlan {
-        plan,
-        list,
+        stream,
         pieces,
         size,
         wide,
@@ -372,7 +383,7 @@ fn second_pass<R: Source, W: Rewritable + Drop>(
     }
     drop(pieces);
     let mut part = Limited::new(second, size);
-    let made = encode_samples(alloc, plan, list, (wide, depth), &mut part, target);
+    let made = encode_samples(alloc, stream, (wide, depth), &mut part, target);
     let _second = part.into_source(); // for its clauses alone
     match made {
         Ok(out) => Ok(out),
@@ -388,7 +399,6 @@ fn encode_passes<A: Source, R: Source, W: Rewritable + Drop>(
     second: &mut R,
     target: W,
 ) -> Result<W, WaveTwiceFault>
-    requires native { encoding.now.container ≡ container.Native }
     ensures written { IfOk result
         (λ out. WritesWaveFor A.Source R.Source W.Target encoding.now first.old second.old target out) }
     ensures accepted { OnOk result (IfKnown A.Source first.old (CanBeEncodedAs encoding.now)) }
@@ -423,27 +433,22 @@ fn refuse_wave_twice<E: Target>(err: &mut E, job: &Job<'_>, fault: WaveTwiceFaul
     }
 }
 
-/// Whether a job is one for [`encode_wave_file_twice`]: it encodes a WAV file to a native stream.
+/// Whether a job is one for [`encode_wave_file_twice`]: it encodes a WAV file.
 pub fn encodes_wave_twice(job: &Job<'_>) -> bool
     ensures { result ≡ is_wave_twice job.now }
 {
-    match job {
-        Job::EncodeWave { container, .. } => match container {
-            ContainerKind::Native => true,
-            ContainerKind::Ogg { .. } => false,
-        },
-        _ => false,
-    }
+    matches!(job, Job::EncodeWave { .. })
 }
 
-/// Encodes a WAV file that can be read twice, as a regular file, to a native stream: what [`crate::run`] does for the
-/// same job, but it holds one block of samples, and what comes before and after them. It returns the target, which has
-/// the whole stream. The first source is surveyed, then the samples of the second are encoded; it has the same bytes,
-/// once more from the first on.
+/// Encodes a WAV file that can be read twice, as a regular file, to a native or an Ogg stream: what [`crate::run`] does
+/// for the same job, but it holds one block of samples, and what comes before and after them. It returns the target,
+/// which has the whole stream. The first source is surveyed, then the samples of the second are encoded; it has the same
+/// bytes, once more from the first on.
 ///
 /// - `task`: the job ([`encodes_wave_twice`]), and the text of its list of predictors.
 /// - `first`, `second`: the file that the job reads, twice.
-/// - `target`: the file that it writes. Its first bytes are written over at the end.
+/// - `target`: the file that it writes. Its first bytes are written over at the end: what comes before the frames, or
+///   in Ogg the first page.
 /// - `err`: standard error.
 ///
 /// If the header states 0 bytes of samples, all that follows it is held in the first pass, which decides whether its

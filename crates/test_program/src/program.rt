@@ -205,7 +205,13 @@ pub(crate) fn perform(alloc: Global, job: &Job<'_>, input: &[u8], most: usize) -
 }
 
 /// Does a job whose list has this text over memory, which gives at most `most` bytes at once.
-fn perform_with(alloc: Global, job: &Job<'_>, list: &[u8], input: &[u8], most: usize) -> Outcome {
+pub(crate) fn perform_with(
+    alloc: Global,
+    job: &Job<'_>,
+    list: &[u8],
+    input: &[u8],
+    most: usize,
+) -> Outcome {
     let mut source = Pieces::new(Memory::new(input), most.max(1));
     perform_task(alloc, &Task { job, list }, &mut source)
 }

@@ -43,8 +43,8 @@ refuse them.
 OUT has to be another file than IN and LIST: else it cannot be created, and these stay
 as they are. A regular file IN is read twice, and one block of it is held. If that fails,
 or IN is written to meanwhile (94 Changed), nothing of it stays: a new OUT is empty, and
-another one as it was. A pipe is held in memory, and so is a WAV file with --ogg; if that
-fails, what was written stays in OUT, or in OUT.part if OUT is a file with bytes.
+another one as it was. A pipe is held in memory; if that fails, what was written stays in
+OUT, or in OUT.part if OUT is a file with bytes.
 
 OUT may replace a stream, but no other file of sound: none that begins with RIFF, RF64,
 BW64, FORM or ID3. With --force any file is replaced. A word such as TITLE=Song is no

@@ -1,10 +1,10 @@
-use Rattle.std.proofs.Common.{◌∙◌, refl, inr}
+use Rattle.std.proofs.Common.{◌∙◌, refl}
 use Rattle.std.proofs.lemmas.Result.{err_from_is_err_and}
 use Rattle.flac_bits.specs.Bits.{bits_of}
 use Rattle.flac_cli.specs.Asked.{asked_of}
 use Rattle.flac_cli.proofs.Failed.{not_list}
 use Rattle.flac_cli.proofs.WaveRefused.{refused_line, listed_reason, same_refused}
-use Rattle.flac_cli.proofs.WaveTwices.{both_stop, both_wrote, some_wave}
+use Rattle.flac_cli.proofs.WaveTwices.{both_stop, both_accepted, both_wrote, some_wave}
 use Rattle.flac_cli.proofs.encode_wave_twice.encode_passes.Goals as goal
 
 pub returns-in_err-predictors : goal.returns-in_err-predictors
@@ -44,7 +44,7 @@ returns-in_err-out g c =
     rw (p.1, p.2) (record {
       written = tt;
       accepted = tt;
-      refused = λ known same told still. both_stop asked c.in_ok-predictors.predictors.items bytes c.in_ok-plan.plan (c.in_ok-plan.ensures.planned known) _ others (c.in_err-out.ensures.refused told still);
+      refused = λ known same told still. both_stop asked c.in_ok-predictors.predictors.items bytes c.in_ok-plan.plan (c.in_ok-plan.ensures.planned known) c.in_ok-predictors.ensures.list _ others (c.in_err-out.ensures.refused told still);
       failed = c.in_err-out.ensures.failed;
       known = tt;
       counted = tt;
@@ -63,8 +63,8 @@ returns g c =
     record {
       written = λ known told sent same.
           let is = plan.planned known in
-          both_wrote asked ps bytes c.in_ok-plan.plan is c.requires.native c.in_ok-predictors.ensures.list before after (e.written told sent is.rest (same ∙ is.joined));
-      accepted = λ known. inr (ps, c.in_ok-predictors.ensures.list, plan.accepted known);
+          both_wrote asked ps bytes c.in_ok-plan.plan is c.in_ok-predictors.ensures.list before after (e.written told sent is.rest (same ∙ is.joined));
+      accepted = λ known. both_accepted asked ps bytes c.in_ok-plan.plan (plan.planned known) c.in_ok-predictors.ensures.list e.fits;
       refused = tt;
       failed = tt;
       known = e.known;

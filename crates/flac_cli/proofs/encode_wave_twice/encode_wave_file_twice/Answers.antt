@@ -4,11 +4,7 @@ use Rattle.flac_cli.specs.WaveRefusals.{CanBeKept}
 use Rattle.flac_cli.specs.WaveTwice.{RefusesWaveTwice}
 use Rattle.flac_cli.specs.Waves.{HasEncodedWave}
 use Rattle.flac_cli.proofs.Jobs.{wave_asked_is}
-use Rattle.flac_cli.proofs.WaveTwices.{wave_native_of}
 use Rattle.flac_cli.proofs.encode_wave_twice.encode_wave_file_twice.Goals as goal
-
-pub encode_passes-requires : goal.encode_passes-requires
-encode_passes-requires g c = record { native = wave_native_of c.args.task.now.job.now c.requires.twice c.in-EncodeWave.is }
 
 pub returns-in-Ok : goal.returns-in-Ok
 returns-in-Ok g c =

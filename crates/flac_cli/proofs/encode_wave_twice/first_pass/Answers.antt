@@ -15,6 +15,3 @@ returns-in_err-plan-clause-refused g c =
 
 pub returns-clause-planned : goal.returns-clause-planned
 returns-clause-planned g c = λ known. c.in_ok-plan.ensures.planned (g.A.Source.coming c.args.first.now) (c.in_ok-file.ensures.found known)
-
-pub returns-clause-accepted : goal.returns-clause-accepted
-returns-clause-accepted g c = λ known. c.in_ok-plan.ensures.accepted (g.A.Source.coming c.args.first.now) (c.in_ok-file.ensures.found known)

@@ -2,7 +2,7 @@ use Rattle.std.proofs.Common.{◌∙◌, ◌++◌, ap, sym, subst}
 use Rattle.std.proofs.lemmas.Result.{err_from_is_err_and}
 use Rattle.flac_cli.specs.Asked.{asked_of}
 use Rattle.flac_cli.specs.inner.Preparing.{blocks_with}
-use Rattle.flac_cli.proofs.WaveTwices.{plan_stops, list_refused, plan_accepted, plan_is, table_fit, form_of}
+use Rattle.flac_cli.proofs.WaveTwices.{plan_stops, list_refused, plan_is, form_of}
 use Rattle.flac_cli.proofs.encode_wave_twice.planned_of.Goals as goal
 
 pub returns-in_err-plan-clause-refused : goal.returns-in_err-plan-clause-refused
@@ -21,17 +21,9 @@ pub returns-clause-planned : goal.returns-clause-planned
 returns-clause-planned c =
     let made = c.in_ok-plan.ensures.made in
     let list = rw (c.as_slice.ensures.value, c.as_slice-2.ensures.value) at c.in_ok-list.ensures.list in
-    λ bytes s.
-    plan_is c.args.encoding.now c.args.predictors.items c.args.file c.requires.range bytes s c.format_of-format.result c.format_of-format.ensures made.sound made.short made.good c.in_ok-plan.plan c.in_ok-list.list _ made.made list c.sample_width.ensures
-
-pub returns-clause-accepted : goal.returns-clause-accepted
-returns-clause-accepted c =
-    let made = c.in_ok-plan.ensures.made in
     let fit = rw (c.as_slice.ensures.value, c.as_slice-2.ensures.value) at c.in_ok-list.ensures.accepted in
-    λ bytes s. plan_accepted c.args.encoding.now c.args.predictors.items c.args.file c.requires.range bytes s c.format_of-format.result c.format_of-format.ensures made.sound made.short made.good c.requires.native fit
-
-pub returns-clause-table : goal.returns-clause-table
-returns-clause-table c = table_fit c.in_ok-plan.plan c.in_ok-list.list _ _ c.in_ok-list.ensures.list
+    λ bytes s.
+    plan_is c.args.encoding.now c.args.predictors.items c.args.file c.requires.range bytes s c.format_of-format.result c.format_of-format.ensures made.sound made.short made.good c.in_ok-plan.plan c.in_ok-list.list _ made.made list c.sample_width.ensures fit
 
 pub returns-clause-form : goal.returns-clause-form
 returns-clause-form c = form_of c.args.file.format c.args.file.samples.depth _ c.requires.range c.requires.room c.sample_width.ensures

@@ -4,9 +4,8 @@ use Rattle.std.proofs.lemmas.Result.{err_from_is_err_and}
 use Rattle.flac_bits.specs.Bits.{bits_of}
 use Rattle.flac_wave.specs.Parts.{given}
 use Rattle.flac_wave.specs.Wave.{all_of}
-use Rattle.flac_raw.specs.Encoded.{EncodesBy, StopsBy}
 use Rattle.flac_cli.specs.Waves.{contents, stream_samples}
-use Rattle.flac_cli.specs.inner.WaveTwice.{StopsPlan}
+use Rattle.flac_cli.specs.inner.WaveTwice.{EncodesStream, StopsStream, StopsPlan}
 use Rattle.flac_cli.proofs.TakenWaves.{known_part}
 use Rattle.flac_cli.proofs.WaveTwices.{plan_stopped}
 use Rattle.flac_cli.proofs.encode_wave_twice.second_pass.Goals as goal
@@ -30,7 +29,7 @@ returns-in-Ok-clause-written g c = λ known told rest is.
     let cut : mid ≡ rest = append_cancel_left (all_of (contents p.pieces.items)) mid rest (sym (read ∙ first) ∙ is) in
     let same = ap (λ o. given o (g.R.Source.coming P.source.now)) c.new-part.ensures.size ∙ (ap (λ s. given p.size (g.R.Source.coming s)) here ∙ ap (given p.size) cut) in
     let wrote = c.in-Ok.ensures.written (known_part (g.R.Source.known P.source.now) P.failed (ap g.R.Source.known here ∙ ok.known known) c.new-part.ensures.whole) told in
-    subst (λ l. EncodesBy p.plan p.list (stream_samples p.wide p.depth l) before after) same wrote
+    subst (λ l. EncodesStream p.stream (stream_samples p.wide p.depth l) before after) same wrote
 
 pub returns-in-Err-clause-refused : goal.returns-in-Err-clause-refused
 returns-in-Err-clause-refused g c = λ known same.
@@ -46,4 +45,4 @@ returns-in-Err-clause-refused g c = λ known same.
     let stops = c.in-Err.ensures.refused (known_part (g.R.Source.known P.source.now) P.failed (ap g.R.Source.known here ∙ ok.known known) c.new-part.ensures.whole)
     (still ∙ sym (ap g.R.Source.raised here ∙ ok.counted)) in
     subst (λ x. StopsPlan p x others) (sym c.from.ensures)
-    (plan_stopped p others mid c.in-Err.fault c.requires.table (ok.same c.if-not-branch.false known ∙ first) (subst (λ l. StopsBy p.plan p.list c.in-Err.fault (stream_samples p.wide p.depth l)) is stops))
+    (plan_stopped p others mid c.in-Err.fault (ok.same c.if-not-branch.false known ∙ first) (subst (λ l. StopsStream p.stream c.in-Err.fault (stream_samples p.wide p.depth l)) is stops))
