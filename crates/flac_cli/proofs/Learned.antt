@@ -141,9 +141,9 @@ one_of_link profile link xs whole = let bytes = trimmed false link in one_in pro
 -- ---- each stream of a chain has one
 
 -- these are the STREAMINFOs of streams of these parts
-record IsInfoOf (p : List Piece) (i : Info) : Type 0 where
-  alone : infos_in p ≡ i ∷ []
-  known : info_in None p ≡ Some i
+pub record IsInfoOf (p : List Piece) (i : Info) : Type 0 where
+  pub alone : infos_in p ≡ i ∷ []
+  pub known : info_in None p ≡ Some i
 
 abbrev pub AreInfos : List (List Piece) → List Info → Type 0
 AreInfos [] [] = Unit {0}
