@@ -1,18 +1,7 @@
-use Rattle.std.proofs.Common.{◌≡◌, ℕ, List, [], ◌∷◌, ap, refl}
+use Rattle.std.proofs.Common.{◌≡◌, refl}
 use Rattle.flac_chain.proofs.Links.{at_ok, if_err}
 use Rattle.flac_cli.proofs.Verifying.{described, counted_facts}
 use Rattle.flac_cli.proofs.verify_facts.count_facts.Goals as goal
-
--- the names of a source that is lent are after the one of the loan
-abbrev lent : List ℕ → List ℕ
-lent [] = []
-lent (n ∷ ns) = ns
-
-pub returns-in-Ok-clause-names : goal.returns-in-Ok-clause-names
-returns-in-Ok-clause-names g c = ap lent c.decode_chain-source.ensures.source_names
-
-pub returns-in-Err-clause-names : goal.returns-in-Err-clause-names
-returns-in-Err-clause-names g c = ap lent c.decode_chain-source.ensures.source_names
 
 pub returns-in-Ok-clause-facts : goal.returns-in-Ok-clause-facts
 returns-in-Ok-clause-facts g c = λ tells.
