@@ -203,7 +203,10 @@ count_from n (p ∷ ps) (i ∷ is) few h =
     count_more n (length ps) _ (count_from (streams_after n i) ps is (at_most n) h.1) ∙ ap (λ k. printed (n + k)) (sym same)
 
 pub count_is : (ps : List (List Piece)) (is : List Info) → AreInfos ps is → folded streams_after 0 is ≡ printed (length ps)
-count_is ps is h = count_from 0 ps is (omega arith) h
+count_is ps is h =
+    let few : 0 ≤ 18446744073709551615 = omega arith in
+    let same : 0 + length ps ≡ length ps = omega arith in
+    count_from 0 ps is few h ∙ ap printed same
 
 module _ (lacks : Option Info → Bool) where
   pub lacks_are : (b : Bool) (ps : List (List Piece)) (is : List Info) → AreInfos ps is → folded (lacks_after lacks) b is ≡ (b || list_any (λ p. lacks (info_in None p)) ps)

@@ -6,7 +6,7 @@ ghost use Rattle.flac_cli.specs.Verifies.{VerifiesFiles};
 ghost use Rattle.flac_cli.specs.inner.Verifying.{IsFoundAgain, IsCounted, Stays, ReadsIn, ReadsOutside, Finds, IsAllGood, IfAllGood};
 
 use crate::verify_change::{Change, compare};
-use crate::verify_facts::{Facts, Flaw, read_facts};
+use crate::verify_facts::{Facts, FactsRead, Flaw, read_facts};
 use crate::verify_lines::{report, report_end};
 use crate::verify_missing::list_missing;
 use crate::verify_report::{Entry, enter};
@@ -74,16 +74,14 @@ fn read_in<S: Shelf>(alloc: Global, shelf: &mut S, profile: Profile) -> Finding
     ensures stays { Stays S.known S.current S.files S.gone S.faults S.most shelf.old shelf.new }
 {
     match shelf.open() {
-        Some(mut file) => match read_facts(alloc, &mut file, profile) {
-            Ok(facts) => {
-                shelf.close(file);
-                Finding::Good(facts)
+        Some(file) => {
+            let FactsRead { source, outcome } = read_facts(alloc, file, profile);
+            shelf.close(source);
+            match outcome {
+                Ok(facts) => Finding::Good(facts),
+                Err(flaw) => Finding::Bad(flaw),
             }
-            Err(flaw) => {
-                shelf.close(file);
-                Finding::Bad(flaw)
-            }
-        },
+        }
         None => Finding::Unopened,
     }
 }

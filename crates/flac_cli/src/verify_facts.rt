@@ -140,64 +140,71 @@ impl Sink for Facts {
     }
 }
 
+/// What was read of a source, and the source after it.
+#[derive(Drop)]
+pub(crate) struct FactsRead<R> {
+    pub(crate) source: R,
+    pub(crate) outcome: Result<Facts, Flaw>,
+}
+
 /// Decodes a stream, or Ogg streams one after another, and returns what they are; `is_ogg` says in which container.
-fn count_facts<R: Source>(
-    alloc: Global,
-    is_ogg: bool,
-    source: &mut R,
-    profile: Profile,
-) -> Result<Facts, Flaw>
-    ensures facts { DescribesStream R.Source profile source.old source.new result }
-    ensures container { IfOk result (λ facts. facts.is_ogg ≡ is_ogg) }
-    ensures flaw { CountsFlaw R.Source profile source.old source.new result }
-    ensures outside { IfOk result (λ facts. facts.outside ≡ false) }
-    ensures names { R.names source.new ≡ R.names source.old }
+fn count_facts<R: Source>(alloc: Global, is_ogg: bool, source: R, profile: Profile) -> FactsRead<R>
+    ensures facts { DescribesStream R.Source profile source result.source result.outcome }
+    ensures container { IfOk result.outcome (λ facts. facts.is_ogg ≡ is_ogg) }
+    ensures flaw { CountsFlaw R.Source profile source result.source result.outcome }
+    ensures outside { IfOk result.outcome (λ facts. facts.outside ≡ false) }
 {
     let mut facts = Facts::none();
-    let ChainRead {
-        source: _source,
-        outcome,
-    } = decode_chain(alloc, source, profile, &mut facts);
+    let ChainRead { source, outcome } = decode_chain(alloc, source, profile, &mut facts);
     match outcome {
-        Ok(()) => Ok(Facts {
-            is_ogg,
-            outside: false,
-            ..facts
-        }),
-        Err(ChainFault { stream, fault }) => Err(Flaw {
-            stream,
-            fault,
-            samples: facts.counts.samples,
-        }),
+        Ok(()) => FactsRead {
+            source,
+            outcome: Ok(Facts {
+                is_ogg,
+                outside: false,
+                ..facts
+            }),
+        },
+        Err(ChainFault { stream, fault }) => FactsRead {
+            source,
+            outcome: Err(Flaw {
+                stream,
+                fault,
+                samples: facts.counts.samples,
+            }),
+        },
     }
 }
 
 /// Decodes a stream in either container, or Ogg streams one after another, and returns what they are.
-pub(crate) fn read_facts<R: Source>(
-    alloc: Global,
-    source: &mut R,
-    profile: Profile,
-) -> Result<Facts, Flaw>
-    ensures facts { DescribesStream R.Source profile source.old source.new result }
-    ensures container { NamesContainer R.Source source.old source.new result }
-    ensures flaw { CountsFlaw R.Source profile source.old source.new result }
-    ensures outside { IfOk result (λ facts. facts.outside ≡ false) }
+pub(crate) fn read_facts<R: Source>(alloc: Global, source: R, profile: Profile) -> FactsRead<R>
+    ensures facts { DescribesStream R.Source profile source result.source result.outcome }
+    ensures container { NamesContainer R.Source source result.source result.outcome }
+    ensures flaw { CountsFlaw R.Source profile source result.source result.outcome }
+    ensures outside { IfOk result.outcome (λ facts. facts.outside ≡ false) }
 {
-    let front = match pull_front(source) {
-        Ok(front) => front,
-        Err(fault) => {
-            return Err(Flaw {
+    let mut source = source;
+    match pull_front(&mut source) {
+        Ok(front) => {
+            let found = count_facts(
+                alloc,
+                begins_page(front),
+                Fronted { front, source },
+                profile,
+            );
+            let FactsRead {
+                source: Fronted { front: _, source },
+                outcome,
+            } = found;
+            FactsRead { source, outcome }
+        }
+        Err(fault) => FactsRead {
+            source,
+            outcome: Err(Flaw {
                 stream: 0,
                 fault,
                 samples: 0,
-            });
-        }
-    };
-    let mut fronted = Fronted { front, source };
-    let found = count_facts(alloc, begins_page(front), &mut fronted, profile);
-    let Fronted {
-        front: _,
-        source: _source,
-    } = fronted;
-    found
+            }),
+        },
+    }
 }

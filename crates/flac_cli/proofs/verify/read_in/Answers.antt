@@ -1,3 +1,5 @@
+use Rattle.std.proofs.Common.{◌≡◌, Ok, Err}
+use Rattle.flac_chain.proofs.Links.{if_ok, if_err}
 use Rattle.flac_cli.proofs.Verifying.{tells_opened, good_reading, bad_reading, unopened_reading, stays_then, stays_opened, stays_closed, still}
 use Rattle.flac_cli.proofs.verify.read_in.Goals as goal
 
@@ -5,6 +7,7 @@ pub returns-in-Ok : goal.returns-in-Ok
 returns-in-Ok g c =
     let got = c.in-Some.ensures in
     let back = c.close.ensures in
+    let read = c.read_facts-source in
     let opened = stays_opened got.known got.current got.files got.gone got.faults got.most in
     let closed = stays_closed back.kept back.known back.current back.files back.gone back.most in
     record {
@@ -12,14 +15,16 @@ returns-in-Ok g c =
           let calm = still opened closed same in
           let o = got.opened known in
           let tells = tells_opened _ o (back.unfailed (got.known known) calm.1) in
-          good_reading _ _ _ o (c.in-Ok.ensures.facts tells) (c.in-Ok.ensures.container tells) c.in-Ok.ensures.outside;
+          good_reading _ _ _ o (if_ok _ read.result.outcome c.in-Ok.facts c.in-Ok.is (read.ensures.facts tells)) (if_ok _ read.result.outcome c.in-Ok.facts c.in-Ok.is (read.ensures.container tells))
+          (if_ok _ read.result.outcome c.in-Ok.facts c.in-Ok.is read.ensures.outside);
       stays = stays_then opened closed;
     }
 
 pub returns-in-Err : goal.returns-in-Err
 returns-in-Err g c =
     let got = c.in-Some.ensures in
-    let back = c.close-in-Err.ensures in
+    let back = c.close.ensures in
+    let read = c.read_facts-source in
     let opened = stays_opened got.known got.current got.files got.gone got.faults got.most in
     let closed = stays_closed back.kept back.known back.current back.files back.gone back.most in
     record {
@@ -27,7 +32,7 @@ returns-in-Err g c =
           let calm = still opened closed same in
           let o = got.opened known in
           let tells = tells_opened _ o (back.unfailed (got.known known) calm.1) in
-          bad_reading _ _ _ o (c.in-Err.ensures.flaw tells);
+          bad_reading _ _ _ o (if_err _ read.result.outcome c.in-Err.flaw c.in-Err.is (read.ensures.flaw tells));
       stays = stays_then opened closed;
     }
 

@@ -1,4 +1,4 @@
-use Rattle.std.proofs.Common.{rules, ◌++◌, ℕ, Option, Result, Ok, ap, sym, ◌∙◌}
+use Rattle.std.proofs.Common.{◌++◌, ℕ, Option, Result, Ok, ap, sym, ◌∙◌}
 use Rattle.flac_native.specs.declared.fault.Fault.{Fault}
 use Rattle.flac_ogg.specs.Fronts.{front_bytes}
 use Rattle.flac_ogg.proofs.FirstByte.{first_of}
@@ -8,26 +8,26 @@ use Rattle.flac_cli.proofs.verify_facts.read_facts.Goals as goal
 abbrev answer : Option ℕ → Result (Option ℕ) Fault
 answer o = Ok o
 
-pub returns-clause-facts : goal.returns-clause-facts
-returns-clause-facts g c = λ tells.
+pub returns-in-Ok-clause-facts : goal.returns-in-Ok-clause-facts
+returns-in-Ok-clause-facts g c = λ tells.
     let R = g.R.Source in
     let told = c.in-Ok.ensures in
-    facts_moved c.args.profile (R.coming c.args.source.now) (front_bytes c.in-Ok.front ++ R.coming c.pull_front.new.source) (told.bytes tells.0) c.count_facts-found.result
-    (c.count_facts-found.ensures.facts (told.known tells.0, search (rules, tells.1, told.counted.0), search (rules, tells.2, told.counted.1)))
+    facts_moved c.args.profile (R.coming c.args.source) (front_bytes c.in-Ok.front ++ R.coming c.pull_front.new.source) (told.bytes tells.0) c.count_facts-found.result.outcome
+    (c.count_facts-found.ensures.facts (told.known tells.0, tells.1 ∙ sym told.counted.0, tells.2 ∙ sym told.counted.1))
 
-pub returns-clause-flaw : goal.returns-clause-flaw
-returns-clause-flaw g c = λ tells.
+pub returns-in-Ok-clause-flaw : goal.returns-in-Ok-clause-flaw
+returns-in-Ok-clause-flaw g c = λ tells.
     let R = g.R.Source in
     let told = c.in-Ok.ensures in
-    flaw_moved c.args.profile (R.coming c.args.source.now) (front_bytes c.in-Ok.front ++ R.coming c.pull_front.new.source) (told.bytes tells.0) c.count_facts-found.result
-    (c.count_facts-found.ensures.flaw (told.known tells.0, search (rules, tells.1, told.counted.0), search (rules, tells.2, told.counted.1)))
+    flaw_moved c.args.profile (R.coming c.args.source) (front_bytes c.in-Ok.front ++ R.coming c.pull_front.new.source) (told.bytes tells.0) c.count_facts-found.result.outcome
+    (c.count_facts-found.ensures.flaw (told.known tells.0, tells.1 ∙ sym told.counted.0, tells.2 ∙ sym told.counted.1))
 
-pub returns-clause-container : goal.returns-clause-container
-returns-clause-container g c = λ tells.
+pub returns-in-Ok-clause-container : goal.returns-in-Ok-clause-container
+returns-in-Ok-clause-container g c = λ tells.
     let R = g.R.Source in
     let told = c.in-Ok.ensures in
-    container_by (R.coming c.args.source.now) c.begins_page.result c.count_facts-found.result
-    (c.begins_page.ensures ∙ sym (first_of c.in-Ok.front (R.coming c.pull_front.new.source) (R.coming c.args.source.now) (told.bytes tells.0) (λ none. told.end (ap answer none) tells.0)))
+    container_by (R.coming c.args.source) c.begins_page.result c.count_facts-found.result.outcome
+    (c.begins_page.ensures ∙ sym (first_of c.in-Ok.front (R.coming c.pull_front.new.source) (R.coming c.args.source) (told.bytes tells.0) (λ none. told.end (ap answer none) tells.0)))
     c.count_facts-found.ensures.container
 
 pub returns-in-Err-clause-flaw : goal.returns-in-Err-clause-flaw
