@@ -237,7 +237,7 @@ def compare(folder, quick):
     members = {"rate": 44100, "channels": 2, "depth": 16, "md5_checked": True, "subset": False, "id3": False}
     chain = Chain(folder, one + outside)
     chain.is_verified(frames_in(one) + frames_in(outside), 9000 + 5000, 2, " outside-subset", members)
-    expect("--subset", chain.verified("--subset")[2], f"flac: {chain.path}: stream 2: page 2: 14 NotSubset\n".encode())
+    expect("--subset", chain.verified("--subset")[2], f"flac: {chain.path}: stream 2: frame 0: 14 NotSubset\n".encode())
     done += 2
     # Streams that are mixed, page by page, are no chain.
     if shutil.which("oggz-merge"):

@@ -523,7 +523,7 @@ fn streams_are_counted_together(rt: HostRuntime) -> Result<(), Fail> {
         flac: 6.oga: stream 2: page 0: 31 BadPage\n\
         flac: 7.oga: page 2: 32 PageCheck\n";
     assert!(rt; is_verified(alloc, &files, PLAIN, (1, out, err)));
-    let err = "flac: 3.oga: stream 2: page 2: 14 NotSubset\n";
+    let err = "flac: 3.oga: stream 2: frame 0: 14 NotSubset\n";
     let out = "ok 1.oga: frames 2 samples 2 streams 2\nverified 2 ok 1 bad 1\n";
     let files = [file("1.oga", &two), file("3.oga", &outside)];
     assert!(rt; is_verified(alloc, &files, SUBSET, (1, out, err)));
