@@ -16,7 +16,8 @@ const VERIFY_EXAMPLE: &str = "Example:
 The line of a good file goes to standard output, that of a bad one to standard error. A
 word says what a stream does not state: its MD5 digest (no-md5), the number of its samples
 (no-total); or that it is outside the streamable subset (outside-subset), or that tags of
-other programs are around it (id3).
+other programs are around it (id3). Ogg streams one after another in a file are counted
+together: streams N comes after the counts, and a fault names its stream.
 
 --report writes a line of JSON for each file, as it is done: its path, size and time, and
 what was found. --resume goes on with such a report after a run that was cut off, or over
