@@ -523,9 +523,18 @@ fn streams_are_counted_together(rt: HostRuntime) -> Result<(), Fail> {
         flac: 6.oga: stream 2: page 0: 31 BadPage\n\
         flac: 7.oga: page 2: 32 PageCheck\n";
     assert!(rt; is_verified(alloc, &files, PLAIN, (1, out, err)));
-    let err = "flac: 3.oga: stream 2: frame 0: 14 NotSubset\n";
-    let out = "ok 1.oga: frames 2 samples 2 streams 2\nverified 2 ok 1 bad 1\n";
+    Ok(())
+}
+
+// The second stream of the second file is outside the subset.
+#[test]
+fn each_stream_is_in_the_subset(rt: HostRuntime) -> Result<(), Fail> {
+    let alloc = rt.alloc();
+    let two = pages_of(alloc, "MAPPING COMMENT FRAME MAPPING COMMENT FRAME")?;
+    let outside = pages_of(alloc, "MAPPING COMMENT FRAME LAX_MAPPING COMMENT LAX_PAGE")?;
     let files = [file("1.oga", &two), file("3.oga", &outside)];
+    let out = "ok 1.oga: frames 2 samples 2 streams 2\nverified 2 ok 1 bad 1\n";
+    let err = "flac: 3.oga: stream 2: frame 0: 14 NotSubset\n";
     assert!(rt; is_verified(alloc, &files, SUBSET, (1, out, err)));
     Ok(())
 }
